@@ -22,16 +22,20 @@ split text = sym (take-append-drop (prefix_len is_ascii_lowercase text) text)
 
 -- ---- a line that is there
 
-pub name_line : (text word behind name rest : List ℕ) → word ≡ front_word text → behind ≡ behind_word text → word ≡ name_word → NameBehind behind name rest → LineHere text (Name name) rest
+pub name_line : (text word behind name rest : List ℕ) → word ≡ front_word text → behind ≡ behind_word text → word ≡ name_word → NameBehind behind name rest
+    → LineHere text (Name name) rest
 name_line text word behind name rest w b e n = record {
   wide = n.wide;
-  written = split text ∙ ap (λ (z : List ℕ). z ++ behind_word text) (sym w ∙ e) ∙ ap (λ (z : List ℕ). name_word ++ z) (sym b ∙ n.written) ∙ sym (append_assoc name_word (quoted_text name) rest);
+  written = split text ∙ ap (λ (z : List ℕ). z ++ behind_word text) (sym w ∙ e) ∙ ap (λ (z : List ℕ). name_word ++ z) (sym b ∙ n.written)
+      ∙ sym (append_assoc name_word (quoted_text name) rest);
 }
 
-pub record_line : (text word behind : List ℕ) (r : Record) (rest : List ℕ) → word ≡ front_word text → behind ≡ behind_word text → RecordBehind word behind r rest → LineHere text (Of r) rest
+pub record_line : (text word behind : List ℕ) (r : Record) (rest : List ℕ) → word ≡ front_word text → behind ≡ behind_word text
+    → RecordBehind word behind r rest → LineHere text (Of r) rest
 record_line text word behind r rest w b n = record {
   wide = n.wide;
-  written = split text ∙ ap (λ (z : List ℕ). z ++ behind_word text) (sym w ∙ sym n.word_is) ∙ ap (λ (z : List ℕ). (words_of r).word ++ z) (sym b ∙ n.written) ∙ sym (append_assoc (words_of r).word (numbers_text (words_of r).numbers) rest);
+  written = split text ∙ ap (λ (z : List ℕ). z ++ behind_word text) (sym w ∙ sym n.word_is) ∙ ap (λ (z : List ℕ). (words_of r).word ++ z) (sym b ∙ n.written)
+      ∙ sym (append_assoc (words_of r).word (numbers_text (words_of r).numbers) rest);
 }
 
 -- ---- no line
@@ -44,7 +48,8 @@ by_numbers text w [] rest e letters = is_cut text w 10 rest e letters refl
 by_numbers text w (n ∷ ns) rest e letters = is_cut text w 32 _ e letters refl
 
 cut_record : (text : List ℕ) (r : Record) (rest : List ℕ) → LineHere text (Of r) rest → IsCut text (words_of r).word (numbers_text (words_of r).numbers ++ rest)
-cut_record text r rest l = by_numbers text (words_of r).word (words_of r).numbers rest (l.written ∙ append_assoc (words_of r).word (numbers_text (words_of r).numbers) rest) (spelled r l.wide).letters
+cut_record text r rest l = by_numbers text (words_of r).word (words_of r).numbers rest
+    (l.written ∙ append_assoc (words_of r).word (numbers_text (words_of r).numbers) rest) (spelled r l.wide).letters
 
 not_name : (ns : List ℕ) (r : Record) → record_by name_word ns ≡ Some r → ⊥
 unfolding record_by key_of keys
@@ -57,9 +62,11 @@ pub no_name_line : (text word behind : List ℕ) → word ≡ front_word text �
 no_name_line text word behind w b e none (Name name) rest l = none name rest (record { wide = l.wide; written = b ∙ (cut_name text name rest l).behind })
 no_name_line text word behind w b e none (Of r) rest l = record_not_name r rest text l (sym (cut_record text r rest l).front ∙ sym w ∙ e)
 
-pub no_record_line : (text word behind : List ℕ) → word ≡ front_word text → behind ≡ behind_word text → word ≢ name_word → NoRecord word behind → NoLineHere text
+pub no_record_line : (text word behind : List ℕ) → word ≡ front_word text → behind ≡ behind_word text → word ≢ name_word → NoRecord word behind
+    → NoLineHere text
 no_record_line text word behind w b e none (Name name) rest l = e (w ∙ (cut_name text name rest l).front)
-no_record_line text word behind w b e none (Of r) rest l = none r rest (record { wide = l.wide; word_is = sym (cut_record text r rest l).front ∙ sym w; written = b ∙ (cut_record text r rest l).behind })
+no_record_line text word behind w b e none (Of r) rest l =
+    none r rest (record { wide = l.wide; word_is = sym (cut_record text r rest l).front ∙ sym w; written = b ∙ (cut_record text r rest l).behind })
 
 -- ---- one line
 
@@ -85,7 +92,12 @@ same_lines text (Of r) (Name m) rest tail a b = absurd (record_not_name r rest t
 
 some_bytes : (l : Line) → 0 < length (line_text l)
 some_bytes (Name n) = omega (arith, length-append name_word (quoted_text n))
-some_bytes (Of r) = omega (arith, length-append (words_of r).word (numbers_text (words_of r).numbers), length-append (flat_map number_text (words_of r).numbers) (10 ∷ []))
+some_bytes (Of r) = omega (
+  arith,
+  length-append (words_of r).word (numbers_text (words_of r).numbers),
+  length-append (flat_map number_text (words_of r).numbers)
+      (10 ∷ []),
+)
 
 pub shorter : {text rest : List ℕ} {l : Line} → LineHere text l rest → length rest < length text
 shorter {text = text} {rest = rest} {l = l} h = omega (arith, ap length h.written, length-append (line_text l) rest, some_bytes l)

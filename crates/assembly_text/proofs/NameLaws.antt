@@ -1,5 +1,6 @@
 -- Names in quotes: there is one way to read them.
-use Rattle.std.proofs.Common.{◌≡◌, ◌≢◌, ℕ, ◌+◌, ◌-◌, ◌*◌, ◌/◌, ◌%◌, ◌<◌, ◌≤◌, ◌^◌, zero, suc, Bool, true, false, cond, not, List, [], ◌∷◌, ◌++◌, length, Option, Some, None, refl, sym, ap, subst, ◌∙◌, ◌&&◌, arith, append_assoc, length-append}
+use Rattle.std.proofs.Common.{◌≡◌, ◌≢◌, ℕ, ◌+◌, ◌-◌, ◌*◌, ◌/◌, ◌%◌, ◌<◌, ◌≤◌, ◌^◌, zero, suc, Bool, true, false, cond, not, List, [], ◌∷◌, ◌++◌, length, Option}
+use Rattle.std.proofs.Common.{Some, None, refl, sym, ap, subst, ◌∙◌, ◌&&◌, arith, append_assoc, length-append}
 use Rattle.std.specs.Prelude.{nat_eq, nat_le}
 use Rattle.std.specs.List.{list_all, flat_map}
 use Rattle.std.proofs.lemmas.Bool.{and_parts, and_from, ltb-true, lt-ltb, le-ltb, leb-true, eqb-true}
@@ -44,7 +45,8 @@ hex_high d h = ap (λ (b : Bool). cond b (48 + d) (87 + d)) (le-ltb d 10 h)
 is_hex : (c d : ℕ) → digit c ≡ Some d → IsHex c d
 is_hex c d e = by_range (nat_le 48 c && nat_le c 57) (nat_le 97 c && nat_le c 102) refl refl e
   where
-    by_range : (low high : Bool) → (nat_le 48 c && nat_le c 57) ≡ low → (nat_le 97 c && nat_le c 102) ≡ high → cond low (Some (c - 48)) (cond high (Some (c - 87)) None) ≡ Some d → IsHex c d
+    by_range : (low high : Bool) → (nat_le 48 c && nat_le c 57) ≡ low → (nat_le 97 c && nat_le c 102) ≡ high
+        → cond low (Some (c - 48)) (cond high (Some (c - 87)) None) ≡ Some d → IsHex c d
     by_range true high l h e =
         let p = and_parts _ _ l in
         let a = leb-true 48 c p.0 in
@@ -66,7 +68,8 @@ pub record ByteAt (text : List ℕ) (b : ℕ) (rest : List ℕ) : Type 0 where
   pub wide : is_u8 b ≡ true
 
 pair_is : (x y : ℕ) (r s : List ℕ) → Path (Option (ℕ × List ℕ)) (Some (x, r)) (Some (y, s)) → (x ≡ y) × (r ≡ s)
-pair_is x y r s e = let same : Path (ℕ × List ℕ) (x, r) (y, s) = some_is (x, r) (y, s) e in (ap (λ (p : ℕ × List ℕ). p.0) same, ap (λ (p : ℕ × List ℕ). p.1) same)
+pair_is x y r s e = let same : Path (ℕ × List ℕ) (x, r) (y, s) = some_is (x, r) (y, s) e in
+    (ap (λ (p : ℕ × List ℕ). p.0) same, ap (λ (p : ℕ × List ℕ). p.1) same)
 
 plain_text : (b : ℕ) → is_plain b ≡ true → byte_text b ≡ b ∷ []
 plain_text b h = rw h refl
@@ -84,7 +87,8 @@ plain_small b h =
 not_plain : (b x : ℕ) (rest s : List ℕ) → unless_plain b rest ≡ Some (x, s) → (is_plain b ≡ false) × (b ≡ x) × (rest ≡ s)
 not_plain b x rest s e = by_test (is_plain b) refl e
   where
-    by_test : (t : Bool) → is_plain b ≡ t → Path (Option (ℕ × List ℕ)) (cond t None (Some (b, rest))) (Some (x, s)) → (is_plain b ≡ false) × (b ≡ x) × (rest ≡ s)
+    by_test : (t : Bool) → is_plain b ≡ t → Path (Option (ℕ × List ℕ)) (cond t None (Some (b, rest))) (Some (x, s)) → (is_plain b ≡ false) × (b ≡ x)
+        × (rest ≡ s)
     by_test true h e = absurd cc
     by_test false h e = let p = pair_is b x rest s e in (h, p.0, p.1)
 
@@ -100,7 +104,8 @@ escaped_took (x ∷ []) b rest e = absurd cc
 escaped_took (x ∷ h ∷ []) b rest e = absurd cc
 escaped_took (x ∷ h ∷ l ∷ others) b rest e = by_mark (nat_eq x 120) refl e
   where
-    by_mark : (t : Bool) → nat_eq x 120 ≡ t → cond t (and_then (digit h) (λ a. and_then (digit l) (λ c. unless_plain (16 * a + c) others))) None ≡ Some (b, rest) → ByteAt (92 ∷ x ∷ h ∷ l ∷ others) b rest
+    by_mark : (t : Bool) → nat_eq x 120 ≡ t → cond t (and_then (digit h) (λ a. and_then (digit l) (λ c. unless_plain (16 * a + c) others))) None
+        ≡ Some (b, rest) → ByteAt (92 ∷ x ∷ h ∷ l ∷ others) b rest
     by_mark true m e =
         let mark = eqb-true x 120 m in
         let one = bound (digit h) _ (b, rest) e in
@@ -115,11 +120,15 @@ pub byte_took : (text : List ℕ) (b : ℕ) (rest : List ℕ) → byte_of text �
 byte_took [] b rest e = absurd cc
 byte_took (c ∷ others) b rest e = by_plain (is_plain c) (nat_eq c 92) refl refl e
   where
-    by_plain : (t u : Bool) → is_plain c ≡ t → nat_eq c 92 ≡ u → Path (Option (ℕ × List ℕ)) (cond t (Some (c, others)) (cond u (escaped others) None)) (Some (b, rest)) → ByteAt (c ∷ others) b rest
+    by_plain : (t u : Bool) → is_plain c ≡ t → nat_eq c 92 ≡ u
+        → Path (Option (ℕ × List ℕ)) (cond t (Some (c, others)) (cond u (escaped others) None)) (Some (b, rest)) → ByteAt (c ∷ others) b rest
     by_plain true u p q e =
         let same = pair_is c b others rest e in
         let plain : is_plain b ≡ true = subst (λ (z : ℕ). is_plain z ≡ true) same.0 p in
-        record { written = ap (λ (z : ℕ). z ∷ others) same.0 ∙ ap (λ (z : List ℕ). b ∷ z) same.1 ∙ ap (λ (z : List ℕ). z ++ rest) (sym (plain_text b plain)); wide = plain_small b plain }
+        record {
+          written = ap (λ (z : ℕ). z ∷ others) same.0 ∙ ap (λ (z : List ℕ). b ∷ z) same.1 ∙ ap (λ (z : List ℕ). z ++ rest) (sym (plain_text b plain));
+          wide = plain_small b plain;
+        }
     by_plain false true p q e =
         let slash = eqb-true c 92 q in
         let at = escaped_took others b rest e in
@@ -166,7 +175,11 @@ bytes_at no_byte = record { written = refl; wide = refl }
 bytes_at {rest = rest} (one_byte {b = b} {bs = bs} {text = text} {rest = mid} h more) =
     let at = byte_took text b mid h in
     let others = bytes_at more in
-    record { written = at.written ∙ ap (λ (z : List ℕ). byte_text b ++ z) others.written ∙ sym (append_assoc (byte_text b) (flat_map byte_text bs) rest); wide = and_from _ _ at.wide others.wide }
+    record {
+      written = at.written ∙ ap (λ (z : List ℕ). byte_text b ++ z) others.written ∙ sym (append_assoc (byte_text b) (flat_map byte_text bs) rest);
+      wide =
+          and_from _ _ at.wide others.wide;
+    }
 
 pub record SameBytes (bs ms left s : List ℕ) : Type 0 where
   pub bytes : bs ≡ ms
@@ -178,7 +191,8 @@ none_some x e = absurd cc
 first_byte : (m : ℕ) (ms s : List ℕ) → is_u8 m ≡ true → byte_of (flat_map byte_text (m ∷ ms) ++ 34 ∷ s) ≡ Some (m, flat_map byte_text ms ++ 34 ∷ s)
 first_byte m ms s wide = ap byte_of (append_assoc (byte_text m) (flat_map byte_text ms) (34 ∷ s)) ∙ byte_again m (flat_map byte_text ms ++ 34 ∷ s) wide
 
-pub same_bytes : {bs text rest : List ℕ} (ms s : List ℕ) → Bytes bs text rest → byte_of rest ≡ None → list_all is_u8 ms ≡ true → text ≡ flat_map byte_text ms ++ 34 ∷ s → SameBytes bs ms rest s
+pub same_bytes : {bs text rest : List ℕ} (ms s : List ℕ) → Bytes bs text rest → byte_of rest ≡ None → list_all is_u8 ms ≡ true
+    → text ≡ flat_map byte_text ms ++ 34 ∷ s → SameBytes bs ms rest s
 same_bytes [] s no_byte stop wide e = record { bytes = refl; rest = e }
 same_bytes (m ∷ ms) s no_byte stop wide e =
     let w = and_parts (is_u8 m) (list_all is_u8 ms) wide in
@@ -205,7 +219,8 @@ name_there text name inside rest e bs =
 pub no_quote : (text : List ℕ) → ((rest : List ℕ) → text ≢ 32 ∷ 34 ∷ rest) → NoName text
 no_quote text other name rest b = other (flat_map byte_text name ++ 34 ∷ 10 ∷ rest) (b.written ∙ quoted name rest)
 
-pub no_close : (text name inside left : List ℕ) → text ≡ 32 ∷ 34 ∷ inside → Bytes name inside left → byte_of left ≡ None → ((rest : List ℕ) → left ≢ 34 ∷ 10 ∷ rest) → NoName text
+pub no_close : (text name inside left : List ℕ) → text ≡ 32 ∷ 34 ∷ inside → Bytes name inside left → byte_of left ≡ None
+    → ((rest : List ℕ) → left ≢ 34 ∷ 10 ∷ rest) → NoName text
 no_close text name inside left e bs stop other m rest b =
     let both : 32 ∷ 34 ∷ inside ≡ 32 ∷ 34 ∷ (flat_map byte_text m ++ 34 ∷ 10 ∷ rest) = sym e ∙ b.written ∙ quoted m rest in
     let inner = tails 34 34 inside (flat_map byte_text m ++ 34 ∷ 10 ∷ rest) (tails 32 32 (34 ∷ inside) (34 ∷ (flat_map byte_text m ++ 34 ∷ 10 ∷ rest)) both) in
@@ -223,7 +238,9 @@ pub record SameNames (n m rest tail : List ℕ) : Type 0 where
 
 pub same_names : (text n m rest tail : List ℕ) → NameBehind text n rest → NameBehind text m tail → SameNames n m rest tail
 same_names text n m rest tail a b =
-    let both : 32 ∷ 34 ∷ (flat_map byte_text n ++ 34 ∷ 10 ∷ rest) ≡ 32 ∷ 34 ∷ (flat_map byte_text m ++ 34 ∷ 10 ∷ tail) = sym (quoted n rest) ∙ sym a.written ∙ b.written ∙ quoted m tail in
-    let inner = tails 34 34 (flat_map byte_text n ++ 34 ∷ 10 ∷ rest) (flat_map byte_text m ++ 34 ∷ 10 ∷ tail) (tails 32 32 (34 ∷ (flat_map byte_text n ++ 34 ∷ 10 ∷ rest)) (34 ∷ (flat_map byte_text m ++ 34 ∷ 10 ∷ tail)) both) in
+    let both : 32 ∷ 34 ∷ (flat_map byte_text n ++ 34 ∷ 10 ∷ rest) ≡ 32 ∷ 34 ∷ (flat_map byte_text m ++ 34 ∷ 10 ∷ tail) = sym (quoted n rest) ∙ sym a.written
+    ∙ b.written ∙ quoted m tail in
+    let inner = tails 34 34 (flat_map byte_text n ++ 34 ∷ 10 ∷ rest) (flat_map byte_text m ++ 34 ∷ 10 ∷ tail)
+    (tails 32 32 (34 ∷ (flat_map byte_text n ++ 34 ∷ 10 ∷ rest)) (34 ∷ (flat_map byte_text m ++ 34 ∷ 10 ∷ tail)) both) in
     let bs = same_bytes m (10 ∷ tail) (bytes_there n (10 ∷ rest) a.wide) refl b.wide inner in
     record { same = bs.bytes; rests = tails 10 10 rest tail (tails 34 34 (10 ∷ rest) (10 ∷ tail) bs.rest) }

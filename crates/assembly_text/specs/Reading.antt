@@ -2,7 +2,10 @@
 use Rattle.std.specs.Prelude.{ℕ, List, [], ◌∷◌, Option, Some, None}
 use Rattle.tx_code.specs.declared.instr.Instr.TheVariants as instrs
 use Rattle.object_bytes.specs.declared.op.Op.{Op}
-use Rattle.object_bytes.specs.declared.op.Op.TheVariants.{Push, Dup, Pop, Swap, FrameAddr, GlobalAddr, FuncAddr, ClassAddr, Load, Store, TLoad, TStore, VLoad, VStore, Bin, Neg, Conv, Jump, JumpZero, Call, TCall, CallIndirect, TCallIndirect, Slot, Ret, Begin, End, BeginSync, EndSync, Out, Inp, Spawn, Join, Abort, NewException, PutException, Throw, Rethrow, GetException, EndHandler, Resume, Over}
+use Rattle.object_bytes.specs.declared.op.Op.TheVariants.{Push, Dup, Pop, Swap, FrameAddr, GlobalAddr, FuncAddr, ClassAddr, Load, Store, TLoad, TStore, VLoad}
+use Rattle.object_bytes.specs.declared.op.Op.TheVariants.{VStore, Bin, Neg, Conv, Jump, JumpZero, Call, TCall, CallIndirect, TCallIndirect, Slot, Ret, Begin}
+use Rattle.object_bytes.specs.declared.op.Op.TheVariants.{End, BeginSync, EndSync, Out, Inp, Spawn, Join, Abort, NewException, PutException, Throw, Rethrow}
+use Rattle.object_bytes.specs.declared.op.Op.TheVariants.{GetException, EndHandler, Resume, Over}
 use Rattle.object_bytes.specs.Spelling.{is_u8, is_u32, is_u64}
 use Rattle.assembly_text.specs.declared.key.Key.{Key}
 use Rattle.assembly_text.specs.declared.key.Key.TheVariants as key

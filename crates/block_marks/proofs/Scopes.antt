@@ -10,7 +10,8 @@ use Rattle.block_marks.proofs.Trees.{waits_eased}
 
 puts_blocks : (o : Owner) (w : Waiting) (k : List Frame) → blocks_of (puts o w k) ≡ blocks_of k
 puts_blocks o w [] = refl
-puts_blocks o w (Scope u always ws ∷ k) = elim (same_owner o u) as (λ b. blocks_of (cond b (Scope u always (w ∷ ws) ∷ k) (Scope u always ws ∷ puts o w k)) ≡ blocks_of k) [ true ↦ refl | false ↦ puts_blocks o w k ]
+puts_blocks o w (Scope u always ws ∷ k) = elim (same_owner o u) as (λ b. blocks_of (cond b (Scope u always (w ∷ ws) ∷ k) (Scope u always ws ∷ puts o w k))
+    ≡ blocks_of k) [ true ↦ refl | false ↦ puts_blocks o w k ]
 puts_blocks o w (Within block ∷ k) = ap (λ bs. block ∷ bs) (puts_blocks o w k)
 puts_blocks o w (Closes block ∷ k) = ap (λ bs. block ∷ bs) (puts_blocks o w k)
 puts_blocks o w (f ∷ k) = puts_blocks o w k
@@ -20,7 +21,8 @@ outside_same o w k = ap no_atomic (puts_blocks o w k)
 
 scope_same : (v o : Owner) (w : Waiting) (k : List Frame) → has_scope v (puts o w k) ≡ has_scope v k
 scope_same v o w [] = refl
-scope_same v o w (Scope u always ws ∷ k) = elim (same_owner o u) as (λ b. has_scope v (cond b (Scope u always (w ∷ ws) ∷ k) (Scope u always ws ∷ puts o w k)) ≡ (same_owner v u || has_scope v k)) [ true ↦ refl | false ↦ ap (λ z. same_owner v u || z) (scope_same v o w k) ]
+scope_same v o w (Scope u always ws ∷ k) = elim (same_owner o u) as (λ b. has_scope v (cond b (Scope u always (w ∷ ws) ∷ k) (Scope u always ws ∷ puts o w k)) ≡
+    (same_owner v u || has_scope v k)) [ true ↦ refl | false ↦ ap (λ z. same_owner v u || z) (scope_same v o w k) ]
 scope_same v o w (Called caller stops ∷ k) = refl
 scope_same v o w (f ∷ k) = scope_same v o w k
 
@@ -34,12 +36,14 @@ round_same : (o : Owner) (w : Waiting) (k : List Frame) → round_of (puts o w k
 round_same o w k = same_round _ _ _ _ _ _ _ _ (outside_same o w k) (scope_same of_call o w k) (scope_same of_block o w k) (scope_same of_pieces o w k)
 
 -- into the nearest scope of the owner
-pub puts_good : (p : Program) (safe : ℕ → ℕ → Bool) (u : ℕ) (ws : List Waiting) (o : Owner) (w : Waiting) (k : List Frame) → has_scope o k ≡ true → may_wait (safe u) (is_outside k) w.address w.destroys ≡ true
+pub puts_good : (p : Program) (safe : ℕ → ℕ → Bool) (u : ℕ) (ws : List Waiting) (o : Owner) (w : Waiting) (k : List Frame) → has_scope o k ≡ true
+    → may_wait (safe u) (is_outside k) w.address w.destroys ≡ true
     → are_good p safe u ws k ≡ true → are_good p safe u ws (puts o w k) ≡ true
 puts_good p safe u ws o w [] h m q = absurd (false≢true h)
 puts_good p safe u ws o w (Scope v always xs ∷ k) h m q =
     let a = and_parts (all_wait (safe u) (is_outside k) xs) (are_good p safe u ws k) q in
-    elim (same_owner o v) as (λ b. (b || has_scope o k) ≡ true → are_good p safe u ws (cond b (Scope v always (w ∷ xs) ∷ k) (Scope v always xs ∷ puts o w k)) ≡ true) [
+    elim (same_owner o v) as (λ b. (b || has_scope o k) ≡ true
+    → are_good p safe u ws (cond b (Scope v always (w ∷ xs) ∷ k) (Scope v always xs ∷ puts o w k)) ≡ true) [
       | true ↦ λ i. and_from _ _ (and_from _ _ m a.0) a.1
       | false ↦ λ i. and_from _ _ (subst (λ z. all_wait (safe u) z xs ≡ true) (sym (outside_same o w k)) a.0) (puts_good p safe u ws o w k i m a.1)
     ] h
@@ -54,10 +58,12 @@ puts_good p safe u ws o w (Closes (AtomicBlock kind) ∷ k) h m q = puts_good p 
 puts_good p safe u ws o w (Closes Sync ∷ k) h m q = puts_good p safe u ws o w k h m q
 puts_good p safe u ws o w (f ∷ k) h m q =
     let a = and_parts (is_good p (safe u) (round_of k) f) (are_good p safe u ws k) q in
-    and_from (is_good p (safe u) (round_of (puts o w k)) f) (are_good p safe u ws (puts o w k)) (subst (λ r. is_good p (safe u) r f ≡ true) (sym (round_same o w k)) a.0) (puts_good p safe u ws o w k h m a.1)
+    and_from (is_good p (safe u) (round_of (puts o w k)) f) (are_good p safe u ws (puts o w k))
+    (subst (λ r. is_good p (safe u) r f ≡ true) (sym (round_same o w k)) a.0) (puts_good p safe u ws o w k h m a.1)
 
 -- among the temporaries
-pub keeps_good : (p : Program) (safe : ℕ → ℕ → Bool) (u : ℕ) (ws : List Waiting) (w : Waiting) (k : List Frame) → may_wait (safe u) (is_outside k) w.address w.destroys ≡ true
+pub keeps_good : (p : Program) (safe : ℕ → ℕ → Bool) (u : ℕ) (ws : List Waiting) (w : Waiting) (k : List Frame)
+    → may_wait (safe u) (is_outside k) w.address w.destroys ≡ true
     → are_good p safe u ws k ≡ true → are_good p safe u (w ∷ ws) k ≡ true
 keeps_good p safe u ws w [] m q = refl
 keeps_good p safe u ws w (Called caller stops ∷ k) m q = q

@@ -7,7 +7,8 @@ use Rattle.cpp_tree.specs.declared.kinds.TKind.TheVariants.{Atomic}
 use Rattle.cpp_tree.specs.Trees.{Tree, node, Trees, none, more, kind_of, first, rest}
 use Rattle.src_mean.specs.Linked.{WordPlace}
 use Rattle.src_mean.specs.Frames.{Owner, of_block, of_call, of_pieces}
-use Rattle.block_marks.specs.Marks.{hides_all, is_tame_kind, scope_for, is_free, all_free, is_at_most, all_within, are_placed, below, is_tame, are_tame, is_alone, Round, has, is_met, runs, run_all, may_wait}
+use Rattle.block_marks.specs.Marks.{hides_all, is_tame_kind, scope_for, is_free, all_free, is_at_most, all_within, are_placed, below, is_tame, are_tame}
+use Rattle.block_marks.specs.Marks.{is_alone, Round, has, is_met, runs, run_all, may_wait}
 
 -- What is tame inside a block is so outside of it
 
@@ -24,7 +25,8 @@ mutual
   eased s o (node kind t cat at kids) h =
       let a = and_parts (is_tame_kind s kind || false) (are_placed kind kids && are_tame s (below kind false) kids) h in
       let b = and_parts (are_placed kind kids) (are_tame s (below kind false) kids) a.1 in
-      and_from _ _ (or_more (is_tame_kind s kind) o a.0) (and_from _ _ b.0 (eased_all s (below kind o) kids (subst (λ i. are_tame s i kids ≡ true) (below_inside kind) b.1)))
+      and_from _ _ (or_more (is_tame_kind s kind) o a.0)
+      (and_from _ _ b.0 (eased_all s (below kind o) kids (subst (λ i. are_tame s i kids ≡ true) (below_inside kind) b.1)))
 
   pub eased_all : (s : ℕ → Bool) (o : Bool) (ts : Trees) → are_tame s false ts ≡ true → are_tame s o ts ≡ true
   eased_all s o none h = refl
@@ -43,7 +45,8 @@ body_tame s false o t i h = subst (λ z. is_tame s z t ≡ true) (sym i) h
 
 hidden_all : (o : Bool) (places : List WordPlace) → hides_all false places ≡ true → hides_all o places ≡ true
 hidden_all o [] h = refl
-hidden_all o (w ∷ ws) h = let a = and_parts (not w.volatile || false) (hides_all false ws) h in and_from _ _ (or_more (not w.volatile) o a.0) (hidden_all o ws a.1)
+hidden_all o (w ∷ ws) h = let a = and_parts (not w.volatile || false) (hides_all false ws) h in
+    and_from _ _ (or_more (not w.volatile) o a.0) (hidden_all o ws a.1)
 
 pub words_hidden : (safe o : Bool) (places : List WordPlace) → (safe || o) ≡ true → hides_all (not safe) places ≡ true → hides_all o places ≡ true
 words_hidden true o places i h = hidden_all o places h
@@ -102,7 +105,8 @@ within_met of_call r (Some of_call) h w = h
 within_met of_pieces r (Some of_pieces) h w = h
 within_met o r (Some u) h w = absurd (false≢true w)
 
-pub within_all : (s : ℕ → Bool) (o : Owner) (r : Round) (ts : Trees) → has o r ≡ true → are_tame s r.outside ts ≡ true → all_within o ts ≡ true → run_all s r ts ≡ true
+pub within_all : (s : ℕ → Bool) (o : Owner) (r : Round) (ts : Trees) → has o r ≡ true → are_tame s r.outside ts ≡ true → all_within o ts ≡ true
+    → run_all s r ts ≡ true
 within_all s o r none g h w = refl
 within_all s o r (more t ts) g h w =
     let a = and_parts (is_tame s r.outside t) (are_tame s r.outside ts) h in

@@ -5,11 +5,16 @@ use Rattle.cpp_tree.specs.tx_events.Thread.{Open, Atomic as AtomicBlock, Sync, n
 use Rattle.cpp_tree.specs.declared.kinds.Builtin.{Builtin}
 use Rattle.cpp_tree.specs.declared.kinds.Builtin.TheVariants.{Abort}
 use Rattle.cpp_tree.specs.declared.kinds.TKind.{TKind}
-use Rattle.cpp_tree.specs.declared.kinds.TKind.TheVariants.{Load, Assign, Update, Materialize, Call, VirtualCall, PointerCall, Builtin as CallBuiltin, Store, CopyScalar, Construct, CopyConstruct, Pieces, Piece, Block, Init, Defer, Switch, Try, Atomic, Destroy}
+use Rattle.cpp_tree.specs.declared.kinds.TKind.TheVariants.{Load, Assign, Update, Materialize, Call, VirtualCall, PointerCall, Builtin as CallBuiltin, Store}
+use Rattle.cpp_tree.specs.declared.kinds.TKind.TheVariants.{CopyScalar, Construct, CopyConstruct, Pieces, Piece, Block, Init, Defer, Switch, Try, Atomic}
+use Rattle.cpp_tree.specs.declared.kinds.TKind.TheVariants.{Destroy}
 use Rattle.cpp_tree.specs.Trees.{Tree, node, Trees, none, more, kind_of, first, rest}
 use Rattle.cpp_tree.specs.Roles.{is_handler}
 use Rattle.src_mean.specs.Linked.{WordPlace, Func, Program}
-use Rattle.src_mean.specs.Frames.{Waiting, Owner, of_block, of_call, of_pieces, Callee, known, virtual, pointer, builtin, Frame, Run, Then, Loads, StoreTo, Right, Choose, AssignTo, UpdateAt, UpdateOld, UpdateBy, CopyTo, CopyBy, From, Words, Object, Slot, Pointer, Passes, Called, Full, Keeps, Scope, Waits, InitAt, Cleans, Due, Destroys, Parts, Each, Items, Test, Body, Step, Picks, Compares, Opens, Tries, Trying, Halted, State, blocks_of, same_owner}
+use Rattle.src_mean.specs.Frames.{Waiting, Owner, of_block, of_call, of_pieces, Callee, known, virtual, pointer, builtin, Frame, Run, Then, Loads, StoreTo}
+use Rattle.src_mean.specs.Frames.{Right, Choose, AssignTo, UpdateAt, UpdateOld, UpdateBy, CopyTo, CopyBy, From, Words, Object, Slot, Pointer, Passes, Called}
+use Rattle.src_mean.specs.Frames.{Full, Keeps, Scope, Waits, InitAt, Cleans, Due, Destroys, Parts, Each, Items, Test, Body, Step, Picks, Compares, Opens, Tries}
+use Rattle.src_mean.specs.Frames.{Trying, Halted, State, blocks_of, same_owner}
 use Rattle.src_mean.specs.Laws.{is_hidden}
 
 -- Trees. `outside` says that no atomic block is open, and `safe` which functions of the unit are safe

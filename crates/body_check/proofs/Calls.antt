@@ -1,5 +1,6 @@
 -- A call of a checked body, and its return.
-use Rattle.std.proofs.Common.{ℕ, zero, suc, ◌≡◌, ◌+◌, ◌^◌, ◌<◌, ◌≤◌, nat_lt, Bool, true, false, refl, ap, ap₂, sym, ◌∙◌, subst, List, [], ◌∷◌, Option, Some, arith}
+use Rattle.std.proofs.Common.{ℕ, zero, suc, ◌≡◌, ◌+◌, ◌^◌, ◌<◌, ◌≤◌, nat_lt, Bool, true, false, refl, ap, ap₂, sym, ◌∙◌, subst, List, [], ◌∷◌, Option, Some}
+use Rattle.std.proofs.Common.{arith}
 use Rattle.std.specs.Prelude.{nat_le}
 use Rattle.std.proofs.lemmas.Bool.{leb-true, ltb-true, ltb-false, leb-false}
 use Rattle.tx_events.specs.declared.Event.TheVariants.{Silent}
@@ -27,7 +28,8 @@ count_of [] = 0
 count_of (a ∷ others) = suc (count_of others)
 
 module _ (p : Program) (f : Func) (x : Values) where
-  pub moved_is : (n : ℕ) (ws args a u : List Term) (go : List ℕ → List ℕ → Act) → taken_off n ws args ≡ Some (a, u) → code.moved n (words_of p f x ws) (words_of p f x args) go ≡ go (words_of p f x a) (words_of p f x u)
+  pub moved_is : (n : ℕ) (ws args a u : List Term) (go : List ℕ → List ℕ → Act) → taken_off n ws args ≡ Some (a, u)
+      → code.moved n (words_of p f x ws) (words_of p f x args) go ≡ go (words_of p f x a) (words_of p f x u)
   moved_is zero ws args a u go e =
       let same = pair_same (args, ws) (a, u) e in
       ap₂ go (ap (λ (z : List Term × List Term). words_of p f x z.0) same) (ap (λ (z : List Term × List Term). words_of p f x z.1) same)
@@ -55,7 +57,8 @@ module _ (p : Program) (f : Func) (x : Values) where
   -- the variables from k on stand for these words
   pub variables_are : (ws : List ℕ) (k : ℕ) → ((i : ℕ) → x.word (k + i) ≡ word_at ws i) → words_of p f x (variables k (count_of ws)) ≡ ws
   variables_are [] k h = refl
-  variables_are (w ∷ ws) k h = ap₂ (λ (a : ℕ) (b : List ℕ). a ∷ b) (ap x.word (none k) ∙ h 0) (variables_are ws (suc k) (λ i. ap x.word (turned k i) ∙ h (suc i)))
+  variables_are (w ∷ ws) k h = ap₂ (λ (a : ℕ) (b : List ℕ). a ∷ b) (ap x.word (none k) ∙ h 0)
+      (variables_are ws (suc k) (λ i. ap x.word (turned k i) ∙ h (suc i)))
     where
       none : (k : ℕ) → k ≡ k + 0
       none k = omega arith
@@ -103,7 +106,8 @@ values_in x words base = record { word = λ n. word_at words n; exception = x.ex
 
 -- The source enters the function
 
-module _ (p : Program) (small : IsSmall p) (f g : Func) (x : Values) (bounded : AreWords x) (ws : List Waits) (k : List Form) (rest : List frames.Frame) (args : List Term) where
+module _ (p : Program) (small : IsSmall p) (f g : Func) (x : Values) (bounded : AreWords x) (ws : List Waits) (k : List Form) (rest : List frames.Frame)
+    (args : List Term) where
   abbrev new : Values
   new = values_in x (words_of p f x args) (x.base + f.size)
 
@@ -122,7 +126,8 @@ module _ (p : Program) (small : IsSmall p) (f g : Func) (x : Values) (bounded : 
 
   pub entered : (n : ℕ) → count_of args ≡ n → Shows p g new callers_left (goes silent [] (Passes (variables 0 n) g.words ∷ Then value g.body ∷ [])) first
   entered n e =
-      ap (λ (z : List ℕ). frames.at Silent (inside (here_of p f x ws) g) (frames.Passes z g.words ∷ frames.Then frames.value g.body ∷ callers_left)) (sym (new_variables n e))
+      ap (λ (z : List ℕ). frames.at Silent (inside (here_of p f x ws) g) (frames.Passes z g.words ∷ frames.Then frames.value g.body ∷ callers_left))
+      (sym (new_variables n e))
 
   pub new_words : AreWords new
   new_words n = words_below p f x bounded args n

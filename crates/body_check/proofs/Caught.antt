@@ -15,7 +15,8 @@ use Rattle.body_check.proofs.Landing.{equally}
 use Rattle.body_check.specs.Notes.{Note, Bounds, TypeFits, no_answers, IsThrown}
 use Rattle.body_check.specs.Calls.{by_return, NoteFits, Checked, Links, Begins}
 use Rattle.body_check.specs.Main.{number_of_type}
-use Rattle.body_check.specs.Caught.{number_typ, catch_func, catch_program, catch_row, catch_body, catch_names, after, one_thrown, push_note, new_note, put_note, throw_note, take_note, get_note, store_note, address_note, load_note, end_note, ret_note, catch_notes, catch_book}
+use Rattle.body_check.specs.Caught.{number_typ, catch_func, catch_program, catch_row, catch_body, catch_names, after, one_thrown, push_note, new_note, put_note}
+use Rattle.body_check.specs.Caught.{throw_note, take_note, get_note, store_note, address_note, load_note, end_note, ret_note, catch_notes, catch_book}
 use Rattle.body_check.proofs.Main.{cancels_same}
 
 pub bounds : Bounds
@@ -51,7 +52,22 @@ push_fits n safe = record {
   short = omega arith;
   foreseen = refl;
   fits = record {
-    lands = (equally catch_program catch_func bounds catch_notes (λ t. true) (record { at = 1; note = new_note; is = refl; there = refl; lag = 0; terms = same; types = λ n. tt; same_place = refl; same_facts = tt; same_outcome = refl; foreseen = refl; low = omega arith }));
+    lands = (equally catch_program catch_func bounds catch_notes (λ t. true)
+        (record {
+          at = 1;
+          note = new_note;
+          is = refl;
+          there = refl;
+          lag = 0;
+          terms = same;
+          types = λ n. tt;
+          same_place = refl;
+          same_facts = tt;
+          same_outcome =
+              refl;
+          foreseen = refl;
+          low = omega arith;
+        }));
     short = omega arith;
     goes_on = inl (omega arith);
   };
@@ -65,7 +81,22 @@ new_fits n safe = record {
   short = omega arith;
   foreseen = refl;
   fits = record {
-    lands = (equally catch_program catch_func bounds catch_notes (λ t. true) (record { at = 2; note = put_note; is = refl; there = refl; lag = 0; terms = same; types = λ n. tt; same_place = refl; same_facts = tt; same_outcome = refl; foreseen = refl; low = omega arith }));
+    lands = (equally catch_program catch_func bounds catch_notes (λ t. true)
+        (record {
+          at = 2;
+          note = put_note;
+          is = refl;
+          there = refl;
+          lag = 0;
+          terms = same;
+          types = λ n. tt;
+          same_place = refl;
+          same_facts = tt;
+          same_outcome =
+              refl;
+          foreseen = refl;
+          low = omega arith;
+        }));
     short = omega arith;
     goes_on = inr (omega arith);
   };
@@ -79,7 +110,22 @@ put_fits n safe = record {
   short = omega arith;
   foreseen = refl;
   fits = record {
-    lands = (equally catch_program catch_func bounds catch_notes (λ t. true) (record { at = 3; note = throw_note; is = refl; there = refl; lag = 0; terms = same; types = λ n. tt; same_place = refl; same_facts = tt; same_outcome = refl; foreseen = refl; low = omega arith }));
+    lands = (equally catch_program catch_func bounds catch_notes (λ t. true)
+        (record {
+          at = 3;
+          note = throw_note;
+          is = refl;
+          there = refl;
+          lag = 0;
+          terms = same;
+          types = λ n. tt;
+          same_place = refl;
+          same_facts = tt;
+          same_outcome =
+              refl;
+          foreseen = refl;
+          low = omega arith;
+        }));
     short = omega arith;
     goes_on = inr (omega arith);
   };
@@ -93,7 +139,22 @@ take_fits n safe = record {
   short = omega arith;
   foreseen = refl;
   fits = record {
-    lands = (equally catch_program catch_func bounds catch_notes (λ t. true) (record { at = 5; note = get_note; is = refl; there = refl; lag = 0; terms = same; types = λ n. tt; same_place = refl; same_facts = tt; same_outcome = refl; foreseen = refl; low = omega arith }));
+    lands = (equally catch_program catch_func bounds catch_notes (λ t. true)
+        (record {
+          at = 5;
+          note = get_note;
+          is = refl;
+          there = refl;
+          lag = 0;
+          terms = same;
+          types = λ n. tt;
+          same_place = refl;
+          same_facts = tt;
+          same_outcome =
+              refl;
+          foreseen = refl;
+          low = omega arith;
+        }));
     short = omega arith;
     goes_on = inl (omega arith);
   };
@@ -107,7 +168,22 @@ get_fits n safe = record {
   short = omega arith;
   foreseen = refl;
   fits = record {
-    lands = (equally catch_program catch_func bounds catch_notes (λ t. true) (record { at = 6; note = store_note; is = refl; there = refl; lag = 0; terms = same; types = λ n. tt; same_place = refl; same_facts = tt; same_outcome = refl; foreseen = refl; low = omega arith }));
+    lands = (equally catch_program catch_func bounds catch_notes (λ t. true)
+        (record {
+          at = 6;
+          note = store_note;
+          is = refl;
+          there = refl;
+          lag = 0;
+          terms = same;
+          types = λ n. tt;
+          same_place = refl;
+          same_facts = tt;
+          same_outcome =
+              refl;
+          foreseen = refl;
+          low = omega arith;
+        }));
     short = omega arith;
     goes_on = inr (omega arith);
   };
@@ -121,7 +197,22 @@ address_fits n safe = record {
   short = omega arith;
   foreseen = refl;
   fits = record {
-    lands = (equally catch_program catch_func bounds catch_notes (λ t. true) (record { at = 8; note = load_note; is = refl; there = refl; lag = 0; terms = same; types = λ n. tt; same_place = refl; same_facts = tt; same_outcome = refl; foreseen = refl; low = omega arith }));
+    lands = (equally catch_program catch_func bounds catch_notes (λ t. true)
+        (record {
+          at = 8;
+          note = load_note;
+          is = refl;
+          there = refl;
+          lag = 0;
+          terms = same;
+          types = λ n. tt;
+          same_place = refl;
+          same_facts = tt;
+          same_outcome =
+              refl;
+          foreseen = refl;
+          low = omega arith;
+        }));
     short = omega arith;
     goes_on = inl (omega arith);
   };
@@ -135,7 +226,22 @@ end_fits n safe = record {
   short = omega arith;
   foreseen = refl;
   fits = record {
-    lands = (equally catch_program catch_func bounds catch_notes (λ t. true) (record { at = 10; note = ret_note; is = refl; there = refl; lag = 0; terms = same; types = λ n. tt; same_place = refl; same_facts = tt; same_outcome = refl; foreseen = refl; low = omega arith }));
+    lands = (equally catch_program catch_func bounds catch_notes (λ t. true)
+        (record {
+          at = 10;
+          note = ret_note;
+          is = refl;
+          there = refl;
+          lag = 0;
+          terms = same;
+          types = λ n. tt;
+          same_place = refl;
+          same_facts = tt;
+          same_outcome =
+              refl;
+          foreseen = refl;
+          low = omega arith;
+        }));
     short = omega arith;
     goes_on = inl (omega arith);
   };
@@ -148,7 +254,26 @@ store_fits n safe = record {
   is = refl;
   short = omega arith;
   foreseen = refl;
-  fits = (refl, (equally catch_program catch_func bounds catch_notes (λ t. true) (record { at = 7; note = address_note; is = refl; there = refl; lag = 0; terms = same; types = λ n. tt; same_place = refl; same_facts = tt; same_outcome = refl; foreseen = refl; low = omega arith })), refl);
+  fits = (
+    refl,
+    (equally catch_program catch_func bounds catch_notes (λ t. true)
+        (record {
+          at = 7;
+          note = address_note;
+          is = refl;
+          there = refl;
+          lag = 0;
+          terms = same;
+          types = λ n. tt;
+          same_place = refl;
+          same_facts = tt;
+          same_outcome =
+              refl;
+          foreseen = refl;
+          low = omega arith;
+        })),
+    refl,
+  );
 }
 
 load_fits : (n : ℕ) (safe : Bool) → Fit n safe 8 load_note
@@ -158,17 +283,51 @@ load_fits n safe = record {
   is = refl;
   short = omega arith;
   foreseen = refl;
-  fits = (refl, (equally catch_program catch_func bounds catch_notes (λ t. true) (record { at = 9; note = end_note; is = refl; there = refl; lag = 0; terms = same; types = λ n. tt; same_place = refl; same_facts = tt; same_outcome = refl; foreseen = refl; low = omega arith })), refl);
+  fits = (
+    refl,
+    (equally catch_program catch_func bounds catch_notes (λ t. true)
+        (record {
+          at = 9;
+          note = end_note;
+          is = refl;
+          there = refl;
+          lag = 0;
+          terms = same;
+          types = λ n. tt;
+          same_place = refl;
+          same_facts = tt;
+          same_outcome =
+              refl;
+          foreseen = refl;
+          low = omega arith;
+        })),
+    refl,
+  );
 }
 
 -- the row takes the type, and the source comes to the handler
-int_lands : (n : ℕ) (safe : Bool) → TypeFits catch_program catch_func bounds catch_notes (λ t. true) number_of_type (catch_row ∷ []) [] 0 3 (holding throw_note.place nothing) one_thrown (after 2 throw_note.outcome) number_typ
+int_lands : (n : ℕ) (safe : Bool) → TypeFits catch_program catch_func bounds catch_notes (λ t. true) number_of_type (catch_row ∷ []) [] 0 3
+    (holding throw_note.place nothing) one_thrown (after 2 throw_note.outcome) number_typ
 unfolding bounds caught thrown_first
 int_lands n safe = record {
   answers = no_answers;
   right = λ m handler answer e. absurd cc;
   found = record {
-    lands = (equally catch_program catch_func bounds catch_notes (λ t. true) (record { at = 4; note = take_note; is = refl; there = refl; lag = 1; terms = caught; types = λ n. caught_thrown n; same_place = refl; same_facts = tt; same_outcome = refl; foreseen = refl; low = omega arith }));
+    lands = (equally catch_program catch_func bounds catch_notes (λ t. true)
+        (record {
+          at = 4;
+          note = take_note;
+          is = refl;
+          there = refl;
+          lag = 1;
+          terms = caught;
+          types = λ n. caught_thrown n;
+          same_place = refl;
+          same_facts = tt;
+          same_outcome = refl;
+          foreseen = refl;
+          low = omega arith;
+        }));
     some = inl (omega arith);
     short = omega arith;
   };
@@ -181,7 +340,17 @@ throw_fits n safe = record {
   is = refl;
   short = omega arith;
   foreseen = refl;
-  fits = (record { rank = 0; low = omega arith; fits = λ t is may. subst (λ z. TypeFits catch_program catch_func bounds catch_notes (λ t. true) number_of_type (catch_row ∷ []) [] 0 3 (holding throw_note.place nothing) one_thrown (after 2 throw_note.outcome) z) is (int_lands n safe) }, refl, inl (omega arith));
+  fits = (
+    record {
+      rank = 0;
+      low = omega arith;
+      fits = λ t is may. subst
+          (λ z. TypeFits catch_program catch_func bounds catch_notes (λ t. true) number_of_type (catch_row ∷ []) [] 0 3
+          (holding throw_note.place nothing) one_thrown (after 2 throw_note.outcome) z) is (int_lands n safe);
+    },
+    refl,
+    inl (omega arith),
+  );
 }
 
 ret_fits : (n : ℕ) (safe : Bool) → Fit n safe 10 ret_note
@@ -199,7 +368,8 @@ all_fit n safe (suc (suc (suc (suc (suc (suc zero)))))) note e = subst (λ z. Fi
 all_fit n safe (suc (suc (suc (suc (suc (suc (suc zero))))))) note e = subst (λ z. Fit n safe 7 z) (note_same address_note note e) (address_fits n safe)
 all_fit n safe (suc (suc (suc (suc (suc (suc (suc (suc zero)))))))) note e = subst (λ z. Fit n safe 8 z) (note_same load_note note e) (load_fits n safe)
 all_fit n safe (suc (suc (suc (suc (suc (suc (suc (suc (suc zero))))))))) note e = subst (λ z. Fit n safe 9 z) (note_same end_note note e) (end_fits n safe)
-all_fit n safe (suc (suc (suc (suc (suc (suc (suc (suc (suc (suc zero)))))))))) note e = subst (λ z. Fit n safe 10 z) (note_same ret_note note e) (ret_fits n safe)
+all_fit n safe (suc (suc (suc (suc (suc (suc (suc (suc (suc (suc zero)))))))))) note e =
+    subst (λ z. Fit n safe 10 z) (note_same ret_note note e) (ret_fits n safe)
 all_fit n safe (suc (suc (suc (suc (suc (suc (suc (suc (suc (suc (suc k))))))))))) note e = absurd cc
 
 catch_checked : (n : ℕ) (safe : Bool) → Checked catch_program bounds catch_book (catch_book.held n safe)
@@ -234,7 +404,19 @@ catch_links = record {
   cancels = λ t h. cancels_same t;
   one_type = (typ void false false, refl);
   checked = λ n safe body e. catch_checked n safe;
-  names = λ n safe. record { globals = λ s m e. absurd cc; functions = λ s m e. absurd cc; classes = λ s m e. absurd cc; types = λ s t e. type_right s t (s == 0) refl e; addresses = λ n. refl; slots = λ s class e a slot. absurd cc; spawned = λ a. refl; signatures = λ s sig e a. absurd cc; methods = λ s class slot a n e. absurd cc };
+  names = λ n safe. record {
+    globals = λ s m e. absurd cc;
+    functions = λ s m e. absurd cc;
+    classes = λ s m e. absurd cc;
+    types = λ s t e. type_right s t
+        (s == 0) refl e;
+    addresses = λ n. refl;
+    slots = λ s class e a slot. absurd cc;
+    spawned = λ a. refl;
+    signatures = λ s sig e a. absurd cc;
+    methods =
+        λ s class slot a n e. absurd cc;
+  };
   called = λ n safe name callee e. absurd cc;
   plain_there = λ n safe name callee e. absurd cc;
   pointed = λ a n sig count gives t e. absurd cc;

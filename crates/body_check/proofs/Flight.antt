@@ -55,20 +55,26 @@ own_type p f x (unknown n) = tt
 own_type p f x (made t puts) = refl
 
 -- what is answered is right
-pub answers_right : (p : Program) (f : Func) (x : Values) (e : Exception) (answers : Answers) → Answering p e (exception_of p f x e).typ answers → AreRight p x answers
+pub answers_right : (p : Program) (f : Func) (x : Values) (e : Exception) (answers : Answers) → Answering p e (exception_of p f x e).typ answers
+    → AreRight p x answers
 answers_right p f x e answers right n handler answer i =
     let r = right n handler answer i in
     ap (λ (z : Exception). catches p.classes (typ_in handler) (exception_of p f x z).typ) (sym r.0) ∙ r.1
 
-module _ (p : Program) (names : Names) (numbers : Typ → ℕ) (h : Held) (b : Bounds) (thrown : Typ → Bool) (home : Home) (limit : ℕ) (rest : List frames.Frame) (below_frames : List Frame) (small : IsSmall p)
+module _ (p : Program) (names : Names) (numbers : Typ → ℕ) (h : Held) (b : Bounds) (thrown : Typ → Bool) (home : Home) (limit : ℕ) (rest : List frames.Frame)
+    (below_frames : List Frame) (small : IsSmall p)
     (Related : ℕ → State → code.State → Type 0)
     (stands : (rank : ℕ) (s : State) (top : Frame) → Stands p numbers thrown h home limit rest rank s top → Related rank s (Runs top below_frames))
     (stops : (s : State) (c : code.State) → Stopped names s c → Related 0 s c)
-    (flies : (s : State) (x : Values) → AreWords x → Based thrown home limit x → (known : List Fact) → AllHold p h.func x known → (index : ℕ) (q : Place) (e : Exception) (o : Outcome) → (t : Flies p h.func b h.notes thrown numbers h.rows known index q e o) → thrown (exception_of p h.func x e).typ ≡ true → Shows p h.func x rest o s
+    (flies : (s : State) (x : Values) → AreWords x → Based thrown home limit x → (known : List Fact) → AllHold p h.func x known
+    → (index : ℕ) (q : Place) (e : Exception) (o : Outcome) → (t : Flies p h.func b h.notes thrown numbers h.rows known index q e o)
+    → thrown (exception_of p h.func x e).typ ≡ true → Shows p h.func x rest o s
     → Related t.rank s (Unwinds (coded numbers (exception_of p h.func x e)) (frame_at p h.func numbers x home index q) below_frames))
-    (current : code.current below_frames ≡ option_map (coded numbers) (frames.handled rest)) (current_type : (e : exceptions.Exception) → frames.handled rest ≡ Some e → thrown e.typ ≡ true)
+    (current : code.current below_frames ≡ option_map (coded numbers) (frames.handled rest))
+    (current_type : (e : exceptions.Exception) → frames.handled rest ≡ Some e → thrown e.typ ≡ true)
     (cancel : (t : Typ) → thrown t ≡ true → names.cancels (numbers t) ≡ cancels t)
-    (x : Values) (bounded : AreWords x) (based : Based thrown home limit x) (known : List Fact) (holds : AllHold p h.func x known) (rank index : ℕ) (q : Place) (e : Exception) (o : Outcome) (s : State) (shows : Shows p h.func x rest o s) (type : thrown (exception_of p h.func x e).typ ≡ true) where
+    (x : Values) (bounded : AreWords x) (based : Based thrown home limit x) (known : List Fact) (holds : AllHold p h.func x known) (rank index : ℕ) (q : Place)
+    (e : Exception) (o : Outcome) (s : State) (shows : Shows p h.func x rest o s) (type : thrown (exception_of p h.func x e).typ ≡ true) where
   abbrev exception : code.Exception
   exception = coded numbers (exception_of p h.func x e)
 
@@ -100,17 +106,42 @@ module _ (p : Program) (names : Names) (numbers : Typ → ℕ) (h : Held) (b : B
       some n after (inr h) = inr h
 
   -- the exception leaves a block
-  edge_move : (answers : Answers) (right : AreRight p x answers) (block : Open) (target : ℕ) (r : Place) → Edges p h.func b h.notes thrown known answers block target r e o → (event : Event) → event ≡ event_of p h.func x (leaves_block block (throws e))
-      → step_act names flight ≡ code.asks event (Runs (record { home = home; nest = record { opens = rest_of r.opens; caught = (frame_at p h.func numbers x home target r).nest.caught; held = Flying exception }; index = target; words = words r }) below_frames) → Moves
+  edge_move : (answers : Answers) (right : AreRight p x answers) (block : Open) (target : ℕ) (r : Place)
+      → Edges p h.func b h.notes thrown known answers block target r e o → (event : Event) → event ≡ event_of p h.func x (leaves_block block (throws e))
+      → step_act names flight ≡ code.asks event (Runs
+      (record {
+        home = home;
+        nest = record {
+          opens = rest_of r.opens;
+          caught = (frame_at p h.func numbers x home target r).nest.caught;
+          held =
+              Flying exception;
+        };
+        index = target;
+        words = words r;
+      }) below_frames) → Moves
   edge_move answers right block target r fits event event_is step_is =
       let a = advance p h.func x answers rest small bounded right fits.lag o s shows (ap is_stuck fits.is) in
-      let after = Runs (record { home = home; nest = record { opens = rest_of r.opens; caught = (frame_at p h.func numbers x home target r).nest.caught; held = Flying exception }; index = target; words = words r }) below_frames in
+      let after = Runs (record {
+        home = home;
+        nest = record {
+          opens = rest_of r.opens;
+          caught = (frame_at p h.func numbers x home target r).nest.caught;
+          held =
+              Flying exception;
+        };
+        index = target;
+        words = words r;
+      }) below_frames in
       leads fits.short (subst (λ z. Path (source p) z s a.to) a.long a.path)
-      (event_meets p names numbers h b thrown home limit rest below_frames small Related stands stops flies current current_type x based known holds a.to flight (leaves_block block (throws e)) fits.temporaries fits.others target (opened_later (holding r (flying e)) (rest_of r.opens)) bounded refl fits.lands fits.at_once
+      (event_meets p names numbers h b thrown home limit rest below_frames small Related stands stops flies current current_type x based known holds a.to flight
+      (leaves_block block (throws e)) fits.temporaries fits.others target
+      (opened_later (holding r (flying e)) (rest_of r.opens)) bounded refl fits.lands fits.at_once
       (record {
         on = λ reply. after;
         does = step_is ∙ ap (λ z. Does z (λ (reply : Reply). after)) event_is;
-        then_at = λ reply answered. frame_later p h.func numbers x reply home below_frames target (holding r (flying e)) (rest_of r.opens) (words r) (in_terms later r.operands) (sym (words_later p h.func numbers x reply r.operands));
+        then_at = λ reply answered. frame_later p h.func numbers x reply home below_frames target (holding r (flying e)) (rest_of r.opens) (words r)
+            (in_terms later r.operands) (sym (words_later p h.func numbers x reply r.operands));
       })
       (subst (λ z. Shows p h.func x rest z a.to) fits.is a.shows))
 
@@ -121,25 +152,34 @@ module _ (p : Program) (names : Names) (numbers : Typ → ℕ) (h : Held) (b : B
   raised_is kind = ap (λ z. Raise kind z) (cancel (exception_of p h.func x e).typ type)
 
   -- what a row does
-  row_move : (answers : Answers) (right : AreRight p x answers) (what target d : ℕ) → RowFits p h.func b h.notes thrown known answers rank what target (cut_to d q) e o
+  row_move : (answers : Answers) (right : AreRight p x answers) (what target d : ℕ)
+      → RowFits p h.func b h.notes thrown known answers rank what target (cut_to d q) e o
       → step_act names flight ≡ row_act names what target (words (cut_to d q)) exception frame below_frames → Moves
   row_move answers right zero target d fits i = reaches_move answers right target (holding (cut_to d q) (flying e)) fits i
   row_move answers right (suc zero) target d fits i = reaches_move answers right target (catching (cut_to d q) e) fits i
   row_move answers right (suc (suc zero)) target d fits i = reaches_move answers right target (catching (cut_to d q) e) fits i
-  row_move answers right (suc (suc (suc zero))) target d fits i = edge_move answers right (Atomic NoExcept) target (cut_to d q) fits (raised NoExcept) (raised_is NoExcept) i
-  row_move answers right (suc (suc (suc (suc zero)))) target d fits i = edge_move answers right (Atomic Commit) target (cut_to d q) fits (raised Commit) (raised_is Commit) i
-  row_move answers right (suc (suc (suc (suc (suc zero))))) target d fits i = edge_move answers right (Atomic Cancel) target (cut_to d q) fits (raised Cancel) (raised_is Cancel) i
+  row_move answers right (suc (suc (suc zero))) target d fits i =
+      edge_move answers right (Atomic NoExcept) target (cut_to d q) fits (raised NoExcept) (raised_is NoExcept) i
+  row_move answers right (suc (suc (suc (suc zero)))) target d fits i =
+      edge_move answers right (Atomic Commit) target (cut_to d q) fits (raised Commit) (raised_is Commit) i
+  row_move answers right (suc (suc (suc (suc (suc zero))))) target d fits i =
+      edge_move answers right (Atomic Cancel) target (cut_to d q) fits (raised Cancel) (raised_is Cancel) i
   row_move answers right (suc (suc (suc (suc (suc (suc zero)))))) target d fits i = edge_move answers right Sync target (cut_to d q) fits EndSync refl i
   row_move answers right (suc (suc (suc (suc (suc (suc (suc n))))))) target d fits i = absurd fits
 
   -- the row that is found, or none
-  found_move : (out : (answers : Answers) → AreRight p x answers → Outward p h.func b h.notes thrown answers e o → step_act names flight ≡ leave_act names exception frame below_frames → Moves)
-      → (answers : Answers) (right : AreRight p x answers) (found : Option Row) → FoundFits p h.func b h.notes thrown known answers rank found q e o → step_act names flight ≡ unwind_act names found exception frame below_frames → Moves
+  found_move : (out : (answers : Answers) → AreRight p x answers → Outward p h.func b h.notes thrown answers e o → step_act names flight
+      ≡ leave_act names exception frame below_frames → Moves)
+      → (answers : Answers) (right : AreRight p x answers) (found : Option Row) → FoundFits p h.func b h.notes thrown known answers rank found q e o
+      → step_act names flight ≡ unwind_act names found exception frame below_frames → Moves
   found_move out answers right None fits i = out answers right fits i
-  found_move out answers right (Some r) fits i = row_move answers right r.what r.target r.depth fits (i ∙ ap (λ z. row_act names r.what r.target z exception frame below_frames) (cut_is p h.func x r.depth q.operands))
+  found_move out answers right (Some r) fits i = row_move answers right r.what r.target r.depth fits
+      (i ∙ ap (λ z. row_act names r.what r.target z exception frame below_frames) (cut_is p h.func x r.depth q.operands))
 
-  pub flight_move : (out : (answers : Answers) → AreRight p x answers → Outward p h.func b h.notes thrown answers e o → step_act names flight ≡ leave_act names exception frame below_frames → Moves)
-      → rows_in names home ≡ h.rows → ((t : Typ) → IsOf e t → thrown t ≡ true → TypeFits p h.func b h.notes thrown numbers h.rows known rank index q e o t) → Moves
+  pub flight_move : (out : (answers : Answers) → AreRight p x answers → Outward p h.func b h.notes thrown answers e o → step_act names flight
+      ≡ leave_act names exception frame below_frames → Moves)
+      → rows_in names home ≡ h.rows → ((t : Typ) → IsOf e t → thrown t ≡ true → TypeFits p h.func b h.notes thrown numbers h.rows known rank index q e o t)
+      → Moves
   flight_move out rows fits =
       let t = (exception_of p h.func x e).typ in
       let c = fits t (own_type p h.func x e) type in

@@ -28,7 +28,21 @@ first_fits n safe = record {
   short = omega arith;
   foreseen = refl;
   fits = record {
-    lands = (equally main_program main_func bounds (first_note ∷ second_note ∷ []) (λ t. true) (record { at = 1; note = second_note; is = refl; there = refl; lag = 0; terms = same; types = λ n. tt; same_place = refl; same_facts = tt; same_outcome = refl; foreseen = refl; low = omega arith }));
+    lands = (equally main_program main_func bounds (first_note ∷ second_note ∷ []) (λ t. true)
+        (record {
+          at = 1;
+          note = second_note;
+          is = refl;
+          there = refl;
+          lag = 0;
+          terms = same;
+          types = λ n. tt;
+          same_place = refl;
+          same_facts = tt;
+          same_outcome = refl;
+          foreseen = refl;
+          low = omega arith;
+        }));
     short = omega arith;
     goes_on = inl (omega arith);
   };
@@ -41,9 +55,11 @@ second_fits n safe = record { instr = Ret 1; is = refl; short = omega arith; for
 note_same : (a b : Note) → ◌≡◌ {A = Option Note} (Some a) (Some b) → a ≡ b
 note_same a b e = cc
 
-all_fit : (n : ℕ) (safe : Bool) (index : ℕ) (note : Note) → slice_get (first_note ∷ second_note ∷ []) index ≡ Some note → NoteFits main_program bounds main_book (main_book.held n safe) note
+all_fit : (n : ℕ) (safe : Bool) (index : ℕ) (note : Note) → slice_get (first_note ∷ second_note ∷ []) index ≡ Some note
+    → NoteFits main_program bounds main_book (main_book.held n safe) note
 all_fit n safe zero note e = subst (λ z. NoteFits main_program bounds main_book (main_book.held n safe) z) (note_same first_note note e) (first_fits n safe)
-all_fit n safe (suc zero) note e = subst (λ z. NoteFits main_program bounds main_book (main_book.held n safe) z) (note_same second_note note e) (second_fits n safe)
+all_fit n safe (suc zero) note e = subst (λ z. NoteFits main_program bounds main_book (main_book.held n safe) z) (note_same second_note note e)
+    (second_fits n safe)
 all_fit n safe (suc (suc k)) note e = absurd cc
 
 main_checked : (n : ℕ) (safe : Bool) → Checked main_program bounds main_book (main_book.held n safe)
@@ -79,7 +95,18 @@ main_links = record {
   cancels = λ t h. cancels_same t;
   one_type = (typ void false false, refl);
   checked = λ n safe body e. main_checked n safe;
-  names = λ n safe. record { globals = λ s m e. absurd cc; functions = λ s m e. absurd cc; classes = λ s m e. absurd cc; types = λ s t e. absurd cc; addresses = λ n. refl; slots = λ s class e a slot. absurd cc; spawned = λ a. refl; signatures = λ s sig e a. absurd cc; methods = λ s class slot a n e. absurd cc };
+  names = λ n safe. record {
+    globals = λ s m e. absurd cc;
+    functions = λ s m e. absurd cc;
+    classes = λ s m e. absurd cc;
+    types = λ s t e. absurd cc;
+    addresses =
+        λ n. refl;
+    slots = λ s class e a slot. absurd cc;
+    spawned = λ a. refl;
+    signatures = λ s sig e a. absurd cc;
+    methods = λ s class slot a n e. absurd cc;
+  };
   called = λ n safe name callee e. absurd cc;
   plain_there = λ n safe name callee e. absurd cc;
   pointed = λ a n sig count gives t e. absurd cc;

@@ -13,7 +13,8 @@ use Rattle.body_check.proofs.Landing.{equally}
 use Rattle.body_check.specs.Notes.{Note, Bounds, no_answers}
 use Rattle.body_check.proofs.Main.{cancels_same}
 use Rattle.body_check.specs.Calls.{by_return, NoteFits, Checked, Links, Begins}
-use Rattle.body_check.specs.Pair.{calling_func, one_func, number_of, named, func_of, body_of, calling_body, pair_program, pair_names, behind_call, call_note, back_note, push_note, ret_note, pair_book}
+use Rattle.body_check.specs.Pair.{calling_func, one_func, number_of, named, func_of, body_of, calling_body, pair_program, pair_names, behind_call, call_note}
+use Rattle.body_check.specs.Pair.{back_note, push_note, ret_note, pair_book}
 
 pub bounds : Bounds
 bounds = record { half = 8; longest = 16; both = omega arith; most = 1 }
@@ -46,7 +47,21 @@ call_fits safe = record {
     taken = refl;
     behind = record {
       back = record {
-        lands = (equally pair_program calling_func bounds (call_note ∷ back_note ∷ []) (λ t. true) (record { at = 1; note = back_note; is = refl; there = refl; lag = 1; terms = same; types = λ n. tt; same_place = refl; same_facts = tt; same_outcome = refl; foreseen = refl; low = omega arith }));
+        lands = (equally pair_program calling_func bounds (call_note ∷ back_note ∷ []) (λ t. true)
+            (record {
+              at = 1;
+              note = back_note;
+              is = refl;
+              there = refl;
+              lag = 1;
+              terms = same;
+              types = λ n. tt;
+              same_place = refl;
+              same_facts = tt;
+              same_outcome = refl;
+              foreseen = refl;
+              low = omega arith;
+            }));
         some = omega arith;
         short = omega arith;
       };
@@ -78,7 +93,22 @@ push_fits n safe = record {
   short = omega arith;
   foreseen = refl;
   fits = record {
-    lands = (equally pair_program one_func bounds (push_note ∷ ret_note ∷ []) (λ t. true) (record { at = 1; note = ret_note; is = refl; there = refl; lag = 0; terms = same; types = λ n. tt; same_place = refl; same_facts = tt; same_outcome = refl; foreseen = refl; low = omega arith }));
+    lands = (equally pair_program one_func bounds (push_note ∷ ret_note ∷ []) (λ t. true)
+        (record {
+          at = 1;
+          note = ret_note;
+          is = refl;
+          there = refl;
+          lag = 0;
+          terms = same;
+          types = λ n. tt;
+          same_place = refl;
+          same_facts = tt;
+          same_outcome =
+              refl;
+          foreseen = refl;
+          low = omega arith;
+        }));
     short = omega arith;
     goes_on = inl (omega arith);
   };
@@ -135,7 +165,19 @@ pair_links = record {
   cancels = λ t h. cancels_same t;
   one_type = (typ void false false, refl);
   checked = λ n safe body e. pair_checked n safe;
-  names = λ n safe. record { globals = λ s m e. absurd cc; functions = λ s m e. ap function_address (called_right s m e); classes = λ s m e. absurd cc; types = λ s t e. absurd cc; addresses = λ n. refl; slots = λ s class e a slot. absurd cc; spawned = λ a. refl; signatures = λ s sig e a. absurd cc; methods = λ s class slot a n e. absurd cc };
+  names = λ n safe. record {
+    globals = λ s m e. absurd cc;
+    functions = λ s m e. ap function_address (called_right s m e);
+    classes = λ s m e. absurd cc;
+    types =
+        λ s t e. absurd cc;
+    addresses = λ n. refl;
+    slots = λ s class e a slot. absurd cc;
+    spawned = λ a. refl;
+    signatures = λ s sig e a. absurd cc;
+    methods =
+        λ s class slot a n e. absurd cc;
+  };
   called = λ n safe name callee e. called_right name callee e;
   plain_there = λ n safe name callee e. (body_of (number_of callee), refl);
   pointed = λ a n sig count gives t e. absurd cc;

@@ -17,7 +17,8 @@ use Rattle.body_check.proofs.Pair.{called_right, small_function}
 use Rattle.body_check.specs.Pair.{one_func, number_of, one_body}
 use Rattle.symbolic_source.specs.Frames.{pointer}
 use Rattle.body_check.specs.Calls.{by_return, NoteFits, Checked, Links, Begins, by_pointer, Whole}
-use Rattle.body_check.specs.Pointed.{pointing_func, func_of, body_of, pointing_body, pointed_program, pointed_names, behind_call, call_note, back_note, push_note, ret_note, pointed_book, one_signature, address_note}
+use Rattle.body_check.specs.Pointed.{pointing_func, func_of, body_of, pointing_body, pointed_program, pointed_names, behind_call, call_note, back_note}
+use Rattle.body_check.specs.Pointed.{push_note, ret_note, pointed_book, one_signature, address_note}
 
 pub bounds : Bounds
 bounds = record { half = 8; longest = 16; both = omega arith; most = 1 }
@@ -39,7 +40,22 @@ address_fits safe = record {
   short = omega arith;
   foreseen = refl;
   fits = record {
-    lands = equally pointed_program pointing_func bounds (address_note ∷ call_note ∷ back_note ∷ []) (λ t. true) (record { at = 1; note = call_note; is = refl; there = refl; lag = 0; terms = same; types = λ n. tt; same_place = refl; same_facts = tt; same_outcome = refl; foreseen = refl; low = omega arith });
+    lands = equally pointed_program pointing_func bounds (address_note ∷ call_note ∷ back_note ∷ []) (λ t. true)
+        (record {
+          at = 1;
+          note = call_note;
+          is = refl;
+          there = refl;
+          lag = 0;
+          terms = same;
+          types = λ n. tt;
+          same_place = refl;
+          same_facts = tt;
+          same_outcome =
+              refl;
+          foreseen = refl;
+          low = omega arith;
+        });
     short = omega arith;
     goes_on = inl (omega arith);
   };
@@ -65,7 +81,21 @@ call_fits safe = record {
     operands_are = refl;
     behind = record {
       back = record {
-        lands = (equally pointed_program pointing_func bounds (address_note ∷ call_note ∷ back_note ∷ []) (λ t. true) (record { at = 2; note = back_note; is = refl; there = refl; lag = 1; terms = same; types = λ n. tt; same_place = refl; same_facts = tt; same_outcome = refl; foreseen = refl; low = omega arith }));
+        lands = (equally pointed_program pointing_func bounds (address_note ∷ call_note ∷ back_note ∷ []) (λ t. true)
+            (record {
+              at = 2;
+              note = back_note;
+              is = refl;
+              there = refl;
+              lag = 1;
+              terms = same;
+              types = λ n. tt;
+              same_place = refl;
+              same_facts = tt;
+              same_outcome = refl;
+              foreseen = refl;
+              low = omega arith;
+            }));
         some = omega arith;
         short = omega arith;
       };
@@ -97,7 +127,22 @@ push_fits n safe = record {
   short = omega arith;
   foreseen = refl;
   fits = record {
-    lands = (equally pointed_program one_func bounds (push_note ∷ ret_note ∷ []) (λ t. true) (record { at = 1; note = ret_note; is = refl; there = refl; lag = 0; terms = same; types = λ n. tt; same_place = refl; same_facts = tt; same_outcome = refl; foreseen = refl; low = omega arith }));
+    lands = (equally pointed_program one_func bounds (push_note ∷ ret_note ∷ []) (λ t. true)
+        (record {
+          at = 1;
+          note = ret_note;
+          is = refl;
+          there = refl;
+          lag = 0;
+          terms = same;
+          types = λ n. tt;
+          same_place = refl;
+          same_facts = tt;
+          same_outcome =
+              refl;
+          foreseen = refl;
+          low = omega arith;
+        }));
     short = omega arith;
     goes_on = inl (omega arith);
   };
@@ -136,10 +181,12 @@ found_whole true n e =
     subst (λ z. Whole pointed_names pointed_book z 0 true) same_number (record { body = one_body; there = refl; takes = refl; gives_so = refl })
 found_whole false n e = absurd cc
 
-takes_none : (n count : ℕ) (gives : Bool) → ((count == 0) && gives) ≡ true → Whole pointed_names pointed_book n 0 true → Whole pointed_names pointed_book n count gives
+takes_none : (n count : ℕ) (gives : Bool) → ((count == 0) && gives) ≡ true → Whole pointed_names pointed_book n 0 true
+    → Whole pointed_names pointed_book n count gives
 takes_none n count gives e w =
     let both = and_parts (count == 0) gives e in
-    subst (λ z. Whole pointed_names pointed_book n count z) (sym both.1) (subst (λ z. Whole pointed_names pointed_book n z true) (sym (eqb-true count 0 both.0)) w)
+    subst (λ z. Whole pointed_names pointed_book n count z) (sym both.1)
+    (subst (λ z. Whole pointed_names pointed_book n z true) (sym (eqb-true count 0 both.0)) w)
 
 body_there : (n : ℕ) (body : BodyView) → ◌≡◌ {A = Option BodyView} (Some (body_of n)) (Some body) → body_of n ≡ body
 body_there n body e = cc
@@ -157,7 +204,19 @@ pointed_links = record {
   cancels = λ t h. cancels_same t;
   one_type = (typ void false false, refl);
   checked = λ n safe body e. pointed_checked n safe;
-  names = λ n safe. record { globals = λ s m e. absurd cc; functions = λ s m e. ap function_address (called_right s m e); classes = λ s m e. absurd cc; types = λ s t e. absurd cc; addresses = λ n. refl; slots = λ s class e a slot. absurd cc; spawned = λ a. refl; signatures = λ s sig e a. refl; methods = λ s class slot a n e. absurd cc };
+  names = λ n safe. record {
+    globals = λ s m e. absurd cc;
+    functions = λ s m e. ap function_address (called_right s m e);
+    classes = λ s m e. absurd cc;
+    types =
+        λ s t e. absurd cc;
+    addresses = λ n. refl;
+    slots = λ s class e a slot. absurd cc;
+    spawned = λ a. refl;
+    signatures = λ s sig e a. refl;
+    methods =
+        λ s class slot a n e. absurd cc;
+  };
   called = λ n safe name callee e. called_right name callee e;
   plain_there = λ n safe name callee e. (body_of (number_of callee), refl);
   pointed = λ a n sig count gives t e. takes_none n count gives t (found_whole (a == function_address 1) n e);

@@ -1,5 +1,6 @@
 -- Calls between checked bodies, and returns.
-use Rattle.std.specs.Prelude.{ℕ, zero, suc, ◌+◌, ◌==◌, ◌≡◌, ◌≤◌, nat_lt, Bool, true, false, not, ◌||◌, is_some, List, [], ◌∷◌, length, map, Option, Some, None, slice_get}
+use Rattle.std.specs.Prelude.{ℕ, zero, suc, ◌+◌, ◌==◌, ◌≡◌, ◌≤◌, nat_lt, Bool, true, false, not, ◌||◌, is_some, List, [], ◌∷◌, length, map, Option, Some, None}
+use Rattle.std.specs.Prelude.{slice_get}
 use Rattle.tx_events.specs.Thread.{Open, no_atomic}
 use Rattle.tx_code.specs.declared.instr.Instr.{Instr}
 use Rattle.tx_code.specs.declared.instr.Instr.TheVariants.{Call, TCall, CallIndirect, TCallIndirect, Ret}
@@ -11,7 +12,8 @@ use Rattle.src_mean.specs.Linked.{Program}
 use Rattle.src_mean.specs.Exceptions.{cancels}
 use Rattle.src_mean.specs.Source.{is_safe, empty_stack}
 use Rattle.symbolic_source.specs.Terms.{Term, Exception, number, variable, slot_function, unknown}
-use Rattle.symbolic_source.specs.Frames.{Waiting, Frame, value, throws, returns, Callee, known as known_func, virtual, pointer, Passes, Then, Gives, handled, blocks_in}
+use Rattle.symbolic_source.specs.Frames.{Waiting, Frame, value, throws, returns, Callee, known as known_func, virtual, pointer, Passes, Then, Gives, handled}
+use Rattle.symbolic_source.specs.Frames.{blocks_in}
 use Rattle.symbolic_source.specs.Outcomes.{silent, Outcome, goes, hands, goes_out, calls}
 use Rattle.symbolic_source.specs.Steps.{left, advanced}
 use Rattle.symbolic_source.specs.Small.{is_stuck}
@@ -22,7 +24,8 @@ use Rattle.symbolic_code.specs.Following.{followed, AreNames}
 use Rattle.body_check.specs.Notes.{Note, Bounds, Lands, Fits, Flies, in_place, rising, no_answers, variables, IsThrown}
 use Rattle.body_check.specs.Linked.{Held}
 
--- the bodies by function and by whether it is the safe one; whether a function hands back a word, how many words it takes, and whether it lets no exception out; types' numbers
+-- the bodies by function and by whether it is the safe one; whether a function hands back a word, how many words it takes, and whether it lets no exception
+-- out; types' numbers
 pub record Book : Type 0 where
   pub held : (func : ℕ) → (safe : Bool) → Held
   pub gives : (func : ℕ) → Bool
@@ -70,16 +73,20 @@ module _ (p : Program) (b : Bounds) (book : Book) where
     pub short : lands.lag ≤ b.half
 
   abbrev pub BackWith : (gives : Bool) → Held → List Fact → ℕ → Place → List Term → List Waiting → List Frame → Type 0
-  BackWith true h known i q under ws k = Back h (in_facts later known) (i + 1) (place_later q (variable 0 ∷ in_terms later under)) (goes silent (in_waitings later ws) (Gives (variable 0) ∷ in_frames later k))
+  BackWith true h known i q under ws k = Back h (in_facts later known) (i + 1) (place_later q (variable 0 ∷ in_terms later under))
+      (goes silent (in_waitings later ws) (Gives (variable 0) ∷ in_frames later k))
   BackWith false h known i q under ws k = Back h known (i + 1) (with_operands q under) (goes silent ws (Gives (number 0) ∷ k))
 
   -- how the caller goes on where an exception comes out of the callee
   abbrev pub ThrownWith : Held → List Fact → ℕ → Place → List Term → List Waiting → List Frame → Type 0
   ThrownWith h known i q under ws k =
-      Flies p h.func b h.notes book.thrown book.numbers h.rows (in_facts rising known) i (in_place rising (with_operands q under)) (unknown 0) (left (in_waitings rising ws) (throws (unknown 0)) (in_frames rising k))
+      Flies p h.func b h.notes book.thrown book.numbers h.rows (in_facts rising known) i (in_place rising (with_operands q under)) (unknown 0)
+      (left (in_waitings rising ws) (throws (unknown 0)) (in_frames rising k))
 
-  -- what a call leaves behind it, where the words of the call have been taken off: the function hands back a word or none, and lets no exception out or may do so
-  pub record Behind (gives stops : Bool) (h : Held) (known : List Fact) (index : ℕ) (q : Place) (under : List Term) (ws : List Waiting) (k : List Frame) : Type 0 where
+  -- what a call leaves behind it, where the words of the call have been taken off: the function hands back a word or none, and lets no exception out or may do
+  -- so
+  pub record Behind (gives stops : Bool) (h : Held) (known : List Fact) (index : ℕ) (q : Place) (under : List Term) (ws : List Waiting)
+      (k : List Frame) : Type 0 where
     pub back : BackWith gives h known index q under ws k
     pub thrown : stops ≡ false → ThrownWith h known index q under ws k
     pub opens : q.opens ≡ blocks_in k
@@ -101,8 +108,10 @@ module _ (p : Program) (b : Bounds) (book : Book) where
 
   -- the word that a call by an address finds its function with, where the functions that can be found take so many words, and hand back a word or none
   pub data Found (h : Held) (known : List Fact) (name : ℕ) : Term → Callee → (count : ℕ) → (gives : Bool) → Type 0 where
-    by_pointer : {count : ℕ} {gives : Bool} (address : Term) (sig : Signature) → h.table.is_signature name sig ≡ true → book.takes_as sig count gives ≡ true → Found h known name address (pointer address sig) count gives
-    by_slot : {count : ℕ} {gives : Bool} (class slot : ℕ) (address : Term) → h.table.is_slot name class slot ≡ true → book.slot_takes class slot count gives ≡ true → Among (has_function class slot address) known
+    by_pointer : {count : ℕ} {gives : Bool} (address : Term) (sig : Signature) → h.table.is_signature name sig ≡ true → book.takes_as sig count gives ≡ true
+        → Found h known name address (pointer address sig) count gives
+    by_slot : {count : ℕ} {gives : Bool} (class slot : ℕ) (address : Term) → h.table.is_slot name class slot ≡ true
+        → book.slot_takes class slot count gives ≡ true → Among (has_function class slot address) known
         → Found h known name (slot_function class slot address) (virtual class slot address) count gives
 
   pub record CallingFound (h : Held) (known : List Fact) (index : ℕ) (q : Place) (o : Outcome) (name count : ℕ) : Type 0 where
@@ -125,7 +134,8 @@ module _ (p : Program) (b : Bounds) (book : Book) where
   -- what each instruction asks
   abbrev pub StepFits : Held → (known : List Fact) → (lead rank index : ℕ) → Instr → Place → Outcome → Type 0
   StepFits h known lead rank index (Call name n) q o = Calling h known index q o name n
-  StepFits h known lead rank index (TCall name n) q o = (covers h.safe q.opens ≡ true) × (c : Calling h known index q o name n) × (is_safe (p.func (p.number h.func.unit c.callee)) ≡ true)
+  StepFits h known lead rank index (TCall name n) q o = (covers h.safe q.opens ≡ true) × (c : Calling h known index q o name n)
+      × (is_safe (p.func (p.number h.func.unit c.callee)) ≡ true)
   StepFits h known lead rank index (CallIndirect name n) q o = CallingFound h known index q o name n
   StepFits h known lead rank index (TCallIndirect name n) q o = (covers h.safe q.opens ≡ true) × CallingFound h known index q o name n
   StepFits h known lead rank index (Ret zero) q o = (book.gives h.number ≡ false) × Returning false q o
@@ -148,7 +158,8 @@ module _ (p : Program) (b : Bounds) (book : Book) where
     pub first : note.index ≡ 0
     pub facts_are : note.facts ≡ []
     pub place_is : note.place ≡ bare (book.takes h.number)
-    pub outcome_is : note.outcome ≡ advanced p h.func no_answers 1 (goes silent [] (Passes (variables 0 (book.takes h.number)) h.func.words ∷ Then value h.func.body ∷ []))
+    pub outcome_is : note.outcome ≡ advanced p h.func no_answers 1
+        (goes silent [] (Passes (variables 0 (book.takes h.number)) h.func.words ∷ Then value h.func.body ∷ []))
     pub foreseen : is_stuck note.outcome ≡ false
     pub low : note.rank ≤ b.most
 
@@ -178,13 +189,16 @@ pub record Links (p : Program) (x : Names) (b : Bounds) (book : Book) : Type 0 w
   pub one_type : (t : Typ) × (book.thrown t ≡ true)
   pub checked : (n : ℕ) (safe : Bool) (body : BodyView) → x.body n safe ≡ Some body → Checked p b book (book.held n safe)
   pub names : (n : ℕ) (safe : Bool) → AreNames p (book.held n safe).func book.numbers x (x.numbering n) (book.held n safe).table
-  pub called : (n : ℕ) (safe : Bool) (name callee : ℕ) → (book.held n safe).table.function_of name ≡ Some callee → (x.numbering n).func name ≡ p.number (book.held n safe).func.unit callee
+  pub called : (n : ℕ) (safe : Bool) (name callee : ℕ) → (book.held n safe).table.function_of name ≡ Some callee
+      → (x.numbering n).func name ≡ p.number (book.held n safe).func.unit callee
   -- what has a name is there
   pub plain_there : (n : ℕ) (safe : Bool) (name callee : ℕ) → (book.held n safe).table.function_of name ≡ Some callee
       → (body : BodyView) × (x.body (p.number (book.held n safe).func.unit callee) false ≡ Some body)
   -- what an address finds is there, and takes its words
-  pub pointed : (a n : ℕ) (sig : Signature) (count : ℕ) (gives : Bool) → book.takes_as sig count gives ≡ true → p.pointed a sig ≡ Some n → Whole x book n count gives
-  pub slotted : (a class slot n count : ℕ) (gives : Bool) → book.slot_takes class slot count gives ≡ true → p.slot a class slot ≡ Some n → Whole x book n count gives
+  pub pointed : (a n : ℕ) (sig : Signature) (count : ℕ) (gives : Bool) → book.takes_as sig count gives ≡ true → p.pointed a sig ≡ Some n
+      → Whole x book n count gives
+  pub slotted : (a class slot n count : ℕ) (gives : Bool) → book.slot_takes class slot count gives ≡ true → p.slot a class slot ≡ Some n
+      → Whole x book n count gives
   -- a function has a safe body where the source has
   pub safe_bodies : (n : ℕ) → is_safe (p.func n) ≡ is_some (x.body n true)
 

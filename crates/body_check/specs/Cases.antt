@@ -1,5 +1,6 @@
 -- The types of exceptions in finitely many cases: each class of a list, each of some spellings, and all others.
-use Rattle.std.specs.Prelude.{ℕ, zero, suc, ◌==◌, ◌≡◌, cond, Bool, true, false, not, ◌&&◌, ◌||◌, List, [], ◌∷◌, ◌++◌, length, Option, Some, None, nat_eq, if◌then◌else◌}
+use Rattle.std.specs.Prelude.{ℕ, zero, suc, ◌==◌, ◌≡◌, cond, Bool, true, false, not, ◌&&◌, ◌||◌, List, [], ◌∷◌, ◌++◌, length, Option, Some, None, nat_eq}
+use Rattle.std.specs.Prelude.{if◌then◌else◌}
 use Rattle.std.specs.List.{list_any}
 use Rattle.tx_code.specs.declared.body.Row.{Row}
 use Rattle.tx_code.specs.Meaning.{covers}
@@ -76,7 +77,8 @@ module _ (classes : List Class) (known : List (List ℕ)) where
   -- the numbers in rows are those of types of known spellings
   abbrev pub AreSpelled : (numbers : Typ → ℕ) → (spelling_of : ℕ → List ℕ) → List Row → Type 0
   AreSpelled numbers spelling_of [] = Unit {0}
-  AreSpelled numbers spelling_of (r ∷ rs) = (nat_eq r.what 1 ≡ true → (is_known known (spelling_of r.ty) ≡ true) × ((t : Typ) → nat_eq r.ty (numbers t) ≡ name_eq (spelling_of r.ty) (spelled classes (form_in t))))
+  AreSpelled numbers spelling_of (r ∷ rs) = (nat_eq r.what 1 ≡ true → (is_known known (spelling_of r.ty) ≡ true) ×
+      ((t : Typ) → nat_eq r.ty (numbers t) ≡ name_eq (spelling_of r.ty) (spelled classes (form_in t))))
       × AreSpelled numbers spelling_of rs
 
 abbrev pub Each : (Case → Type 0) → List Case → Type 0

@@ -1,4 +1,5 @@
--- A whole program in which an exception is thrown and caught: `int main() { try { throw 1; } catch (int e) { return e; } return 0; }`, with its code and its notes.
+-- A whole program in which an exception is thrown and caught: `int main() { try { throw 1; } catch (int e) { return e; } return 0; }`, with its code and its
+-- notes.
 use Rattle.std.specs.Prelude.{ℕ, ◌==◌, cond, true, false, List, [], ◌∷◌, Option, Some, None}
 use Rattle.tx_ints.specs.declared.kinds.IntKind.TheVariants.{Int}
 use Rattle.tx_code.specs.declared.instr.Instr.TheVariants.{Push, FrameAddr, Load, Store, NewException, PutException, Throw, GetException, EndHandler, Ret}
@@ -117,7 +118,8 @@ handling = goes silent [] (Run value handler_body ∷ Handling (unknown 0) ∷ b
 
 -- the word is read, and returned
 abbrev pub returning : Outcome
-returning = given catch_program catch_func no_answers [] (variable 0) (Loaded Int ∷ Returning ∷ Items none ∷ Scope of_block true [] ∷ Handling (unknown 0) ∷ behind_try)
+returning = given catch_program catch_func no_answers [] (variable 0)
+    (Loaded Int ∷ Returning ∷ Items none ∷ Scope of_block true [] ∷ Handling (unknown 0) ∷ behind_try)
 
 -- in the handler, with these operands
 abbrev pub in_handler : List Term → Place
@@ -130,10 +132,26 @@ abbrev pub new_note : Note
 new_note = record { index = 1; place = with_operands (bare 0) (number 1 ∷ []); facts = []; outcome = after 8 catch_begun; lead = 0; rank = 3 }
 
 abbrev pub put_note : Note
-put_note = record { index = 2; place = holding (with_operands (bare 0) (number 1 ∷ [])) (making number_typ untouched); facts = []; outcome = after 8 catch_begun; lead = 0; rank = 2 }
+put_note = record {
+  index = 2;
+  place = holding (with_operands (bare 0) (number 1 ∷ [])) (making number_typ untouched);
+  facts = [];
+  outcome =
+      after 8 catch_begun;
+  lead = 0;
+  rank = 2;
+}
 
 abbrev pub throw_note : Note
-throw_note = record { index = 3; place = holding (bare 0) (making number_typ (put 0 4 (number 1) untouched)); facts = []; outcome = after 8 catch_begun; lead = 2; rank = 1 }
+throw_note = record {
+  index = 3;
+  place = holding (bare 0) (making number_typ (put 0 4 (number 1) untouched));
+  facts = [];
+  outcome = after 8 catch_begun;
+  lead =
+      2;
+  rank = 1;
+}
 
 abbrev pub take_note : Note
 take_note = record { index = 4; place = in_handler []; facts = []; outcome = taking; lead = 2; rank = 3 }
@@ -142,7 +160,14 @@ abbrev pub get_note : Note
 get_note = record { index = 5; place = in_handler (local 0 ∷ []); facts = []; outcome = after 2 taking; lead = 0; rank = 2 }
 
 abbrev pub store_note : Note
-store_note = record { index = 6; place = in_handler (converted_to Int (field (unknown 0) 0 4) ∷ local 0 ∷ []); facts = []; outcome = after 2 taking; lead = 0; rank = 1 }
+store_note = record {
+  index = 6;
+  place = in_handler (converted_to Int (field (unknown 0) 0 4) ∷ local 0 ∷ []);
+  facts = [];
+  outcome = after 2 taking;
+  lead = 0;
+  rank = 1;
+}
 
 abbrev pub address_note : Note
 address_note = record { index = 7; place = in_handler []; facts = []; outcome = handling; lead = 5; rank = 3 }
@@ -154,7 +179,15 @@ abbrev pub end_note : Note
 end_note = record { index = 9; place = in_handler (converted_to Int (variable 0) ∷ []); facts = []; outcome = returning; lead = 1; rank = 1 }
 
 abbrev pub ret_note : Note
-ret_note = record { index = 10; place = with_operands (bare 0) (converted_to Int (variable 0) ∷ []); facts = []; outcome = after 1 returning; lead = 1; rank = 0 }
+ret_note = record {
+  index = 10;
+  place = with_operands (bare 0) (converted_to Int (variable 0) ∷ []);
+  facts = [];
+  outcome = after 1 returning;
+  lead = 1;
+  rank =
+      0;
+}
 
 abbrev pub catch_notes : List Note
 catch_notes = push_note ∷ new_note ∷ put_note ∷ throw_note ∷ take_note ∷ get_note ∷ store_note ∷ address_note ∷ load_note ∷ end_note ∷ ret_note ∷ []
@@ -164,7 +197,15 @@ abbrev pub named_type : ℕ → Option Typ
 named_type n = cond (n == 0) (Some number_typ) None
 
 abbrev pub catch_table : Table
-catch_table = record { global_of = λ n. None; function_of = λ n. None; class_of = λ n. None; type_of = named_type; is_signature = λ n sig. false; is_slot = λ n c s. false }
+catch_table = record {
+  global_of = λ n. None;
+  function_of = λ n. None;
+  class_of = λ n. None;
+  type_of = named_type;
+  is_signature = λ n sig. false;
+  is_slot =
+      λ n c s. false;
+}
 
 abbrev pub catch_book : Book
 catch_book = record {

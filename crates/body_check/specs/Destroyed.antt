@@ -1,4 +1,5 @@
--- A whole program with a loop over an array: `struct E { ~E() { } }; int main() { E e[3]; return 0; }`, with its code and its notes. One note at each index of the loop serves all rounds.
+-- A whole program with a loop over an array: `struct E { ~E() { } }; int main() { E e[3]; return 0; }`, with its code and its notes. One note at each index of
+-- the loop serves all rounds.
 use Rattle.std.specs.Prelude.{ℕ, zero, suc, ◌==◌, Bool, true, false, List, [], ◌∷◌, Some, None}
 use Rattle.tx_ints.specs.declared.kinds.IntKind.TheVariants.{Int, ULong}
 use Rattle.tx_code.specs.declared.instr.Instr.TheVariants.{Push, Dup, Pop, Swap, Over, FrameAddr, Store, Bin, Jump, JumpZero, Call, Ret}
@@ -68,7 +69,12 @@ array_program = record {
 }
 
 abbrev pub array_body : BodyView
-array_body = record { code = Push 0 ∷ FrameAddr 0 ∷ Push 3 ∷ Push 1 ∷ Bin 1 9 ∷ Over ∷ Over ∷ Push 1 ∷ Bin 2 9 ∷ Bin 0 9 ∷ Call 1 1 ∷ Dup ∷ JumpZero 14 ∷ Jump 3 ∷ Pop ∷ Pop ∷ Ret 1 ∷ []; rows = []; lines = [] }
+array_body = record {
+  code = Push 0 ∷ FrameAddr 0 ∷ Push 3 ∷ Push 1 ∷ Bin 1 9 ∷ Over ∷ Over ∷ Push 1 ∷ Bin 2 9 ∷ Bin 0 9 ∷ Call 1 1 ∷ Dup ∷ JumpZero 14 ∷ Jump 3
+      ∷ Pop ∷ Pop ∷ Ret 1 ∷ [];
+  rows = [];
+  lines = [];
+}
 
 abbrev pub own_body_code : BodyView
 own_body_code = record { code = FrameAddr 0 ∷ Swap ∷ Store 9 ∷ Ret 0 ∷ []; rows = []; lines = [] }
@@ -148,37 +154,112 @@ abbrev pub main_note_2 : Note
 main_note_2 = record { index = 2; place = with_operands (bare 0) (local 0 ∷ number 0 ∷ []); facts = []; outcome = first_call; lead = 0; rank = 8 }
 
 abbrev pub main_note_3 : Note
-main_note_3 = record { index = 3; place = with_operands (bare 0) (variable 0 ∷ local 0 ∷ number 0 ∷ []); facts = not_zero (variable 0) ∷ []; outcome = next_call; lead = 0; rank = 7 }
+main_note_3 = record {
+  index = 3;
+  place = with_operands (bare 0) (variable 0 ∷ local 0 ∷ number 0 ∷ []);
+  facts = not_zero (variable 0) ∷ [];
+  outcome =
+      next_call;
+  lead = 0;
+  rank = 7;
+}
 
 abbrev pub main_note_4 : Note
-main_note_4 = record { index = 4; place = with_operands (bare 0) (number 1 ∷ variable 0 ∷ local 0 ∷ number 0 ∷ []); facts = not_zero (variable 0) ∷ []; outcome = next_call; lead = 0; rank = 6 }
+main_note_4 = record {
+  index = 4;
+  place = with_operands (bare 0) (number 1 ∷ variable 0 ∷ local 0 ∷ number 0 ∷ []);
+  facts = not_zero (variable 0) ∷ [];
+  outcome = next_call;
+  lead = 0;
+  rank = 6;
+}
 
 abbrev pub main_note_5 : Note
 main_note_5 = record { index = 5; place = with_operands (bare 0) (left ∷ local 0 ∷ number 0 ∷ []); facts = []; outcome = next_call; lead = 0; rank = 5 }
 
 abbrev pub main_note_6 : Note
-main_note_6 = record { index = 6; place = with_operands (bare 0) (local 0 ∷ left ∷ local 0 ∷ number 0 ∷ []); facts = []; outcome = next_call; lead = 0; rank = 4 }
+main_note_6 = record {
+  index = 6;
+  place = with_operands (bare 0) (local 0 ∷ left ∷ local 0 ∷ number 0 ∷ []);
+  facts = [];
+  outcome = next_call;
+  lead = 0;
+  rank =
+      4;
+}
 
 abbrev pub main_note_7 : Note
-main_note_7 = record { index = 7; place = with_operands (bare 0) (left ∷ local 0 ∷ left ∷ local 0 ∷ number 0 ∷ []); facts = []; outcome = next_call; lead = 0; rank = 3 }
+main_note_7 = record {
+  index = 7;
+  place = with_operands (bare 0) (left ∷ local 0 ∷ left ∷ local 0 ∷ number 0 ∷ []);
+  facts = [];
+  outcome = next_call;
+  lead = 0;
+  rank = 3;
+}
 
 abbrev pub main_note_8 : Note
-main_note_8 = record { index = 8; place = with_operands (bare 0) (number 1 ∷ left ∷ local 0 ∷ left ∷ local 0 ∷ number 0 ∷ []); facts = []; outcome = next_call; lead = 0; rank = 2 }
+main_note_8 = record {
+  index = 8;
+  place = with_operands (bare 0) (number 1 ∷ left ∷ local 0 ∷ left ∷ local 0 ∷ number 0 ∷ []);
+  facts = [];
+  outcome = next_call;
+  lead = 0;
+  rank = 2;
+}
 
 abbrev pub main_note_9 : Note
-main_note_9 = record { index = 9; place = with_operands (bare 0) (product left (number 1) ∷ local 0 ∷ left ∷ local 0 ∷ number 0 ∷ []); facts = []; outcome = next_call; lead = 0; rank = 1 }
+main_note_9 = record {
+  index = 9;
+  place = with_operands (bare 0) (product left (number 1) ∷ local 0 ∷ left ∷ local 0 ∷ number 0 ∷ []);
+  facts = [];
+  outcome =
+      next_call;
+  lead = 0;
+  rank = 1;
+}
 
 abbrev pub main_note_10 : Note
-main_note_10 = record { index = 10; place = with_operands (bare 0) (sum (local 0) (product left (number 1)) ∷ left ∷ local 0 ∷ number 0 ∷ []); facts = []; outcome = next_call; lead = 0; rank = 0 }
+main_note_10 = record {
+  index = 10;
+  place = with_operands (bare 0) (sum (local 0) (product left (number 1)) ∷ left ∷ local 0 ∷ number 0 ∷ []);
+  facts = [];
+  outcome = next_call;
+  lead = 0;
+  rank = 0;
+}
 
 abbrev pub main_note_11 : Note
-main_note_11 = record { index = 11; place = with_operands (bare 0) (variable 0 ∷ local 0 ∷ number 0 ∷ []); facts = []; outcome = more_or_done; lead = 0; rank = 10 }
+main_note_11 = record {
+  index = 11;
+  place = with_operands (bare 0) (variable 0 ∷ local 0 ∷ number 0 ∷ []);
+  facts = [];
+  outcome = more_or_done;
+  lead = 0;
+  rank =
+      10;
+}
 
 abbrev pub main_note_12 : Note
-main_note_12 = record { index = 12; place = with_operands (bare 0) (variable 0 ∷ variable 0 ∷ local 0 ∷ number 0 ∷ []); facts = []; outcome = more_or_done; lead = 0; rank = 9 }
+main_note_12 = record {
+  index = 12;
+  place = with_operands (bare 0) (variable 0 ∷ variable 0 ∷ local 0 ∷ number 0 ∷ []);
+  facts = [];
+  outcome = more_or_done;
+  lead = 0;
+  rank = 9;
+}
 
 abbrev pub main_note_13 : Note
-main_note_13 = record { index = 13; place = with_operands (bare 0) (variable 0 ∷ local 0 ∷ number 0 ∷ []); facts = not_zero (variable 0) ∷ []; outcome = next_call; lead = 0; rank = 8 }
+main_note_13 = record {
+  index = 13;
+  place = with_operands (bare 0) (variable 0 ∷ local 0 ∷ number 0 ∷ []);
+  facts = not_zero (variable 0) ∷ [];
+  outcome =
+      next_call;
+  lead = 0;
+  rank = 8;
+}
 
 abbrev pub main_note_14 : Note
 main_note_14 = record { index = 14; place = with_operands (bare 0) (variable 0 ∷ local 0 ∷ number 0 ∷ []); facts = []; outcome = all_done; lead = 0; rank = 3 }
@@ -202,7 +283,8 @@ abbrev pub own_note_3 : Note
 own_note_3 = record { index = 3; place = with_operands (bare 0) ([]); facts = []; outcome = own_body; lead = 3; rank = 0 }
 
 abbrev pub main_notes : List Note
-main_notes = main_note_0 ∷ main_note_1 ∷ main_note_2 ∷ main_note_3 ∷ main_note_4 ∷ main_note_5 ∷ main_note_6 ∷ main_note_7 ∷ main_note_8 ∷ main_note_9 ∷ main_note_10 ∷ main_note_11 ∷ main_note_12 ∷ main_note_13 ∷ main_note_14 ∷ main_note_15 ∷ main_note_16 ∷ []
+main_notes = main_note_0 ∷ main_note_1 ∷ main_note_2 ∷ main_note_3 ∷ main_note_4 ∷ main_note_5 ∷ main_note_6 ∷ main_note_7 ∷ main_note_8 ∷ main_note_9
+    ∷ main_note_10 ∷ main_note_11 ∷ main_note_12 ∷ main_note_13 ∷ main_note_14 ∷ main_note_15 ∷ main_note_16 ∷ []
 
 abbrev pub own_notes : List Note
 own_notes = own_note_0 ∷ own_note_1 ∷ own_note_2 ∷ own_note_3 ∷ []
@@ -212,7 +294,15 @@ notes_of zero = main_notes
 notes_of (suc n) = own_notes
 
 abbrev pub array_table : Table
-array_table = record { global_of = λ n. None; function_of = named; class_of = λ n. None; type_of = λ n. None; is_signature = λ n sig. false; is_slot = λ n c s. false }
+array_table = record {
+  global_of = λ n. None;
+  function_of = named;
+  class_of = λ n. None;
+  type_of = λ n. None;
+  is_signature = λ n sig. false;
+  is_slot =
+      λ n c s. false;
+}
 
 abbrev pub array_book : Book
 array_book = record {

@@ -18,7 +18,8 @@ use Rattle.symbolic_code.specs.Places.{frame_at}
 use Rattle.symbolic_code.specs.Following.{Table}
 use Rattle.body_check.specs.Notes.{Note}
 
--- a body that is held against a function of the source: the function's number and frame, whether it is the safe body, its rows with the numbers of types, the notes and the table
+-- a body that is held against a function of the source: the function's number and frame, whether it is the safe body, its rows with the numbers of types, the
+-- notes and the table
 pub record Held : Type 0 where
   pub number : ℕ
   pub safe : Bool
@@ -33,7 +34,8 @@ abbrev pub Based : (thrown : Typ → Bool) → Home → ℕ → Values → Type 
 Based thrown home limit x = (home.base ≡ x.base) × (x.limit ≡ limit) × ((n : ℕ) → thrown (x.exception n).typ ≡ true)
 
 -- the frame stands at a note, and the source has come to what the note foresees
-pub record Stands (p : Program) (numbers : Typ → ℕ) (thrown : Typ → Bool) (h : Held) (home : Home) (limit : ℕ) (rest : List frames.Frame) (rank : ℕ) (s : State) (top : Frame) : Type 0 where
+pub record Stands (p : Program) (numbers : Typ → ℕ) (thrown : Typ → Bool) (h : Held) (home : Home) (limit : ℕ) (rest : List frames.Frame) (rank : ℕ) (s : State)
+    (top : Frame) : Type 0 where
   pub values : Values
   pub are_words : AreWords values
   pub based : Based thrown home limit values

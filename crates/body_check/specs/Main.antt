@@ -73,10 +73,25 @@ abbrev pub first_note : Note
 first_note = record { index = 0; place = bare 0; facts = []; outcome = main_begun; lead = 4; rank = 1 }
 
 abbrev pub second_note : Note
-second_note = record { index = 1; place = with_operands (bare 0) (number 0 ∷ []); facts = []; outcome = advanced main_program main_func no_answers 4 main_begun; lead = 1; rank = 0 }
+second_note = record {
+  index = 1;
+  place = with_operands (bare 0) (number 0 ∷ []);
+  facts = [];
+  outcome = advanced main_program main_func no_answers 4 main_begun;
+  lead = 1;
+  rank = 0;
+}
 
 abbrev pub no_names : Table
-no_names = record { global_of = λ n. None; function_of = λ n. None; class_of = λ n. None; type_of = λ n. None; is_signature = λ n sig. false; is_slot = λ n c s. false }
+no_names = record {
+  global_of = λ n. None;
+  function_of = λ n. None;
+  class_of = λ n. None;
+  type_of = λ n. None;
+  is_signature = λ n sig. false;
+  is_slot =
+      λ n c s. false;
+}
 
 -- a type that supports cancellation has number 1, any other 0
 abbrev pub number_of_type : Typ → ℕ

@@ -20,7 +20,8 @@ use Rattle.symbolic_code.specs.Facts.{Fact, not_zero, has_function, AllHold, in_
 use Rattle.symbolic_code.specs.Places.{frame_at, Place, Hold, nothing, making, flying, later, with_operands, holding, opened_later}
 use Rattle.symbolic_code.specs.Following.{Next, refused, quietly, either_way, unless_trap, loudly, throwing, finding, starting, rethrowing, ends}
 
--- at an index, of which there may be several, as one for each round of a loop: the place, what is known of its words, what comes of the source, how many silent steps the source takes before the instruction, and a rank that falls
+-- at an index, of which there may be several, as one for each round of a loop: the place, what is known of its words, what comes of the source, how many silent
+-- steps the source takes before the instruction, and a rank that falls
 -- where the code goes on and the source does not
 pub record Note : Type 0 where
   pub index : ℕ
@@ -80,7 +81,8 @@ IsThrown thrown (made t puts) = thrown t ≡ true
 
 -- what is answered is right of an exception of this type
 abbrev pub Answering : Program → Exception → Typ → Answers → Type 0
-Answering p e t answers = (n : ℕ) (handler : Tree) (answer : Bool) → answers n handler ≡ Some answer → (e ≡ unknown n) × (catches p.classes (typ_in handler) t ≡ answer)
+Answering p e t answers = (n : ℕ) (handler : Tree) (answer : Bool) → answers n handler ≡ Some answer → (e ≡ unknown n)
+    × (catches p.classes (typ_in handler) t ≡ answer)
 
 -- how many silent steps the source takes in one move, before the instruction or on a way back to a caller, and how far ranks go
 pub record Bounds : Type 0 where
@@ -91,8 +93,10 @@ pub record Bounds : Type 0 where
 
 -- the types that are thrown are told by a test
 module _ (p : Program) (f : Func) (b : Bounds) (notes : List Note) (thrown : Typ → Bool) where
-  -- a way on leads to a note of an index, after some silent steps of the source, with these answers on unknown exceptions: whatever the words are of which it is known that the facts hold, with what
-  -- the terms stand for in the place of the note's variables the frame is that of the note, the note's facts hold, and the source has come to what the note foresees
+  -- a way on leads to a note of an index, after some silent steps of the source, with these answers on unknown exceptions: whatever the words are of which it
+  -- is known that the facts hold, with what
+  -- the terms stand for in the place of the note's variables the frame is that of the note, the note's facts hold, and the source has come to what the note
+  -- foresees
   pub record Lands (known : List Fact) (answers : Answers) (index : ℕ) (q : Place) (o : Outcome) : Type 0 where
     pub at : ℕ
     pub note : Note
@@ -101,9 +105,11 @@ module _ (p : Program) (f : Func) (b : Bounds) (notes : List Note) (thrown : Typ
     pub lag : ℕ
     pub terms : Replacing
     pub types : (n : ℕ) → IsThrown thrown (terms.exception n)
-    pub same_place : (x : Values) → AreWords x → AllHold p f x known → (numbers : Typ → ℕ) (home : Home) → frame_at p f numbers x home index q ≡ frame_at p f numbers (seen_by p f terms x) home index note.place
+    pub same_place : (x : Values) → AreWords x → AllHold p f x known → (numbers : Typ → ℕ) (home : Home)
+        → frame_at p f numbers x home index q ≡ frame_at p f numbers (seen_by p f terms x) home index note.place
     pub same_facts : (x : Values) → AreWords x → AllHold p f x known → AllHold p f (seen_by p f terms x) note.facts
-    pub same_outcome : (x : Values) → AreWords x → AllHold p f x known → (rest : List frames.Frame) (s : State) → Shows p f x rest (advanced p f answers lag o) s → Shows p f (seen_by p f terms x) rest note.outcome s
+    pub same_outcome : (x : Values) → AreWords x → AllHold p f x known → (rest : List frames.Frame) (s : State)
+        → Shows p f x rest (advanced p f answers lag o) s → Shows p f (seen_by p f terms x) rest note.outcome s
     pub foreseen : is_stuck (advanced p f answers lag o) ≡ false
     pub low : note.rank ≤ b.most
 
@@ -143,7 +149,8 @@ module _ (p : Program) (f : Func) (b : Bounds) (notes : List Note) (thrown : Typ
     pub others : List Frame
     pub is : advanced p f answers lag o ≡ goes (leaves_block block (throws e)) temporaries others
     pub short : lag ≤ b.longest
-    pub lands : Lands (in_facts later known) no_answers index (opened_later (holding q (flying e)) (rest_of q.opens)) (given p f no_answers (in_waitings later temporaries) (variable 0) (in_frames later others))
+    pub lands : Lands (in_facts later known) no_answers index (opened_later (holding q (flying e)) (rest_of q.opens))
+        (given p f no_answers (in_waitings later temporaries) (variable 0) (in_frames later others))
     pub at_once : lands.lag ≡ 0
 
   -- the exception leaves the function: one silent step more, and the source is where the caller, or the end of the thread, has it
@@ -169,7 +176,8 @@ module _ (p : Program) (f : Func) (b : Bounds) (notes : List Note) (thrown : Typ
   FoundFits known answers rank (Some r) q e o = RowFits known answers rank r.what r.target (cut_to r.depth q) e o
 
   -- for a type: what is answered on an unknown exception of it, and the row that takes it
-  pub record TypeFits (numbers : Typ → ℕ) (rows : List Row) (known : List Fact) (rank index : ℕ) (q : Place) (e : Exception) (o : Outcome) (t : Typ) : Type 0 where
+  pub record TypeFits (numbers : Typ → ℕ) (rows : List Row) (known : List Fact) (rank index : ℕ) (q : Place) (e : Exception) (o : Outcome)
+      (t : Typ) : Type 0 where
     pub answers : Answers
     pub right : Answering p e t answers
     pub found : FoundFits known answers rank (find rows index (numbers t)) q e o
@@ -187,8 +195,12 @@ module _ (p : Program) (f : Func) (b : Bounds) (notes : List Note) (thrown : Typ
     Fits known lead rank (either_way w first other) = Fits known lead rank first × Fits (not_zero w ∷ known) lead rank other
     Fits known lead rank (unless_trap op kind x y next) = Fits known lead rank next
     Fits known lead rank (finding class slot w next) = Fits (has_function class slot w ∷ known) lead rank next
-    Fits known lead rank (loudly doing ws k index q) = (is_loud doing ≡ true) × (l : Lands (in_facts later known) no_answers index q (given p f no_answers (in_waitings later ws) (variable 0) (in_frames later k))) × (l.lag ≡ 0)
-    Fits known lead rank (starting address argument ws k index q) = (l : Lands (in_facts later known) no_answers index q (given p f no_answers (in_waitings later ws) (variable 0) (in_frames later (Replied ∷ k)))) × (l.lag ≡ 0)
+    Fits known lead rank (loudly doing ws k index q) = (is_loud doing ≡ true)
+        × (l : Lands (in_facts later known) no_answers index q (given p f no_answers (in_waitings later ws) (variable 0) (in_frames later k))) × (l.lag ≡ 0)
+    Fits known lead rank (starting address argument ws k index q) =
+        (l : Lands (in_facts later known) no_answers index q (given p f no_answers (in_waitings later ws) (variable 0) (in_frames later (Replied ∷ k))))
+        × (l.lag ≡ 0)
     Fits known lead rank (throwing e index q o) = (t : Flies numbers rows known index q e o) × IsThrown thrown e × ((1 ≤ lead) ⊎ (t.rank + 1 ≤ rank))
-    Fits known lead rank (rethrowing ws k index q) = (t : Flies numbers rows (in_facts rising known) index (in_place rising q) (unknown 0) (left (in_waitings rising ws) (throws (unknown 0)) (in_frames rising k))) × ((1 ≤ lead) ⊎ (t.rank + 1 ≤ rank))
+    Fits known lead rank (rethrowing ws k index q) = (t : Flies numbers rows (in_facts rising known) index (in_place rising q) (unknown 0)
+        (left (in_waitings rising ws) (throws (unknown 0)) (in_frames rising k))) × ((1 ≤ lead) ⊎ (t.rank + 1 ≤ rank))
     Fits known lead rank (ends end) = Unit {0}

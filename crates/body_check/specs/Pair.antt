@@ -99,20 +99,44 @@ abbrev pub call_note : Note
 call_note = record { index = 0; place = bare 0; facts = []; outcome = begun calling_func; lead = 4; rank = 1 }
 
 abbrev pub back_note : Note
-back_note = record { index = 1; place = with_operands (bare 0) (variable 0 ∷ []); facts = []; outcome = advanced pair_program calling_func no_answers 1 (goes silent [] (Gives (variable 0) ∷ behind_call)); lead = 2; rank = 0 }
+back_note = record {
+  index = 1;
+  place = with_operands (bare 0) (variable 0 ∷ []);
+  facts = [];
+  outcome = advanced pair_program calling_func no_answers 1
+      (goes silent [] (Gives (variable 0) ∷ behind_call));
+  lead = 2;
+  rank = 0;
+}
 
 abbrev pub push_note : Note
 push_note = record { index = 0; place = bare 0; facts = []; outcome = begun one_func; lead = 4; rank = 1 }
 
 abbrev pub ret_note : Note
-ret_note = record { index = 1; place = with_operands (bare 0) (number 1 ∷ []); facts = []; outcome = advanced pair_program one_func no_answers 4 (begun one_func); lead = 1; rank = 0 }
+ret_note = record {
+  index = 1;
+  place = with_operands (bare 0) (number 1 ∷ []);
+  facts = [];
+  outcome = advanced pair_program one_func no_answers 4
+      (begun one_func);
+  lead = 1;
+  rank = 0;
+}
 
 abbrev pub notes_of : ℕ → List Note
 notes_of zero = call_note ∷ back_note ∷ []
 notes_of (suc n) = push_note ∷ ret_note ∷ []
 
 abbrev pub own_names : Table
-own_names = record { global_of = λ n. None; function_of = named; class_of = λ n. None; type_of = λ n. None; is_signature = λ n sig. false; is_slot = λ n c s. false }
+own_names = record {
+  global_of = λ n. None;
+  function_of = named;
+  class_of = λ n. None;
+  type_of = λ n. None;
+  is_signature = λ n sig. false;
+  is_slot =
+      λ n c s. false;
+}
 
 abbrev pub pair_book : Book
 pair_book = record {

@@ -33,7 +33,16 @@ abbrev pub at_address : ℕ → Option ℕ
 at_address a = cond (a == function_address 1) (Some 1) None
 
 abbrev pub pointing_func : Func
-pointing_func = record { unit = 0; size = 16; places = []; words = []; stops = false; safe = true; body = returning (prvalue PointerCall (plain (int Int)) ((prvalue (Function 1) (plain (ptr (plain (func one_signature)))) []) ∷ [])) }
+pointing_func = record {
+  unit = 0;
+  size = 16;
+  places = [];
+  words = [];
+  stops = false;
+  safe = true;
+  body = returning
+      (prvalue PointerCall (plain (int Int)) ((prvalue (Function 1) (plain (ptr (plain (func one_signature)))) []) ∷ []));
+}
 
 -- main has number 0, and each other number is that of the function that is called
 abbrev pub func_of : ℕ → Func
@@ -87,23 +96,55 @@ abbrev pub address_note : Note
 address_note = record { index = 0; place = bare 0; facts = []; outcome = begun pointing_func; lead = 5; rank = 1 }
 
 abbrev pub call_note : Note
-call_note = record { index = 1; place = with_operands (bare 0) (function 1 ∷ []); facts = []; outcome = advanced pointed_program pointing_func no_answers 5 (begun pointing_func); lead = 0; rank = 0 }
+call_note = record {
+  index = 1;
+  place = with_operands (bare 0) (function 1 ∷ []);
+  facts = [];
+  outcome = advanced pointed_program pointing_func no_answers 5
+      (begun pointing_func);
+  lead = 0;
+  rank = 0;
+}
 
 abbrev pub back_note : Note
-back_note = record { index = 2; place = with_operands (bare 0) (variable 0 ∷ []); facts = []; outcome = advanced pointed_program pointing_func no_answers 1 (goes silent [] (Gives (variable 0) ∷ behind_call)); lead = 2; rank = 0 }
+back_note = record {
+  index = 2;
+  place = with_operands (bare 0) (variable 0 ∷ []);
+  facts = [];
+  outcome = advanced pointed_program pointing_func no_answers 1
+      (goes silent [] (Gives (variable 0) ∷ behind_call));
+  lead = 2;
+  rank = 0;
+}
 
 abbrev pub push_note : Note
 push_note = record { index = 0; place = bare 0; facts = []; outcome = begun one_func; lead = 4; rank = 1 }
 
 abbrev pub ret_note : Note
-ret_note = record { index = 1; place = with_operands (bare 0) (number 1 ∷ []); facts = []; outcome = advanced pointed_program one_func no_answers 4 (begun one_func); lead = 1; rank = 0 }
+ret_note = record {
+  index = 1;
+  place = with_operands (bare 0) (number 1 ∷ []);
+  facts = [];
+  outcome = advanced pointed_program one_func no_answers 4
+      (begun one_func);
+  lead = 1;
+  rank = 0;
+}
 
 abbrev pub notes_of : ℕ → List Note
 notes_of zero = address_note ∷ call_note ∷ back_note ∷ []
 notes_of (suc n) = push_note ∷ ret_note ∷ []
 
 abbrev pub own_names : Table
-own_names = record { global_of = λ n. None; function_of = named; class_of = λ n. None; type_of = λ n. None; is_signature = λ n sig. true; is_slot = λ n c s. false }
+own_names = record {
+  global_of = λ n. None;
+  function_of = named;
+  class_of = λ n. None;
+  type_of = λ n. None;
+  is_signature = λ n sig. true;
+  is_slot =
+      λ n c s. false;
+}
 
 abbrev pub pointed_book : Book
 pointed_book = record {

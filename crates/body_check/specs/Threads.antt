@@ -46,10 +46,12 @@ module _ (p : Program) (names : Names) (b : Bounds) (book : Book) (thread : ℕ)
 
   -- the frame of the code, and what the source has left to do in it
   abbrev pub waiting_frame : (gives stops : Bool) (n : ℕ) (safe : Bool) (base : ℕ) → Waits gives stops n safe base → Frame
-  waiting_frame gives stops n safe base w = frame_at p (book.held n safe).func book.numbers w.values (home_of thread n safe base) w.index (with_operands w.place w.under)
+  waiting_frame gives stops n safe base w = frame_at p (book.held n safe).func book.numbers w.values (home_of thread n safe base) w.index
+      (with_operands w.place w.under)
 
   abbrev pub waiting_frames : (gives stops : Bool) (n : ℕ) (safe : Bool) (base : ℕ) → Waits gives stops n safe base → List frames.Frame → List frames.Frame
-  waiting_frames gives stops n safe base w rest = frames.Called (here_of p (book.held n safe).func w.values w.temporaries) stops ∷ below p (book.held n safe).func w.values w.others rest
+  waiting_frames gives stops n safe base w rest = frames.Called (here_of p (book.held n safe).func w.values w.temporaries) stops
+      ∷ below p (book.held n safe).func w.values w.others rest
 
   -- a frame of a safe body has an open atomic block below it
   abbrev pub Covered : (safe : Bool) → List Frame → Type 0
@@ -59,7 +61,8 @@ module _ (p : Program) (names : Names) (b : Bounds) (book : Book) (thread : ℕ)
   -- of which main's hands back a word, or one that waits and its callers
   pub data Callers : (gives stops : Bool) → List Frame → List frames.Frame → Type 0 where
     nobody : (main stops : Bool) → (thread == 0) ≡ main → Callers main stops [] (frames.Called (empty_stack thread) stops ∷ frames.Starts main ∷ [])
-    waits_for : {gives stops : Bool} {fs : List Frame} {rest : List frames.Frame} (n : ℕ) (safe : Bool) (base : ℕ) (w : Waits gives stops n safe base) → Covered safe fs → Callers (book.gives n) (book.held n safe).func.stops fs rest
+    waits_for : {gives stops : Bool} {fs : List Frame} {rest : List frames.Frame} (n : ℕ) (safe : Bool) (base : ℕ) (w : Waits gives stops n safe base)
+        → Covered safe fs → Callers (book.gives n) (book.held n safe).func.stops fs rest
         → Callers gives stops (waiting_frame gives stops n safe base w ∷ fs) (waiting_frames gives stops n safe base w rest)
 
   -- a frame that runs
@@ -96,7 +99,9 @@ module _ (p : Program) (names : Names) (b : Bounds) (book : Book) (thread : ℕ)
 
   -- both threads go together, or an exception is in flight in both, or both have stopped
   pub data Together : ℕ → State → code.State → Type 0 where
-    running : {rank : ℕ} {s : State} {top : Frame} {fs : List Frame} (n : ℕ) (safe : Bool) (base : ℕ) → RunsIn rank s top fs n safe base → Together rank s (Runs top fs)
-    flies : {rank : ℕ} {s : State} {e : code.Exception} {top : Frame} {fs : List Frame} (n : ℕ) (safe : Bool) (base : ℕ) → FliesIn rank s e top fs n safe base → Together rank s (Unwinds e top fs)
+    running : {rank : ℕ} {s : State} {top : Frame} {fs : List Frame} (n : ℕ) (safe : Bool) (base : ℕ) → RunsIn rank s top fs n safe base
+        → Together rank s (Runs top fs)
+    flies : {rank : ℕ} {s : State} {e : code.Exception} {top : Frame} {fs : List Frame} (n : ℕ) (safe : Bool) (base : ℕ) → FliesIn rank s e top fs n safe base
+        → Together rank s (Unwinds e top fs)
     stopped : {s : State} {c : code.State} → Stopped names s c → Together 0 s c
     finished : {s : State} {c : code.State} → Finished names s c → Together 0 s c

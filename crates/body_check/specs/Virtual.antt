@@ -1,4 +1,5 @@
--- A whole program with a virtual call: `int main() { return e.one(); }`, where the function in the slot is found by what the object `e`, a local, has at its address, with its code and its notes.
+-- A whole program with a virtual call: `int main() { return e.one(); }`, where the function in the slot is found by what the object `e`, a local, has at its
+-- address, with its code and its notes.
 use Rattle.std.specs.Prelude.{◌&&◌, ℕ, zero, suc, ◌==◌, cond, true, false, List, [], ◌∷◌, Option, Some, None}
 use Rattle.tx_ints.specs.declared.kinds.IntKind.TheVariants.{Int, ULong}
 use Rattle.tx_code.specs.declared.instr.Instr.TheVariants.{Push, Dup, Swap, FrameAddr, Load, Store, Slot, CallIndirect, Ret}
@@ -36,7 +37,15 @@ in_slot a = cond (a == 5) (Some 1) None
 
 -- it takes the object's address
 abbrev pub told_func : Func
-told_func = record { unit = 0; size = 16; places = 0 ∷ []; words = record { offset = 0; kind = ULong; volatile = false } ∷ []; stops = false; safe = true; body = returning (prvalue (Literal 1) (plain (int Int)) []) }
+told_func = record {
+  unit = 0;
+  size = 16;
+  places = 0 ∷ [];
+  words = record { offset = 0; kind = ULong; volatile = false } ∷ [];
+  stops = false;
+  safe = true;
+  body = returning (prvalue (Literal 1) (plain (int Int)) []);
+}
 
 abbrev pub told_body : BodyView
 told_body = record { code = FrameAddr 0 ∷ Swap ∷ Store 9 ∷ Push 1 ∷ Ret 1 ∷ []; rows = []; lines = [] }
@@ -46,7 +55,16 @@ word_count zero = 0
 word_count (suc n) = 1
 
 abbrev pub asking_func : Func
-asking_func = record { unit = 0; size = 16; places = 0 ∷ []; words = []; stops = false; safe = true; body = returning (prvalue (VirtualCall 1 0 0 0) (plain (int Int)) ((lvalue (Local 0) (plain (int Int)) []) ∷ [])) }
+asking_func = record {
+  unit = 0;
+  size = 16;
+  places = 0 ∷ [];
+  words = [];
+  stops = false;
+  safe = true;
+  body = returning
+      (prvalue (VirtualCall 1 0 0 0) (plain (int Int)) ((lvalue (Local 0) (plain (int Int)) []) ∷ []));
+}
 
 -- main has number 0, and each other number is that of the function that is called
 abbrev pub func_of : ℕ → Func
@@ -119,16 +137,48 @@ abbrev pub asking_note_2 : Note
 asking_note_2 = record { index = 2; place = with_operands (bare 0) (local 0 ∷ local 0 ∷ []); facts = []; outcome = reading; lead = 0; rank = 1 }
 
 abbrev pub asking_note_3 : Note
-asking_note_3 = record { index = 3; place = with_operands (bare 0) (converted_to ULong (variable 0) ∷ local 0 ∷ []); facts = []; outcome = finds 0 0 (variable 0) calling; lead = 0; rank = 2 }
+asking_note_3 = record {
+  index = 3;
+  place = with_operands (bare 0) (converted_to ULong (variable 0) ∷ local 0 ∷ []);
+  facts = [];
+  outcome = finds 0 0
+      (variable 0) calling;
+  lead = 0;
+  rank = 2;
+}
 
 abbrev pub asking_note_4 : Note
-asking_note_4 = record { index = 4; place = with_operands (bare 0) (found_function ∷ local 0 ∷ []); facts = has_function 0 0 (variable 0) ∷ []; outcome = calling; lead = 0; rank = 1 }
+asking_note_4 = record {
+  index = 4;
+  place = with_operands (bare 0) (found_function ∷ local 0 ∷ []);
+  facts = has_function 0 0 (variable 0) ∷ [];
+  outcome =
+      calling;
+  lead = 0;
+  rank = 1;
+}
 
 abbrev pub asking_note_5 : Note
-asking_note_5 = record { index = 5; place = with_operands (bare 0) (local 0 ∷ found_function ∷ []); facts = has_function 0 0 (variable 0) ∷ []; outcome = calling; lead = 0; rank = 0 }
+asking_note_5 = record {
+  index = 5;
+  place = with_operands (bare 0) (local 0 ∷ found_function ∷ []);
+  facts = has_function 0 0 (variable 0) ∷ [];
+  outcome =
+      calling;
+  lead = 0;
+  rank = 0;
+}
 
 abbrev pub asking_note_6 : Note
-asking_note_6 = record { index = 6; place = with_operands (bare 0) (variable 0 ∷ []); facts = []; outcome = advanced virtual_program asking_func no_answers 1 (goes silent [] (Gives (variable 0) ∷ behind_call)); lead = 2; rank = 0 }
+asking_note_6 = record {
+  index = 6;
+  place = with_operands (bare 0) (variable 0 ∷ []);
+  facts = [];
+  outcome = advanced virtual_program asking_func no_answers 1
+      (goes silent [] (Gives (variable 0) ∷ behind_call));
+  lead = 2;
+  rank = 0;
+}
 
 abbrev pub told_note_0 : Note
 told_note_0 = record { index = 0; place = with_operands (bare 0) (variable 0 ∷ []); facts = []; outcome = begun told_func 1; lead = 0; rank = 2 }
@@ -143,7 +193,14 @@ abbrev pub told_note_3 : Note
 told_note_3 = record { index = 3; place = with_operands (bare 0) ([]); facts = []; outcome = told; lead = 4; rank = 1 }
 
 abbrev pub told_note_4 : Note
-told_note_4 = record { index = 4; place = with_operands (bare 0) (number 1 ∷ []); facts = []; outcome = advanced virtual_program told_func no_answers 4 told; lead = 1; rank = 0 }
+told_note_4 = record {
+  index = 4;
+  place = with_operands (bare 0) (number 1 ∷ []);
+  facts = [];
+  outcome = advanced virtual_program told_func no_answers 4 told;
+  lead = 1;
+  rank = 0;
+}
 
 abbrev pub asking_notes : List Note
 asking_notes = asking_note_0 ∷ asking_note_1 ∷ asking_note_2 ∷ asking_note_3 ∷ asking_note_4 ∷ asking_note_5 ∷ asking_note_6 ∷ []
@@ -156,7 +213,15 @@ notes_of zero = asking_notes
 notes_of (suc n) = told_notes
 
 abbrev pub own_names : Table
-own_names = record { global_of = λ n. None; function_of = λ n. None; class_of = λ n. Some 0; type_of = λ n. None; is_signature = λ n sig. false; is_slot = λ n c s. true }
+own_names = record {
+  global_of = λ n. None;
+  function_of = λ n. None;
+  class_of = λ n. Some 0;
+  type_of = λ n. None;
+  is_signature = λ n sig. false;
+  is_slot =
+      λ n c s. true;
+}
 
 abbrev pub virtual_book : Book
 virtual_book = record {

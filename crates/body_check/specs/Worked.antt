@@ -15,7 +15,8 @@ use Rattle.symbolic_source.specs.Outcomes.{silent, Outcome, goes}
 use Rattle.symbolic_source.specs.Steps.{given, advanced}
 use Rattle.symbolic_source.specs.Replacing.{in_waitings, in_frames}
 use Rattle.symbolic_code.specs.Places.{Place, nothing, later}
-use Rattle.symbolic_code.specs.Following.{Table, Next, refused, quietly, either_way, unless_trap, loudly, throwing, finding, starting, rethrowing, ends, followed}
+use Rattle.symbolic_code.specs.Following.{Table, Next, refused, quietly, either_way, unless_trap, loudly, throwing, finding, starting, rethrowing, ends}
+use Rattle.symbolic_code.specs.Following.{followed}
 use Rattle.body_check.specs.Notes.{no_answers, variables}
 
 -- where a body without jumps goes on
@@ -46,14 +47,24 @@ step_over p f t i q o (Some a) = next_point p f (followed t [] i a q o)
 -- along the instructions, where the source takes so many silent steps before each
 abbrev pub goes_along : Program → Func → Table → List Instr → (leads : List ℕ) → Point → Option Point
 goes_along p f t code [] x = Some x
-goes_along p f t code (n ∷ ns) x = option_and_then (λ (y : Point). goes_along p f t code ns y) (step_over p f t x.index x.place (advanced p f no_answers n x.outcome) (slice_get code x.index))
+goes_along p f t code (n ∷ ns) x = option_and_then (λ (y : Point). goes_along p f t code ns y)
+    (step_over p f t x.index x.place (advanced p f no_answers n x.outcome) (slice_get code x.index))
 
 -- a function with so many words is entered, one silent step on
 abbrev pub entered : Program → Func → ℕ → Point
-entered p f n = point 0 (record { operands = variables 0 n; opens = []; caught = []; hold = nothing }) (advanced p f no_answers 1 (goes silent [] (Passes (variables 0 n) f.words ∷ Then value f.body ∷ [])))
+entered p f n = point 0 (record { operands = variables 0 n; opens = []; caught = []; hold = nothing })
+    (advanced p f no_answers 1 (goes silent [] (Passes (variables 0 n) f.words ∷ Then value f.body ∷ [])))
 
 abbrev pub itself : Table
-itself = record { global_of = λ n. Some n; function_of = λ n. Some n; class_of = λ n. Some n; type_of = λ n. None; is_signature = λ n sig. false; is_slot = λ n c s. false }
+itself = record {
+  global_of = λ n. Some n;
+  function_of = λ n. Some n;
+  class_of = λ n. Some n;
+  type_of = λ n. None;
+  is_signature = λ n sig. false;
+  is_slot =
+      λ n c s. false;
+}
 
 -- the point at which the outcome has gone on for so many silent steps
 abbrev pub outcome_at : Program → Func → ℕ → Option Point → Option Outcome

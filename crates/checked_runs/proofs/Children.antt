@@ -8,13 +8,16 @@ use Rattle.tx_events.specs.declared.End.TheVariants.{Trapped}
 use Rattle.tx_events.specs.declared.BlockKind.{BlockKind}
 use Rattle.tx_events.specs.declared.BlockKind.TheVariants.{NoExcept, Commit, Cancel}
 use Rattle.tx_events.specs.declared.Event.{Event}
-use Rattle.tx_events.specs.declared.Event.TheVariants.{Silent, Load, Store, Out, Inp, Spawn, Join, BeginAtomic, EndAtomic, Raise, BeginSync, EndSync, Done, Stop}
+use Rattle.tx_events.specs.declared.Event.TheVariants.{Silent, Load, Store, Out, Inp, Spawn, Join, BeginAtomic, EndAtomic, Raise, BeginSync, EndSync, Done}
+use Rattle.tx_events.specs.declared.Event.TheVariants.{Stop}
 use Rattle.tx_events.specs.declared.Reply.{Reply}
 use Rattle.tx_events.specs.declared.Reply.TheVariants.{Nothing, Loaded, Id}
 use Rattle.tx_events.specs.Thread.{Thread}
 use Rattle.tx_events.specs.Memory.{MemoryLayout, can_access, load, store, update}
-use Rattle.tx_events.specs.Alone.{Inner, inner_by, leave, raise, newest, BlockStep, Goes, Leaves, Halts, Never, Inside, at_start, goes_on, is_over, Alone, outcome}
-use Rattle.tx_events.specs.World.{Alive, alive, World, Step, Replays, EventStep, BlockEffect, Joins, target, goes, ends, SilentSteps, none, one_more, first_world}
+use Rattle.tx_events.specs.Alone.{Inner, inner_by, leave, raise, newest, BlockStep, Goes, Leaves, Halts, Never, Inside, at_start, goes_on, is_over, Alone}
+use Rattle.tx_events.specs.Alone.{outcome}
+use Rattle.tx_events.specs.World.{Alive, alive, World, Step, Replays, EventStep, BlockEffect, Joins, target, goes, ends, SilentSteps, none, one_more}
+use Rattle.tx_events.specs.World.{first_world}
 use Rattle.tx_events.specs.Same.{Reaches, at_once, silently, answered, Comes, SameEvents, Descends, at_first, went_on, started, SameChildren, with_threads}
 use Rattle.tx_events.proofs.Lifting.{starts_lift}
 
@@ -96,7 +99,12 @@ module _ {S : Type 0} (a : Thread S) (c d : S → ℕ → ℕ → ℤ → S) whe
     does_alike t w s EndSync v n h = h
     does_alike t w s Done v n h = h
     does_alike t w s (Stop end) v n h = h
-    does_alike t w s (BeginAtomic kind) v n h = (h.0, alone_alike p (a.after s Nothing) w.memory h.1, subst (λ z. BlockEffect t w z v) (inner_alike p h.1.last (a.next h.1.last.state)) h.2)
+    does_alike t w s (BeginAtomic kind) v n h = (
+      h.0,
+      alone_alike p (a.after s Nothing) w.memory h.1,
+      subst (λ z. BlockEffect t w z v)
+          (inner_alike p h.1.last (a.next h.1.last.state)) h.2,
+    )
 
     one_more_starts : (n : ℕ) → ((n + 1) == 0) ≡ false
     one_more_starts n = not_zero (n + 1) (omega arith) ((n + 1) == 0) refl where
@@ -123,12 +131,19 @@ module _ {S : Type 0} (a : Thread S) (c d : S → ℕ → ℕ → ℤ → S) whe
     stays_started t w s Silent v n h = absurd h
     stays_started t w s EndAtomic v n h = absurd h
     stays_started t w s (Raise kind cancels) v n h = absurd h
-    stays_started t w s (Load addr size volatile) v n h = either_starts (can_access p addr size) (goes t w (a.after s (Loaded (load w.memory addr size)))) (ends w (Trapped BadAddress)) v n n h
-    stays_started t w s (Store addr size value volatile) v n h = either_starts (can_access p addr size) (record w { memory = store w.memory addr size value; threads = update w.threads t (alive (a.after s Nothing)) }) (ends w (Trapped BadAddress)) v n n h
+    stays_started t w s (Load addr size volatile) v n h =
+        either_starts (can_access p addr size) (goes t w (a.after s (Loaded (load w.memory addr size)))) (ends w (Trapped BadAddress)) v n n h
+    stays_started t w s (Store addr size value volatile) v n h =
+        either_starts (can_access p addr size) (record w { memory = store w.memory addr size value; threads = update w.threads t (alive (a.after s Nothing)) })
+        (ends w (Trapped BadAddress)) v n n h
     stays_started t w s (Out byte) v n h = ap (λ z. z.started == 0) h ∙ n
     stays_started t w s Inp v n h = ap (λ z. z.started == 0) h ∙ n
     stays_started t w s (Spawn func arg) v n h = either_starts (nat_lt w.started p.limit)
-        (record w { started = w.started + 1; threads = update (update w.threads w.started (alive (c s w.started func arg))) t (alive (a.after s (Id (pos w.started)))) })
+        (record w {
+          started = w.started + 1;
+          threads =
+              update (update w.threads w.started (alive (c s w.started func arg))) t (alive (a.after s (Id (pos w.started))));
+        })
         (ends w (Trapped TooManyThreads)) v (one_more_starts w.started) n h
     stays_started t w s (Join id) v n h = join_starts t w (a.after s Nothing) (target t id w.threads) v n h
     stays_started t w s BeginSync v n h = ap (λ z. z.started == 0) h.1 ∙ n
@@ -138,11 +153,24 @@ module _ {S : Type 0} (a : Thread S) (c d : S → ℕ → ℕ → ℤ → S) whe
     stays_started t w s (BeginAtomic kind) v n h = block_starts t w (outcome h.1) v n h.2
 
     step_alike : (t : ℕ) (w v : World S) → (w.started == 0) ≡ false → Step x p t w v → Step y p t w v
-    step_alike t w v n h = record { going = h.going; from = h.from; before = h.before; is = h.is; silents = silents_alike h.silents; does = does_alike t w h.before (a.next h.before) v n h.does }
+    step_alike t w v n h = record {
+      going = h.going;
+      from = h.from;
+      before = h.before;
+      is = h.is;
+      silents = silents_alike h.silents;
+      does =
+          does_alike t w h.before (a.next h.before) v n h.does;
+    }
 
     pub replays_alike : (order : List ℕ) (w v : World S) → (w.started == 0) ≡ false → Replays x p w order v → Replays y p w order v
     replays_alike [] w v n h = h
-    replays_alike (t ∷ ts) w v n h = (h.0, step_alike t w h.0 n h.1, replays_alike ts h.0 v (stays_started t w h.1.before (a.next h.1.before) h.0 n h.1.does) h.2)
+    replays_alike (t ∷ ts) w v n h = (
+      h.0,
+      step_alike t w h.0 n h.1,
+      replays_alike ts h.0 v
+          (stays_started t w h.1.before (a.next h.1.before) h.0 n h.1.does) h.2,
+    )
 
 -- under the number 0 a thread would start itself once more
 abbrev pub or_itself : {S : Type 0} → Thread S → S → ℕ → ℕ → ℤ → S
@@ -162,7 +190,8 @@ module _ {S : Type 0} (a : Thread S) where
   pub child_own : (s : S) (number func : ℕ) (arg : ℤ) → (number == 0) ≡ false → a.child s number func arg ≡ or_itself a s number func arg
   child_own s number func arg e = sym (own_child s number func arg e)
 
-  one_started : (main : S) {s : S} (number func : ℕ) (arg : ℤ) → Descends a main s → a.next s ≡ Spawn func arg → (b : Bool) → Descends a main (cond b s (a.child s number func arg))
+  one_started : (main : S) {s : S} (number func : ℕ) (arg : ℤ) → Descends a main s → a.next s ≡ Spawn func arg → (b : Bool)
+      → Descends a main (cond b s (a.child s number func arg))
   one_started main number func arg h e true = h
   one_started main number func arg h e false = started number func arg h e
 
@@ -194,11 +223,14 @@ module _ {S T : Type 0} (a : Thread S) (b : Thread T) where
   children_own main main' h s r number func arg f g same e i = by_test (number == 0) refl where
     by_test : (z : Bool) → (number == 0) ≡ z → SameEvents (own a) (own b) (cond z s (a.child s number func arg)) (cond z r (b.child r number func arg))
     by_test true q = same
-    by_test false q = to_own (a.child s number func arg) (b.child r number func arg) (h s r number func arg q (own_descends a main f) (own_descends b main' g) (from_own s r same) e i)
+    by_test false q = to_own (a.child s number func arg) (b.child r number func arg)
+        (h s r number func arg q (own_descends a main f) (own_descends b main' g) (from_own s r same) e i)
 
   -- so are all steps from the start
-  pub runs_lift : (main : S) (main' : T) → SameEvents a b main main' → SameStarted main main' → (p : MemoryLayout) → p.limit ≤ THREAD_LIMIT → (memory : ℕ → ℕ) (input order : List ℕ) (v : World S)
-      → Replays a p (first_world memory input main) order v → (threads : ℕ → Option (Alive T)) × Replays b p (first_world memory input main') order (with_threads v threads)
+  pub runs_lift : (main : S) (main' : T) → SameEvents a b main main' → SameStarted main main' → (p : MemoryLayout) → p.limit ≤ THREAD_LIMIT
+      → (memory : ℕ → ℕ) (input order : List ℕ) (v : World S)
+      → Replays a p (first_world memory input main) order v → (threads : ℕ → Option (Alive T))
+      × Replays b p (first_world memory input main') order (with_threads v threads)
   runs_lift main main' same kids p few memory input order v h =
       let l = starts_lift (own a) (own b) main main' p (children_own main main' kids) (to_own main main' same) few memory input order v
       (replays_alike a a.child (or_itself a) (child_own a) p order (first_world memory input main) v refl h) in

@@ -33,7 +33,8 @@ module _ (p : Program) (names : Names) (b : Bounds) (book : Book) (links : Links
       (all.started found.0 func (sym ((links.names p.main false).spawned found.0) ∙ found.1) number (word_of arg) other)
 
   code_kids : SameStarted (thread names) (source p) (starts names 0 p.main []) (main_state p)
-  code_kids s r number func arg other f g same e i = same_events_turn (source p) (thread names) (begins p number func arg) (starts names number func (word_of arg ∷ [])) (started_same s number func arg other e)
+  code_kids s r number func arg other f g same e i = same_events_turn (source p) (thread names) (begins p number func arg)
+      (starts names number func (word_of arg ∷ [])) (started_same s number func arg other e)
 
   source_kids : SameStarted (source p) (thread names) (main_state p) (starts names 0 p.main [])
   source_kids r s number func arg other g f same i e = started_same s number func arg other e
@@ -41,9 +42,11 @@ module _ (p : Program) (names : Names) (b : Bounds) (book : Book) (links : Links
   pub code_runs : (layout : MemoryLayout) → layout.limit ≤ THREAD_LIMIT → (memory : ℕ → ℕ) (input order : List ℕ) (world : World CodeState)
       → Replays (thread names) layout (first_world memory input (starts names 0 p.main [])) order world
       → (threads : ℕ → Option (Alive SourceState)) × Replays (source p) layout (first_world memory input (main_state p)) order (with_threads world threads)
-  code_runs = runs_lift (thread names) (source p) (starts names 0 p.main []) (main_state p) (same_events_turn (source p) (thread names) (main_state p) (starts names 0 p.main []) first_same) code_kids
+  code_runs = runs_lift (thread names) (source p) (starts names 0 p.main []) (main_state p)
+      (same_events_turn (source p) (thread names) (main_state p) (starts names 0 p.main []) first_same) code_kids
 
   pub source_runs : (layout : MemoryLayout) → layout.limit ≤ THREAD_LIMIT → (memory : ℕ → ℕ) (input order : List ℕ) (world : World SourceState)
       → Replays (source p) layout (first_world memory input (main_state p)) order world
-      → (threads : ℕ → Option (Alive CodeState)) × Replays (thread names) layout (first_world memory input (starts names 0 p.main [])) order (with_threads world threads)
+      → (threads : ℕ → Option (Alive CodeState)) × Replays (thread names) layout (first_world memory input (starts names 0 p.main [])) order
+      (with_threads world threads)
   source_runs = runs_lift (source p) (thread names) (main_state p) (starts names 0 p.main []) first_same source_kids

@@ -9,9 +9,15 @@ use Rattle.tx_events.specs.declared.End.TheVariants.{Exit}
 use Rattle.tx_events.specs.declared.Event.{Event}
 use Rattle.tx_events.specs.declared.Event.TheVariants.{Spawn as SpawnOf, Done, Stop}
 use Rattle.tx_code.specs.declared.instr.Instr.{Instr}
-use Rattle.tx_code.specs.declared.instr.Instr.TheVariants.{Push, Dup, Pop, Swap, FrameAddr, GlobalAddr, FuncAddr, ClassAddr, Load, Store, TLoad, TStore, VLoad, VStore, Bin, Neg, Conv, Jump, JumpZero, Call, TCall, CallIndirect, TCallIndirect, Slot, Ret, Begin, End, BeginSync, EndSync, Out, Inp, Spawn, Join, Abort, NewException, PutException, Throw, Rethrow, GetException, EndHandler, Resume, Over}
+use Rattle.tx_code.specs.declared.instr.Instr.TheVariants.{Push, Dup, Pop, Swap, FrameAddr, GlobalAddr, FuncAddr, ClassAddr, Load, Store, TLoad, TStore, VLoad}
+use Rattle.tx_code.specs.declared.instr.Instr.TheVariants.{VStore, Bin, Neg, Conv, Jump, JumpZero, Call, TCall, CallIndirect, TCallIndirect, Slot, Ret, Begin}
+use Rattle.tx_code.specs.declared.instr.Instr.TheVariants.{End, BeginSync, EndSync, Out, Inp, Spawn, Join, Abort, NewException, PutException, Throw, Rethrow}
+use Rattle.tx_code.specs.declared.instr.Instr.TheVariants.{GetException, EndHandler, Resume, Over}
 use Rattle.tx_code.specs.declared.body.Row.{Row}
-use Rattle.tx_code.specs.Meaning.{Names, Exception, Held, Free, Building, Flying, Home, Frame, State, Runs, Unwinds, Act, Does, Ends, Lost, one, two, moved, if_some, with_kind, kinds, operators, block_kinds, right_kind, result_act, load_act, store_act, entered_act, call_act, checked_act, call_indirect_act, finish, status_of, back_act, ret_act, built, flown, in_handler, current, act, next_home, fits, in_transaction, at, fetch, find, rows_in, cut, row_act, leave_act, unwind_act, step_act, event_of, thread}
+use Rattle.tx_code.specs.Meaning.{Names, Exception, Held, Free, Building, Flying, Home, Frame, State, Runs, Unwinds, Act, Does, Ends, Lost, one, two, moved}
+use Rattle.tx_code.specs.Meaning.{if_some, with_kind, kinds, operators, block_kinds, right_kind, result_act, load_act, store_act, entered_act, call_act}
+use Rattle.tx_code.specs.Meaning.{checked_act, call_indirect_act, finish, status_of, back_act, ret_act, built, flown, in_handler, current, act, next_home, fits}
+use Rattle.tx_code.specs.Meaning.{in_transaction, at, fetch, find, rows_in, cut, row_act, leave_act, unwind_act, step_act, event_of, thread}
 
 module _ (x : Names) where
   -- where the event starts a thread, an address finds its function

@@ -22,10 +22,12 @@ use Rattle.checked_runs.proofs.CodeRuns.{first_same, code_runs, source_runs}
 module _ (p : Program) (i : ImageView) (b : Bounds) (book : Book) (is : IsCodeOf p i b book) where
   -- the stacks of an image lie where the source has them
   pub image_begins : AllBegin p (names_of i) book
-  image_begins = all_begin p (names_of i) b book is.links (record { stacks = record { starts = λ t. refl; ends = λ t. refl }; main = is.main; started = is.started })
+  image_begins = all_begin p (names_of i) b book is.links
+      (record { stacks = record { starts = λ t. refl; ends = λ t. refl }; main = is.main; started = is.started })
 
   pub image_same : SameEvents (source p) (thread (names_of i)) (main_state p) (first_state i)
-  image_same = subst (λ z. SameEvents (source p) (thread (names_of i)) (main_state p) (starts (names_of i) 0 z [])) (sym is.main_is) (first_same p (names_of i) b book is.links is.small image_begins)
+  image_same = subst (λ z. SameEvents (source p) (thread (names_of i)) (main_state p) (starts (names_of i) 0 z [])) (sym is.main_is)
+      (first_same p (names_of i) b book is.links is.small image_begins)
 
   pub image_runs : (layout : MemoryLayout) → layout.limit ≤ THREAD_LIMIT → (memory : ℕ → ℕ) (input order : List ℕ) (world : World CodeState)
       → Replays (thread (names_of i)) layout (first_world memory input (first_state i)) order world
@@ -35,10 +37,14 @@ module _ (p : Program) (i : ImageView) (b : Bounds) (book : Book) (is : IsCodeOf
 
   pub runs_of_image : (layout : MemoryLayout) → layout.limit ≤ THREAD_LIMIT → (memory : ℕ → ℕ) (input order : List ℕ) (world : World SourceState)
       → Replays (source p) layout (first_world memory input (main_state p)) order world
-      → (threads : ℕ → Option (Alive CodeState)) × Replays (thread (names_of i)) layout (first_world memory input (first_state i)) order (with_threads world threads)
+      → (threads : ℕ → Option (Alive CodeState)) × Replays (thread (names_of i)) layout (first_world memory input (first_state i)) order
+      (with_threads world threads)
   runs_of_image layout few memory input order world h =
-      let l = source_runs p (names_of i) b book is.links is.small image_begins layout few memory input order world h in
-      (l.0, subst (λ z. Replays (thread (names_of i)) layout (first_world memory input (starts (names_of i) 0 z [])) order (with_threads world l.0)) (sym is.main_is) l.1)
+      let l = source_runs p (names_of i) b book is.links is.small image_begins layout few memory input order world h in (
+        l.0,
+        subst (λ z. Replays (thread (names_of i)) layout (first_world memory input (starts (names_of i) 0 z [])) order (with_threads world l.0))
+            (sym is.main_is) l.1,
+      )
 
 -- equal cells give the same memory
 pub same_cells : (t : TypedProgram) (p : Program) (i : ImageView) → i.size ≡ (globals_size t + 7) / 8 * 8 → i.globals ≡ first_cells t p → SameGlobals t p i

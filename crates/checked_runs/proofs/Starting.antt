@@ -17,7 +17,8 @@ use Rattle.body_check.specs.Notes.{Note, Bounds}
 use Rattle.body_check.specs.Calls.{by_return, by_end, NoteFits, Checked, Links, Whole}
 use Rattle.body_check.specs.Pair.{number_of}
 use Rattle.checked_runs.specs.Beginnings.{CanBegin, CanStart}
-use Rattle.checked_runs.specs.Starting.{main_func, thread_func, func_of, main_body, thread_body, body_of, starting_program, starting_names, address_note, argument_note, start_note, back_note, word_note, swap_note, store_note, end_note, starting_book}
+use Rattle.checked_runs.specs.Starting.{main_func, thread_func, func_of, main_body, thread_body, body_of, starting_program, starting_names, address_note}
+use Rattle.checked_runs.specs.Starting.{argument_note, start_note, back_note, word_note, swap_note, store_note, end_note, starting_book}
 
 pub bounds : Bounds
 bounds = record { half = 8; longest = 16; both = omega arith; most = 2 }
@@ -39,7 +40,21 @@ address_fits safe = record {
   short = omega arith;
   foreseen = refl;
   fits = record {
-    lands = equally starting_program main_func bounds (address_note ∷ argument_note ∷ start_note ∷ back_note ∷ []) (λ t. true) (record { at = 1; note = argument_note; is = refl; there = refl; lag = 0; terms = same; types = λ n. tt; same_place = refl; same_facts = tt; same_outcome = refl; foreseen = refl; low = omega arith });
+    lands = equally starting_program main_func bounds (address_note ∷ argument_note ∷ start_note ∷ back_note ∷ []) (λ t. true)
+        (record {
+          at = 1;
+          note = argument_note;
+          is = refl;
+          there = refl;
+          lag = 0;
+          terms = same;
+          types = λ n. tt;
+          same_place = refl;
+          same_facts = tt;
+          same_outcome = refl;
+          foreseen = refl;
+          low = omega arith;
+        });
     short = omega arith;
     goes_on = inl (omega arith);
   };
@@ -53,7 +68,22 @@ argument_fits safe = record {
   short = omega arith;
   foreseen = refl;
   fits = record {
-    lands = equally starting_program main_func bounds (address_note ∷ argument_note ∷ start_note ∷ back_note ∷ []) (λ t. true) (record { at = 2; note = start_note; is = refl; there = refl; lag = 0; terms = same; types = λ n. tt; same_place = refl; same_facts = tt; same_outcome = refl; foreseen = refl; low = omega arith });
+    lands = equally starting_program main_func bounds (address_note ∷ argument_note ∷ start_note ∷ back_note ∷ []) (λ t. true)
+        (record {
+          at = 2;
+          note = start_note;
+          is = refl;
+          there = refl;
+          lag = 0;
+          terms = same;
+          types = λ n. tt;
+          same_place = refl;
+          same_facts = tt;
+          same_outcome =
+              refl;
+          foreseen = refl;
+          low = omega arith;
+        });
     short = omega arith;
     goes_on = inr (omega arith);
   };
@@ -66,7 +96,25 @@ start_fits safe = record {
   is = refl;
   short = omega arith;
   foreseen = refl;
-  fits = (equally starting_program main_func bounds (address_note ∷ argument_note ∷ start_note ∷ back_note ∷ []) (λ t. true) (record { at = 3; note = back_note; is = refl; there = refl; lag = 0; terms = same; types = λ n. tt; same_place = refl; same_facts = tt; same_outcome = refl; foreseen = refl; low = omega arith }), refl);
+  fits = (
+    equally starting_program main_func bounds (address_note ∷ argument_note ∷ start_note ∷ back_note ∷ []) (λ t. true)
+        (record {
+          at = 3;
+          note = back_note;
+          is = refl;
+          there = refl;
+          lag = 0;
+          terms = same;
+          types = λ n. tt;
+          same_place = refl;
+          same_facts = tt;
+          same_outcome =
+              refl;
+          foreseen = refl;
+          low = omega arith;
+        }),
+    refl,
+  );
 }
 
 back_fits : (safe : Bool) → Fit 0 safe back_note
@@ -81,7 +129,22 @@ word_fits n safe = record {
   short = omega arith;
   foreseen = refl;
   fits = record {
-    lands = equally starting_program thread_func bounds (word_note ∷ swap_note ∷ store_note ∷ end_note ∷ []) (λ t. true) (record { at = 1; note = swap_note; is = refl; there = refl; lag = 0; terms = same; types = λ n. tt; same_place = refl; same_facts = tt; same_outcome = refl; foreseen = refl; low = omega arith });
+    lands = equally starting_program thread_func bounds (word_note ∷ swap_note ∷ store_note ∷ end_note ∷ []) (λ t. true)
+        (record {
+          at = 1;
+          note = swap_note;
+          is = refl;
+          there = refl;
+          lag = 0;
+          terms = same;
+          types = λ n. tt;
+          same_place = refl;
+          same_facts = tt;
+          same_outcome =
+              refl;
+          foreseen = refl;
+          low = omega arith;
+        });
     short = omega arith;
     goes_on = inr (omega arith);
   };
@@ -95,7 +158,22 @@ swap_fits n safe = record {
   short = omega arith;
   foreseen = refl;
   fits = record {
-    lands = equally starting_program thread_func bounds (word_note ∷ swap_note ∷ store_note ∷ end_note ∷ []) (λ t. true) (record { at = 2; note = store_note; is = refl; there = refl; lag = 0; terms = same; types = λ n. tt; same_place = refl; same_facts = tt; same_outcome = refl; foreseen = refl; low = omega arith });
+    lands = equally starting_program thread_func bounds (word_note ∷ swap_note ∷ store_note ∷ end_note ∷ []) (λ t. true)
+        (record {
+          at = 2;
+          note = store_note;
+          is = refl;
+          there = refl;
+          lag = 0;
+          terms = same;
+          types = λ n. tt;
+          same_place = refl;
+          same_facts = tt;
+          same_outcome =
+              refl;
+          foreseen = refl;
+          low = omega arith;
+        });
     short = omega arith;
     goes_on = inr (omega arith);
   };
@@ -108,7 +186,26 @@ store_fits n safe = record {
   is = refl;
   short = omega arith;
   foreseen = refl;
-  fits = (refl, equally starting_program thread_func bounds (word_note ∷ swap_note ∷ store_note ∷ end_note ∷ []) (λ t. true) (record { at = 3; note = end_note; is = refl; there = refl; lag = 0; terms = same; types = λ n. tt; same_place = refl; same_facts = tt; same_outcome = refl; foreseen = refl; low = omega arith }), refl);
+  fits = (
+    refl,
+    equally starting_program thread_func bounds (word_note ∷ swap_note ∷ store_note ∷ end_note ∷ []) (λ t. true)
+        (record {
+          at = 3;
+          note = end_note;
+          is = refl;
+          there = refl;
+          lag = 0;
+          terms = same;
+          types = λ n. tt;
+          same_place = refl;
+          same_facts = tt;
+          same_outcome =
+              refl;
+          foreseen = refl;
+          low = omega arith;
+        }),
+    refl,
+  );
 }
 
 end_fits : (n : ℕ) (safe : Bool) → Fit (suc n) safe end_note
@@ -122,7 +219,8 @@ fit_main safe (suc (suc zero)) note e = subst (λ z. Fit 0 safe z) (note_same st
 fit_main safe (suc (suc (suc zero))) note e = subst (λ z. Fit 0 safe z) (note_same back_note note e) (back_fits safe)
 fit_main safe (suc (suc (suc (suc k)))) note e = absurd cc
 
-fit_thread : (n : ℕ) (safe : Bool) (index : ℕ) (note : Note) → slice_get (word_note ∷ swap_note ∷ store_note ∷ end_note ∷ []) index ≡ Some note → Fit (suc n) safe note
+fit_thread : (n : ℕ) (safe : Bool) (index : ℕ) (note : Note) → slice_get (word_note ∷ swap_note ∷ store_note ∷ end_note ∷ []) index ≡ Some note
+    → Fit (suc n) safe note
 fit_thread n safe zero note e = subst (λ z. Fit (suc n) safe z) (note_same word_note note e) (word_fits n safe)
 fit_thread n safe (suc zero) note e = subst (λ z. Fit (suc n) safe z) (note_same swap_note note e) (swap_fits n safe)
 fit_thread n safe (suc (suc zero)) note e = subst (λ z. Fit (suc n) safe z) (note_same store_note note e) (store_fits n safe)
@@ -152,7 +250,8 @@ no_word false e = refl
 takes_one : (n count : ℕ) (gives : Bool) → ((count == 1) && not gives) ≡ true → 1 ≡ n → Whole starting_names starting_book n count gives
 takes_one n count gives e i =
     let both = and_parts (count == 1) (not gives) e in
-    subst (λ z. Whole starting_names starting_book n z gives) (sym (eqb-true count 1 both.0)) (subst (λ z. Whole starting_names starting_book n 1 z) (no_word gives both.1)
+    subst (λ z. Whole starting_names starting_book n z gives) (sym (eqb-true count 1 both.0))
+    (subst (λ z. Whole starting_names starting_book n 1 z) (no_word gives both.1)
     (subst (λ z. Whole starting_names starting_book z 1 false) i (record { body = thread_body; there = refl; takes = refl; gives_so = refl })))
 
 body_there : (n : ℕ) (body : BodyView) → ◌≡◌ {A = Option BodyView} (Some (body_of n)) (Some body) → body_of n ≡ body
@@ -171,7 +270,19 @@ starting_links = record {
   cancels = λ t h. cancels_same t;
   one_type = (typ void false false, refl);
   checked = λ n safe body e. checked n safe;
-  names = λ n safe. record { globals = λ s m e. absurd cc; functions = λ s m e. ap function_address (called_right s m e); classes = λ s m e. absurd cc; types = λ s t e. absurd cc; addresses = λ n. refl; slots = λ s class e a slot. absurd cc; spawned = λ a. refl; signatures = λ s sig e a. refl; methods = λ s class slot a n e. absurd cc };
+  names = λ n safe. record {
+    globals = λ s m e. absurd cc;
+    functions = λ s m e. ap function_address (called_right s m e);
+    classes = λ s m e. absurd cc;
+    types =
+        λ s t e. absurd cc;
+    addresses = λ n. refl;
+    slots = λ s class e a slot. absurd cc;
+    spawned = λ a. refl;
+    signatures = λ s sig e a. refl;
+    methods =
+        λ s class slot a n e. absurd cc;
+  };
   called = λ n safe name callee e. called_right name callee e;
   plain_there = λ n safe name callee e. (body_of (number_of callee), refl);
   pointed = λ a n sig count gives t e. takes_one n count gives t (found_first (a == function_address 1) n e);
@@ -202,5 +313,6 @@ pub starting_can : CanStart starting_program starting_names starting_book
 starting_can = record {
   stacks = record { starts = λ t. refl; ends = λ t. refl };
   main = record { body = main_body; there = refl; gives_so = refl; takes_so = refl; room = omega arith };
-  started = λ a n e. subst (λ z. CanBegin starting_names starting_book z false 1) (found_first (a == function_address 1) n e) (record { body = thread_body; there = refl; gives_so = refl; takes_so = refl; room = omega arith });
+  started = λ a n e. subst (λ z. CanBegin starting_names starting_book z false 1) (found_first (a == function_address 1) n e)
+      (record { body = thread_body; there = refl; gives_so = refl; takes_so = refl; room = omega arith });
 }

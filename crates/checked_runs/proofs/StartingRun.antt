@@ -17,8 +17,10 @@ use Rattle.checked_runs.proofs.Starting.{bounds, starting_links, starting_small,
 
 pub all_runs : (layout : MemoryLayout) → layout.limit ≤ THREAD_LIMIT → (memory : ℕ → ℕ) (input order : List ℕ) (world : World CodeState)
     → Replays (thread starting_names) layout (first_world memory input (starts starting_names 0 0 [])) order world
-    → (threads : ℕ → Option (Alive SourceState)) × Replays (source starting_program) layout (first_world memory input (main_state starting_program)) order (with_threads world threads)
-all_runs = code_runs starting_program starting_names bounds starting_book starting_links starting_small (all_begin starting_program starting_names bounds starting_book starting_links starting_can)
+    → (threads : ℕ → Option (Alive SourceState)) × Replays (source starting_program) layout (first_world memory input (main_state starting_program)) order
+    (with_threads world threads)
+all_runs = code_runs starting_program starting_names bounds starting_book starting_links starting_small
+    (all_begin starting_program starting_names bounds starting_book starting_links starting_can)
 
 -- main starts the thread; the thread stores its argument and ends; main returns the thread's number
 pub code_run : RunsTo (thread starting_names) (starts starting_names 0 0 []) (0 ∷ 1 ∷ 1 ∷ 0 ∷ []) (Exit (pos 1))

@@ -25,7 +25,8 @@ pub record CanBegin (names : Names) (book : Book) (n : ℕ) (gives : Bool) (take
   pub takes_so : book.takes n ≡ takes
   pub room : names.frame n ≤ stack_size
 
--- so can main, which hands back a word and takes none, and each function that an address finds as one of the type of threads, which hands back none and takes one
+-- so can main, which hands back a word and takes none, and each function that an address finds as one of the type of threads, which hands back none and takes
+-- one
 pub record CanStart (p : Program) (names : Names) (book : Book) : Type 0 where
   pub stacks : SameStacks names
   pub main : CanBegin names book p.main true 0

@@ -12,7 +12,8 @@ use Rattle.body_check.specs.Notes.{Bounds}
 use Rattle.body_check.specs.Calls.{Book, Links}
 use Rattle.checked_runs.specs.Beginnings.{CanBegin}
 
--- The bodies of the image have notes that fit the functions of the program, its main is the program's, and main and each function that a thread can be started in can be the first of a thread.
+-- The bodies of the image have notes that fit the functions of the program, its main is the program's, and main and each function that a thread can be started
+-- in can be the first of a thread.
 pub record IsCodeOf (p : Program) (i : ImageView) (b : Bounds) (book : Book) : Type 0 where
   pub links : Links p (names_of i) b book
   pub small : IsSmall p

@@ -40,11 +40,20 @@ main_func = record {
   words = [];
   stops = false;
   safe = true;
-  body = returning (prvalue (Builtin SpawnThread) (plain (int Int)) ((prvalue (Function 1) (plain (ptr (plain (func thread_signature)))) []) ∷ (prvalue (Literal 0) (plain (int Long)) []) ∷ []));
+  body = returning (prvalue (Builtin SpawnThread) (plain (int Int))
+      ((prvalue (Function 1) (plain (ptr (plain (func thread_signature)))) []) ∷ (prvalue (Literal 0) (plain (int Long)) []) ∷ []));
 }
 
 abbrev pub thread_func : Func
-thread_func = record { unit = 0; size = 16; places = 0 ∷ []; words = record { offset = 0; kind = Long; volatile = false } ∷ []; stops = false; safe = true; body = effect (Block false) [] }
+thread_func = record {
+  unit = 0;
+  size = 16;
+  places = 0 ∷ [];
+  words = record { offset = 0; kind = Long; volatile = false } ∷ [];
+  stops = false;
+  safe = true;
+  body = effect (Block false) [];
+}
 
 -- main has number 0, and each other number is that of the thread's function
 abbrev pub func_of : ℕ → Func
@@ -112,7 +121,15 @@ abbrev pub start_note : Note
 start_note = record { index = 2; place = with_operands (bare 0) (number 0 ∷ function 1 ∷ []); facts = []; outcome = at_start; lead = 0; rank = 0 }
 
 abbrev pub back_note : Note
-back_note = record { index = 3; place = with_operands (bare 0) (variable 0 ∷ []); facts = []; outcome = given starting_program main_func no_answers [] (variable 0) behind_start; lead = 1; rank = 0 }
+back_note = record {
+  index = 3;
+  place = with_operands (bare 0) (variable 0 ∷ []);
+  facts = [];
+  outcome = given starting_program main_func no_answers []
+      (variable 0) behind_start;
+  lead = 1;
+  rank = 0;
+}
 
 -- in the thread's function, where its argument lies on the operands
 abbrev pub word_note : Note
@@ -125,14 +142,30 @@ abbrev pub store_note : Note
 store_note = record { index = 2; place = with_operands (bare 0) (variable 0 ∷ local 0 ∷ []); facts = []; outcome = begun thread_func 1; lead = 0; rank = 0 }
 
 abbrev pub end_note : Note
-end_note = record { index = 3; place = bare 0; facts = []; outcome = given starting_program thread_func no_answers [] (variable 0) (Passes [] [] ∷ Then value thread_func.body ∷ []); lead = 3; rank = 0 }
+end_note = record {
+  index = 3;
+  place = bare 0;
+  facts = [];
+  outcome = given starting_program thread_func no_answers [] (variable 0)
+      (Passes [] [] ∷ Then value thread_func.body ∷ []);
+  lead = 3;
+  rank = 0;
+}
 
 abbrev pub notes_of : ℕ → List Note
 notes_of zero = address_note ∷ argument_note ∷ start_note ∷ back_note ∷ []
 notes_of (suc n) = word_note ∷ swap_note ∷ store_note ∷ end_note ∷ []
 
 abbrev pub own_names : Table
-own_names = record { global_of = λ n. None; function_of = named; class_of = λ n. None; type_of = λ n. None; is_signature = λ n sig. false; is_slot = λ n c s. false }
+own_names = record {
+  global_of = λ n. None;
+  function_of = named;
+  class_of = λ n. None;
+  type_of = λ n. None;
+  is_signature = λ n sig. false;
+  is_slot =
+      λ n c s. false;
+}
 
 abbrev pub gives_of : ℕ → Bool
 gives_of zero = true

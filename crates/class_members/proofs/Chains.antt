@@ -1,5 +1,6 @@
 -- Members that are tested first and then put to the others.
-use Rattle.std.proofs.Common.{◌≡◌, ◌∙◌, ℕ, Bool, List, [], ◌∷◌, ◌++◌, length, map, Option, is_some, is_none, not, ◌&&◌, ◌||◌, Result, Ok, Err, refl, sym, ap, subst}
+use Rattle.std.proofs.Common.{◌≡◌, ◌∙◌, ℕ, Bool, List, [], ◌∷◌, ◌++◌, length, map, Option, is_some, is_none, not, ◌&&◌, ◌||◌, Result, Ok, Err, refl, sym, ap}
+use Rattle.std.proofs.Common.{subst}
 use Rattle.std.proofs.lemmas.List.{length-map}
 use Rattle.cpp_types.specs.Typ.{Typ}
 use Rattle.cpp_types.specs.Class.{member_of, held}
@@ -17,7 +18,8 @@ use Rattle.elab_init.specs.elab_rules.Sizes.{typ_sized}
 use Rattle.elab_init.specs.elab_ctx.Says.{Faults}
 use Rattle.elab_init.specs.elab_rules.Statements.{Body, is_bounded}
 use Rattle.elab_init.specs.elab_rules.Functions.{Header, function_record, is_same_function, first_from, header_sized}
-use Rattle.elab_init.specs.elab_rules.Classes.{Home, Members, Marks, Definition, index_if, with_member, with_function, data_member, member_function, member_form, has_member, has_function, overridden, overrides_well, marks_fit, definition_sized, as_defined}
+use Rattle.elab_init.specs.elab_rules.Classes.{Home, Members, Marks, Definition, index_if, with_member, with_function, data_member, member_function}
+use Rattle.elab_init.specs.elab_rules.Classes.{member_form, has_member, has_function, overridden, overrides_well, marks_fit, definition_sized, as_defined}
 use Rattle.class_members.specs.declared.records.Members.{Members as MembersRec}
 use Rattle.class_members.specs.Shown.{reading, Answers}
 use Rattle.class_members.specs.Parts.{fits_member, member_made, method_by, taken_over_of}
@@ -43,12 +45,18 @@ five (Ok _) (Ok _) (Ok _) (Err y) f x k = refl
 five (Ok _) (Ok _) (Ok _) (Ok _) (Err y) x k = refl
 five (Ok _) (Ok _) (Ok _) (Ok _) (Ok _) x k = refl
 
-pub data_member_is : (n : ℕ) (r : Members) (at : At) (name : List ℕ) (t : Typ) (b : Bool) → data_member n r at name t b ≡ and_then (fits_member r.state.ctx n r.members at name t) (λ _. Ok (with_member r name t b))
-data_member_is n r at name t b = seven (member_form at (form_in t)) (check at OutOfProfile (not (has_auto t))) (check at BadDeclaration (is_bounded t)) (check at Incomplete (is_complete r.state.ctx (held t))) (check at AbstractObject (not (is_abstract_type r.state.ctx (element_of t))))
-    (typ_sized r.state.ctx.classes at t) (check at Redeclared (not (has_member name r.members) && not (has_function n name r.state.ctx.funcs))) (Ok (with_member r name t b))
+pub data_member_is : (n : ℕ) (r : Members) (at : At) (name : List ℕ) (t : Typ) (b : Bool)
+    → data_member n r at name t b ≡ and_then (fits_member r.state.ctx n r.members at name t) (λ _. Ok (with_member r name t b))
+data_member_is n r at name t b = seven (member_form at (form_in t)) (check at OutOfProfile (not (has_auto t))) (check at BadDeclaration (is_bounded t))
+    (check at Incomplete (is_complete r.state.ctx (held t))) (check at AbstractObject (not (is_abstract_type r.state.ctx (element_of t))))
+    (typ_sized r.state.ctx.classes at t) (check at Redeclared (not (has_member name r.members) && not (has_function n name r.state.ctx.funcs)))
+    (Ok (with_member r name t b))
 
-pub member_function_is : (h : Home) (r : Members) (f : Header) (m : Marks) (d : Option Definition) → member_function h r f m d ≡ and_then (member_made r.state.ctx h r.members f m d) (λ x. Ok (with_function r x))
-member_function_is h r f m d = let o = overridden r.state.ctx h.base (function_record f) in five (check f.at Redeclared (is_none (first_from (is_same_function f) 0 r.state.ctx.funcs) && not (has_member f.name r.members))) (overrides_well f o) (marks_fit f m (is_some o) (f.storage.is_virtual || is_some o))
+pub member_function_is : (h : Home) (r : Members) (f : Header) (m : Marks) (d : Option Definition)
+    → member_function h r f m d ≡ and_then (member_made r.state.ctx h r.members f m d) (λ x. Ok (with_function r x))
+member_function_is h r f m d = let o = overridden r.state.ctx h.base (function_record f) in
+    five (check f.at Redeclared (is_none (first_from (is_same_function f) 0 r.state.ctx.funcs) && not (has_member f.name r.members))) (overrides_well f o)
+    (marks_fit f m (is_some o) (f.storage.is_virtual || is_some o))
     (header_sized r.state.ctx f) (definition_sized f.at d) (as_defined d (method_by f m (taken_over_of o))) (with_function r)
 
 -- A fault of the tests is that of the whole
@@ -60,23 +68,28 @@ faults_then (JumpIntoBlock at) x f h = ap (λ z. and_then z f) h
 faults_then (Limit at which) x f h = ap (λ z. and_then z f) h
 faults_then Memory x f h = tt
 
-pub data_member_fails : (e : ElabFault) (n : ℕ) (r : Members) (at : At) (name : List ℕ) (t : Typ) (b : Bool) → Faults e (fits_member r.state.ctx n r.members at name t) → Faults e (data_member n r at name t b)
+pub data_member_fails : (e : ElabFault) (n : ℕ) (r : Members) (at : At) (name : List ℕ) (t : Typ) (b : Bool)
+    → Faults e (fits_member r.state.ctx n r.members at name t) → Faults e (data_member n r at name t b)
 data_member_fails e n r at name t b h = subst (Faults e) (sym (data_member_is n r at name t b)) (faults_then e _ _ h)
 
-pub member_function_fails : (e : ElabFault) (h : Home) (r : Members) (f : Header) (m : Marks) (d : Option Definition) → Faults e (member_made r.state.ctx h r.members f m d) → Faults e (member_function h r f m d)
+pub member_function_fails : (e : ElabFault) (h : Home) (r : Members) (f : Header) (m : Marks) (d : Option Definition)
+    → Faults e (member_made r.state.ctx h r.members f m d) → Faults e (member_function h r f m d)
 member_function_fails e h r f m d g = subst (Faults e) (sym (member_function_is h r f m d)) (faults_then e _ _ g)
 
 -- What is put to the others
 
 pub data_member_done : (c : Ctx) (w : Work) (bodies : List Body) (old new : MembersRec) (n : ℕ) (at : At) (name : List ℕ) (t : Typ) (b x : Bool) →
-    fits_member c n (map member_of old.members.items) at name t ≡ Ok x → map member_of new.members.items ≡ map member_of old.members.items ++ record { name = name; typ = t } ∷ [] → new.initialised.items ≡ old.initialised.items ++ index_if b (length old.members.items) →
+    fits_member c n (map member_of old.members.items) at name t ≡ Ok x
+    → map member_of new.members.items ≡ map member_of old.members.items ++ record { name = name; typ = t } ∷ []
+    → new.initialised.items ≡ old.initialised.items ++ index_if b (length old.members.items) →
     data_member n (reading c w bodies old) at name t b ≡ Ok (reading c w bodies new)
 data_member_done c w bodies old new n at name t b x e em ei =
     data_member_is n (reading c w bodies old) at name t b
     ∙ ap (λ z. and_then z (λ _. Ok (with_member (reading c w bodies old) name t b))) e
     ∙ rw (em, ei, length-map old.members.items member_of) refl
 
-pub member_function_done : (c new : Ctx) (w : Work) (bodies : List Body) (members : MembersRec) (h : Home) (f : Header) (m : Marks) (d : Option Definition) (x : Func) →
+pub member_function_done : (c new : Ctx) (w : Work) (bodies : List Body) (members : MembersRec) (h : Home) (f : Header) (m : Marks) (d : Option Definition)
+    (x : Func) →
     member_made c h (map member_of members.members.items) f m d ≡ Ok x → new ≡ record c { funcs = c.funcs ++ x ∷ [] } →
     member_function h (reading c w bodies members) f m d ≡ Ok (reading new w bodies members)
 member_function_done c new w bodies members h f m d x e g =
@@ -86,12 +99,18 @@ member_function_done c new w bodies members h f m d x e g =
 
 -- The answers of the calls
 
-pub data_member_refused : (r : Result (Unit {0}) ElabFault) (e : ElabFault) (c : Ctx) (w : Work) (bodies : List Body) (old new : MembersRec) (n : ℕ) (at : At) (name : List ℕ) (t : Typ) (b : Bool) →
-    r ≡ Err e → Faults e (fits_member c n (map member_of old.members.items) at name t) → Answers (reading c w bodies new) r (data_member n (reading c w bodies old) at name t b)
+pub data_member_refused : (r : Result (Unit {0}) ElabFault) (e : ElabFault) (c : Ctx) (w : Work) (bodies : List Body) (old new : MembersRec) (n : ℕ) (at : At)
+    (name : List ℕ) (t : Typ) (b : Bool) →
+    r ≡ Err e → Faults e (fits_member c n (map member_of old.members.items) at name t)
+    → Answers (reading c w bodies new) r (data_member n (reading c w bodies old) at name t b)
 data_member_refused r e c w bodies old new n at name t b h g =
-    subst (λ z. Answers (reading c w bodies new) z (data_member n (reading c w bodies old) at name t b)) (sym h) (data_member_fails e n (reading c w bodies old) at name t b g)
+    subst (λ z. Answers (reading c w bodies new) z (data_member n (reading c w bodies old) at name t b)) (sym h)
+    (data_member_fails e n (reading c w bodies old) at name t b g)
 
-pub member_function_refused : (r : Result (Unit {0}) ElabFault) (e : ElabFault) (c new : Ctx) (w : Work) (bodies : List Body) (members : MembersRec) (h : Home) (f : Header) (m : Marks) (d : Option Definition) →
-    r ≡ Err e → Faults e (member_made c h (map member_of members.members.items) f m d) → Answers (reading new w bodies members) r (member_function h (reading c w bodies members) f m d)
+pub member_function_refused : (r : Result (Unit {0}) ElabFault) (e : ElabFault) (c new : Ctx) (w : Work) (bodies : List Body) (members : MembersRec) (h : Home)
+    (f : Header) (m : Marks) (d : Option Definition) →
+    r ≡ Err e → Faults e (member_made c h (map member_of members.members.items) f m d)
+    → Answers (reading new w bodies members) r (member_function h (reading c w bodies members) f m d)
 member_function_refused r e c new w bodies members h f m d q g =
-    subst (λ z. Answers (reading new w bodies members) z (member_function h (reading c w bodies members) f m d)) (sym q) (member_function_fails e h (reading c w bodies members) f m d g)
+    subst (λ z. Answers (reading new w bodies members) z (member_function h (reading c w bodies members) f m d)) (sym q)
+    (member_function_fails e h (reading c w bodies members) f m d g)

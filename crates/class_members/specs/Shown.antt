@@ -20,7 +20,17 @@ abbrev pub storage_of : StorageRec → Storage
 storage_of x = record { is_static = x.is_static; is_extern = x.is_extern; is_inline = x.is_inline; is_virtual = x.is_virtual; is_c = x.is_c }
 
 abbrev pub header_of : HeaderRec → Header
-header_of h = record { name = h.name.items; at = h.at; signature = signature_of h.ty; params = map parameter_of h.params.items; qualifiers = qualifiers_of h.qualifiers; storage = storage_of h.storage; kind = h.kind; class = h.class }
+header_of h = record {
+  name = h.name.items;
+  at = h.at;
+  signature = signature_of h.ty;
+  params = map parameter_of h.params.items;
+  qualifiers =
+      qualifiers_of h.qualifiers;
+  storage = storage_of h.storage;
+  kind = h.kind;
+  class = h.class;
+}
 
 abbrev pub marks_of : MarksRec → Marks
 marks_of m = record { is_override = m.is_override; is_final = m.is_final; is_pure = m.is_pure }
@@ -33,7 +43,12 @@ home_of h = record { number = h.number; name = h.name.items; base = h.base; is_f
 
 -- a class while its members are read
 abbrev pub reading : Ctx → Work → List Body → MembersRec → Members
-reading c w bodies m = record { state = record { ctx = c; work = w; bodies = bodies }; members = map member_of m.members.items; initialised = m.initialised.items }
+reading c w bodies m = record {
+  state = record { ctx = c; work = w; bodies = bodies };
+  members = map member_of m.members.items;
+  initialised =
+      m.initialised.items;
+}
 
 -- what is to be answered is this, or its fault is answered
 abbrev pub Answers : {A B : Type 0} → B → Result A ElabFault → Result B ElabFault → Type 0

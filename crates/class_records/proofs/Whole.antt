@@ -12,7 +12,8 @@ with_rows c name t = record c { classes = c.classes ++ class_named name None fal
 
 pub whole_is : (c c1 c2 c3 : Ctx) (name first second : List ℕ) (n : ℕ) (u : Typ) (t : Traits) →
     first ≡ name → u ≡ typ (class n) false false → n ≡ length c.classes → c1 ≡ with_type c first u → second ≡ name →
-    c2 ≡ record c1 { classes = c1.classes ++ class_named second None false [] [] None ∷ [] } → t ≡ no_traits → c3 ≡ record c2 { traits = c2.traits ++ t ∷ []; slots = c2.slots ++ [] ∷ [] } → c3 ≡ with_class c name
+    c2 ≡ record c1 { classes = c1.classes ++ class_named second None false [] [] None ∷ [] } → t ≡ no_traits
+    → c3 ≡ record c2 { traits = c2.traits ++ t ∷ []; slots = c2.slots ++ [] ∷ [] } → c3 ≡ with_class c name
 whole_is c c1 c2 c3 name first second n u t ef eu en e1 es e2 et e3 =
     e3
     ∙ ap (λ (z : Ctx). record z { traits = z.traits ++ t ∷ []; slots = z.slots ++ [] ∷ [] }) e2

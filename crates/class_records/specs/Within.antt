@@ -5,7 +5,8 @@ use Rattle.cpp_types.specs.Order.{each_passes, class_below, holds_earlier}
 
 -- it holds only what was complete before so many classes were
 abbrev pub may_stand : List Class → ℕ → ℕ → Class → Bool
-may_stand classes n number c = nat_lt n (length classes) && (is_none (completion_of classes n) && (class_below (length classes) c && holds_earlier classes c number))
+may_stand classes n number c = nat_lt n (length classes)
+    && (is_none (completion_of classes n) && (class_below (length classes) c && holds_earlier classes c number))
 
 -- it names those before it and itself, and holds only what was complete before it
 abbrev pub may_follow : List Class → Class → Bool

@@ -17,7 +17,8 @@ other_long t [] h = refl
 other_long t (y ∷ []) h = absurd (h refl)
 other_long t (y ∷ z ∷ zs) h = and_false (typ_eq (typ_of y) t)
 
-pub only_one : (t : Typ) (xs : List Ty) (x : Ty) (b : Bool) → length xs ≡ 1 → x ≡ get_or xs 0 x → b ≡ typ_eq (typ_of x) t → b ≡ typs_eq (typs_of xs) (more t none)
+pub only_one : (t : Typ) (xs : List Ty) (x : Ty) (b : Bool) → length xs ≡ 1 → x ≡ get_or xs 0 x → b ≡ typ_eq (typ_of x) t
+    → b ≡ typs_eq (typs_of xs) (more t none)
 only_one t [] x b h e g = absurd cc
 only_one t (y ∷ []) x b h e g = g ∙ ap (λ z. typ_eq (typ_of z) t) e ∙ and_true (typ_eq (typ_of y) t)
 only_one t (y ∷ z ∷ zs) x b h e g = absurd cc

@@ -21,5 +21,6 @@ wanted_asks wanted.Copy h f e = maker_asks h.number f (asks_first (is_constructo
 wanted_asks wanted.Default h f e = maker_asks h.number f (asks_first (is_constructor h.number f) _ e)
 wanted_asks wanted.Constructor h f e = maker_asks h.number f e
 
-pub wanted_first : (what : Wanted) (h : Home) (fs : List FuncDecl) (places : List ℕ) → places ≡ places_where (is_member_of h.number) 0 fs → first_among (λ (f : FuncDecl). is_wanted what h (func_of f)) fs places ≡ first_from (is_wanted what h) 0 (map func_of fs)
+pub wanted_first : (what : Wanted) (h : Home) (fs : List FuncDecl) (places : List ℕ) → places ≡ places_where (is_member_of h.number) 0 fs
+    → first_among (λ (f : FuncDecl). is_wanted what h (func_of f)) fs places ≡ first_from (is_wanted what h) 0 (map func_of fs)
 wanted_first what h fs places e = class_first h.number (is_wanted what h) (wanted_asks what h) fs places e

@@ -11,10 +11,12 @@ abbrev pub implicit_destructor : Home → At → Function
 implicit_destructor h at = implicit_record (126 ∷ h.name) at no_typs
 
 abbrev pub destructor_made : Ctx → Home → At → Func
-destructor_made c h at = implicit_function h.number Destructor [] (member_record (implicit_destructor h at) no_marks (overridden c h.base (implicit_destructor h at)) false)
+destructor_made c h at = implicit_function h.number Destructor []
+    (member_record (implicit_destructor h at) no_marks (overridden c h.base (implicit_destructor h at)) false)
 
 abbrev pub copy_made : Home → At → Bool → Func
-copy_made h at is_const = implicit_function h.number Constructor (record { typ = own_reference h.number is_const; at = at } ∷ []) (implicit_record h.name at (and_typ (own_reference h.number is_const) no_typs))
+copy_made h at is_const = implicit_function h.number Constructor (record { typ = own_reference h.number is_const; at = at } ∷ [])
+    (implicit_record h.name at (and_typ (own_reference h.number is_const) no_typs))
 
 abbrev pub default_made : Home → At → Func
 default_made h at = implicit_function h.number Constructor [] (implicit_record h.name at no_typs)

@@ -29,25 +29,32 @@ use Rattle.class_table.specs.declared.methods.Method.{Method as MethodRec}
 use Rattle.class_table.proofs.Walking.{faults_then}
 use Rattle.class_table.proofs.Reading.{both_steps, same_then}
 
-pub says_refused : {A B : Type 0} (show : A → B) (r : Result A ElabFault) (e : ElabFault) (x y : Result B ElabFault) → r ≡ Err e → y ≡ x → Faults e x → Says show r y
+pub says_refused : {A B : Type 0} (show : A → B) (r : Result A ElabFault) (e : ElabFault) (x y : Result B ElabFault) → r ≡ Err e → y ≡ x → Faults e x
+    → Says show r y
 says_refused show r e x y h q f = subst (λ z. Says show z y) (sym h) (subst (Faults e) (sym q) f)
 
 module _ (s : List Lexeme) (c : Ctx) (w : Work) (bodies : List Body) (n : ℕ) (at : At) (x : Storage) where
   -- from a type and a declarator
-  pub plain_is : (base d : Tree) (rest : Trees) → plain_method s (at_hand c w bodies) n at x (more base (more d rest)) ≡ and_then (plain_header s c w n at x base d) (λ (h : Header). Ok (method_with h rest))
+  pub plain_is : (base d : Tree) (rest : Trees) → plain_method s (at_hand c w bodies) n at x (more base (more d rest))
+      ≡ and_then (plain_header s c w n at x base d) (λ (h : Header). Ok (method_with h rest))
   plain_is base d rest =
       let last : Header → Result Method ElabFault = λ (h : Header). Ok (method_with h rest) in
       let head : Declared → Result Header ElabFault = λ (r : Declared). header_in n x Plain at (name_of s r.name) r (form_in r.typ) in
       let found : Typ → Result Header ElabFault = λ (t : Typ). and_then (declared_by s c w at t d) head in
-      same_then (type_of_specifiers s c w base) (λ (t : Typ). and_then (declared_by s c w at t d) (λ (r : Declared). and_then (head r) last)) (λ (t : Typ). and_then (found t) last) (λ t. sym (both_steps (declared_by s c w at t d) head last))
+      same_then (type_of_specifiers s c w base) (λ (t : Typ). and_then (declared_by s c w at t d) (λ (r : Declared). and_then (head r) last))
+      (λ (t : Typ). and_then (found t) last) (λ t. sym (both_steps (declared_by s c w at t d) head last))
       ∙ sym (both_steps (type_of_specifiers s c w base) found last)
 
-  pub special_is : (class_name : List ℕ) (kind : FuncKind) (d : Tree) (rest : Trees) → special_method s (at_hand c w bodies) n class_name at x kind (more d rest) ≡ and_then (special_declared s c w n class_name at x kind d) (λ (h : Header). Ok (method_with h rest))
+  pub special_is : (class_name : List ℕ) (kind : FuncKind) (d : Tree) (rest : Trees)
+      → special_method s (at_hand c w bodies) n class_name at x kind (more d rest)
+      ≡ and_then (special_declared s c w n class_name at x kind d) (λ (h : Header). Ok (method_with h rest))
   special_is class_name kind d rest =
-      sym (both_steps (declared_by s c w at (plain void) d) (λ (r : Declared). special_header n class_name at x kind r (name_of s r.name)) (λ (h : Header). Ok (method_with h rest)))
+      sym (both_steps (declared_by s c w at (plain void) d) (λ (r : Declared). special_header n class_name at x kind r (name_of s r.name))
+      (λ (h : Header). Ok (method_with h rest)))
 
 -- the trees of kids that are known
-two_trees : (trees : List Tree) (xs ys zs : List NodeId) (a b : NodeId) → xs ≡ a ∷ ys → ys ≡ b ∷ zs → trees_at trees xs ≡ more (tree_at trees a) (more (tree_at trees b) (trees_at trees zs))
+two_trees : (trees : List Tree) (xs ys zs : List NodeId) (a b : NodeId) → xs ≡ a ∷ ys → ys ≡ b ∷ zs
+    → trees_at trees xs ≡ more (tree_at trees a) (more (tree_at trees b) (trees_at trees zs))
 two_trees trees xs ys zs a b e f = ap (trees_at trees) e ∙ ap (λ z. more (tree_at trees a) (trees_at trees z)) f
 
 module _ (s : List Lexeme) (c : Ctx) (w : Work) (bodies : List Body) (n : ℕ) (at : At) (x : Storage) (trees : List Tree) (ids : List NodeId) (i : ℕ) where
@@ -63,7 +70,8 @@ module _ (s : List Lexeme) (c : Ctx) (w : Work) (bodies : List Body) (n : ℕ) (
       ∙ ap (λ z. Ok (method_with (header_of m.header) (trees_at trees (drop z ids)))) count
 
   pub plain_fails : (a b : NodeId) (e : ElabFault) → drop i ids ≡ a ∷ drop (i + 1) ids → drop (i + 1) ids ≡ b ∷ drop (i + 1 + 1) ids →
-      Faults e (plain_header s c w n at x (tree_at trees a) (tree_at trees b)) → Faults e (plain_method s (at_hand c w bodies) n at x (trees_at trees (drop i ids)))
+      Faults e (plain_header s c w n at x (tree_at trees a) (tree_at trees b))
+      → Faults e (plain_method s (at_hand c w bodies) n at x (trees_at trees (drop i ids)))
   plain_fails a b e p q f =
       subst (Faults e) (sym (ap (plain_method s (at_hand c w bodies) n at x) (two_trees trees (drop i ids) (drop (i + 1) ids) (drop (i + 1 + 1) ids) a b p q)
       ∙ plain_is s c w bodies n at x (tree_at trees a) (tree_at trees b) (trees_at trees (drop (i + 1 + 1) ids))))
@@ -80,7 +88,8 @@ module _ (s : List Lexeme) (c : Ctx) (w : Work) (bodies : List Body) (n : ℕ) (
       ∙ ap (λ z. Ok (method_with (header_of m.header) (trees_at trees (drop z ids)))) (sym q)
 
   pub special_fails : (class_name : List ℕ) (kind : FuncKind) (a : NodeId) (e : ElabFault) → drop i ids ≡ a ∷ drop (i + 1) ids →
-      Faults e (special_declared s c w n class_name at x kind (tree_at trees a)) → Faults e (special_method s (at_hand c w bodies) n class_name at x kind (trees_at trees (drop i ids)))
+      Faults e (special_declared s c w n class_name at x kind (tree_at trees a))
+      → Faults e (special_method s (at_hand c w bodies) n class_name at x kind (trees_at trees (drop i ids)))
   special_fails class_name kind a e p f =
       subst (Faults e) (sym (ap (λ z. special_method s (at_hand c w bodies) n class_name at x kind (trees_at trees z)) p
       ∙ special_is s c w bodies n at x class_name kind (tree_at trees a) (trees_at trees (drop (i + 1) ids))))
@@ -91,14 +100,16 @@ module _ (s : List Lexeme) (c : Ctx) (w : Work) (bodies : List Body) (n : ℕ) (
 pub says_same : {A B : Type 0} (show : A → B) (r : Result A ElabFault) (x y : Result B ElabFault) → y ≡ x → Says show r x → Says show r y
 says_same show r x y q h = subst (Says show r) (sym q) h
 
-module _ (s : List Lexeme) (st : State) (n : ℕ) (class_name : List ℕ) (at : At) (kids : Trees) (storage : Storage) (ts : Trees) (e : started_from s no_storage kids ≡ record { storage = storage; rest = ts }) where
+module _ (s : List Lexeme) (st : State) (n : ℕ) (class_name : List ℕ) (at : At) (kids : Trees) (storage : Storage) (ts : Trees)
+    (e : started_from s no_storage kids ≡ record { storage = storage; rest = ts }) where
   pub method_plain : (kind : FuncKind) → is_plain_kind kind ≡ true → method_of s st n class_name at kind kids ≡ plain_method s st n at storage ts
   method_plain Plain h = ap (method_started s st n class_name at Plain) e
   method_plain Constructor h = absurd cc
   method_plain Destructor h = absurd cc
   method_plain ClosureCall h = absurd cc
 
-  pub method_special : (kind : FuncKind) → is_plain_kind kind ≡ false → method_of s st n class_name at kind kids ≡ special_method s st n class_name at storage kind ts
+  pub method_special : (kind : FuncKind) → is_plain_kind kind ≡ false
+      → method_of s st n class_name at kind kids ≡ special_method s st n class_name at storage kind ts
   method_special Plain h = absurd cc
   method_special Constructor h = ap (method_started s st n class_name at Constructor) e
   method_special Destructor h = ap (method_started s st n class_name at Destructor) e

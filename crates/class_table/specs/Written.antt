@@ -22,7 +22,9 @@ use Rattle.elab_expr.specs.elab_rules.Types.{Declared}
 use Rattle.elab_expr.specs.elab_rules.Expressions.{type_of_specifiers, declared_by}
 use Rattle.elab_expr.specs.elab_rules.Statements.{State, Body, name_of}
 use Rattle.elab_expr.specs.elab_rules.Functions.{Storage, Header, text_sized}
-use Rattle.elab_expr.specs.elab_rules.Classes.{Home, Members, Begun, based_on, Method, Definition, header_in, special_header, has_equal, has_initialiser, no_function_words, no_marks, marks_from, declared_member, data_member, member_function, declared_method, definition_between, last_token, body_in, begun, members_of, completed, closed_class, class_text}
+use Rattle.elab_expr.specs.elab_rules.Classes.{Home, Members, Begun, based_on, Method, Definition, header_in, special_header, has_equal, has_initialiser}
+use Rattle.elab_expr.specs.elab_rules.Classes.{no_function_words, no_marks, marks_from, declared_member, data_member, member_function, declared_method}
+use Rattle.elab_expr.specs.elab_rules.Classes.{definition_between, last_token, body_in, begun, members_of, completed, closed_class, class_text}
 use Rattle.elab_expr.specs.elab_rules.Members.{base_named, has_final, members_among}
 use Rattle.class_members.specs.Shown.{header_of, home_of}
 use Rattle.class_members.specs.declared.records.Home.{Home as HomeRec}
@@ -30,11 +32,13 @@ use Rattle.class_table.specs.declared.methods.Method.{Method as MethodRec}
 
 -- the header of a function from its type and its declarator
 abbrev pub plain_header : List Lexeme → Ctx → Work → ℕ → At → Storage → syntax.Tree → syntax.Tree → Result Header ElabFault
-plain_header s c w n at x base d = and_then (type_of_specifiers s c w base) (λ (t : Typ). and_then (declared_by s c w at t d) (λ (r : Declared). header_in n x Plain at (name_of s r.name) r (form_in r.typ)))
+plain_header s c w n at x base d = and_then (type_of_specifiers s c w base)
+    (λ (t : Typ). and_then (declared_by s c w at t d) (λ (r : Declared). header_in n x Plain at (name_of s r.name) r (form_in r.typ)))
 
 -- the header of a constructor or a destructor from its declarator
 abbrev pub special_declared : List Lexeme → Ctx → Work → ℕ → List ℕ → At → Storage → FuncKind → syntax.Tree → Result Header ElabFault
-special_declared s c w n class_name at x kind d = and_then (declared_by s c w at (plain void) d) (λ (r : Declared). special_header n class_name at x kind r (name_of s r.name))
+special_declared s c w n class_name at x kind d = and_then (declared_by s c w at (plain void) d)
+    (λ (r : Declared). special_header n class_name at x kind r (name_of s r.name))
 
 abbrev pub method_with : Header → syntax.Trees → Method
 method_with h rest = record { header = h; rest = rest }
@@ -60,11 +64,13 @@ is_function_form f = false
 
 -- a member function
 abbrev pub function_declared : List Lexeme → Home → Members → At → Storage → syntax.Trees → Declared → Form → Result Members ElabFault
-function_declared s home r at x rest d f = and_then (check at BadDeclaration (not (has_equal rest))) (λ y. and_then (header_in home.number x Plain at (name_of s d.name) d f) (λ (h : Header). member_function home r h (marks_from s no_marks rest) None))
+function_declared s home r at x rest d f = and_then (check at BadDeclaration (not (has_equal rest)))
+    (λ y. and_then (header_in home.number x Plain at (name_of s d.name) d f) (λ (h : Header). member_function home r h (marks_from s no_marks rest) None))
 
 -- a data member
 abbrev pub data_declared : List Lexeme → Home → Members → At → Storage → syntax.Trees → Declared → Result Members ElabFault
-data_declared s home r at x rest d = and_then (check at BadDeclaration (no_function_words x (marks_from s no_marks rest))) (λ y. data_member home.number r at (name_of s d.name) d.typ (has_initialiser rest))
+data_declared s home r at x rest d = and_then (check at BadDeclaration (no_function_words x (marks_from s no_marks rest)))
+    (λ y. data_member home.number r at (name_of s d.name) d.typ (has_initialiser rest))
 
 -- the one or the other
 abbrev pub member_declared : List Lexeme → Home → Members → At → Storage → syntax.Trees → Declared → Result Members ElabFault
@@ -80,13 +86,16 @@ abbrev pub class_stood : State → Home → ClassRead
 class_stood st home = record { state = st; home = home }
 
 abbrev pub read_closed : At → Home → Members → Result ClassRead ElabFault
-read_closed at home r = and_then (closed_class at home.number (completed r.state.ctx home at r.members r.initialised)) (λ (c : Ctx). Ok (class_stood (record r.state { ctx = c }) home))
+read_closed at home r = and_then (closed_class at home.number (completed r.state.ctx home at r.members r.initialised))
+    (λ (c : Ctx). Ok (class_stood (record r.state { ctx = c }) home))
 
 abbrev pub read_members : List Lexeme → State → At → Home → syntax.Trees → Result ClassRead ElabFault
-read_members s st at home members = and_then (members_of s home (record { state = st; members = []; initialised = [] }) members) (λ (r : Members). read_closed at home r)
+read_members s st at home members = and_then (members_of s home (record { state = st; members = []; initialised = [] }) members)
+    (λ (r : Members). read_closed at home r)
 
 abbrev pub class_read : List Lexeme → State → At → List ℕ → syntax.Trees → Result ClassRead ElabFault
-class_read s st at name kids = and_then (text_sized at (class_text s kids)) (λ z. and_then (begun st.ctx at name true) (λ (b : Begun). and_then (base_named s b.ctx kids) (λ (base : Option ℕ).
+class_read s st at name kids = and_then (text_sized at (class_text s kids))
+    (λ z. and_then (begun st.ctx at name true) (λ (b : Begun). and_then (base_named s b.ctx kids) (λ (base : Option ℕ).
     read_members s (record st { ctx = b.ctx }) at (record { number = b.number; name = name; base = base; is_final = has_final kids }) (members_among kids))))
 
 -- the base of a specifier

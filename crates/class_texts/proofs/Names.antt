@@ -11,17 +11,21 @@ use Rattle.elab_init.specs.elab_ctx.Steps.{at_of, spelling}
 use Rattle.elab_init.specs.elab_rules.Classes.{Members, member_named, member_among, is_own_member, place_if, or_place, takes_own_value}
 
 module _ (s : List Lexeme) (n : ℕ) (r : Members) where
-  pub own_named : (t : Tree) (kind : NodeKind) (at : SyntaxAt) (token : Option ℕ) (kids : Trees) (found : ℕ) (name : List ℕ) (p : At) → t ≡ node kind at token kids →
-      member_named s n r (node kind at token kids) ≡ place_if (is_own_member n r (spelling s found)) (at_of at) → name ≡ spelling s found → true ≡ is_own_member n r name → p ≡ at_of at → Some p ≡ member_named s n r t
+  pub own_named : (t : Tree) (kind : NodeKind) (at : SyntaxAt) (token : Option ℕ) (kids : Trees) (found : ℕ) (name : List ℕ) (p : At)
+      → t ≡ node kind at token kids →
+      member_named s n r (node kind at token kids) ≡ place_if (is_own_member n r (spelling s found)) (at_of at) → name ≡ spelling s found
+      → true ≡ is_own_member n r name → p ≡ at_of at → Some p ≡ member_named s n r t
   own_named t kind at token kids found name p e f g h q =
       ap Some q ∙ ap (λ z. place_if z (at_of at)) (h ∙ ap (is_own_member n r) g) ∙ sym f ∙ ap (member_named s n r) (sym e)
 
   pub other_named : (t : Tree) (kind : NodeKind) (at : SyntaxAt) (token : Option ℕ) (kids : Trees) (found : ℕ) (name : List ℕ) → t ≡ node kind at token kids →
-      member_named s n r (node kind at token kids) ≡ place_if (is_own_member n r (spelling s found)) (at_of at) → name ≡ spelling s found → false ≡ is_own_member n r name → None ≡ member_named s n r t
+      member_named s n r (node kind at token kids) ≡ place_if (is_own_member n r (spelling s found)) (at_of at) → name ≡ spelling s found
+      → false ≡ is_own_member n r name → None ≡ member_named s n r t
   other_named t kind at token kids found name e f g h =
       ap (λ z. place_if z (at_of at)) (h ∙ ap (is_own_member n r) g) ∙ sym f ∙ ap (member_named s n r) (sym e)
 
-  pub among_more : (t : Tree) (ts next : Trees) (all : Option At) → None ≡ member_named s n r t → all ≡ member_among s n r ts → ts ≡ more t next → all ≡ member_among s n r next
+  pub among_more : (t : Tree) (ts next : Trees) (all : Option At) → None ≡ member_named s n r t → all ≡ member_among s n r ts → ts ≡ more t next
+      → all ≡ member_among s n r next
   among_more t ts next all e f g = f ∙ ap (member_among s n r) g ∙ ap (λ z. or_place z (member_among s n r next)) (sym e)
 
 -- a list of two types is not that of one class

@@ -17,5 +17,6 @@ pub below_rest : (limit : ℕ) (ids : List NodeId) (n : ℕ) → are_below limit
 below_rest limit ids n b = rw (take_rest ids n) (below_drop limit ids n b)
 
 -- the trees of the kids from a place on, the first one apart
-pub trees_next : (trees : List Tree) (ids : List NodeId) (i : ℕ) (d : NodeId) → i < length ids → trees_at trees (drop i ids) ≡ more (tree_at trees (get_or ids i d)) (trees_at trees (drop (i + 1) ids))
+pub trees_next : (trees : List Tree) (ids : List NodeId) (i : ℕ) (d : NodeId) → i < length ids
+    → trees_at trees (drop i ids) ≡ more (tree_at trees (get_or ids i d)) (trees_at trees (drop (i + 1) ids))
 trees_next trees ids i d h = rw (add-one i) (ap (trees_at trees) (drop-cons ids i d h))

@@ -16,7 +16,16 @@ signature_in at f = Err (Ill at BadDeclaration)
 
 -- the header of a function of a class with a signature
 abbrev pub header_by : ℕ → Storage → FuncKind → At → List ℕ → Declared → Signature → Header
-header_by n x kind at name r sig = record { name = name; at = at; signature = sig; params = r.params; qualifiers = r.qualifiers; storage = x; kind = kind; class = Some n }
+header_by n x kind at name r sig = record {
+  name = name;
+  at = at;
+  signature = sig;
+  params = r.params;
+  qualifiers = r.qualifiers;
+  storage = x;
+  kind = kind;
+  class = Some n;
+}
 
 -- the blank behind a token that others follow
 abbrev pub gap : Bool → List ℕ

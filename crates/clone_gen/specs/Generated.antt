@@ -15,7 +15,8 @@ is_source_name source = nat_lt 0 (length source) && nat_le (length source) LONGE
 abbrev pub source_name : List ℕ → Option (List ℕ)
 source_name source = cond (is_source_name source) (Some source) None
 
--- The entries are those of the unit, in some order: that of their names where the object is one. These of its functions are safe, and this is the name of its source.
+-- The entries are those of the unit, in some order: that of their names where the object is one. These of its functions are safe, and this is the name of its
+-- source.
 pub record IsObjectOf (p : TypedProgram) (u : Unit) (safe : List Bool) (name : List ℕ) (o : ObjectView) : Type 0 where
   pub version : o.version ≡ 2
   pub source : o.source ≡ source_name name

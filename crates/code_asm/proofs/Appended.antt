@@ -1,5 +1,6 @@
 -- Lists with one item more.
-use Rattle.std.proofs.Common.{◌≡◌, ℕ, ◌+◌, ◌-◌, ◌^◌, suc, Bool, true, List, [], ◌∷◌, ◌++◌, length, map, Option, Some, None, refl, sym, ap, subst, ◌∙◌, arith, append-nil, length-append}
+use Rattle.std.proofs.Common.{◌≡◌, ℕ, ◌+◌, ◌-◌, ◌^◌, suc, Bool, true, List, [], ◌∷◌, ◌++◌, length, map, Option, Some, None, refl, sym, ap, subst, ◌∙◌, arith}
+use Rattle.std.proofs.Common.{append-nil, length-append}
 use Rattle.std.specs.Prelude.{nat_lt}
 use Rattle.std.specs.List.{list_all, flat_map}
 use Rattle.std.specs.Option.{option_map}
@@ -20,7 +21,8 @@ all_more p xs x h k = list_all-append p xs (x ∷ []) ∙ and_from _ _ h (and_fr
 pub flat_more : {A B : Type 0} (f : A → List B) (xs : List A) (x : A) → flat_map f (xs ++ x ∷ []) ≡ flat_map f xs ++ f x
 flat_more f xs x = flat_map-append f xs (x ∷ []) ∙ ap (λ ys. flat_map f xs ++ ys) (append-nil (f x))
 
-pub all_flat_more : {A B : Type 0} (p : B → Bool) (f : A → List B) (xs : List A) (x : A) → list_all p (flat_map f xs) ≡ true → list_all p (f x) ≡ true → list_all p (flat_map f (xs ++ x ∷ [])) ≡ true
+pub all_flat_more : {A B : Type 0} (p : B → Bool) (f : A → List B) (xs : List A) (x : A) → list_all p (flat_map f xs) ≡ true → list_all p (f x) ≡ true
+    → list_all p (flat_map f (xs ++ x ∷ [])) ≡ true
 all_flat_more p f xs x h k = ap (list_all p) (flat_more f xs x) ∙ list_all-append p (flat_map f xs) (f x) ∙ and_from _ _ h k
 
 pub map_more : {A B : Type 0} (f : A → B) (xs : List A) (x : A) → map f (xs ++ x ∷ []) ≡ map f xs ++ f x ∷ []
@@ -44,14 +46,16 @@ last_is x (y ∷ ys) =
     let k : suc (suc (length ys)) - 1 ≡ suc (suc (length ys) - 1) = omega arith in
     rw k (last_is y ys)
 
-from_more : {A : Type 0} (below : A → A → Bool) (a : A) (xs : List A) (x : A) → ascends_from below a xs ≡ true → below (last_from a xs) x ≡ true → ascends_from below a (xs ++ x ∷ []) ≡ true
+from_more : {A : Type 0} (below : A → A → Bool) (a : A) (xs : List A) (x : A) → ascends_from below a xs ≡ true → below (last_from a xs) x ≡ true
+    → ascends_from below a (xs ++ x ∷ []) ≡ true
 unfolding last_from
 from_more below a [] x h k = and_from _ _ k refl
 from_more below a (y ∷ ys) x h k =
     let p = and_parts (below a y) (ascends_from below y ys) h in
     and_from _ _ p.0 (from_more below y ys x p.1 k)
 
-pub ascends_more : {A : Type 0} (below : A → A → Bool) (xs : List A) (x : A) → ascends below xs ≡ true → above below (last_of xs) x ≡ true → ascends below (xs ++ x ∷ []) ≡ true
+pub ascends_more : {A : Type 0} (below : A → A → Bool) (xs : List A) (x : A) → ascends below xs ≡ true → above below (last_of xs) x ≡ true
+    → ascends below (xs ++ x ∷ []) ≡ true
 ascends_more below [] x h k = refl
 ascends_more below (a ∷ xs) x h k = from_more below a xs x h (subst (λ o. above below o x ≡ true) (last_is a xs) k)
 
@@ -59,5 +63,6 @@ pub above_key : {A : Type 0} (key : A → ℕ) (o : Option A) (x : A) → above 
 above_key key None x = refl
 above_key key (Some a) x = refl
 
-pub ascends_key : {A : Type 0} (key : A → ℕ) (xs : List A) (x : A) → ascends_by key xs ≡ true → above nat_lt (option_map key (last_of xs)) (key x) ≡ true → ascends_by key (xs ++ x ∷ []) ≡ true
+pub ascends_key : {A : Type 0} (key : A → ℕ) (xs : List A) (x : A) → ascends_by key xs ≡ true → above nat_lt (option_map key (last_of xs)) (key x) ≡ true
+    → ascends_by key (xs ++ x ∷ []) ≡ true
 ascends_key key xs x h k = ascends_more (λ a b. nat_lt (key a) (key b)) xs x h (sym (above_key key (last_of xs) x) ∙ k)

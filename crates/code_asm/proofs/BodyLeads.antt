@@ -6,7 +6,10 @@ use Rattle.std.proofs.lemmas.Bool.{and_parts, and_from, false≢true, eqb-true}
 use Rattle.std.proofs.lemmas.List.{nil_from_length}
 use Rattle.std.proofs.lemmas.List.Folds.{list_all-append}
 use Rattle.tx_code.specs.declared.instr.Instr.{Instr}
-use Rattle.tx_code.specs.declared.instr.Instr.TheVariants.{Push, Dup, Pop, Swap, FrameAddr, GlobalAddr, FuncAddr, ClassAddr, Load, Store, TLoad, TStore, VLoad, VStore, Bin, Neg, Conv, Jump, JumpZero, Call, TCall, CallIndirect, TCallIndirect, Slot, Ret, Begin, End, BeginSync, EndSync, Out, Inp, Spawn, Join, Abort, NewException, PutException, Throw, Rethrow, GetException, EndHandler, Resume, Over}
+use Rattle.tx_code.specs.declared.instr.Instr.TheVariants.{Push, Dup, Pop, Swap, FrameAddr, GlobalAddr, FuncAddr, ClassAddr, Load, Store, TLoad, TStore, VLoad}
+use Rattle.tx_code.specs.declared.instr.Instr.TheVariants.{VStore, Bin, Neg, Conv, Jump, JumpZero, Call, TCall, CallIndirect, TCallIndirect, Slot, Ret, Begin}
+use Rattle.tx_code.specs.declared.instr.Instr.TheVariants.{End, BeginSync, EndSync, Out, Inp, Spawn, Join, Abort, NewException, PutException, Throw, Rethrow}
+use Rattle.tx_code.specs.declared.instr.Instr.TheVariants.{GetException, EndHandler, Resume, Over}
 use Rattle.tx_code.specs.declared.body.Row.{Row}
 use Rattle.tx_code.specs.declared.body.LineRow.{LineRow}
 use Rattle.tx_code.specs.Objects.{BodyView}
@@ -139,11 +142,27 @@ pub record Open (version n : ℕ) (at : BodyView → State) : Type 0 where
 
 pub body_parts : (version n : ℕ) (b : BodyView) → body_fits version n b ≡ true → body_is_wide b ≡ true → BodyParts version n b
 body_parts version n b fits wide =
-    let p = parts4 (is_count b.code) (is_count b.rows) (list_all (is_name n) (flat_map named_by b.code ++ flat_map named_by_row b.rows)) (is_count b.lines && list_all (is_line (length b.code)) b.lines && ascends line_after b.lines && (nat_eq version 2 || nat_eq (length b.lines) 0)) fits in
-    let q = and_parts (list_all (is_name n) (flat_map named_by b.code)) (list_all (is_name n) (flat_map named_by_row b.rows)) (sym (list_all-append (is_name n) (flat_map named_by b.code) (flat_map named_by_row b.rows)) ∙ p.2) in
-    let r = parts4 (is_count b.lines) (list_all (is_line (length b.code)) b.lines) (ascends line_after b.lines) (nat_eq version 2 || nat_eq (length b.lines) 0) p.3 in
+    let p = parts4 (is_count b.code) (is_count b.rows) (list_all (is_name n) (flat_map named_by b.code ++ flat_map named_by_row b.rows))
+    (is_count b.lines && list_all (is_line (length b.code)) b.lines && ascends line_after b.lines
+    && (nat_eq version 2 || nat_eq (length b.lines) 0)) fits in
+    let q = and_parts (list_all (is_name n) (flat_map named_by b.code)) (list_all (is_name n) (flat_map named_by_row b.rows))
+    (sym (list_all-append (is_name n) (flat_map named_by b.code) (flat_map named_by_row b.rows)) ∙ p.2) in
+    let r = parts4 (is_count b.lines) (list_all (is_line (length b.code)) b.lines) (ascends line_after b.lines)
+    (nat_eq version 2 || nat_eq (length b.lines) 0) p.3 in
     let w = parts3 (list_all instr_is_wide b.code) (list_all row_is_wide b.rows) (list_all line_is_wide b.lines) wide in
-    record { code_count = p.0; code_names = q.0; code_wide = w.0; row_count = p.1; row_names = q.1; row_wide = w.1; line_count = r.0; line_from = r.1; line_order = r.2; line_version = r.3; line_wide = w.2 }
+    record {
+      code_count = p.0;
+      code_names = q.0;
+      code_wide = w.0;
+      row_count = p.1;
+      row_names = q.1;
+      row_wide = w.1;
+      line_count = r.0;
+      line_from = r.1;
+      line_order = r.2;
+      line_version = r.3;
+      line_wide = w.2;
+    }
 
 each : {A : Type 0} (p : ℕ → Bool) (f : A → List ℕ) (xs : List A) → list_all p (flat_map f xs) ≡ true → list_all (λ x. list_all p (f x)) xs ≡ true
 each p f [] h = refl
@@ -154,34 +173,42 @@ each p f (x ∷ xs) h =
 with_lines : (code : List Instr) (rows : List Row) (lines : List LineRow) → BodyView
 with_lines code rows lines = record { code = code; rows = rows; lines = lines }
 
-code_leads : (version n : ℕ) (at : BodyView → State) (b : BodyView) → Open version n at → BodyParts version n b → Leads (at no_body) (map code_line b.code) (at (with_lines b.code [] []))
+code_leads : (version n : ℕ) (at : BodyView → State) (b : BodyView) → Open version n at → BodyParts version n b
+    → Leads (at no_body) (map code_line b.code) (at (with_lines b.code [] []))
 unfolding any_order with_lines
 code_leads version n at b opens p =
     items (λ xs. at (with_lines xs [] [])) code_line (λ i. list_all (is_name n) (named_by i)) instr_is_wide any_order
-    (λ xs i room named a. opens.code (with_lines xs [] []) (with_lines (xs ++ i ∷ []) [] []) i refl (given_if _ _ (and_from _ _ (and_from _ _ refl room) named)))
+    (λ xs i room named a. opens.code (with_lines xs [] []) (with_lines (xs ++ i ∷ []) [] []) i refl
+    (given_if _ _ (and_from _ _ (and_from _ _ refl room) named)))
     code_fields [] b.code p.code_count (each (is_name n) named_by b.code p.code_names) p.code_wide (in_any_order b.code)
 
-row_leads : (version n : ℕ) (at : BodyView → State) (b : BodyView) → Open version n at → BodyParts version n b → Leads (at (with_lines b.code [] [])) (map row_line b.rows) (at (with_lines b.code b.rows []))
+row_leads : (version n : ℕ) (at : BodyView → State) (b : BodyView) → Open version n at → BodyParts version n b
+    → Leads (at (with_lines b.code [] [])) (map row_line b.rows) (at (with_lines b.code b.rows []))
 unfolding any_order with_lines
 row_leads version n at b opens p =
     items (λ xs. at (with_lines b.code xs [])) row_line (λ r. list_all (is_name n) (named_by_row r)) row_is_wide any_order
-    (λ xs r room named a. opens.row (with_lines b.code xs []) (with_lines b.code (xs ++ r ∷ []) []) r (given_if _ _ (and_from _ _ (and_from _ _ refl room) named)))
+    (λ xs r room named a. opens.row (with_lines b.code xs []) (with_lines b.code (xs ++ r ∷ []) []) r
+    (given_if _ _ (and_from _ _ (and_from _ _ refl room) named)))
     (λ r h. h) [] b.rows p.row_count (each (is_name n) named_by_row b.rows p.row_names) p.row_wide (in_any_order b.rows)
 
-line_leads : (version n : ℕ) (at : BodyView → State) (b : BodyView) → Open version n at → BodyParts version n b → Leads (at (with_lines b.code b.rows [])) (map number_line b.lines) (at b)
+line_leads : (version n : ℕ) (at : BodyView → State) (b : BodyView) → Open version n at → BodyParts version n b
+    → Leads (at (with_lines b.code b.rows [])) (map number_line b.lines) (at b)
 unfolding with_lines
 line_leads version n at b opens p = by_version (nat_eq version 2) p.line_version (λ h. h)
   where
-    by_version : (second : Bool) → (second || nat_eq (length b.lines) 0) ≡ true → (second ≡ true → nat_eq version 2 ≡ true) → Leads (at (with_lines b.code b.rows [])) (map number_line b.lines) (at b)
+    by_version : (second : Bool) → (second || nat_eq (length b.lines) 0) ≡ true → (second ≡ true → nat_eq version 2 ≡ true)
+        → Leads (at (with_lines b.code b.rows [])) (map number_line b.lines) (at b)
     by_version true h v =
         items (λ xs. at (with_lines b.code b.rows xs)) number_line (is_line (length b.code)) line_is_wide line_after
-        (λ xs l room from order. opens.line (with_lines b.code b.rows xs) (with_lines b.code b.rows (xs ++ l ∷ [])) l (given_if _ _ (and_from _ _ (and_from _ _ (and_from _ _ (v refl) room) from) order)))
+        (λ xs l room from order. opens.line (with_lines b.code b.rows xs) (with_lines b.code b.rows (xs ++ l ∷ [])) l
+        (given_if _ _ (and_from _ _ (and_from _ _ (and_from _ _ (v refl) room) from) order)))
         (λ l h. h) [] b.lines p.line_count p.line_from p.line_wide p.line_order
     by_version false h v =
         let none : b.lines ≡ [] = nil_from_length b.lines (eqb-true _ _ h) in
         subst (λ z. Leads (at (with_lines b.code b.rows [])) (map number_line z) (at (with_lines b.code b.rows z))) (sym none) stays
 
-pub body_leads : (version n : ℕ) (at : BodyView → State) (b : BodyView) → Open version n at → body_fits version n b ≡ true → body_is_wide b ≡ true → Leads (at no_body) (body_lines b) (at b)
+pub body_leads : (version n : ℕ) (at : BodyView → State) (b : BodyView) → Open version n at → body_fits version n b ≡ true → body_is_wide b ≡ true
+    → Leads (at no_body) (body_lines b) (at b)
 body_leads version n at b opens fits wide =
     let p = body_parts version n b fits wide in
     and_on (code_leads version n at b opens p) (and_on (row_leads version n at b opens p) (line_leads version n at b opens p))

@@ -1,5 +1,6 @@
 -- Lines of bodies: what is added fits, and has the line as its text.
-use Rattle.std.proofs.Common.{◌≡◌, ℕ, Bool, true, false, List, [], ◌∷◌, ◌++◌, length, map, Some, refl, sym, ap, subst, ◌∙◌, ◌&&◌, ◌||◌, append_assoc, append-nil}
+use Rattle.std.proofs.Common.{◌≡◌, ℕ, Bool, true, false, List, [], ◌∷◌, ◌++◌, length, map, Some, refl, sym, ap, subst, ◌∙◌, ◌&&◌, ◌||◌, append_assoc}
+use Rattle.std.proofs.Common.{append-nil}
 use Rattle.std.specs.Prelude.{nat_eq, nat_lt}
 use Rattle.std.specs.List.{list_all, flat_map}
 use Rattle.std.proofs.lemmas.Bool.{and_from, false≢true}
@@ -44,7 +45,8 @@ pub record BodyParts (version n : ℕ) (b : BodyView) : Type 0 where
 
 pub body_fits_by : (version n : ℕ) (b : BodyView) → BodyParts version n b → body_fits version n b ≡ true
 body_fits_by version n b p =
-    and_from _ _ (and_from _ _ (and_from _ _ p.code_count p.row_count) (list_all-append (is_name n) (flat_map named_by b.code) (flat_map named_by_row b.rows) ∙ and_from _ _ p.code_names p.row_names))
+    and_from _ _ (and_from _ _ (and_from _ _ p.code_count p.row_count)
+    (list_all-append (is_name n) (flat_map named_by b.code) (flat_map named_by_row b.rows) ∙ and_from _ _ p.code_names p.row_names))
     (and_from _ _ (and_from _ _ (and_from _ _ p.line_count p.line_from) p.line_order) p.line_version)
 
 pub body_wide_by : (version n : ℕ) (b : BodyView) → BodyParts version n b → body_is_wide b ≡ true
@@ -75,15 +77,24 @@ no_body_parts version n = record {
 
 -- ---- the text
 
-code_more : (code : List Instr) (rows : List Row) (lines : List LineRow) (i : Instr) → rows ≡ [] → lines ≡ [] → body_lines (record { code = code ++ i ∷ []; rows = rows; lines = lines }) ≡ body_lines (record { code = code; rows = rows; lines = lines }) ++ code_line i ∷ []
+code_more : (code : List Instr) (rows : List Row) (lines : List LineRow) (i : Instr) → rows ≡ [] → lines ≡ []
+    → body_lines (record { code = code ++ i ∷ []; rows = rows; lines = lines }) ≡ body_lines (record { code = code; rows = rows; lines = lines }) ++ code_line i
+    ∷ []
 code_more code rows lines i e h =
-    rw (e, h) (append-nil (map code_line (code ++ i ∷ [])) ∙ map_more code_line code i ∙ ap (λ z. z ++ code_line i ∷ []) (sym (append-nil (map code_line code))))
+    rw (e, h) (append-nil (map code_line (code ++ i ∷ [])) ∙ map_more code_line code i ∙ ap (λ z. z ++ code_line i ∷ [])
+    (sym (append-nil (map code_line code))))
 
-row_more : (code : List Instr) (rows : List Row) (lines : List LineRow) (r : Row) → lines ≡ [] → body_lines (record { code = code; rows = rows ++ r ∷ []; lines = lines }) ≡ body_lines (record { code = code; rows = rows; lines = lines }) ++ row_line r ∷ []
+row_more : (code : List Instr) (rows : List Row) (lines : List LineRow) (r : Row) → lines ≡ []
+    → body_lines (record { code = code; rows = rows ++ r ∷ []; lines = lines }) ≡ body_lines (record { code = code; rows = rows; lines = lines }) ++ row_line r
+    ∷ []
 row_more code rows lines r h =
-    rw h (ap (λ z. map code_line code ++ z) (append-nil (map row_line (rows ++ r ∷ [])) ∙ map_more row_line rows r) ∙ sym (append_assoc (map code_line code) (map row_line rows) (row_line r ∷ [])) ∙ ap (λ z. (map code_line code ++ z) ++ row_line r ∷ []) (sym (append-nil (map row_line rows))))
+    rw h (ap (λ z. map code_line code ++ z) (append-nil (map row_line (rows ++ r ∷ [])) ∙ map_more row_line rows r)
+    ∙ sym (append_assoc (map code_line code) (map row_line rows) (row_line r ∷ []))
+    ∙ ap (λ z. (map code_line code ++ z) ++ row_line r ∷ []) (sym (append-nil (map row_line rows))))
 
-line_more : (code : List Instr) (rows : List Row) (lines : List LineRow) (l : LineRow) → body_lines (record { code = code; rows = rows; lines = lines ++ l ∷ [] }) ≡ body_lines (record { code = code; rows = rows; lines = lines }) ++ number_line l ∷ []
+line_more : (code : List Instr) (rows : List Row) (lines : List LineRow) (l : LineRow)
+    → body_lines (record { code = code; rows = rows; lines = lines ++ l ∷ [] }) ≡ body_lines (record { code = code; rows = rows; lines = lines })
+    ++ number_line l ∷ []
 line_more code rows lines l =
     ap (λ z. map code_line code ++ (map row_line rows ++ z)) (map_more number_line lines l)
     ∙ ap (λ z. map code_line code ++ z) (sym (append_assoc (map row_line rows) (map number_line lines) (number_line l ∷ [])))
@@ -95,7 +106,8 @@ pub record BodyMore (version n : ℕ) (b c : BodyView) (r : Record) : Type 0 whe
   pub parts : BodyParts version n c
   pub lines : body_lines c ≡ body_lines b ++ line_of r ∷ []
 
-body_code : (version n : ℕ) (b : BodyView) (i : Instr) → BodyParts version n b → instr_is_wide i ≡ true → (is_nil b.rows && is_nil b.lines && has_room b.code && list_all (is_name n) (named_by i)) ≡ true
+body_code : (version n : ℕ) (b : BodyView) (i : Instr) → BodyParts version n b → instr_is_wide i ≡ true
+    → (is_nil b.rows && is_nil b.lines && has_room b.code && list_all (is_name n) (named_by i)) ≡ true
     → BodyMore version n b (record { code = b.code ++ i ∷ []; rows = b.rows; lines = b.lines }) (kind.Code i)
 body_code version n b i p wide test =
     let t = parts4 (is_nil b.rows) (is_nil b.lines) (has_room b.code) (list_all (is_name n) (named_by i)) test in
@@ -117,7 +129,8 @@ body_code version n b i p wide test =
       lines = code_more b.code b.rows b.lines i (nil_is b.rows t.0) none;
     }
 
-body_row : (version n : ℕ) (b : BodyView) (r : Row) → BodyParts version n b → row_is_wide r ≡ true → (is_nil b.lines && has_room b.rows && list_all (is_name n) (named_by_row r)) ≡ true
+body_row : (version n : ℕ) (b : BodyView) (r : Row) → BodyParts version n b → row_is_wide r ≡ true
+    → (is_nil b.lines && has_room b.rows && list_all (is_name n) (named_by_row r)) ≡ true
     → BodyMore version n b (record { code = b.code; rows = b.rows ++ r ∷ []; lines = b.lines }) (kind.Row r)
 body_row version n b r p wide test =
     let t = parts3 (is_nil b.lines) (has_room b.rows) (list_all (is_name n) (named_by_row r)) test in
@@ -138,7 +151,8 @@ body_row version n b r p wide test =
       lines = row_more b.code b.rows b.lines r (nil_is b.lines t.0);
     }
 
-body_line : (version n : ℕ) (b : BodyView) (l : LineRow) → BodyParts version n b → line_is_wide l ≡ true → (nat_eq version 2 && has_room b.lines && nat_lt l.from (length b.code) && above line_after (last_of b.lines) l) ≡ true
+body_line : (version n : ℕ) (b : BodyView) (l : LineRow) → BodyParts version n b → line_is_wide l ≡ true
+    → (nat_eq version 2 && has_room b.lines && nat_lt l.from (length b.code) && above line_after (last_of b.lines) l) ≡ true
     → BodyMore version n b (record { code = b.code; rows = b.rows; lines = b.lines ++ l ∷ [] }) (kind.Line l)
 body_line version n b l p wide test =
     let t = parts4 (nat_eq version 2) (has_room b.lines) (nat_lt l.from (length b.code)) (above line_after (last_of b.lines) l) test in
@@ -162,7 +176,8 @@ body_line version n b l p wide test =
 more_is : (version n : ℕ) (b x c : BodyView) (r : Record) (t : Bool) → given t x ≡ Some c → (t ≡ true → BodyMore version n b x r) → BodyMore version n b c r
 more_is version n b x c r t e f = let g = was_given t x c e in subst (λ (z : BodyView). BodyMore version n b z r) g.1 (f g.0)
 
-pub body_steps : (version n : ℕ) (b c : BodyView) (r : Record) → BodyParts version n b → has_width r ≡ true → body_step version n b r ≡ Some c → BodyMore version n b c r
+pub body_steps : (version n : ℕ) (b c : BodyView) (r : Record) → BodyParts version n b → has_width r ≡ true → body_step version n b r ≡ Some c
+    → BodyMore version n b c r
 body_steps version n b c (kind.Code i) p wide e = more_is version n b _ c (kind.Code i) _ e (body_code version n b i p wide)
 body_steps version n b c (kind.Row r) p wide e = more_is version n b _ c (kind.Row r) _ e (body_row version n b r p wide)
 body_steps version n b c (kind.Line l) p wide e = more_is version n b _ c (kind.Line l) _ e (body_line version n b l p wide)

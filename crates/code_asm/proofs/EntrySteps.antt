@@ -1,5 +1,6 @@
 -- Lines of classes, globals and functions: what is added fits, and has the line as its text.
-use Rattle.std.proofs.Common.{◌≡◌, ℕ, zero, suc, Bool, true, false, List, [], ◌∷◌, ◌++◌, length, map, Option, Some, None, refl, sym, ap, subst, ◌∙◌, ◌&&◌, ◌||◌, append_assoc, append-nil, arith}
+use Rattle.std.proofs.Common.{◌≡◌, ℕ, zero, suc, Bool, true, false, List, [], ◌∷◌, ◌++◌, length, map, Option, Some, None, refl, sym, ap, subst, ◌∙◌, ◌&&◌, ◌||◌}
+use Rattle.std.proofs.Common.{append_assoc, append-nil, arith}
 use Rattle.std.specs.Prelude.{nat_eq, nat_lt, not, is_some, is_none, if◌then◌else◌}
 use Rattle.std.specs.List.{list_all}
 use Rattle.std.specs.Option.{option_map}
@@ -7,7 +8,8 @@ use Rattle.std.proofs.lemmas.Bool.{and_parts, and_from, false≢true, eqb-true, 
 use Rattle.tx_code.specs.declared.object.ObjMember.{ObjMember}
 use Rattle.tx_code.specs.declared.object.ObjCell.{ObjCell}
 use Rattle.tx_code.specs.Objects.{BodyView, ClassView, GlobalView, FuncView}
-use Rattle.tx_code.specs.WellFormed.{is_name, is_name_or_none, is_count, ascends, member_fits, class_fits, cell_fits, cell_after, global_fits, bit, same, flags_fit, text_fits, some_fits, func_fits}
+use Rattle.tx_code.specs.WellFormed.{is_name, is_name_or_none, is_count, ascends, member_fits, class_fits, cell_fits, cell_after, global_fits, bit, same}
+use Rattle.tx_code.specs.WellFormed.{flags_fit, text_fits, some_fits, func_fits}
 use Rattle.object_bytes.specs.Spelling.{is_u8, is_u32, member_is_wide, class_is_wide, cell_is_wide, global_is_wide, some_is_wide, func_is_wide}
 use Rattle.object_bytes.specs.Fields.{above}
 use Rattle.object_bytes.proofs.Parts.{parts3, parts4}
@@ -35,7 +37,8 @@ pub record ClassParts (n : ℕ) (c : ClassView) : Type 0 where
   pub slot_wide : list_all is_u32 c.slots ≡ true
 
 pub class_fits_by : (n : ℕ) (c : ClassView) → ClassParts n c → class_fits n c ≡ true
-class_fits_by n c p = and_from _ _ (and_from _ _ (and_from _ _ (and_from _ _ (and_from _ _ (and_from _ _ p.name p.base) p.text) p.member_count) p.members) p.slot_count) p.slots
+class_fits_by n c p = and_from _ _ (and_from _ _ (and_from _ _
+    (and_from _ _ (and_from _ _ (and_from _ _ p.name p.base) p.text) p.member_count) p.members) p.slot_count) p.slots
 
 pub class_wide_by : (n : ℕ) (c : ClassView) → ClassParts n c → class_is_wide c ≡ true
 class_wide_by n c p = and_from _ _ (and_from _ _ p.numbers p.member_wide) p.slot_wide
@@ -48,24 +51,81 @@ pub record ClassMore (n : ℕ) (c d : ClassView) (r : Record) : Type 0 where
 member_line : ObjMember → Line
 member_line m = Of (kind.Member m)
 
-class_member : (n : ℕ) (c : ClassView) (m : ObjMember) → ClassParts n c → member_is_wide m ≡ true → (is_nil c.slots && has_room c.members && member_fits n m) ≡ true
-    → ClassMore n c (record { name = c.name; size = c.size; align = c.align; base = c.base; pointer = c.pointer; text = c.text; members = c.members ++ m ∷ []; slots = c.slots }) (kind.Member m)
+class_member : (n : ℕ) (c : ClassView) (m : ObjMember) → ClassParts n c → member_is_wide m ≡ true
+    → (is_nil c.slots && has_room c.members && member_fits n m) ≡ true
+    → ClassMore n c (record {
+      name = c.name;
+      size = c.size;
+      align = c.align;
+      base = c.base;
+      pointer = c.pointer;
+      text = c.text;
+      members = c.members ++ m ∷ [];
+      slots = c.slots;
+    }) (kind.Member m)
 class_member n c m p wide test =
     let t = parts3 (is_nil c.slots) (has_room c.members) (member_fits n m) test in
     record {
-      parts = record { name = p.name; base = p.base; text = p.text; member_count = count_more c.members m t.1; members = all_more (member_fits n) c.members m p.members t.2; slot_count = p.slot_count; slots = p.slots; numbers = p.numbers; member_wide = all_more member_is_wide c.members m p.member_wide wide; slot_wide = p.slot_wide };
+      parts = record {
+        name = p.name;
+        base = p.base;
+        text = p.text;
+        member_count = count_more c.members m t.1;
+        members = all_more
+            (member_fits n) c.members m p.members t.2;
+        slot_count = p.slot_count;
+        slots = p.slots;
+        numbers = p.numbers;
+        member_wide =
+            all_more member_is_wide c.members m p.member_wide wide;
+        slot_wide = p.slot_wide;
+      };
       same_name = refl;
-      lines = rw (nil_is c.slots t.0) (ap (λ (z : List Line). Of (kind.Class (record { name = c.name; size = c.size; align = c.align; base = c.base; pointer = c.pointer; text = c.text })) ∷ z) (append-nil (map (λ (x : ObjMember). Of (kind.Member x)) (c.members ++ m ∷ [])) ∙ map_more (λ (x : ObjMember). Of (kind.Member x)) c.members m ∙ ap (λ (z : List Line). z ++ Of (kind.Member m) ∷ []) (sym (append-nil (map (λ (x : ObjMember). Of (kind.Member x)) c.members)))));
+      lines = rw (nil_is c.slots t.0) (ap (λ (z : List Line). Of
+          (kind.Class (record { name = c.name; size = c.size; align = c.align; base = c.base; pointer = c.pointer; text = c.text })) ∷ z)
+          (append-nil (map (λ (x : ObjMember). Of (kind.Member x)) (c.members ++ m ∷ [])) ∙ map_more (λ (x : ObjMember). Of (kind.Member x)) c.members m
+          ∙ ap (λ (z : List Line). z ++ Of (kind.Member m) ∷ []) (sym (append-nil (map (λ (x : ObjMember). Of (kind.Member x)) c.members)))));
     }
 
 class_slot : (n : ℕ) (c : ClassView) (s : ℕ) → ClassParts n c → is_u32 s ≡ true → (has_room c.slots && is_name_or_none n s) ≡ true
-    → ClassMore n c (record { name = c.name; size = c.size; align = c.align; base = c.base; pointer = c.pointer; text = c.text; members = c.members; slots = c.slots ++ s ∷ [] }) (kind.Slot s)
+    → ClassMore n c (record {
+      name = c.name;
+      size = c.size;
+      align = c.align;
+      base = c.base;
+      pointer = c.pointer;
+      text = c.text;
+      members = c.members;
+      slots =
+          c.slots ++ s ∷ [];
+    }) (kind.Slot s)
 class_slot n c s p wide test =
     let t = and_parts (has_room c.slots) (is_name_or_none n s) test in
     record {
-      parts = record { name = p.name; base = p.base; text = p.text; member_count = p.member_count; members = p.members; slot_count = count_more c.slots s t.0; slots = all_more (is_name_or_none n) c.slots s p.slots t.1; numbers = p.numbers; member_wide = p.member_wide; slot_wide = all_more is_u32 c.slots s p.slot_wide wide };
+      parts = record {
+        name = p.name;
+        base = p.base;
+        text = p.text;
+        member_count = p.member_count;
+        members = p.members;
+        slot_count = count_more c.slots s t.0;
+        slots = all_more (is_name_or_none n) c.slots s p.slots t.1;
+        numbers = p.numbers;
+        member_wide = p.member_wide;
+        slot_wide =
+            all_more is_u32 c.slots s p.slot_wide wide;
+      };
       same_name = refl;
-      lines = ap (λ (z : List Line). Of (kind.Class (record { name = c.name; size = c.size; align = c.align; base = c.base; pointer = c.pointer; text = c.text })) ∷ z) (ap (λ (z : List Line). map (λ (x : ObjMember). Of (kind.Member x)) c.members ++ z) (map_more (λ (x : ℕ). Of (kind.Slot x)) c.slots s) ∙ sym (append_assoc (map (λ (x : ObjMember). Of (kind.Member x)) c.members) (map (λ (x : ℕ). Of (kind.Slot x)) c.slots) (Of (kind.Slot s) ∷ [])));
+      lines = ap (λ (z : List Line). Of (kind.Class (record {
+        name = c.name;
+        size = c.size;
+        align = c.align;
+        base = c.base;
+        pointer = c.pointer;
+        text =
+            c.text;
+      })) ∷ z) (ap (λ (z : List Line). map (λ (x : ObjMember). Of (kind.Member x)) c.members ++ z) (map_more (λ (x : ℕ). Of (kind.Slot x)) c.slots s)
+          ∙ sym (append_assoc (map (λ (x : ObjMember). Of (kind.Member x)) c.members) (map (λ (x : ℕ). Of (kind.Slot x)) c.slots) (Of (kind.Slot s) ∷ [])));
     }
 
 class_is : (n : ℕ) (c x d : ClassView) (r : Record) (t : Bool) → given t x ≡ Some d → (t ≡ true → ClassMore n c x r) → ClassMore n c d r
@@ -107,14 +167,30 @@ pub record GlobalMore (n : ℕ) (g h : GlobalView) (r : Record) : Type 0 where
   pub same_symbol : h.symbol ≡ g.symbol
   pub lines : global_lines h ≡ global_lines g ++ line_of r ∷ []
 
-global_cell : (n : ℕ) (g : GlobalView) (c : ObjCell) → GlobalParts n g → cell_is_wide c ≡ true → (not (nat_eq g.defined 0) && has_room g.cells && cell_fits n g.size c && above cell_after (last_of g.cells) c) ≡ true
+global_cell : (n : ℕ) (g : GlobalView) (c : ObjCell) → GlobalParts n g → cell_is_wide c ≡ true
+    → (not (nat_eq g.defined 0) && has_room g.cells && cell_fits n g.size c && above cell_after (last_of g.cells) c) ≡ true
     → GlobalMore n g (record { symbol = g.symbol; ty = g.ty; linkage = g.linkage; defined = g.defined; size = g.size; cells = g.cells ++ c ∷ [] }) (kind.Cell c)
 global_cell n g c p wide test =
     let t = parts4 (not (nat_eq g.defined 0)) (has_room g.cells) (cell_fits n g.size c) (above cell_after (last_of g.cells) c) test in
     record {
-      parts = record { symbol = p.symbol; ty = p.ty; linkage = p.linkage; defined = p.defined; cell_count = count_more g.cells c t.1; cells = all_more (cell_fits n g.size) g.cells c p.cells t.2; order = ascends_more cell_after g.cells c p.order t.3; size = p.size; none = or_left (not (nat_eq g.defined 0)) _ t.0; numbers = p.numbers; cell_wide = all_more cell_is_wide g.cells c p.cell_wide wide };
+      parts = record {
+        symbol = p.symbol;
+        ty = p.ty;
+        linkage = p.linkage;
+        defined = p.defined;
+        cell_count = count_more g.cells c t.1;
+        cells = all_more
+            (cell_fits n g.size) g.cells c p.cells t.2;
+        order = ascends_more cell_after g.cells c p.order t.3;
+        size = p.size;
+        none =
+            or_left (not (nat_eq g.defined 0)) _ t.0;
+        numbers = p.numbers;
+        cell_wide = all_more cell_is_wide g.cells c p.cell_wide wide;
+      };
       same_symbol = refl;
-      lines = ap (λ (z : List Line). Of (kind.Global (record { symbol = g.symbol; ty = g.ty; linkage = g.linkage; defined = g.defined; size = g.size })) ∷ z) (map_more (λ (x : ObjCell). Of (kind.Cell x)) g.cells c);
+      lines = ap (λ (z : List Line). Of (kind.Global (record { symbol = g.symbol; ty = g.ty; linkage = g.linkage; defined = g.defined; size = g.size })) ∷ z)
+          (map_more (λ (x : ObjCell). Of (kind.Cell x)) g.cells c);
     }
 
 global_is : (n : ℕ) (g x h : GlobalView) (r : Record) (t : Bool) → given t x ≡ Some h → (t ≡ true → GlobalMore n g x r) → GlobalMore n g h r
@@ -148,8 +224,10 @@ above_nothing (suc s) false e = sym (lt-ltb 0 (suc s) (omega arith))
 
 pub global_fits_by : (n : ℕ) (g : GlobalView) → GlobalParts n g → global_fits n g ≡ true
 global_fits_by n g p =
-    and_from _ _ (and_from _ _ (and_from _ _ (and_from _ _ (and_from _ _ (and_from _ _ (and_from _ _ p.symbol p.ty) p.linkage) p.defined) p.cell_count) p.cells) p.order)
-    (ap (λ (z : Bool). if nat_eq g.defined 0 then nat_eq g.size 0 && nat_eq (length g.cells) 0 else z) (sym (above_nothing g.size (nat_eq g.size 0) refl)) ∙ by_defined (nat_eq g.defined 0) (nat_eq g.size 0) (is_nil g.cells) p.size p.none)
+    and_from _ _ (and_from _ _ (and_from _ _ (and_from _ _
+    (and_from _ _ (and_from _ _ (and_from _ _ p.symbol p.ty) p.linkage) p.defined) p.cell_count) p.cells) p.order)
+    (ap (λ (z : Bool). if nat_eq g.defined 0 then nat_eq g.size 0 && nat_eq (length g.cells) 0 else z) (sym (above_nothing g.size (nat_eq g.size 0) refl))
+    ∙ by_defined (nat_eq g.defined 0) (nat_eq g.size 0) (is_nil g.cells) p.size p.none)
 
 pub global_wide_by : (n : ℕ) (g : GlobalView) → GlobalParts n g → global_is_wide g ≡ true
 global_wide_by n g p = and_from _ _ p.numbers p.cell_wide
@@ -183,7 +261,9 @@ some_wide_by version n (Some b) p = body_wide_by version n b p
 pub func_fits_by : (version n : ℕ) (f : FuncView) → FuncParts version n f → has_bodies f ≡ true → func_fits version n f ≡ true
 func_fits_by version n f p h =
     let b = and_parts (same (bit 0 f.flags) (is_some f.plain)) (same (bit 1 f.flags) (is_some f.safe)) h in
-    and_from _ _ (and_from _ _ (and_from _ _ (and_from _ _ (and_from _ _ (and_from _ _ (and_from _ _ (and_from _ _ (and_from _ _ p.symbol p.ty) p.linkage) p.flags) p.text) p.frame) b.0) (some_fits_by version n f.plain p.plain)) b.1) (some_fits_by version n f.safe p.safe)
+    and_from _ _ (and_from _ _ (and_from _ _ (and_from _ _
+    (and_from _ _ (and_from _ _ (and_from _ _ (and_from _ _ (and_from _ _ p.symbol p.ty) p.linkage) p.flags) p.text) p.frame) b.0)
+    (some_fits_by version n f.plain p.plain)) b.1) (some_fits_by version n f.safe p.safe)
 
 pub func_wide_by : (version n : ℕ) (f : FuncView) → FuncParts version n f → func_is_wide f ≡ true
 func_wide_by version n f p = and_from _ _ (and_from _ _ p.numbers (some_wide_by version n f.plain p.plain)) (some_wide_by version n f.safe p.safe)
@@ -197,19 +277,32 @@ abbrev head_of : FuncView → Line
 head_of f = Of (kind.Func (record { symbol = f.symbol; ty = f.ty; linkage = f.linkage; flags = f.flags; text = f.text; frame = f.frame }))
 
 -- a body that begins
-begin_plain : (version n : ℕ) (f : FuncView) → FuncParts version n f → (bit 0 f.flags && is_none f.plain) ≡ true → FuncMore version n f (with_bodies f (Some no_body) f.safe) kind.Plain
+begin_plain : (version n : ℕ) (f : FuncView) → FuncParts version n f → (bit 0 f.flags && is_none f.plain) ≡ true
+    → FuncMore version n f (with_bodies f (Some no_body) f.safe) kind.Plain
 begin_plain version n f p test = by_bodies f.plain f.safe refl refl
   where
     by_bodies : (plain safe : Option BodyView) → f.plain ≡ plain → f.safe ≡ safe → FuncMore version n f (with_bodies f (Some no_body) f.safe) kind.Plain
     by_bodies None None e h = record {
-      parts = record { symbol = p.symbol; ty = p.ty; linkage = p.linkage; flags = p.flags; text = p.text; frame = p.frame; plain = no_body_parts version n; safe = p.safe; in_order = or_left (not (is_some f.safe)) true (ap (λ (o : Option BodyView). not (is_some o)) h); numbers = p.numbers };
+      parts = record {
+        symbol = p.symbol;
+        ty = p.ty;
+        linkage = p.linkage;
+        flags = p.flags;
+        text = p.text;
+        frame = p.frame;
+        plain = no_body_parts version n;
+        safe = p.safe;
+        in_order = or_left (not (is_some f.safe)) true (ap (λ (o : Option BodyView). not (is_some o)) h);
+        numbers = p.numbers;
+      };
       same_symbol = refl;
       lines = rw (e, h) refl;
     }
     by_bodies (Some b) safe e h = absurd (false≢true (ap (λ (o : Option BodyView). is_none o) (sym e) ∙ (and_parts (bit 0 f.flags) (is_none f.plain) test).1))
     by_bodies None (Some b) e h = absurd (false≢true (sym (rw (e, h) refl) ∙ p.in_order))
 
-begin_safe : (version n : ℕ) (f : FuncView) → FuncParts version n f → (bit 1 f.flags && is_some f.plain && is_none f.safe) ≡ true → FuncMore version n f (with_bodies f f.plain (Some no_body)) kind.Safe
+begin_safe : (version n : ℕ) (f : FuncView) → FuncParts version n f → (bit 1 f.flags && is_some f.plain && is_none f.safe) ≡ true
+    → FuncMore version n f (with_bodies f f.plain (Some no_body)) kind.Safe
 begin_safe version n f p test = by_safe f.safe refl
   where
     t : (bit 1 f.flags ≡ true) × (is_some f.plain ≡ true) × (is_none f.safe ≡ true)
@@ -217,7 +310,19 @@ begin_safe version n f p test = by_safe f.safe refl
 
     by_safe : (safe : Option BodyView) → f.safe ≡ safe → FuncMore version n f (with_bodies f f.plain (Some no_body)) kind.Safe
     by_safe None h = record {
-      parts = record { symbol = p.symbol; ty = p.ty; linkage = p.linkage; flags = p.flags; text = p.text; frame = p.frame; plain = p.plain; safe = no_body_parts version n; in_order = t.1; numbers = p.numbers };
+      parts = record {
+        symbol = p.symbol;
+        ty = p.ty;
+        linkage = p.linkage;
+        flags = p.flags;
+        text = p.text;
+        frame = p.frame;
+        plain = p.plain;
+        safe =
+            no_body_parts version n;
+        in_order = t.1;
+        numbers = p.numbers;
+      };
       same_symbol = refl;
       lines = rw h (ap (λ (z : List Line). head_of f ∷ z) (ap (λ (z : List Line). z ++ Of kind.Safe ∷ []) (sym (append-nil (some_lines kind.Plain f.plain)))));
     }
@@ -228,33 +333,61 @@ record Mapped (version n : ℕ) (b : BodyView) (make : BodyView → FuncView) (g
   step : body_step version n b r ≡ Some body
   made : make body ≡ g
 
-mapped : (version n : ℕ) (b : BodyView) (make : BodyView → FuncView) (g : FuncView) (r : Record) (o : Option BodyView) → body_step version n b r ≡ o → option_map make o ≡ Some g → Mapped version n b make g r
+mapped : (version n : ℕ) (b : BodyView) (make : BodyView → FuncView) (g : FuncView) (r : Record) (o : Option BodyView) → body_step version n b r ≡ o
+    → option_map make o ≡ Some g → Mapped version n b make g r
 mapped version n b make g r None s e = absurd cc
 mapped version n b make g r (Some x) s e = record { body = x; step = s; made = cc }
 
-in_bodies : (version n : ℕ) (f g : FuncView) (r : Record) (plain safe : Option BodyView) → f.plain ≡ plain → f.safe ≡ safe → FuncParts version n f → has_width r ≡ true → in_body version n f plain safe r ≡ Some g → FuncMore version n f g r
+in_bodies : (version n : ℕ) (f g : FuncView) (r : Record) (plain safe : Option BodyView) → f.plain ≡ plain → f.safe ≡ safe → FuncParts version n f
+    → has_width r ≡ true → in_body version n f plain safe r ≡ Some g → FuncMore version n f g r
 in_bodies version n f g r plain (Some b) e h p wide s =
     let m = mapped version n b (λ x. with_bodies f plain (Some x)) g r (body_step version n b r) refl s in
     let more = body_steps version n b m.body r (rw h at p.safe) wide m.step in
     subst (λ (z : FuncView). FuncMore version n f z r) m.made (record {
-      parts = record { symbol = p.symbol; ty = p.ty; linkage = p.linkage; flags = p.flags; text = p.text; frame = p.frame; plain = rw e at p.plain; safe = more.parts; in_order = rw (e, h) at p.in_order; numbers = p.numbers };
+      parts = record {
+        symbol = p.symbol;
+        ty = p.ty;
+        linkage = p.linkage;
+        flags = p.flags;
+        text = p.text;
+        frame = p.frame;
+        plain = rw e at p.plain;
+        safe =
+            more.parts;
+        in_order = rw (e, h) at p.in_order;
+        numbers = p.numbers;
+      };
       same_symbol = refl;
-      lines = rw (e, h) (ap (λ (z : List Line). head_of f ∷ (some_lines kind.Plain plain ++ Of kind.Safe ∷ z)) more.lines ∙ ap (λ (z : List Line). head_of f ∷ z) (sym (append_assoc (some_lines kind.Plain plain) (Of kind.Safe ∷ body_lines b) (line_of r ∷ []))));
+      lines = rw (e, h) (ap (λ (z : List Line). head_of f ∷ (some_lines kind.Plain plain ++ Of kind.Safe ∷ z)) more.lines ∙ ap
+          (λ (z : List Line). head_of f ∷ z) (sym (append_assoc (some_lines kind.Plain plain) (Of kind.Safe ∷ body_lines b) (line_of r ∷ []))));
     })
 in_bodies version n f g r (Some b) None e h p wide s =
     let m = mapped version n b (λ x. with_bodies f (Some x) None) g r (body_step version n b r) refl s in
     let more = body_steps version n b m.body r (rw e at p.plain) wide m.step in
     subst (λ (z : FuncView). FuncMore version n f z r) m.made (record {
-      parts = record { symbol = p.symbol; ty = p.ty; linkage = p.linkage; flags = p.flags; text = p.text; frame = p.frame; plain = more.parts; safe = tt; in_order = refl; numbers = p.numbers };
+      parts = record {
+        symbol = p.symbol;
+        ty = p.ty;
+        linkage = p.linkage;
+        flags = p.flags;
+        text = p.text;
+        frame = p.frame;
+        plain = more.parts;
+        safe = tt;
+        in_order = refl;
+        numbers = p.numbers;
+      };
       same_symbol = refl;
-      lines = rw (e, h) (ap (λ (z : List Line). head_of f ∷ Of kind.Plain ∷ z) (append-nil (body_lines m.body) ∙ more.lines ∙ ap (λ (z : List Line). z ++ line_of r ∷ []) (sym (append-nil (body_lines b)))));
+      lines = rw (e, h) (ap (λ (z : List Line). head_of f ∷ Of kind.Plain ∷ z)
+          (append-nil (body_lines m.body) ∙ more.lines ∙ ap (λ (z : List Line). z ++ line_of r ∷ []) (sym (append-nil (body_lines b)))));
     })
 in_bodies version n f g r None None e h p wide s = absurd cc
 
 func_is : (version n : ℕ) (f x g : FuncView) (r : Record) (t : Bool) → given t x ≡ Some g → (t ≡ true → FuncMore version n f x r) → FuncMore version n f g r
 func_is version n f x g r t e h = let w = was_given t x g e in subst (λ (z : FuncView). FuncMore version n f z r) w.1 (h w.0)
 
-pub func_steps : (version n : ℕ) (f g : FuncView) (r : Record) → FuncParts version n f → has_width r ≡ true → func_step version n f r ≡ Some g → FuncMore version n f g r
+pub func_steps : (version n : ℕ) (f g : FuncView) (r : Record) → FuncParts version n f → has_width r ≡ true → func_step version n f r ≡ Some g
+    → FuncMore version n f g r
 func_steps version n f g kind.Plain p wide e = func_is version n f _ g kind.Plain _ e (begin_plain version n f p)
 func_steps version n f g kind.Safe p wide e = func_is version n f _ g kind.Safe _ e (begin_safe version n f p)
 func_steps version n f g (kind.Txob x) p wide e = in_bodies version n f g (kind.Txob x) f.plain f.safe refl refl p wide e

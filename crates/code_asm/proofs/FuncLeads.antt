@@ -49,23 +49,30 @@ safe_open o f plain = record {
 
 -- ---- both bodies
 
-plain_leads : (o : ObjectView) (f : FuncView) (plain : Option BodyView) → same (bit 0 f.flags) (is_some plain) ≡ true → some_fits o.version (length o.names) plain ≡ true → some_is_wide plain ≡ true → Leads (in_func o (with_bodies f None None)) (some_lines kind.Plain plain) (in_func o (with_bodies f plain None))
+plain_leads : (o : ObjectView) (f : FuncView) (plain : Option BodyView) → same (bit 0 f.flags) (is_some plain) ≡ true
+    → some_fits o.version (length o.names) plain ≡ true → some_is_wide plain ≡ true
+    → Leads (in_func o (with_bodies f None None)) (some_lines kind.Plain plain) (in_func o (with_bodies f plain None))
 unfolding record_step to_plain in_func
 plain_leads o f None flag fits wide = stays
-plain_leads o f (Some b) flag fits wide = takes refl (ap (option_map (in_func o)) (given_if _ (with_bodies f (Some no_body) None) (and_from _ _ (set (bit 0 f.flags) flag) refl))) (body_leads o.version (length o.names) (to_plain o f) b (plain_open o f) fits wide)
+plain_leads o f (Some b) flag fits wide = takes refl (ap (option_map (in_func o))
+    (given_if _ (with_bodies f (Some no_body) None) (and_from _ _ (set (bit 0 f.flags) flag) refl)))
+    (body_leads o.version (length o.names) (to_plain o f) b (plain_open o f) fits wide)
   where
     set : (flag : Bool) → same flag true ≡ true → flag ≡ true
     set true h = refl
     set false h = h
 
-safe_leads : (o : ObjectView) (f : FuncView) (plain safe : Option BodyView) → flags_fit f.flags ≡ true → same (bit 0 f.flags) (is_some plain) ≡ true → same (bit 1 f.flags) (is_some safe) ≡ true → some_fits o.version (length o.names) safe ≡ true → some_is_wide safe ≡ true
+safe_leads : (o : ObjectView) (f : FuncView) (plain safe : Option BodyView) → flags_fit f.flags ≡ true → same (bit 0 f.flags) (is_some plain) ≡ true
+    → same (bit 1 f.flags) (is_some safe) ≡ true → some_fits o.version (length o.names) safe ≡ true → some_is_wide safe ≡ true
     → Leads (in_func o (with_bodies f plain None)) (some_lines kind.Safe safe) (in_func o (with_bodies f plain safe))
 unfolding record_step to_safe in_func
 safe_leads o f plain None flags first second fits wide = stays
 safe_leads o f plain (Some b) flags first second fits wide =
     let set = set_by (bit 1 f.flags) second in
     let both = (and_parts (nat_lt f.flags 16) (not (bit 1 f.flags) || bit 0 f.flags) flags).1 in
-    takes refl (ap (option_map (in_func o)) (given_if _ (with_bodies f plain (Some no_body)) (and_from _ _ (and_from _ _ set (there (bit 0 f.flags) (bit 1 f.flags) (is_some plain) both set first)) refl))) (body_leads o.version (length o.names) (to_safe o f plain) b (safe_open o f plain) fits wide)
+    takes refl (ap (option_map (in_func o)) (given_if _ (with_bodies f plain (Some no_body))
+    (and_from _ _ (and_from _ _ set (there (bit 0 f.flags) (bit 1 f.flags) (is_some plain) both set first)) refl)))
+    (body_leads o.version (length o.names) (to_safe o f plain) b (safe_open o f plain) fits wide)
   where
     set_by : (flag : Bool) → same flag true ≡ true → flag ≡ true
     set_by true h = refl
@@ -79,18 +86,33 @@ safe_leads o f plain (Some b) flags first second fits wide =
 -- ---- functions
 
 unfoldable pub all_of : (version : ℕ) → List (List ℕ) → Option (List ℕ) → List ClassView → List GlobalView → List FuncView → ObjectView
-all_of version names source classes globals funcs = record { version = version; names = names; source = source; classes = classes; globals = globals; funcs = funcs }
+all_of version names source classes globals funcs = record {
+  version = version;
+  names = names;
+  source = source;
+  classes = classes;
+  globals = globals;
+  funcs =
+      funcs;
+}
 
-pub func_arrives : (version : ℕ) (names : List (List ℕ)) (source : Option (List ℕ)) (classes : List ClassView) (globals : List GlobalView) (s : State) (xs : List FuncView) (f : FuncView) → closed s.object s.place ≡ Some (all_of version names source classes globals xs) → has_room xs ≡ true
-    → func_fits version (length names) f ≡ true → func_is_wide f ≡ true → above (λ (a b : FuncView). nat_lt a.symbol b.symbol) (last_of xs) f ≡ true → Arrives s (func_lines f) (all_of version names source classes globals (xs ++ f ∷ []))
+pub func_arrives : (version : ℕ) (names : List (List ℕ)) (source : Option (List ℕ)) (classes : List ClassView) (globals : List GlobalView) (s : State)
+    (xs : List FuncView) (f : FuncView) → closed s.object s.place ≡ Some (all_of version names source classes globals xs) → has_room xs ≡ true
+    → func_fits version (length names) f ≡ true → func_is_wide f ≡ true → above (λ (a b : FuncView). nat_lt a.symbol b.symbol) (last_of xs) f ≡ true
+    → Arrives s (func_lines f) (all_of version names source classes globals (xs ++ f ∷ []))
 unfolding record_step in_func func_head all_of
 func_arrives version names source classes globals s xs f e room fits wide order =
     let n = length names in
     let o = all_of version names source classes globals xs in
-    let p = parts10 (is_name n f.symbol) (is_name n f.ty) (nat_lt f.linkage 3) (flags_fit f.flags) (text_fits n f) (bit 0 f.flags || nat_eq f.frame 0) (same (bit 0 f.flags) (is_some f.plain)) (some_fits version n f.plain) (same (bit 1 f.flags) (is_some f.safe)) (some_fits version n f.safe) fits in
-    let w = parts3 (is_u32 f.symbol && is_u32 f.ty && is_u8 f.linkage && is_u8 f.flags && is_u32 f.text && is_u32 f.frame) (some_is_wide f.plain) (some_is_wide f.safe) wide in
-    let above_last : above nat_lt (option_map (λ (x : FuncView). x.symbol) (last_of xs)) f.symbol ≡ true = above_key (λ (x : FuncView). x.symbol) (last_of xs) f ∙ order in
-    let first = ap (λ z. and_then z (begin_func (func_head f))) e ∙ given_if _ (in_func o (with_bodies f None None)) (and_from _ _ (and_from _ _ (and_from _ _ (and_from _ _ (and_from _ _ (and_from _ _ (and_from _ _ room p.0) above_last) p.1) p.2) p.3) p.4) p.5) in
+    let p = parts10 (is_name n f.symbol) (is_name n f.ty) (nat_lt f.linkage 3) (flags_fit f.flags) (text_fits n f) (bit 0 f.flags || nat_eq f.frame 0)
+    (same (bit 0 f.flags) (is_some f.plain)) (some_fits version n f.plain) (same (bit 1 f.flags) (is_some f.safe)) (some_fits version n f.safe) fits in
+    let w = parts3 (is_u32 f.symbol && is_u32 f.ty && is_u8 f.linkage && is_u8 f.flags && is_u32 f.text && is_u32 f.frame) (some_is_wide f.plain)
+    (some_is_wide f.safe) wide in
+    let above_last : above nat_lt (option_map (λ (x : FuncView). x.symbol) (last_of xs)) f.symbol ≡ true = above_key (λ (x : FuncView). x.symbol) (last_of xs) f
+    ∙ order in
+    let first = ap (λ z. and_then z (begin_func (func_head f))) e
+    ∙ given_if _ (in_func o (with_bodies f None None))
+    (and_from _ _ (and_from _ _ (and_from _ _ (and_from _ _ (and_from _ _ (and_from _ _ (and_from _ _ room p.0) above_last) p.1) p.2) p.3) p.4) p.5) in
     record {
       state = in_func o f;
       leads = takes w.0 first (and_on (plain_leads o f f.plain p.6 p.7 w.1) (safe_leads o f f.plain f.safe p.3 p.6 p.8 p.9 w.2));

@@ -27,10 +27,12 @@ pub same_reach : {text rest tail : List ℕ} {m n : ℕ} {s t : State} → Reach
 same_reach begins begins same = record { state = refl; rests = refl }
 same_reach begins (goes_on {number = n} l before here e) same = let one = from_one before in absurd (omega arith)
 same_reach (goes_on {number = n} l before here e) begins same = let one = from_one before in absurd (omega arith)
-same_reach {rest = rest} {tail = tail} (goes_on {number = m} {s = s} {t = u} {left = left} l before here e) (goes_on {number = n} {s = t} {t = v} {left = other} k earlier there h) same =
+same_reach {rest = rest} {tail = tail} (goes_on {number = m} {s = s} {t = u} {left = left} l before here e)
+    (goes_on {number = n} {s = t} {t = v} {left = other} k earlier there h) same =
     let r = same_reach before earlier (omega arith) in
     let lines = same_lines left l k rest tail here (subst (λ (z : List ℕ). LineHere z k tail) (sym r.rests) there) in
-    let steps : step s l (is_nil rest) ≡ step t k (is_nil tail) = ap (λ (z : State). step z l (is_nil rest)) r.state ∙ ap (λ (z : Line). step t z (is_nil rest)) lines.same ∙ ap (λ (z : List ℕ). step t k (is_nil z)) lines.rests in
+    let steps : step s l (is_nil rest) ≡ step t k (is_nil tail) = ap (λ (z : State). step z l (is_nil rest)) r.state
+    ∙ ap (λ (z : Line). step t z (is_nil rest)) lines.same ∙ ap (λ (z : List ℕ). step t k (is_nil z)) lines.rests in
     record { state = some_is u v (sym e ∙ steps ∙ h); rests = lines.rests }
 
 -- a line is taken behind fewer lines
@@ -51,7 +53,17 @@ passed {text = text} {rest = rest} n (goes_on {number = m} {s = s} {t = t} {left
       | inl lt ↦ passed n before one lt
       | inr le ↦
           let same : m ≡ n = omega arith in
-          record { state = s; rest = left; reached = subst (λ (k : ℕ). Reaches text k s left) same before; line = l; tail = rest; here = here; next = t; taken = e }
+          record {
+            state = s;
+            rest = left;
+            reached = subst (λ (k : ℕ). Reaches text k s left) same before;
+            line = l;
+            tail = rest;
+            here = here;
+            next = t;
+            taken =
+                e;
+          }
     ]
 
 -- where a line is wrong, none is taken
@@ -92,7 +104,8 @@ one_fault text m n v w =
           ]
     ]
 
-pub one_object : (text : List ℕ) (m n : ℕ) (o p : ObjectView) → Reaches text m (record { object = o; place = Ended }) [] → Reaches text n (record { object = p; place = Ended }) [] → o ≡ p
+pub one_object : (text : List ℕ) (m n : ℕ) (o p : ObjectView) → Reaches text m (record { object = o; place = Ended }) []
+    → Reaches text n (record { object = p; place = Ended }) [] → o ≡ p
 one_object text m n o p h k =
     elim (cases_lt m n) [
       | inl lt ↦ absurd (at_end h (passed m k (from_one h) lt))

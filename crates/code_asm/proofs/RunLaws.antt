@@ -25,7 +25,8 @@ not_taken text s l rest h e m tail k =
     let same = same_lines text m l tail rest k h in
     ap (λ (z : Line). step s z (is_nil tail)) same.same ∙ ap (λ (z : List ℕ). step s l (is_nil z)) same.rests ∙ e
 
-pub took_stop : (s : State) (text : List ℕ) (l : Line) (rest : List ℕ) (e : Stop) → LineHere text l rest → Stops e (step s l (is_nil rest)) → TookLine s text (Err e)
+pub took_stop : (s : State) (text : List ℕ) (l : Line) (rest : List ℕ) (e : Stop) → LineHere text l rest → Stops e (step s l (is_nil rest))
+    → TookLine s text (Err e)
 took_stop s text l rest stop.Memory h k = tt
 took_stop s text l rest stop.Wrong h k = not_taken text s l rest h k
 
@@ -50,5 +51,6 @@ that text (Err (BadAsm line)) o h w = not_wrong o text line w h
 that text (Err Memory) o h w = tt
 
 -- the text of an object is assembled to that object
-pub same_again : (o : ObjectView) (text : List ℕ) (r : Result Object AsmFault) → text ≡ text_of o → IsObject o → is_wide o ≡ true → ((p : ObjectView) → IsWritten p text → IsThat r p) → IsThat r o
+pub same_again : (o : ObjectView) (text : List ℕ) (r : Result Object AsmFault) → text ≡ text_of o → IsObject o → is_wide o ≡ true
+    → ((p : ObjectView) → IsWritten p text → IsThat r p) → IsThat r o
 same_again o text r e k w h = h o (record { writes = record { text_is = e }; object = k; wide = w })

@@ -13,7 +13,8 @@ use Rattle.code_asm.specs.Steps.{State, start, step, Ended, is_nil}
 -- Behind the lines before the line of this number the state is reached, and the rest is left.
 pub data Reaches (text : List ℕ) : (number : ℕ) → State → (rest : List ℕ) → Type 0 where
   begins : Reaches text 1 start text
-  goes_on : {number : ℕ} {s t : State} {left rest : List ℕ} (l : Line) → Reaches text number s left → LineHere left l rest → step s l (is_nil rest) ≡ Some t → Reaches text (number + 1) t rest
+  goes_on : {number : ℕ} {s t : State} {left rest : List ℕ} (l : Line) → Reaches text number s left → LineHere left l rest → step s l (is_nil rest) ≡ Some t
+      → Reaches text (number + 1) t rest
 
 -- the text leads to the end of the object
 pub record LeadsTo (text : List ℕ) (o : ObjectView) : Type 0 where

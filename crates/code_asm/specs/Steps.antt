@@ -1,10 +1,12 @@
 -- What each line adds to the object that the lines before it have written so far.
-use Rattle.std.specs.Prelude.{◌≡◌, Bool, true, false, ℕ, ◌+◌, ◌-◌, ◌^◌, List, [], ◌∷◌, ◌++◌, length, Option, Some, None, is_some, is_none, slice_get, not, ◌&&◌, ◌||◌, nat_lt, nat_eq, if◌then◌else◌}
+use Rattle.std.specs.Prelude.{◌≡◌, Bool, true, false, ℕ, ◌+◌, ◌-◌, ◌^◌, List, [], ◌∷◌, ◌++◌, length, Option, Some, None, is_some, is_none, slice_get, not, ◌&&◌}
+use Rattle.std.specs.Prelude.{◌||◌, nat_lt, nat_eq, if◌then◌else◌}
 use Rattle.std.specs.List.{list_all}
 use Rattle.std.specs.Option.{option_map}
 use Rattle.tx_code.specs.declared.instr.Instr.TheVariants as instrs
 use Rattle.tx_code.specs.Objects.{BodyView, ClassView, GlobalView, FuncView, ObjectView}
-use Rattle.tx_code.specs.WellFormed.{bytes_lt, is_name, is_name_or_none, is_length, named_by, named_by_row, line_after, member_fits, cell_fits, cell_after, bit, same, flags_fit, text_fits, ascends_by}
+use Rattle.tx_code.specs.WellFormed.{bytes_lt, is_name, is_name_or_none, is_length, named_by, named_by_row, line_after, member_fits, cell_fits, cell_after, bit}
+use Rattle.tx_code.specs.WellFormed.{same, flags_fit, text_fits, ascends_by}
 use Rattle.object_bytes.specs.Fields.{above}
 use Rattle.object_bytes.specs.Objects.{source_of, is_whole}
 use Rattle.assembly_text.specs.declared.line.ClassHead.{ClassHead}
@@ -53,9 +55,12 @@ last_of xs = slice_get xs (length xs - 1)
 -- ---- bodies
 
 abbrev pub body_step : (version n : ℕ) → BodyView → Record → Option BodyView
-body_step version n b (kind.Code i) = given (is_nil b.rows && is_nil b.lines && has_room b.code && list_all (is_name n) (named_by i)) (record { code = b.code ++ i ∷ []; rows = b.rows; lines = b.lines })
-body_step version n b (kind.Row r) = given (is_nil b.lines && has_room b.rows && list_all (is_name n) (named_by_row r)) (record { code = b.code; rows = b.rows ++ r ∷ []; lines = b.lines })
-body_step version n b (kind.Line l) = given (nat_eq version 2 && has_room b.lines && nat_lt l.from (length b.code) && above line_after (last_of b.lines) l) (record { code = b.code; rows = b.rows; lines = b.lines ++ l ∷ [] })
+body_step version n b (kind.Code i) = given (is_nil b.rows && is_nil b.lines && has_room b.code && list_all (is_name n) (named_by i))
+    (record { code = b.code ++ i ∷ []; rows = b.rows; lines = b.lines })
+body_step version n b (kind.Row r) = given (is_nil b.lines && has_room b.rows && list_all (is_name n) (named_by_row r))
+    (record { code = b.code; rows = b.rows ++ r ∷ []; lines = b.lines })
+body_step version n b (kind.Line l) = given (nat_eq version 2 && has_room b.lines && nat_lt l.from (length b.code) && above line_after (last_of b.lines) l)
+    (record { code = b.code; rows = b.rows; lines = b.lines ++ l ∷ [] })
 body_step version n b r = None
 
 abbrev pub no_body : BodyView
@@ -65,16 +70,49 @@ no_body = record { code = []; rows = []; lines = [] }
 
 -- members, and then slots
 abbrev pub class_step : (n : ℕ) → ClassView → Record → Option ClassView
-class_step n c (kind.Member m) = given (is_nil c.slots && has_room c.members && member_fits n m) (record { name = c.name; size = c.size; align = c.align; base = c.base; pointer = c.pointer; text = c.text; members = c.members ++ m ∷ []; slots = c.slots })
-class_step n c (kind.Slot s) = given (has_room c.slots && is_name_or_none n s) (record { name = c.name; size = c.size; align = c.align; base = c.base; pointer = c.pointer; text = c.text; members = c.members; slots = c.slots ++ s ∷ [] })
+class_step n c (kind.Member m) = given (is_nil c.slots && has_room c.members && member_fits n m)
+    (record {
+      name = c.name;
+      size = c.size;
+      align = c.align;
+      base = c.base;
+      pointer = c.pointer;
+      text = c.text;
+      members = c.members ++ m ∷ [];
+      slots =
+          c.slots;
+    })
+class_step n c (kind.Slot s) = given (has_room c.slots && is_name_or_none n s)
+    (record {
+      name = c.name;
+      size = c.size;
+      align = c.align;
+      base = c.base;
+      pointer = c.pointer;
+      text = c.text;
+      members = c.members;
+      slots =
+          c.slots ++ s ∷ [];
+    })
 class_step n c r = None
 
 abbrev pub global_step : (n : ℕ) → GlobalView → Record → Option GlobalView
-global_step n g (kind.Cell c) = given (not (nat_eq g.defined 0) && has_room g.cells && cell_fits n g.size c && above cell_after (last_of g.cells) c) (record { symbol = g.symbol; ty = g.ty; linkage = g.linkage; defined = g.defined; size = g.size; cells = g.cells ++ c ∷ [] })
+global_step n g (kind.Cell c) = given (not (nat_eq g.defined 0) && has_room g.cells && cell_fits n g.size c && above cell_after (last_of g.cells) c)
+    (record { symbol = g.symbol; ty = g.ty; linkage = g.linkage; defined = g.defined; size = g.size; cells = g.cells ++ c ∷ [] })
 global_step n g r = None
 
 abbrev pub with_bodies : FuncView → (plain safe : Option BodyView) → FuncView
-with_bodies f plain safe = record { symbol = f.symbol; ty = f.ty; linkage = f.linkage; flags = f.flags; text = f.text; frame = f.frame; plain = plain; safe = safe }
+with_bodies f plain safe = record {
+  symbol = f.symbol;
+  ty = f.ty;
+  linkage = f.linkage;
+  flags = f.flags;
+  text = f.text;
+  frame = f.frame;
+  plain = plain;
+  safe =
+      safe;
+}
 
 -- what stands in a body stands in the one that began last
 abbrev pub in_body : (version n : ℕ) → FuncView → (plain safe : Option BodyView) → Record → Option FuncView
@@ -126,36 +164,63 @@ begun o Start version = given (nat_eq version 1 || nat_eq version 2) (record { o
 begun o place version = None
 
 abbrev pub named : ObjectView → Place → List ℕ → Option State
-named o Names name = given (is_length name && has_room o.names && above bytes_lt (last_of o.names) name) (record { object = record { version = o.version; names = o.names ++ name ∷ []; source = o.source; classes = o.classes; globals = o.globals; funcs = o.funcs }; place = Names })
+named o Names name = given (is_length name && has_room o.names && above bytes_lt (last_of o.names) name)
+    (record {
+      object = record {
+        version = o.version;
+        names = o.names ++ name ∷ [];
+        source = o.source;
+        classes = o.classes;
+        globals = o.globals;
+        funcs =
+            o.funcs;
+      };
+      place = Names;
+    })
 named o place name = None
 
 abbrev pub sourced : ObjectView → Place → ℕ → Option State
-sourced o Names i = given (nat_eq o.version 2 && is_name_or_none (length o.names) i) (record { object = record { version = o.version; names = o.names; source = source_of o.names i; classes = o.classes; globals = o.globals; funcs = o.funcs }; place = Between })
+sourced o Names i = given (nat_eq o.version 2 && is_name_or_none (length o.names) i)
+    (record {
+      object = record { version = o.version; names = o.names; source = source_of o.names i; classes = o.classes; globals = o.globals; funcs = o.funcs };
+      place = Between;
+    })
 sourced o place i = None
 
 -- classes, and then globals, and then functions
 abbrev pub class_begins : ObjectView → ClassHead → Bool
 class_begins o h =
-    is_nil o.globals && is_nil o.funcs && has_room o.classes && is_name (length o.names) h.name && above nat_lt (option_map (λ (c : ClassView). c.name) (last_of o.classes)) h.name
+    is_nil o.globals && is_nil o.funcs && has_room o.classes && is_name (length o.names) h.name
+    && above nat_lt (option_map (λ (c : ClassView). c.name) (last_of o.classes)) h.name
     && is_name_or_none (length o.names) h.base && is_name (length o.names) h.text
 
 abbrev pub begin_class : ClassHead → ObjectView → Option State
-begin_class h o = given (class_begins o h) (record { object = o; place = InClass (record { name = h.name; size = h.size; align = h.align; base = h.base; pointer = h.pointer; text = h.text; members = []; slots = [] }) })
+begin_class h o = given (class_begins o h) (record {
+  object = o;
+  place = InClass
+      (record { name = h.name; size = h.size; align = h.align; base = h.base; pointer = h.pointer; text = h.text; members = []; slots = [] });
+})
 
 abbrev pub global_begins : ObjectView → GlobalHead → Bool
 global_begins o h =
-    is_nil o.funcs && has_room o.globals && is_name (length o.names) h.symbol && above nat_lt (option_map (λ (g : GlobalView). g.symbol) (last_of o.globals)) h.symbol && is_name (length o.names) h.ty && nat_lt h.linkage 2
+    is_nil o.funcs && has_room o.globals && is_name (length o.names) h.symbol
+    && above nat_lt (option_map (λ (g : GlobalView). g.symbol) (last_of o.globals)) h.symbol && is_name (length o.names) h.ty && nat_lt h.linkage 2
     && nat_lt h.defined 2 && same (nat_eq h.defined 0) (nat_eq h.size 0)
 
 abbrev pub begin_global : GlobalHead → ObjectView → Option State
-begin_global h o = given (global_begins o h) (record { object = o; place = InGlobal (record { symbol = h.symbol; ty = h.ty; linkage = h.linkage; defined = h.defined; size = h.size; cells = [] }) })
+begin_global h o = given (global_begins o h) (record {
+  object = o;
+  place = InGlobal
+      (record { symbol = h.symbol; ty = h.ty; linkage = h.linkage; defined = h.defined; size = h.size; cells = [] });
+})
 
 abbrev pub func_of : FuncHead → FuncView
 func_of h = record { symbol = h.symbol; ty = h.ty; linkage = h.linkage; flags = h.flags; text = h.text; frame = h.frame; plain = None; safe = None }
 
 abbrev pub func_begins : ObjectView → FuncHead → Bool
 func_begins o h =
-    has_room o.funcs && is_name (length o.names) h.symbol && above nat_lt (option_map (λ (f : FuncView). f.symbol) (last_of o.funcs)) h.symbol && is_name (length o.names) h.ty && nat_lt h.linkage 3 && flags_fit h.flags
+    has_room o.funcs && is_name (length o.names) h.symbol && above nat_lt (option_map (λ (f : FuncView). f.symbol) (last_of o.funcs)) h.symbol
+    && is_name (length o.names) h.ty && nat_lt h.linkage 3 && flags_fit h.flags
     && text_fits (length o.names) (func_of h) && (bit 0 h.flags || nat_eq h.frame 0)
 
 abbrev pub begin_func : FuncHead → ObjectView → Option State

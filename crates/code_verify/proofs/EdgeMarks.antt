@@ -1,5 +1,6 @@
 -- Marks of the indexes that rows cover.
-use Rattle.std.proofs.Common.{Bool, true, false, ◌≡◌, ◌≢◌, ◌<◌, ◌≤◌, ◌+◌, inl, inr, ℕ, zero, suc, List, [], ◌∷◌, length, set, get_or, drop, refl, sym, ap, ◌∙◌, subst, arith, get_or-set_other, get_or-set_same}
+use Rattle.std.proofs.Common.{Bool, true, false, ◌≡◌, ◌≢◌, ◌<◌, ◌≤◌, ◌+◌, inl, inr, ℕ, zero, suc, List, [], ◌∷◌, length, set, get_or, drop, refl, sym, ap, ◌∙◌}
+use Rattle.std.proofs.Common.{subst, arith, get_or-set_other, get_or-set_same}
 use Rattle.std.specs.Prelude.{nat_le, nat_lt, ◌&&◌, ◌||◌}
 use Rattle.std.proofs.lemmas.Bool.{lt-ltb, le-ltb, le-leb, lt-leb, cases_eq, cases_lt}
 use Rattle.tx_code.specs.declared.body.Row.{Row}
@@ -24,7 +25,8 @@ below_more i n d = elim (cases_lt i n) [
   | inr h ↦ le-ltb i n h ∙ sym (le-ltb i (n + 1) (omega (arith, h, d)))
 ]
 
-pub marked : (init now : List Bool) (from n i : ℕ) → from ≤ n → n < length now → get_or now i false ≡ (get_or init i false || (nat_le from i && nat_lt i n)) → get_or (set now n true) i false ≡ (get_or init i false || (nat_le from i && nat_lt i (n + 1)))
+pub marked : (init now : List Bool) (from n i : ℕ) → from ≤ n → n < length now → get_or now i false ≡ (get_or init i false || (nat_le from i && nat_lt i n))
+    → get_or (set now n true) i false ≡ (get_or init i false || (nat_le from i && nat_lt i (n + 1)))
 marked init now from n i h l e = elim (cases_eq i n) [
   | inl q ↦
       let a : nat_le from i ≡ true = le-leb from i (omega (arith, h, q)) in
@@ -35,7 +37,8 @@ marked init now from n i h l e = elim (cases_eq i n) [
 ]
 
 -- the range of a row, as far as there are indexes
-pub ranged : (len from to end n i : ℕ) (b : Bool) → i < len → (to < len → end ≡ to) → (len ≤ to → end ≡ len) → (from < end → n ≡ end) → (end ≤ from → n ≡ from) → (b || (nat_le from i && nat_lt i n)) ≡ (b || (nat_le from i && nat_lt i to))
+pub ranged : (len from to end n i : ℕ) (b : Bool) → i < len → (to < len → end ≡ to) → (len ≤ to → end ≡ len) → (from < end → n ≡ end) → (end ≤ from → n ≡ from)
+    → (b || (nat_le from i && nat_lt i n)) ≡ (b || (nat_le from i && nat_lt i to))
 ranged len from to end n i b l p q f g = ap (λ z. b || z) (elim (cases_lt i from) [
   | inl low ↦ ap (λ z. z && nat_lt i n) (lt-leb from i low) ∙ sym (ap (λ z. z && nat_lt i to) (lt-leb from i low))
   | inr high ↦ ap (λ z. nat_le from i && z) (elim (cases_lt i to) [
@@ -44,7 +47,11 @@ ranged len from to end n i b l p q f g = ap (λ z. b || z) (elim (cases_lt i fro
       | inr t ↦ let e : end ≡ len = q t in let k : n ≡ end = f (omega (arith, high, l, e)) in omega (arith, k, e, l)
     ]) ∙ sym (lt-ltb i to below)
     | inr past ↦ le-ltb i n (elim (cases_lt from end) [
-      | inl s ↦ let k : n ≡ end = f s in elim (cases_lt to len) [ inl t ↦ let e : end ≡ to = p t in omega (arith, k, e, past) | inr t ↦ absurd (omega (arith, t, past, l)) ]
+      | inl s ↦ let k : n ≡ end = f s in elim (cases_lt to len) [
+        | inl t ↦ let e : end ≡ to = p t in omega (arith, k, e, past)
+        | inr t ↦ absurd
+            (omega (arith, t, past, l))
+      ]
       | inr t ↦ let k : n ≡ from = g t in omega (arith, k, high)
     ]) ∙ sym (le-ltb i to past)
   ])

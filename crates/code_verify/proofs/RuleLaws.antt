@@ -1,5 +1,6 @@
 -- No index and no row breaks a clause exactly where the body is clean.
-use Rattle.std.proofs.Common.{Bool, true, false, ◌≡◌, ◌<◌, ◌≤◌, inl, inr, ℕ, zero, suc, ◌+◌, ◌-◌, List, [], ◌∷◌, length, Option, Some, None, refl, sym, ap, ◌∙◌, subst, arith}
+use Rattle.std.proofs.Common.{Bool, true, false, ◌≡◌, ◌<◌, ◌≤◌, inl, inr, ℕ, zero, suc, ◌+◌, ◌-◌, List, [], ◌∷◌, length, Option, Some, None, refl, sym, ap, ◌∙◌}
+use Rattle.std.proofs.Common.{subst, arith}
 use Rattle.std.specs.Prelude.{⊤, not, nat_lt, nat_le, nat_eq, ◌&&◌, ◌||◌, slice_get, if◌then◌else◌}
 use Rattle.std.specs.List.{list_all}
 use Rattle.std.specs.Option.{option_map_or}
@@ -11,12 +12,14 @@ use Rattle.tx_code.specs.declared.body.Row.{Row}
 use Rattle.tx_code.specs.Objects.{BodyView}
 use Rattle.tx_code.specs.Meaning.{covers}
 use Rattle.tx_code.specs.Shapes.{Shape, Table, Among, here, there}
-use Rattle.tx_code.specs.Sound.{Signature, target_lies, row_lies, is_last, is_known, row_is_known, names_right, row_names_right, is_inside, inside_right, outside_right, closes_right, has_edge, left_at}
+use Rattle.tx_code.specs.Sound.{Signature, target_lies, row_lies, is_last, is_known, row_is_known, names_right, row_names_right, is_inside, inside_right}
+use Rattle.tx_code.specs.Sound.{outside_right, closes_right, has_edge, left_at}
 use Rattle.tx_code.proofs.ReachedIndexes.{and_left, and_right, or_false, get_at, all_at, all_among}
 use Rattle.code_walk.specs.Walk.{Slot, slot_at, walked}
 use Rattle.code_walk.specs.Bodies.{space}
 use Rattle.code_walk.specs.Clean.{Found, Clean}
-use Rattle.code_verify.specs.Rules.{first_broken, of_shape, alone_right, shape_right, shaped_right, or_then, index_rule, row_alone, holds_over, edge_test, depth_test, row_over, row_rule}
+use Rattle.code_verify.specs.Rules.{first_broken, of_shape, alone_right, shape_right, shaped_right, or_then, index_rule, row_alone, holds_over, edge_test}
+use Rattle.code_verify.specs.Rules.{depth_test, row_over, row_rule}
 use Rattle.code_walk.proofs.Kept.{kept_walked}
 use Rattle.code_walk.proofs.Reached.{tests}
 
@@ -71,16 +74,21 @@ among_back p (x ∷ xs) h = both (p x) (list_all p xs) (h x here) (among_back p 
 
 -- ---- a test over a range
 
-over_at : (test : ℕ → Shape → Bool) (ss : List (Slot Shape)) (from n i : ℕ) → holds_over test ss from n ≡ true → from ≤ i → i < from + n → of_shape (test i) (slot_at ss i).shape ≡ true
+over_at : (test : ℕ → Shape → Bool) (ss : List (Slot Shape)) (from n i : ℕ) → holds_over test ss from n ≡ true → from ≤ i → i < from + n
+    → of_shape (test i) (slot_at ss i).shape ≡ true
 over_at test ss from zero i h l m = absurd (omega (arith, l, m))
 over_at test ss from (suc n) i h l m = elim (cases_lt from i) [
-  | inl k ↦ over_at test ss (from + 1) n i (and_right (of_shape (test from) (slot_at ss from).shape) (holds_over test ss (from + 1) n) h) (omega (arith, k)) (omega (arith, m))
-  | inr k ↦ let e : from ≡ i = omega (arith, k, l) in subst (λ z. of_shape (test z) (slot_at ss z).shape ≡ true) e (and_left (of_shape (test from) (slot_at ss from).shape) (holds_over test ss (from + 1) n) h)
+  | inl k ↦ over_at test ss (from + 1) n i (and_right (of_shape (test from) (slot_at ss from).shape) (holds_over test ss (from + 1) n) h) (omega (arith, k))
+      (omega (arith, m))
+  | inr k ↦ let e : from ≡ i = omega (arith, k, l) in
+      subst (λ z. of_shape (test z) (slot_at ss z).shape ≡ true) e (and_left (of_shape (test from) (slot_at ss from).shape) (holds_over test ss (from + 1) n) h)
 ]
 
-over_back : (test : ℕ → Shape → Bool) (ss : List (Slot Shape)) (from n : ℕ) → ((i : ℕ) → from ≤ i → i < from + n → of_shape (test i) (slot_at ss i).shape ≡ true) → holds_over test ss from n ≡ true
+over_back : (test : ℕ → Shape → Bool) (ss : List (Slot Shape)) (from n : ℕ)
+    → ((i : ℕ) → from ≤ i → i < from + n → of_shape (test i) (slot_at ss i).shape ≡ true) → holds_over test ss from n ≡ true
 over_back test ss from zero h = refl
-over_back test ss from (suc n) h = both (of_shape (test from) (slot_at ss from).shape) (holds_over test ss (from + 1) n) (h from (omega arith) (omega arith)) (over_back test ss (from + 1) n (λ i l m. h i (omega (arith, l)) (omega (arith, m))))
+over_back test ss from (suc n) h = both (of_shape (test from) (slot_at ss from).shape) (holds_over test ss (from + 1) n) (h from (omega arith) (omega arith))
+    (over_back test ss (from + 1) n (λ i l m. h i (omega (arith, l)) (omega (arith, m))))
 
 of_some : (test : Shape → Bool) (o : Option Shape) (s : Shape) → o ≡ Some s → of_shape test o ≡ true → test s ≡ true
 of_some test o s e h = sym (ap (of_shape test) e) ∙ h
@@ -112,11 +120,13 @@ module _ (x : Table) (g : Signature) (safe : Bool) (b : BodyView) where
     alone : (i : ℕ) (a : Instr) → slice_get b.code i ≡ Some a → AllTrue (alone_right x (length b.code) i a)
     alone i a e = none_true 1 (alone_right x (length b.code) i a) (then_none (first_broken 1 (alone_right x (length b.code) i a)) _ (none i a e)).0
 
-    rest : (i : ℕ) (a : Instr) → slice_get b.code i ≡ Some a → ((slot_at W i).clash ≡ false) × (first_broken 5 (shaped_right x g.gives safe b.rows i a (slot_at W i).shape) ≡ None)
+    rest : (i : ℕ) (a : Instr) → slice_get b.code i ≡ Some a → ((slot_at W i).clash ≡ false)
+        × (first_broken 5 (shaped_right x g.gives safe b.rows i a (slot_at W i).shape) ≡ None)
     rest i a e = if_none (slot_at W i).clash _ (then_none (first_broken 1 (alone_right x (length b.code) i a)) _ (none i a e)).1
 
     shaped : (i : ℕ) (s : Shape) (a : Instr) → Found x g b i s → slice_get b.code i ≡ Some a → AllTrue (shape_right x g.gives safe b.rows i a s)
-    shaped i s a f e = none_true 5 (shape_right x g.gives safe b.rows i a s) (sym (ap (λ o. first_broken 5 (shaped_right x g.gives safe b.rows i a o)) f) ∙ (rest i a e).1)
+    shaped i s a f e = none_true 5 (shape_right x g.gives safe b.rows i a s)
+        (sym (ap (λ o. first_broken 5 (shaped_right x g.gives safe b.rows i a o)) f) ∙ (rest i a e).1)
 
     row_true : (r : Row) → Among r b.rows → AllTrue (row_alone x (length b.code) r)
     row_true r m = none_true 1 (row_alone x (length b.code) r) (then_none (first_broken 1 (row_alone x (length b.code) r)) _ (no_row r m)).0
@@ -125,15 +135,18 @@ module _ (x : Table) (g : Signature) (safe : Bool) (b : BodyView) where
     row_overs r m = none_true 10 (row_over b.code W r) (then_none (first_broken 1 (row_alone x (length b.code) r)) _ (no_row r m)).1
 
     covered_from : (r : Row) (i : ℕ) → covers r i ≡ true → (r.from ≤ i) × (i < r.from + (r.to - r.from))
-    covered_from r i c = let l : r.from ≤ i = leb-true r.from i (and_left (nat_le r.from i) (nat_lt i r.to) c) in let m : i < r.to = ltb-true i r.to (and_right (nat_le r.from i) (nat_lt i r.to) c) in (l, omega (arith, l, m))
+    covered_from r i c = let l : r.from ≤ i = leb-true r.from i (and_left (nat_le r.from i) (nat_lt i r.to) c) in let m : i < r.to =
+        ltb-true i r.to (and_right (nat_le r.from i) (nat_lt i r.to) c) in (l, omega (arith, l, m))
 
-    over_row : (test : ℕ → Shape → Bool) (r : Row) (i : ℕ) (s : Shape) → holds_over test W r.from (r.to - r.from) ≡ true → Found x g b i s → covers r i ≡ true → test i s ≡ true
+    over_row : (test : ℕ → Shape → Bool) (r : Row) (i : ℕ) (s : Shape) → holds_over test W r.from (r.to - r.from) ≡ true → Found x g b i s → covers r i ≡ true
+        → test i s ≡ true
     over_row test r i s h f c = let q = covered_from r i c in of_some (test i) (slot_at W i).shape s f (over_at test W r.from (r.to - r.from) i h q.0 q.1)
 
     within : (i : ℕ) (s : Shape) → Found x g b i s → i < length b.code
     within i s f = elim (cases_lt i (length b.code)) [
       | inl h ↦ h
-      | inr h ↦ absurd (none-some s (sym (past W i (let l : length W ≡ length b.code = (kept_walked (space x g b) (tests x g b) some).facts.long in omega (arith, h, l))) ∙ f))
+      | inr h ↦ absurd (none-some s (sym (past W i (let l : length W ≡ length b.code = (kept_walked (space x g b) (tests x g b) some).facts.long in omega
+          (arith, h, l))) ∙ f))
     ] where
       past : (ss : List (Slot Shape)) (j : ℕ) → length ss ≤ j → (slot_at ss j).shape ≡ None
       past [] j h = refl
@@ -144,13 +157,15 @@ module _ (x : Table) (g : Signature) (safe : Bool) (b : BodyView) where
     last_one =
         let p = get_at b.code (length b.code - 1) (omega (arith, some)) in
         let e : nat_eq (length b.code - 1 + 1) (length b.code) ≡ true = eq-eqb (length b.code - 1 + 1) (length b.code) (omega (arith, some)) in
-        let t = and_right (target_lies (length b.code) p.0) (not (nat_eq (length b.code - 1 + 1) (length b.code)) || is_last p.0) (alone (length b.code - 1) p.0 p.1).0 in
+        let t = and_right (target_lies (length b.code) p.0) (not (nat_eq (length b.code - 1 + 1) (length b.code)) || is_last p.0)
+        (alone (length b.code - 1) p.0 p.1).0 in
         ap (λ o. option_map_or is_last o false) p.1 ∙ unless (nat_eq (length b.code - 1 + 1) (length b.code)) (is_last p.0) t e
 
     pub none_clean : Clean x g safe b
     none_clean = record {
       filled = lt-ltb 0 (length b.code) some;
-      targets = all_back (target_lies (length b.code)) b.code (λ i a e. and_left (target_lies (length b.code) a) (not (nat_eq (i + 1) (length b.code)) || is_last a) (alone i a e).0);
+      targets = all_back (target_lies (length b.code)) b.code
+          (λ i a e. and_left (target_lies (length b.code) a) (not (nat_eq (i + 1) (length b.code)) || is_last a) (alone i a e).0);
       rows = among_back (row_lies (length b.code)) b.rows (λ r m. (row_true r m).0);
       last = last_one;
       known = all_back is_known b.code (λ i a e. (alone i a e).1.0);
@@ -165,8 +180,10 @@ module _ (x : Table) (g : Signature) (safe : Bool) (b : BodyView) where
       outside = λ i s a f e h. or_false (is_inside safe s.opens) (outside_right a) h (shaped i s a f e).1.1.1.1.0;
       closes = λ i s a f e. and_left (closes_right a s) (is_empty s.opens || has_edge b.rows i) (shaped i s a f e).1.1.1.1.1.0;
       edges = λ i s r f m c. over_row (edge_test r) r i s (row_overs r m).0 f c;
-      covered = λ i s f. let p = get_at b.code i (within i s f) in and_right (closes_right p.0 s) (is_empty s.opens || has_edge b.rows i) (shaped i s p.0 f p.1).1.1.1.1.1.0;
-      depths = λ i s a r f e m c. instr_of (λ z. nat_le r.depth (left_at z s.depth)) (slice_get b.code i) a e (over_row (depth_test b.code r) r i s (row_overs r m).1.0 f c);
+      covered = λ i s f. let p = get_at b.code i (within i s f) in
+          and_right (closes_right p.0 s) (is_empty s.opens || has_edge b.rows i) (shaped i s p.0 f p.1).1.1.1.1.1.0;
+      depths = λ i s a r f e m c. instr_of (λ z. nat_le r.depth (left_at z s.depth)) (slice_get b.code i) a e
+          (over_row (depth_test b.code r) r i s (row_overs r m).1.0 f c);
     }
 
   module _ (k : Clean x g safe b) where
@@ -197,25 +214,38 @@ module _ (x : Table) (g : Signature) (safe : Bool) (b : BodyView) where
       ),
     )
 
-    shaped_none : (i : ℕ) (a : Instr) → slice_get b.code i ≡ Some a → (o : Option Shape) → (slot_at W i).shape ≡ o → first_broken 5 (shaped_right x g.gives safe b.rows i a o) ≡ None
+    shaped_none : (i : ℕ) (a : Instr) → slice_get b.code i ≡ Some a → (o : Option Shape) → (slot_at W i).shape ≡ o
+        → first_broken 5 (shaped_right x g.gives safe b.rows i a o) ≡ None
     shaped_none i a e None f = refl
     shaped_none i a e (Some s) f = true_none 5 (shape_right x g.gives safe b.rows i a s) (shape_true i s a f e)
 
     pub clean_index : NoIndex
     clean_index i a e = none_then (first_broken 1 (alone_right x (length b.code) i a)) _
-        (true_none 1 (alone_right x (length b.code) i a) (both (target_lies (length b.code) a) (not (nat_eq (i + 1) (length b.code)) || is_last a) (all_at (target_lies (length b.code)) b.code i a k.targets e) (unless_back (nat_eq (i + 1) (length b.code)) (is_last a) (ends_at_last i a e)), (all_at is_known b.code i a k.known e, (all_at (names_right x) b.code i a k.names e, tt))))
-        (ap (λ z. if z then Some 4 else first_broken 5 (shaped_right x g.gives safe b.rows i a (slot_at W i).shape)) (k.one_shape i (slice_get_within b.code i a e)) ∙ shaped_none i a e (slot_at W i).shape refl)
+        (true_none 1 (alone_right x (length b.code) i a) (
+          both (target_lies (length b.code) a) (not (nat_eq (i + 1) (length b.code)) || is_last a)
+              (all_at (target_lies (length b.code)) b.code i a k.targets e) (unless_back (nat_eq (i + 1) (length b.code)) (is_last a) (ends_at_last i a e)),
+          (all_at is_known b.code i a k.known e, (all_at (names_right x) b.code i a k.names e, tt)),
+        ))
+        (ap (λ z. if z then Some 4 else first_broken 5 (shaped_right x g.gives safe b.rows i a (slot_at W i).shape))
+        (k.one_shape i (slice_get_within b.code i a e)) ∙ shaped_none i a e (slot_at W i).shape refl)
 
     covers_from : (r : Row) (i : ℕ) → r.from ≤ i → i < r.from + (r.to - r.from) → covers r i ≡ true
     covers_from r i l m = both (nat_le r.from i) (nat_lt i r.to) (le-leb r.from i l) (lt-ltb i r.to (omega (arith, l, m)))
 
     pub clean_row : NoRow
     clean_row r m = none_then (first_broken 1 (row_alone x (length b.code) r)) _
-        (true_none 1 (row_alone x (length b.code) r) (all_among (row_lies (length b.code)) m k.rows, (all_among row_is_known m k.rows_known, (all_among (row_names_right x) m k.rows_names, tt))))
+        (true_none 1 (row_alone x (length b.code) r) (
+          all_among (row_lies (length b.code)) m k.rows,
+          (all_among row_is_known m k.rows_known, (all_among (row_names_right x) m k.rows_names, tt)),
+        ))
         (true_none 10 (row_over b.code W r) (
-          over_back (edge_test r) W r.from (r.to - r.from) (λ i l h. some_of (edge_test r i) (slot_at W i).shape (slot_at W i).shape refl (λ s f. k.edges i s r f m (covers_from r i l h))),
+          over_back (edge_test r) W r.from (r.to - r.from)
+              (λ i l h. some_of (edge_test r i) (slot_at W i).shape (slot_at W i).shape refl (λ s f. k.edges i s r f m (covers_from r i l h))),
           (
-            over_back (depth_test b.code r) W r.from (r.to - r.from) (λ i l h. some_of (depth_test b.code r i) (slot_at W i).shape (slot_at W i).shape refl (λ s f. of_instr (λ z. nat_le r.depth (left_at z s.depth)) (slice_get b.code i) (slice_get b.code i) refl (λ a e. k.depths i s a r f e m (covers_from r i l h)))),
+            over_back (depth_test b.code r) W r.from (r.to - r.from)
+                (λ i l h. some_of (depth_test b.code r i) (slot_at W i).shape (slot_at W i).shape refl
+                (λ s f. of_instr (λ z. nat_le r.depth (left_at z s.depth)) (slice_get b.code i) (slice_get b.code i) refl
+                (λ a e. k.depths i s a r f e m (covers_from r i l h)))),
             tt,
           ),
         ))

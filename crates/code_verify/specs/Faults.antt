@@ -42,7 +42,8 @@ first_of_rows x b slots first (r ∷ rs) = first_of_rows x b slots (earlier firs
 
 abbrev pub first_of_indexes : Table → (own : ℕ) → (safe : Bool) → BodyView → List (Slot Shape) → ℕ → List Instr → Option Fault
 first_of_indexes x own safe b slots n [] = None
-first_of_indexes x own safe b slots n (a ∷ rest) = or_next (at_place n (index_rule x own safe b n a (slot_at slots n))) (first_of_indexes x own safe b slots (n + 1) rest)
+first_of_indexes x own safe b slots n (a ∷ rest) = or_next (at_place n (index_rule x own safe b n a (slot_at slots n)))
+    (first_of_indexes x own safe b slots (n + 1) rest)
 
 abbrev pub first_by : Table → Signature → (safe : Bool) → BodyView → List (Slot Shape) → Option Fault
 first_by x g safe b slots = earlier (first_of_indexes x g.gives safe b slots 0 b.code) (first_of_rows x b slots None b.rows)

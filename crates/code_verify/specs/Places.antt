@@ -17,7 +17,8 @@ fails n rule (ok ∷ oks) = (nat_eq n rule && not ok) || fails (n + 1) rule oks
 
 -- the index breaks the clause itself
 abbrev pub index_breaks : Table → (own : ℕ) → (safe : Bool) → BodyView → ℕ → Instr → Slot Shape → (rule : ℕ) → Bool
-index_breaks x own safe b i a s rule = fails 1 rule (alone_right x (length b.code) i a) || ((nat_eq 4 rule && s.clash) || fails 5 rule (shaped_right x own safe b.rows i a s.shape))
+index_breaks x own safe b i a s rule = fails 1 rule (alone_right x (length b.code) i a)
+    || ((nat_eq 4 rule && s.clash) || fails 5 rule (shaped_right x own safe b.rows i a s.shape))
 
 -- the row breaks it
 abbrev pub row_breaks : Table → BodyView → List (Slot Shape) → Row → (rule : ℕ) → Bool
@@ -26,8 +27,10 @@ row_breaks x b slots r rule = fails 1 rule (row_alone x (length b.code) r) || fa
 -- a body breaks a clause at an index: an empty one clause 1; a row's breach stands at its `from` or at the last index
 pub data BodyBreaks (x : Table) (g : Signature) (safe : Bool) (b : BodyView) : (index rule : ℕ) → Type 0 where
   is_empty : length b.code ≡ 0 → BodyBreaks x g safe b 0 1
-  at_index : {i rule : ℕ} {a : Instr} → slice_get b.code i ≡ Some a → index_breaks x g.gives safe b i a (slot_at (walked (space x g b)) i) rule ≡ true → BodyBreaks x g safe b i rule
-  by_row : {rule : ℕ} {r : Row} → Among r b.rows → row_breaks x b (walked (space x g b)) r rule ≡ true → BodyBreaks x g safe b (min r.from (length b.code - 1)) rule
+  at_index : {i rule : ℕ} {a : Instr} → slice_get b.code i ≡ Some a → index_breaks x g.gives safe b i a (slot_at (walked (space x g b)) i) rule ≡ true
+      → BodyBreaks x g safe b i rule
+  by_row : {rule : ℕ} {r : Row} → Among r b.rows → row_breaks x b (walked (space x g b)) r rule ≡ true
+      → BodyBreaks x g safe b (min r.from (length b.code - 1)) rule
 
 -- a function does: the instructions of its safe body are counted behind those of the plain one
 pub data FuncBreaks (x : Table) (f : ImageFuncView) : (index rule : ℕ) → Type 0 where

@@ -1,12 +1,14 @@
 -- The clauses of sound code as numbered tests of an index and of a row.
-use Rattle.std.specs.Prelude.{Bool, true, ℕ, zero, suc, ◌+◌, ◌-◌, List, [], ◌∷◌, length, Option, Some, None, is_some, not, ◌&&◌, ◌||◌, nat_le, nat_eq, slice_get, if◌then◌else◌}
+use Rattle.std.specs.Prelude.{Bool, true, ℕ, zero, suc, ◌+◌, ◌-◌, List, [], ◌∷◌, length, Option, Some, None, is_some, not, ◌&&◌, ◌||◌, nat_le, nat_eq}
+use Rattle.std.specs.Prelude.{slice_get, if◌then◌else◌}
 use Rattle.std.specs.Option.{option_map_or}
 use Rattle.tx_events.specs.Thread.{is_empty}
 use Rattle.tx_code.specs.declared.instr.Instr.{Instr}
 use Rattle.tx_code.specs.declared.body.Row.{Row}
 use Rattle.tx_code.specs.Objects.{BodyView}
 use Rattle.tx_code.specs.Shapes.{Shape, Table, outgoing}
-use Rattle.tx_code.specs.Sound.{target_lies, row_lies, is_last, is_known, row_is_known, names_right, row_names_right, passes, exception_right, is_inside, inside_right, outside_right, closes_right, edge_right, has_edge, left_at}
+use Rattle.tx_code.specs.Sound.{target_lies, row_lies, is_last, is_known, row_is_known, names_right, row_names_right, passes, exception_right, is_inside}
+use Rattle.tx_code.specs.Sound.{inside_right, outside_right, closes_right, edge_right, has_edge, left_at}
 use Rattle.code_walk.specs.Walk.{Slot, slot_at}
 
 -- the number of the first test that fails
@@ -33,7 +35,8 @@ blocks_right rows i a s = closes_right a s && (is_empty s.opens || has_edge rows
 
 -- those that speak of its shape: 5 to 10
 abbrev pub shape_right : Table → (own : ℕ) → (safe : Bool) → List Row → ℕ → Instr → Shape → List Bool
-shape_right x own safe rows i a s = is_some (outgoing x own a s) ∷ passes x a ∷ exception_right a s ∷ place_right x safe a s ∷ outer_right safe a s ∷ blocks_right rows i a s ∷ []
+shape_right x own safe rows i a s = is_some (outgoing x own a s) ∷ passes x a ∷ exception_right a s ∷ place_right x safe a s ∷ outer_right safe a s
+    ∷ blocks_right rows i a s ∷ []
 
 abbrev pub shaped_right : Table → (own : ℕ) → (safe : Bool) → List Row → ℕ → Instr → Option Shape → List Bool
 shaped_right x own safe rows i a None = []
@@ -45,7 +48,8 @@ or_then (Some n) o = Some n
 
 -- the lowest clause that an index breaks itself
 abbrev pub index_rule : Table → (own : ℕ) → (safe : Bool) → BodyView → ℕ → Instr → Slot Shape → Option ℕ
-index_rule x own safe b i a s = or_then (first_broken 1 (alone_right x (length b.code) i a)) (if s.clash then Some 4 else first_broken 5 (shaped_right x own safe b.rows i a s.shape))
+index_rule x own safe b i a s = or_then (first_broken 1 (alone_right x (length b.code) i a))
+    (if s.clash then Some 4 else first_broken 5 (shaped_right x own safe b.rows i a s.shape))
 
 -- ---- rows
 

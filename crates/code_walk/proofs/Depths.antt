@@ -5,7 +5,10 @@ use Rattle.std.proofs.lemmas.Bool.{cases_lt, le-leb, lt-leb}
 use Rattle.tx_events.specs.declared.BlockKind.{BlockKind}
 use Rattle.tx_events.specs.Thread.{in_atomic, in_sync}
 use Rattle.tx_code.specs.declared.instr.Instr.{Instr}
-use Rattle.tx_code.specs.declared.instr.Instr.TheVariants.{Push, Dup, Pop, Swap, FrameAddr, GlobalAddr, FuncAddr, ClassAddr, Load, Store, TLoad, TStore, VLoad, VStore, Bin, Neg, Conv, Jump, JumpZero, Call, TCall, CallIndirect, TCallIndirect, Slot, Ret, Begin, End, BeginSync, EndSync, Out, Inp, Spawn, Join, Abort, NewException, PutException, Throw, Rethrow, GetException, EndHandler, Resume, Over}
+use Rattle.tx_code.specs.declared.instr.Instr.TheVariants.{Push, Dup, Pop, Swap, FrameAddr, GlobalAddr, FuncAddr, ClassAddr, Load, Store, TLoad, TStore, VLoad}
+use Rattle.tx_code.specs.declared.instr.Instr.TheVariants.{VStore, Bin, Neg, Conv, Jump, JumpZero, Call, TCall, CallIndirect, TCallIndirect, Slot, Ret, Begin}
+use Rattle.tx_code.specs.declared.instr.Instr.TheVariants.{End, BeginSync, EndSync, Out, Inp, Spawn, Join, Abort, NewException, PutException, Throw, Rethrow}
+use Rattle.tx_code.specs.declared.instr.Instr.TheVariants.{GetException, EndHandler, Resume, Over}
 use Rattle.tx_code.specs.Meaning.{block_kinds}
 use Rattle.tx_code.specs.Shapes.{Shape, Table, less, more, with_depth, grown, opened, closed, at_rest, returned, outgoing}
 use Rattle.code_walk.specs.declared.shapes.Change.{Change}
@@ -76,7 +79,11 @@ some_moved s m None = refl
 some_moved s m (Some d) = refl
 
 some_less : (n d : ℕ) → is_some (less n d) ≡ nat_le n d
-some_less n d = elim (cases_lt d n) [ inl h ↦ ap is_some (less_none n d h) ∙ sym (lt-leb n d h) | inr h ↦ ap is_some (less_some n d (d - n) (omega (arith, h))) ∙ sym (le-leb n d h) ]
+some_less n d = elim (cases_lt d n) [
+  | inl h ↦ ap is_some (less_none n d h) ∙ sym (lt-leb n d h)
+  | inr h ↦ ap is_some (less_some n d (d - n) (omega (arith, h)))
+      ∙ sym (le-leb n d h)
+]
 
 some_returned : (b : Bool) (n : ℕ) (s : Shape) → is_some (returned b n s) ≡ (b && nat_le n s.depth)
 some_returned true n s = some_moved s 0 (less n s.depth) ∙ some_less n s.depth

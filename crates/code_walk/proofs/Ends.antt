@@ -1,10 +1,12 @@
 -- The walk comes to its end.
-use Rattle.std.proofs.Common.{Bool, true, false, ◌≡◌, ◌⊎◌, inl, inr, ℕ, zero, suc, ◌+◌, ◌<◌, List, [], ◌∷◌, length, set, replicate, Option, Some, None, refl, sym, ap, ◌∙◌, subst, arith}
+use Rattle.std.proofs.Common.{Bool, true, false, ◌≡◌, ◌⊎◌, inl, inr, ℕ, zero, suc, ◌+◌, ◌<◌, List, [], ◌∷◌, length, set, replicate, Option, Some, None, refl}
+use Rattle.std.proofs.Common.{sym, ap, ◌∙◌, subst, arith}
 use Rattle.std.proofs.lemmas.Bool.{cases_Bool, false≢true}
 use Rattle.std.proofs.lemmas.Option.{none-some, same_Some}
 use Rattle.std.specs.Prelude.{nat_lt, not, ◌&&◌, is_some, if◌then◌else◌}
 use Rattle.tx_code.proofs.ReachedIndexes.{and_left, and_right}
-use Rattle.code_walk.specs.Walk.{Given, Space, Tests, Slot, slot, bare, slot_at, noted, note, note_all, seen_slot, gives_at, look, waits, lowest, step_at, steps, start, walked}
+use Rattle.code_walk.specs.Walk.{Given, Space, Tests, Slot, slot, bare, slot_at, noted, note, note_all, seen_slot, gives_at, look, waits, lowest, step_at}
+use Rattle.code_walk.specs.Walk.{steps, start, walked}
 use Rattle.code_walk.proofs.Notes.{grows_noted}
 
 -- how many were not looked at
@@ -21,16 +23,27 @@ left_set [] i x h = refl
 left_set (s ∷ ss) zero x h = left_if x.looked s.looked (left ss) (left ss) h refl
 left_set (s ∷ ss) (suc i) x h = left_if s.looked s.looked (left (set ss i x)) (left ss) refl (left_set ss i x h)
 
-left_mark : {S : Type 0} (ss : List (Slot S)) (i : ℕ) (x : Slot S) → i < length ss → x.looked ≡ true → (slot_at ss i).looked ≡ false → suc (left (set ss i x)) ≡ left ss
+left_mark : {S : Type 0} (ss : List (Slot S)) (i : ℕ) (x : Slot S) → i < length ss → x.looked ≡ true → (slot_at ss i).looked ≡ false
+    → suc (left (set ss i x)) ≡ left ss
 unfolding left
 left_mark [] i x l h g = absurd (omega (arith, l))
 left_mark (s ∷ ss) zero x l h g = rw (h, g)
-left_mark (s ∷ ss) (suc i) x l h g = let k : i < length ss = omega (arith, l) in let r : suc (left (set ss i x)) ≡ left ss = left_mark ss i x k h g in elim (cases_Bool s.looked) [ inl e ↦ rw (e, r) | inr e ↦ rw (e, r) ]
+left_mark (s ∷ ss) (suc i) x l h g = let k : i < length ss = omega (arith, l) in let r : suc (left (set ss i x)) ≡ left ss = left_mark ss i x k h g in
+    elim (cases_Bool s.looked) [ inl e ↦ rw (e, r) | inr e ↦ rw (e, r) ]
 
 lowest_none : {S : Type 0} (n : ℕ) (ss : List (Slot S)) → lowest n ss ≡ None → (j : ℕ) → waits (slot_at ss j) ≡ false
 lowest_none n [] h j = refl
-lowest_none n (s ∷ ss) h zero = elim (cases_Bool (waits s)) [ inl e ↦ absurd (none-some n (sym h ∙ ap (λ b. if b then Some n else lowest (n + 1) ss) e)) | inr e ↦ e ]
-lowest_none n (s ∷ ss) h (suc j) = elim (cases_Bool (waits s)) [ inl e ↦ absurd (none-some n (sym h ∙ ap (λ b. if b then Some n else lowest (n + 1) ss) e)) | inr e ↦ lowest_none (n + 1) ss (sym (ap (λ b. if b then Some n else lowest (n + 1) ss) e) ∙ h) j ]
+lowest_none n (s ∷ ss) h zero = elim (cases_Bool (waits s)) [
+  | inl e ↦ absurd
+      (none-some n (sym h ∙ ap (λ b. if b then Some n else lowest (n + 1) ss) e))
+  | inr e ↦ e
+]
+lowest_none n (s ∷ ss) h (suc j) = elim (cases_Bool (waits s)) [
+  | inl e ↦ absurd
+      (none-some n (sym h ∙ ap (λ b. if b then Some n else lowest (n + 1) ss) e))
+  | inr e ↦ lowest_none (n + 1) ss
+      (sym (ap (λ b. if b then Some n else lowest (n + 1) ss) e) ∙ h) j
+]
 
 pub record Lowest {S : Type 0} (n : ℕ) (ss : List (Slot S)) (k : ℕ) : Type 0 where
   pub place : ℕ
@@ -44,7 +57,8 @@ lowest_later n k s ss l = record { place = suc l.place; is = omega (arith, l.is)
 pub lowest_some : {S : Type 0} (n : ℕ) (ss : List (Slot S)) (k : ℕ) → lowest n ss ≡ Some k → Lowest n ss k
 lowest_some n [] k h = absurd (none-some k h)
 lowest_some n (s ∷ ss) k h = elim (cases_Bool (waits s)) [
-  | inl e ↦ let q : n ≡ k = same_Some n k (sym (ap (λ b. if b then Some n else lowest (n + 1) ss) e) ∙ h) in record { place = 0; is = omega (arith, q); within = omega arith; waits = e }
+  | inl e ↦ let q : n ≡ k = same_Some n k (sym (ap (λ b. if b then Some n else lowest (n + 1) ss) e) ∙ h) in
+      record { place = 0; is = omega (arith, q); within = omega arith; waits = e }
   | inr e ↦ lowest_later n k s ss (lowest_some (n + 1) ss k (sym (ap (λ b. if b then Some n else lowest (n + 1) ss) e) ∙ h))
 ]
 
@@ -52,7 +66,8 @@ and_false : (a : Bool) → (a && false) ≡ false
 and_false true = refl
 and_false false = refl
 
-left_not : {S : Type 0} (o : Option S) (b : Bool) (n : ℕ) (ss : List (Slot S)) → b ≡ true → lowest (n + 1) ss ≡ None → Path (Option ℕ) (if is_some o && not b then Some n else lowest (n + 1) ss) None
+left_not : {S : Type 0} (o : Option S) (b : Bool) (n : ℕ) (ss : List (Slot S)) → b ≡ true → lowest (n + 1) ss ≡ None
+    → Path (Option ℕ) (if is_some o && not b then Some n else lowest (n + 1) ss) None
 left_not o b n ss e h = rw (e, and_false (is_some o), h)
 
 left_none : {S : Type 0} (n : ℕ) (ss : List (Slot S)) → left ss ≡ 0 → lowest n ss ≡ None
@@ -63,7 +78,8 @@ left_none n (s ∷ ss) h = elim (cases_Bool s.looked) [
   | inr e ↦ absurd (let q : suc (left ss) ≡ 0 = sym (ap (λ b. if b then left ss else suc (left ss)) e) ∙ h in omega (arith, q))
 ]
 
-left_if_set : {S : Type 0} (b : Bool) (ss : List (Slot S)) (i : ℕ) (x : Slot S) → x.looked ≡ (slot_at ss i).looked → left (if b then set ss i x else ss) ≡ left ss
+left_if_set : {S : Type 0} (b : Bool) (ss : List (Slot S)) (i : ℕ) (x : Slot S) → x.looked ≡ (slot_at ss i).looked
+    → left (if b then set ss i x else ss) ≡ left ss
 left_if_set true ss i x h = left_set ss i x h
 left_if_set false ss i x h = refl
 
@@ -113,10 +129,12 @@ ended_none ss n (inr h) = let q : left ss ≡ 0 = omega (arith, h) in left_none 
 module _ {S : Type 0} (w : Space S) (l : Tests w) where
   left_all : (gs : List (Given S)) (ss : List (Slot S)) → left (note_all w ss gs) ≡ left ss
   left_all [] ss = refl
-  left_all (g ∷ gs) ss = left_all gs (note w ss g) ∙ left_if_set (nat_lt g.at (length ss)) ss g.at (noted w (slot_at ss g.at) g.shape) ((grows_noted w l (slot_at ss g.at) g.shape).looked)
+  left_all (g ∷ gs) ss = left_all gs (note w ss g) ∙ left_if_set (nat_lt g.at (length ss)) ss g.at (noted w (slot_at ss g.at) g.shape)
+      ((grows_noted w l (slot_at ss g.at) g.shape).looked)
 
   left_look : (ss : List (Slot S)) (i : ℕ) → i < length ss → waits (slot_at ss i) ≡ true → suc (left (look w i ss)) ≡ left ss
-  left_look ss i k h = ap suc (left_all (gives_at w i (slot_at ss i).shape) (set ss i (seen_slot (slot_at ss i)))) ∙ left_mark ss i (seen_slot (slot_at ss i)) k refl (waits_new (slot_at ss i) h)
+  left_look ss i k h = ap suc (left_all (gives_at w i (slot_at ss i).shape) (set ss i (seen_slot (slot_at ss i))))
+      ∙ left_mark ss i (seen_slot (slot_at ss i)) k refl (waits_new (slot_at ss i) h)
 
   start_left : left (start w) ≡ w.count
   start_left = left_set (replicate w.count bare) 0 (slot (Some w.entry) false false) (sym (ap (λ x. x.looked) (bares_at w.count 0))) ∙ bares_left S w.count

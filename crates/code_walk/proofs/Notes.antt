@@ -1,5 +1,6 @@
 -- What the walk does to a slot.
-use Rattle.std.proofs.Common.{Bool, true, false, ◌≡◌, ◌≢◌, ◌⊎◌, inl, inr, ℕ, ◌<◌, ◌≤◌, List, [], ◌∷◌, length, set, Option, Some, None, refl, sym, ap, ◌∙◌, subst, get_or-set_other, get_or-set_same}
+use Rattle.std.proofs.Common.{Bool, true, false, ◌≡◌, ◌≢◌, ◌⊎◌, inl, inr, ℕ, ◌<◌, ◌≤◌, List, [], ◌∷◌, length, set, Option, Some, None, refl, sym, ap, ◌∙◌}
+use Rattle.std.proofs.Common.{subst, get_or-set_other, get_or-set_same}
 use Rattle.std.proofs.lemmas.Bool.{lt-ltb, le-ltb, cases_eq, cases_lt, false≢true}
 use Rattle.std.proofs.lemmas.List.{length-set}
 use Rattle.std.proofs.lemmas.Option.{none-some, same_Some}
@@ -70,7 +71,8 @@ module _ {S : Type 0} (w : Space S) (l : Tests w) where
   pub shape_noted : (a : Slot S) (t s : S) → (noted w a t).shape ≡ Some s → (a.shape ≡ Some s) ⊎ (t ≡ s)
   shape_noted a t s h = shape_in a.shape a t s refl h
 
-  clash_if : (b : Bool) (a : Slot S) (r t : S) → w.same r t ≡ b → a.shape ≡ Some r → (if b then a else slot a.shape a.looked true).clash ≡ true → (a.clash ≡ true) ⊎ Differs a t
+  clash_if : (b : Bool) (a : Slot S) (r t : S) → w.same r t ≡ b → a.shape ≡ Some r → (if b then a else slot a.shape a.looked true).clash ≡ true
+      → (a.clash ≡ true) ⊎ Differs a t
   clash_if true a r t h e c = inl c
   clash_if false a r t h e c = inr (r, e, same_no r t h)
 
@@ -106,13 +108,15 @@ module _ {S : Type 0} (w : Space S) (l : Tests w) where
   past_if false slots x i h = refl
 
   pub past : (slots : List (Slot S)) (g : Given S) → length slots ≤ g.at → note w slots g ≡ slots
-  past slots g h = past_if (nat_lt g.at (length slots)) slots (noted w (slot_at slots g.at) g.shape) g.at (λ e. false≢true (sym (le-ltb g.at (length slots) h) ∙ e))
+  past slots g h = past_if (nat_lt g.at (length slots)) slots (noted w (slot_at slots g.at) g.shape) g.at
+      (λ e. false≢true (sym (le-ltb g.at (length slots) h) ∙ e))
 
   -- each slot grows by a note
   note_grows : (slots : List (Slot S)) (g : Given S) (j : ℕ) → Grows (slot_at slots j) (slot_at (note w slots g) j)
   note_grows slots g j = elim (cases_eq j g.at) [
     | inl e ↦ elim (cases_lt g.at (length slots)) [
-      | inl h ↦ subst (λ k. Grows (slot_at slots k) (slot_at (note w slots g) k)) (sym e) (subst (λ x. Grows (slot_at slots g.at) x) (sym (note_same slots g.at g.shape h)) (grows_noted (slot_at slots g.at) g.shape))
+      | inl h ↦ subst (λ k. Grows (slot_at slots k) (slot_at (note w slots g) k)) (sym e)
+          (subst (λ x. Grows (slot_at slots g.at) x) (sym (note_same slots g.at g.shape h)) (grows_noted (slot_at slots g.at) g.shape))
       | inr h ↦ subst (λ x. Grows (slot_at slots j) (slot_at x j)) (sym (past slots g h)) (grows_self (slot_at slots j))
     ]
     | inr n ↦ subst (λ x. Grows (slot_at slots j) x) (sym (note_other slots g.at j g.shape n)) (grows_self (slot_at slots j))
@@ -129,9 +133,11 @@ module _ {S : Type 0} (w : Space S) (l : Tests w) where
   length_all (g ∷ gs) slots = length_all gs (note w slots g) ∙ length_note slots g
 
   told_first : (gs : List (Given S)) (slots : List (Slot S)) (g : Given S) → g.at < length slots → Told (slot_at (note_all w (note w slots g) gs) g.at) g.shape
-  told_first gs slots g h = told_grows _ _ _ (all_grow gs (note w slots g) g.at) (subst (λ x. Told x g.shape) (sym (note_same slots g.at g.shape h)) (told_noted (slot_at slots g.at) g.shape))
+  told_first gs slots g h = told_grows _ _ _ (all_grow gs (note w slots g) g.at)
+      (subst (λ x. Told x g.shape) (sym (note_same slots g.at g.shape h)) (told_noted (slot_at slots g.at) g.shape))
 
   -- what is given is told
-  pub all_told : {g : Given S} {gs : List (Given S)} → Among g gs → (slots : List (Slot S)) → g.at < length slots → Told (slot_at (note_all w slots gs) g.at) g.shape
+  pub all_told : {g : Given S} {gs : List (Given S)} → Among g gs → (slots : List (Slot S)) → g.at < length slots
+      → Told (slot_at (note_all w slots gs) g.at) g.shape
   all_told {g} (here {xs = gs}) slots h = told_first gs slots g h
   all_told {g} (there {b = b} m) slots h = all_told m (note w slots b) (subst (λ n. g.at < n) (sym (length_note slots b)) h)

@@ -47,7 +47,8 @@ opens_yes : (os ps : List Open) → same_opens os ps ≡ true → os ≡ ps
 opens_yes [] [] h = refl
 opens_yes [] (p ∷ ps) h = absurd (false≢true h)
 opens_yes (o ∷ os) [] h = absurd (false≢true h)
-opens_yes (o ∷ os) (p ∷ ps) h = ap (λ z. z ∷ os) (open_yes o p (and_left (same_open o p) (same_opens os ps) h)) ∙ ap (λ z. p ∷ z) (opens_yes os ps (and_right (same_open o p) (same_opens os ps) h))
+opens_yes (o ∷ os) (p ∷ ps) h = ap (λ z. z ∷ os) (open_yes o p (and_left (same_open o p) (same_opens os ps) h))
+    ∙ ap (λ z. p ∷ z) (opens_yes os ps (and_right (same_open o p) (same_opens os ps) h))
 
 both : (b c : Bool) → b ≡ true → c ≡ true → (b && c) ≡ true
 both b c h k = ap (λ z. z && c) h ∙ k
@@ -72,7 +73,8 @@ hand_itself Empty = refl
 hand_itself Builds = refl
 hand_itself Flies = refl
 
-alike : (d e : ℕ) (o p : List Open) (n m : ℕ) (h k : Hand) → d ≡ e → o ≡ p → n ≡ m → h ≡ k → Path Shape (record { depth = d; opens = o; handlers = n; hand = h }) (record { depth = e; opens = p; handlers = m; hand = k })
+alike : (d e : ℕ) (o p : List Open) (n m : ℕ) (h k : Hand) → d ≡ e → o ≡ p → n ≡ m → h ≡ k
+    → Path Shape (record { depth = d; opens = o; handlers = n; hand = h }) (record { depth = e; opens = p; handlers = m; hand = k })
 alike d e o p n m h k a b c f = cc (a, b, c, f)
 
 pub shape_yes : (s t : Shape) → same_shape s t ≡ true → s ≡ t
@@ -124,11 +126,13 @@ lands_from (r ∷ rs) i s g m = by_test (covers r i) refl m (λ n. lands_from rs
   landing : Given Shape
   landing = given r.target (landed r.what r.depth s.opens s.handlers)
 
-  by_front : covers r i ≡ true → (g ≡ given r.target (landed r.what r.depth s.opens s.handlers)) ⊎ Among g (lands_in rs i s) → (Among g (lands_in rs i s) → Landing rs i s g) → Landing (r ∷ rs) i s g
+  by_front : covers r i ≡ true → (g ≡ given r.target (landed r.what r.depth s.opens s.handlers)) ⊎ Among g (lands_in rs i s)
+      → (Among g (lands_in rs i s) → Landing rs i s g) → Landing (r ∷ rs) i s g
   by_front c (inl e) k = record { row = r; among = here; over = c; at = ap (λ z. z.at) e; shape = ap (λ z. z.shape) e }
   by_front c (inr n) k = later r rs i s g (k n)
 
-  by_test : (t : Bool) → covers r i ≡ t → Among g (if t then given r.target (landed r.what r.depth s.opens s.handlers) ∷ lands_in rs i s else lands_in rs i s) → (Among g (lands_in rs i s) → Landing rs i s g) → Landing (r ∷ rs) i s g
+  by_test : (t : Bool) → covers r i ≡ t → Among g (if t then given r.target (landed r.what r.depth s.opens s.handlers) ∷ lands_in rs i s else lands_in rs i s)
+      → (Among g (lands_in rs i s) → Landing rs i s g) → Landing (r ∷ rs) i s g
   by_test true c m k = by_front c (among_front m (given r.target (landed r.what r.depth s.opens s.handlers)) (lands_in rs i s) refl) k
   by_test false c m k = later r rs i s g (k m)
 
@@ -145,7 +149,8 @@ module _ (x : Table) (g : Signature) (b : BodyView) where
   abbrev Comes : ℕ → Shape → Type 0
   Comes i s = Reaches x g.gives b (entry g) i s
 
-  one_move : (i : ℕ) (s : Shape) → Comes i s → (o : Option Instr) → slice_get b.code i ≡ o → (t : Given Shape) → Among t (given_by x g.gives b.rows o i s) → Comes t.at t.shape
+  one_move : (i : ℕ) (s : Shape) → Comes i s → (o : Option Instr) → slice_get b.code i ≡ o → (t : Given Shape) → Among t (given_by x g.gives b.rows o i s)
+      → Comes t.at t.shape
   one_move i s r None e t m = nowhere m
   one_move i s r (Some a) e t m = by_shape (outgoing x g.gives a s) refl m where
     by_part : (u : Shape) → outgoing x g.gives a s ≡ Some u → Among t (falls_to (targets a i) u) ⊎ Among t (lands_in b.rows i s) → Comes t.at t.shape
@@ -154,7 +159,8 @@ module _ (x : Table) (g : Signature) (b : BodyView) where
         subst (λ z. Comes t.at z) (sym p.1) (falls r (record { instr = a; is = e; next = u; makes = h }) p.0)
     by_part u h (inr f) =
         let l = lands_from b.rows i s t f in
-        subst (λ z. Comes z t.shape) (sym l.at) (subst (λ z. Comes l.row.target z) (sym l.shape) (lands r (record { instr = a; is = e; next = u; makes = h }) l.row l.among l.over))
+        subst (λ z. Comes z t.shape) (sym l.at) (subst (λ z. Comes l.row.target z) (sym l.shape)
+        (lands r (record { instr = a; is = e; next = u; makes = h }) l.row l.among l.over))
 
     by_shape : (o : Option Shape) → outgoing x g.gives a s ≡ o → Among t (given_on o a b.rows i s) → Comes t.at t.shape
     by_shape None h m = nowhere m

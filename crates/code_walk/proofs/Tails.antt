@@ -1,5 +1,6 @@
 -- A spelling read from its end.
-use Rattle.std.proofs.Common.{Bool, true, false, ◌≡◌, ◌<◌, ℕ, zero, suc, ◌+◌, ◌-◌, List, [], ◌∷◌, ◌++◌, length, take, drop, get_or, Option, Some, None, refl, sym, ap, ◌∙◌, arith}
+use Rattle.std.proofs.Common.{Bool, true, false, ◌≡◌, ◌<◌, ℕ, zero, suc, ◌+◌, ◌-◌, List, [], ◌∷◌, ◌++◌, length, take, drop, get_or, Option, Some, None, refl}
+use Rattle.std.proofs.Common.{sym, ap, ◌∙◌, arith}
 use Rattle.std.specs.Prelude.{nat_eq, if◌then◌else◌}
 use Rattle.std.proofs.lemmas.Bool.{eqb-true, ne_eqb, eq-eqb}
 use Rattle.std.proofs.lemmas.List.{take-append-drop, drop_more}
@@ -13,11 +14,13 @@ abbrev stepped : (byte : ℕ) → (inside : List ℕ) → Option ℕ → Ending
 stepped c inside None = Whole [] inside
 stepped c inside (Some d) = spelling.Open d (c ∷ inside)
 
-at_zero : (b e : Bool) (c : ℕ) (inside : List ℕ) → (if b then Whole [] inside else spelling.Open (if e then 1 else 0) (c ∷ inside)) ≡ stepped c inside (if b then None else Some (if e then 1 else 0))
+at_zero : (b e : Bool) (c : ℕ) (inside : List ℕ) → (if b then Whole [] inside else spelling.Open (if e then 1 else 0) (c ∷ inside))
+    ≡ stepped c inside (if b then None else Some (if e then 1 else 0))
 at_zero true e c inside = refl
 at_zero false e c inside = refl
 
-at_more : (b e : Bool) (c d m : ℕ) (inside : List ℕ) → suc (suc d) ≡ m → spelling.Open (if b then d else (if e then suc (suc d) else suc d)) (c ∷ inside) ≡ stepped c inside (if b then Some d else Some (if e then m else suc d))
+at_more : (b e : Bool) (c d m : ℕ) (inside : List ℕ) → suc (suc d) ≡ m
+    → spelling.Open (if b then d else (if e then suc (suc d) else suc d)) (c ∷ inside) ≡ stepped c inside (if b then Some d else Some (if e then m else suc d))
 at_more true e c d m inside h = refl
 at_more false true c d m inside h = ap (λ z. spelling.Open z (c ∷ inside)) h
 at_more false false c d m inside h = refl
@@ -26,8 +29,10 @@ deeper_is : (c d : ℕ) (inside : List ℕ) → deeper c d inside ≡ stepped c 
 deeper_is c zero inside = at_zero (nat_eq c 40) (nat_eq c 41) c inside
 deeper_is c (suc d) inside = at_more (nat_eq c 40) (nat_eq c 41) c d (suc d + 1) inside (omega arith)
 
-ending_at : (name : List ℕ) (at d : ℕ) → at < length name → ending (drop (at + 1) name) ≡ spelling.Open d (inside_from name (at + 1)) → ending (drop at name) ≡ stepped (get_or name at 0) (inside_from name (at + 1)) (depth_with (get_or name at 0) d)
-ending_at name at d h o = ap ending (drop_more name at 0 h) ∙ ap (λ z. longer (get_or name at 0) z (is_empty (drop (at + 1) name))) o ∙ deeper_is (get_or name at 0) d (inside_from name (at + 1))
+ending_at : (name : List ℕ) (at d : ℕ) → at < length name → ending (drop (at + 1) name) ≡ spelling.Open d (inside_from name (at + 1))
+    → ending (drop at name) ≡ stepped (get_or name at 0) (inside_from name (at + 1)) (depth_with (get_or name at 0) d)
+ending_at name at d h o = ap ending (drop_more name at 0 h) ∙ ap (λ z. longer (get_or name at 0) z (is_empty (drop (at + 1) name))) o
+    ∙ deeper_is (get_or name at 0) d (inside_from name (at + 1))
 
 inside_more : (name : List ℕ) (at : ℕ) → at + 1 < length name → inside_from name at ≡ get_or name at 0 ∷ inside_from name (at + 1)
 inside_more name at h =
@@ -35,7 +40,8 @@ inside_more name at h =
     let l : at < length name = omega (arith, h) in
     ap (λ z. take z (drop at name)) k ∙ ap (take (suc (length name - 1 - (at + 1)))) (drop_more name at 0 l)
 
-pub goes_on : (name : List ℕ) (at d e : ℕ) → at + 1 < length name → ending (drop (at + 1) name) ≡ spelling.Open d (inside_from name (at + 1)) → Some e ≡ depth_with (get_or name at 0) d → ending (drop at name) ≡ spelling.Open e (inside_from name at)
+pub goes_on : (name : List ℕ) (at d e : ℕ) → at + 1 < length name → ending (drop (at + 1) name) ≡ spelling.Open d (inside_from name (at + 1))
+    → Some e ≡ depth_with (get_or name at 0) d → ending (drop at name) ≡ spelling.Open e (inside_from name at)
 goes_on name at d e h o s =
     let l : at < length name = omega (arith, h) in
     ending_at name at d l o ∙ ap (stepped (get_or name at 0) (inside_from name (at + 1))) (sym s) ∙ ap (spelling.Open e) (sym (inside_more name at h))
@@ -48,9 +54,11 @@ no_more : (xs : List ℕ) → xs ++ [] ≡ xs
 no_more [] = refl
 no_more (x ∷ xs) = ap (λ z. x ∷ z) (no_more xs)
 
-pub begins : (name : List ℕ) (at d : ℕ) → at < length name → ending (drop (at + 1) name) ≡ spelling.Open d (inside_from name (at + 1)) → None ≡ depth_with (get_or name at 0) d → ending name ≡ Whole (take at name) (inside_from name (at + 1))
+pub begins : (name : List ℕ) (at d : ℕ) → at < length name → ending (drop (at + 1) name) ≡ spelling.Open d (inside_from name (at + 1))
+    → None ≡ depth_with (get_or name at 0) d → ending name ≡ Whole (take at name) (inside_from name (at + 1))
 begins name at d h o s =
-    ap ending (sym (take-append-drop at name)) ∙ whole_front (take at name) (drop at name) [] (inside_from name (at + 1)) (ending_at name at d h o ∙ ap (stepped (get_or name at 0) (inside_from name (at + 1))) (sym s))
+    ap ending (sym (take-append-drop at name)) ∙ whole_front (take at name) (drop at name) [] (inside_from name (at + 1))
+    (ending_at name at d h o ∙ ap (stepped (get_or name at 0) (inside_from name (at + 1))) (sym s))
     ∙ ap (λ z. Whole z (inside_from name (at + 1))) (no_more (take at name))
 
 -- ---- the last byte
@@ -85,7 +93,8 @@ shut_zero true e n m cs h k = ap (λ z. commas z cs) (sym h)
 shut_zero false true n m cs h k = ap (λ z. commas z cs) (sym k)
 shut_zero false false n m cs h k = refl
 
-shut_more : (b e : Bool) (d n m : ℕ) (cs : List ℕ) → n ≡ suc (suc d) → m ≡ d → (if b then commas (suc (suc d)) cs else (if e then commas d cs else commas (suc d) cs)) ≡ commas (if b then n else (if e then m else suc d)) cs
+shut_more : (b e : Bool) (d n m : ℕ) (cs : List ℕ) → n ≡ suc (suc d) → m ≡ d
+    → (if b then commas (suc (suc d)) cs else (if e then commas d cs else commas (suc d) cs)) ≡ commas (if b then n else (if e then m else suc d)) cs
 shut_more true e d n m cs h k = ap (λ z. commas z cs) (sym h)
 shut_more false true d n m cs h k = ap (λ z. commas z cs) (sym k)
 shut_more false false d n m cs h k = refl
@@ -96,7 +105,8 @@ nothing_more n = omega arith
 at_comma : (c : ℕ) (cs : List ℕ) → c ≡ 44 → suc (commas 0 cs) ≡ 1 + commas (depth_behind c 0) cs
 at_comma c cs h = rw h (omega arith)
 
-zero_step : (b : Bool) (c : ℕ) (cs : List ℕ) → nat_eq c 44 ≡ b → (if b then suc (commas 0 cs) else (if nat_eq c 40 then commas 1 cs else commas 0 cs)) ≡ (if b then 1 else 0) + commas (depth_behind c 0) cs
+zero_step : (b : Bool) (c : ℕ) (cs : List ℕ) → nat_eq c 44 ≡ b
+    → (if b then suc (commas 0 cs) else (if nat_eq c 40 then commas 1 cs else commas 0 cs)) ≡ (if b then 1 else 0) + commas (depth_behind c 0) cs
 zero_step true c cs h = at_comma c cs (eqb-true c 44 h)
 zero_step false c cs h = shut_zero (nat_eq c 40) (nat_eq c 41) (0 + 1) (0 - 1) cs refl refl ∙ nothing_more (commas (depth_behind c 0) cs)
 

@@ -1,5 +1,6 @@
 -- The heap of the indexes that wait, as slots change.
-use Rattle.std.proofs.Common.{Bool, true, false, ◌≡◌, ◌==◌, ◌<◌, ◌≤◌, ◌+◌, inl, inr, ℕ, zero, suc, List, [], ◌∷◌, length, map, set, get_or, replicate, Option, Some, None, refl, sym, ap, ◌∙◌, subst, arith, get_or-set_other, get_or-set_same}
+use Rattle.std.proofs.Common.{Bool, true, false, ◌≡◌, ◌==◌, ◌<◌, ◌≤◌, ◌+◌, inl, inr, ℕ, zero, suc, List, [], ◌∷◌, length, map, set, get_or, replicate, Option}
+use Rattle.std.proofs.Common.{Some, None, refl, sym, ap, ◌∙◌, subst, arith, get_or-set_other, get_or-set_same}
 use Rattle.std.specs.Prelude.{IsSome, is_some, is_none, not, ◌&&◌, if◌then◌else◌}
 use Rattle.std.specs.Option.{option_map}
 use Rattle.std.specs.declared.cmp.Reverse.{Reverse}
@@ -49,19 +50,22 @@ module _ (slots : List Slot) (at : ℕ) (v d : Slot) (l : at < length slots) (is
   -- a slot that waits as before
   pub same_wait : (xs : List (Reverse ℕ)) → is_waiting v ≡ is_waiting d → AreWaiting slots xs → AreWaiting (set slots at v) xs
   same_wait xs h w = λ i. elim (cases_eq i at) [
-    | inl e ↦ subst (λ j. times_in xs j ≡ one (is_waiting (get_or (set slots at v) j bare_slot))) (sym e) (w at ∙ ap (λ z. one (is_waiting z)) same_default ∙ ap one (sym h) ∙ ap (λ z. one (is_waiting z)) (sym (get_or-set_same slots at v bare_slot l)))
+    | inl e ↦ subst (λ j. times_in xs j ≡ one (is_waiting (get_or (set slots at v) j bare_slot))) (sym e)
+        (w at ∙ ap (λ z. one (is_waiting z)) same_default ∙ ap one (sym h) ∙ ap (λ z. one (is_waiting z)) (sym (get_or-set_same slots at v bare_slot l)))
     | inr n ↦ w i ∙ ap (λ z. one (is_waiting z)) (sym (get_or-set_other slots at i v bare_slot n))
   ]
 
   -- one that waits from now on
-  pub more_wait : (xs ys : List (Reverse ℕ)) → is_waiting d ≡ false → is_waiting v ≡ true → ((i : ℕ) → times_in ys i ≡ times_in xs i + one (at == i)) → AreWaiting slots xs → AreWaiting (set slots at v) ys
+  pub more_wait : (xs ys : List (Reverse ℕ)) → is_waiting d ≡ false → is_waiting v ≡ true → ((i : ℕ) → times_in ys i ≡ times_in xs i + one (at == i))
+      → AreWaiting slots xs → AreWaiting (set slots at v) ys
   more_wait xs ys h k g w = λ i. elim (cases_eq i at) [
     | inl e ↦
         let a : times_in xs at ≡ 0 = w at ∙ ap (λ z. one (is_waiting z)) same_default ∙ ap one h in
         let b : one (at == at) ≡ 1 = ap one (eq-eqb at at refl) in
         let t : times_in ys at ≡ times_in xs at + one (at == at) = g at in
         let u : times_in ys at ≡ 1 = omega (arith, a, b, t) in
-        subst (λ j. times_in ys j ≡ one (is_waiting (get_or (set slots at v) j bare_slot))) (sym e) (u ∙ ap one (sym k) ∙ ap (λ z. one (is_waiting z)) (sym (get_or-set_same slots at v bare_slot l)))
+        subst (λ j. times_in ys j ≡ one (is_waiting (get_or (set slots at v) j bare_slot))) (sym e)
+        (u ∙ ap one (sym k) ∙ ap (λ z. one (is_waiting z)) (sym (get_or-set_same slots at v bare_slot l)))
     | inr n ↦
         let b : one (at == i) ≡ 0 = ap one (ne_eqb at i (λ e. n (sym e))) in
         let t : times_in ys i ≡ times_in xs i + one (at == i) = g i in
@@ -70,7 +74,8 @@ module _ (slots : List Slot) (at : ℕ) (v d : Slot) (l : at < length slots) (is
   ]
 
   -- one that waits no more
-  pub less_wait : (xs ys : List (Reverse ℕ)) → is_waiting v ≡ false → ((i : ℕ) → times_in xs i ≡ times_in ys i + one (at == i)) → AreWaiting slots xs → AreWaiting (set slots at v) ys
+  pub less_wait : (xs ys : List (Reverse ℕ)) → is_waiting v ≡ false → ((i : ℕ) → times_in xs i ≡ times_in ys i + one (at == i)) → AreWaiting slots xs
+      → AreWaiting (set slots at v) ys
   less_wait xs ys h g w = λ i. elim (cases_eq i at) [
     | inl e ↦
         let a : times_in xs at ≡ one (is_waiting (get_or slots at bare_slot)) = w at in
@@ -78,7 +83,8 @@ module _ (slots : List Slot) (at : ℕ) (v d : Slot) (l : at < length slots) (is
         let b : one (at == at) ≡ 1 = ap one (eq-eqb at at refl) in
         let t : times_in xs at ≡ times_in ys at + one (at == at) = g at in
         let u : times_in ys at ≡ 0 = omega (arith, a, m, b, t) in
-        subst (λ j. times_in ys j ≡ one (is_waiting (get_or (set slots at v) j bare_slot))) (sym e) (u ∙ ap one (sym h) ∙ ap (λ z. one (is_waiting z)) (sym (get_or-set_same slots at v bare_slot l)))
+        subst (λ j. times_in ys j ≡ one (is_waiting (get_or (set slots at v) j bare_slot))) (sym e)
+        (u ∙ ap one (sym h) ∙ ap (λ z. one (is_waiting z)) (sym (get_or-set_same slots at v bare_slot l)))
     | inr n ↦
         let b : one (at == i) ≡ 0 = ap one (ne_eqb at i (λ e. n (sym e))) in
         let t : times_in xs i ≡ times_in ys i + one (at == i) = g i in
@@ -87,14 +93,16 @@ module _ (slots : List Slot) (at : ℕ) (v d : Slot) (l : at < length slots) (is
   ]
 
 -- an index that is taken out waits
-pub taken_waits : (slots : List Slot) (xs ys : List (Reverse ℕ)) (at : ℕ) → ((i : ℕ) → times_in xs i ≡ times_in ys i + one (at == i)) → AreWaiting slots xs → is_waiting (get_or slots at bare_slot) ≡ true
+pub taken_waits : (slots : List Slot) (xs ys : List (Reverse ℕ)) (at : ℕ) → ((i : ℕ) → times_in xs i ≡ times_in ys i + one (at == i)) → AreWaiting slots xs
+    → is_waiting (get_or slots at bare_slot) ≡ true
 taken_waits slots xs ys at g w =
     let a : times_in xs at ≡ one (is_waiting (get_or slots at bare_slot)) = w at in
     let b : one (at == at) ≡ 1 = ap one (eq-eqb at at refl) in
     let t : times_in xs at ≡ times_in ys at + one (at == at) = g at in
     is_one (is_waiting (get_or slots at bare_slot)) (omega (arith, a, b, t))
 
-pub taken_within : (slots : List Slot) (xs ys : List (Reverse ℕ)) (at : ℕ) → ((i : ℕ) → times_in xs i ≡ times_in ys i + one (at == i)) → AreWaiting slots xs → at < length slots
+pub taken_within : (slots : List Slot) (xs ys : List (Reverse ℕ)) (at : ℕ) → ((i : ℕ) → times_in xs i ≡ times_in ys i + one (at == i)) → AreWaiting slots xs
+    → at < length slots
 taken_within slots xs ys at g w = elim (cases_lt at (length slots)) [
   | inl h ↦ h
   | inr h ↦ absurd (false≢true (sym (ap is_waiting (past_end slots at bare_slot h)) ∙ taken_waits slots xs ys at g w))
@@ -109,7 +117,8 @@ waits_some t (Some s) b = refl
 waits_is : (t : List (List Open)) (s : Slot) → waits (slot_of t s) ≡ is_waiting s
 waits_is t s = waits_some t s.shape (not s.looked)
 
-lowest_from : (t : List (List Open)) (n : ℕ) (ss : List Slot) (k : ℕ) → k < length ss → is_waiting (get_or ss k bare_slot) ≡ true → ((j : ℕ) → j < k → is_waiting (get_or ss j bare_slot) ≡ false) → lowest n (map (slot_of t) ss) ≡ Some (n + k)
+lowest_from : (t : List (List Open)) (n : ℕ) (ss : List Slot) (k : ℕ) → k < length ss → is_waiting (get_or ss k bare_slot) ≡ true
+    → ((j : ℕ) → j < k → is_waiting (get_or ss j bare_slot) ≡ false) → lowest n (map (slot_of t) ss) ≡ Some (n + k)
 lowest_from t n [] k l h b = absurd (omega (arith, l))
 lowest_from t n (s ∷ ss) zero l h b = ap (λ c. if c then Some n else lowest (n + 1) (map (slot_of t) ss)) (waits_is t s ∙ h) ∙ ap Some (omega arith)
 lowest_from t n (s ∷ ss) (suc k) l h b =
@@ -118,13 +127,17 @@ lowest_from t n (s ∷ ss) (suc k) l h b =
 
 lowest_none : (t : List (List Open)) (n : ℕ) (ss : List Slot) → ((j : ℕ) → is_waiting (get_or ss j bare_slot) ≡ false) → lowest n (map (slot_of t) ss) ≡ None
 lowest_none t n [] h = refl
-lowest_none t n (s ∷ ss) h = ap (λ c. if c then Some n else lowest (n + 1) (map (slot_of t) ss)) (waits_is t s ∙ h 0) ∙ lowest_none t (n + 1) ss (λ j. h (suc j))
+lowest_none t n (s ∷ ss) h = ap (λ c. if c then Some n else lowest (n + 1) (map (slot_of t) ss)) (waits_is t s ∙ h 0)
+    ∙ lowest_none t (n + 1) ss (λ j. h (suc j))
 
-pub none_waits : (t : List (List Open)) (slots : List Slot) (xs : List (Reverse ℕ)) → AreWaiting slots xs → ((i : ℕ) → times_in xs i ≡ 0) → lowest 0 (map (slot_of t) slots) ≡ None
+pub none_waits : (t : List (List Open)) (slots : List Slot) (xs : List (Reverse ℕ)) → AreWaiting slots xs → ((i : ℕ) → times_in xs i ≡ 0)
+    → lowest 0 (map (slot_of t) slots) ≡ None
 none_waits t slots xs w h = lowest_none t 0 slots (λ j. is_zero (is_waiting (get_or slots j bare_slot)) (sym (w j) ∙ h j))
 
-pub least_waits : (t : List (List Open)) (slots : List Slot) (xs ys : List (Reverse ℕ)) (at : ℕ) → AreWaiting slots xs → ((i : ℕ) → times_in xs i ≡ times_in ys i + one (at == i)) → ((i : ℕ) → i < at → times_in xs i ≡ 0) → lowest 0 (map (slot_of t) slots) ≡ Some at
-least_waits t slots xs ys at w g b = lowest_from t 0 slots at (taken_within slots xs ys at g w) (taken_waits slots xs ys at g w) (λ j m. is_zero (is_waiting (get_or slots j bare_slot)) (sym (w j) ∙ b j m)) ∙ ap Some (omega arith)
+pub least_waits : (t : List (List Open)) (slots : List Slot) (xs ys : List (Reverse ℕ)) (at : ℕ) → AreWaiting slots xs
+    → ((i : ℕ) → times_in xs i ≡ times_in ys i + one (at == i)) → ((i : ℕ) → i < at → times_in xs i ≡ 0) → lowest 0 (map (slot_of t) slots) ≡ Some at
+least_waits t slots xs ys at w g b = lowest_from t 0 slots at (taken_within slots xs ys at g w) (taken_waits slots xs ys at g w)
+    (λ j m. is_zero (is_waiting (get_or slots j bare_slot)) (sym (w j) ∙ b j m)) ∙ ap Some (omega arith)
 
 -- ---- slots
 

@@ -8,7 +8,8 @@ use Rattle.tx_code.specs.declared.body.Row.{Row}
 use Rattle.tx_code.specs.Objects.{BodyView}
 use Rattle.tx_code.specs.Meaning.{covers}
 use Rattle.tx_code.specs.Shapes.{Shape, Table, Among, outgoing}
-use Rattle.tx_code.specs.Sound.{Signature, target_lies, row_lies, is_last, is_known, row_is_known, names_right, row_names_right, passes, exception_right, is_inside, inside_right, outside_right, closes_right, edge_right, has_edge, left_at}
+use Rattle.tx_code.specs.Sound.{Signature, target_lies, row_lies, is_last, is_known, row_is_known, names_right, row_names_right, passes, exception_right}
+use Rattle.tx_code.specs.Sound.{is_inside, inside_right, outside_right, closes_right, edge_right, has_edge, left_at}
 use Rattle.code_walk.specs.Walk.{slot_at, walked}
 use Rattle.code_walk.specs.Bodies.{space}
 
@@ -34,4 +35,5 @@ pub record Clean (x : Table) (g : Signature) (safe : Bool) (b : BodyView) : Type
   pub closes : (i : ℕ) (s : Shape) (a : Instr) → Found x g b i s → slice_get b.code i ≡ Some a → closes_right a s ≡ true
   pub edges : (i : ℕ) (s : Shape) (r : Row) → Found x g b i s → Among r b.rows → covers r i ≡ true → edge_right r.what s.opens ≡ true
   pub covered : (i : ℕ) (s : Shape) → Found x g b i s → (is_empty s.opens || has_edge b.rows i) ≡ true
-  pub depths : (i : ℕ) (s : Shape) (a : Instr) (r : Row) → Found x g b i s → slice_get b.code i ≡ Some a → Among r b.rows → covers r i ≡ true → nat_le r.depth (left_at a s.depth) ≡ true
+  pub depths : (i : ℕ) (s : Shape) (a : Instr) (r : Row) → Found x g b i s → slice_get b.code i ≡ Some a → Among r b.rows → covers r i ≡ true
+      → nat_le r.depth (left_at a s.depth) ≡ true

@@ -1,5 +1,6 @@
 -- The rows of a body, halved again and again, as the code finds those that cover an index.
-use Rattle.std.specs.Prelude.{Bool, true, false, ◌≡◌, ◌<◌, ⊤, ℕ, List, [], ◌∷◌, ◌++◌, length, map, Option, Some, None, not, ◌&&◌, ◌||◌, nat_lt, nat_le, nat_eq, if◌then◌else◌}
+use Rattle.std.specs.Prelude.{Bool, true, false, ◌≡◌, ◌<◌, ⊤, ℕ, List, [], ◌∷◌, ◌++◌, length, map, Option, Some, None, not, ◌&&◌, ◌||◌, nat_lt, nat_le, nat_eq}
+use Rattle.std.specs.Prelude.{if◌then◌else◌}
 use Rattle.std.specs.List.{list_all}
 use Rattle.std.specs.Option.{option_map_or}
 use Rattle.tx_events.specs.Thread.{Open}

@@ -1,5 +1,6 @@
 -- A walk that gives each index of a body its first shape, and notes where it is given another.
-use Rattle.std.specs.Prelude.{Bool, true, false, ◌≡◌, ◌<◌, ℕ, zero, suc, ◌+◌, List, [], ◌∷◌, length, replicate, Option, Some, None, not, ◌&&◌, nat_lt, is_some, if◌then◌else◌, slice_set, slice_index_or}
+use Rattle.std.specs.Prelude.{Bool, true, false, ◌≡◌, ◌<◌, ℕ, zero, suc, ◌+◌, List, [], ◌∷◌, length, replicate, Option, Some, None, not, ◌&&◌, nat_lt, is_some}
+use Rattle.std.specs.Prelude.{if◌then◌else◌, slice_set, slice_index_or}
 use Rattle.tx_code.specs.Shapes.{Among}
 
 -- an index and a shape that it is given

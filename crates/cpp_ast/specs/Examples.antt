@@ -1,7 +1,9 @@
 -- Trees of two texts, by which the definitions of depth and of shape can be tried.
 use Rattle.std.specs.Prelude.{ℕ, zero, suc, Some, None}
 use Rattle.cpp_ast.specs.declared.kinds.NodeKind.{NodeKind}
-use Rattle.cpp_ast.specs.declared.kinds.NodeKind.TheVariants.{IntegerLiteral, ParenthesizedExpression, TypeSpecifierSeq, SimpleTypeSpecifier, FunctionDeclarator, DeclaratorId, ParameterDeclarationClause, FunctionQualifiers, FunctionDefinition, CompoundStatement, ReturnStatement}
+use Rattle.cpp_ast.specs.declared.kinds.NodeKind.TheVariants.{IntegerLiteral, ParenthesizedExpression, TypeSpecifierSeq, SimpleTypeSpecifier}
+use Rattle.cpp_ast.specs.declared.kinds.NodeKind.TheVariants.{FunctionDeclarator, DeclaratorId, ParameterDeclarationClause, FunctionQualifiers}
+use Rattle.cpp_ast.specs.declared.kinds.NodeKind.TheVariants.{FunctionDefinition, CompoundStatement, ReturnStatement}
 use Rattle.cpp_ast.specs.Trees.{Tree, node, Trees, none, more}
 
 -- a node at the first byte of the first text, whose token, where it has one, is the first

@@ -2,7 +2,26 @@
 -- token is stands at `NodeKind`.
 use Rattle.std.specs.Prelude.{◌≡◌, Bool, true, false, List, [], ◌∷◌}
 use Rattle.cpp_ast.specs.declared.kinds.NodeKind.{NodeKind}
-use Rattle.cpp_ast.specs.declared.kinds.NodeKind.TheVariants.{IntegerLiteral, CharacterLiteral, StringLiteral, BooleanLiteral, PointerLiteral, This, UnqualifiedId, QualifiedId, StdAbort, ParenthesizedExpression, FunctionalCast, StaticCast, Lambda, Subscript, FunctionCall, MemberAccess, PointerMemberAccess, PostfixIncrement, UnaryExpression, SizeofExpression, SizeofType, CastExpression, BinaryExpression, ConditionalExpression, AssignmentExpression, ThrowExpression, CommaExpression, LambdaIntroducer, CaptureDefault, SimpleCapture, ReferenceCapture, ThisCapture, LambdaDeclarator, Mutable, TrailingReturnType, TypeSpecifierSeq, CvQualifier, SimpleTypeSpecifier, TypeName, TxException, TypeId, PointerDeclarator, ReferenceDeclarator, ArrayDeclarator, FunctionDeclarator, ParenthesizedDeclarator, DeclaratorId, QualifiedDeclaratorId, DestructorId, QualifiedDestructorId, OmittedId, ParameterDeclarationClause, ParameterDeclaration, FunctionQualifiers, TxQualifier, NoexceptSpecification, InitDeclarator, EqualInitializer, ParenthesizedInitializer, BracedInitList, Attribute, DeclSpecifier, AliasDeclaration, ClassDeclaration, ClassSpecifier, ClassKey, BaseSpecifier, AccessSpecifier, MemberSpecification, EnumSpecifier, EnumeratorDefinition, LinkageSpecification, LinkageBlock, SimpleDeclaration, FunctionDefinition, ConstructorDeclaration, ConstructorDefinition, DestructorDeclaration, DestructorDefinition, EmptyDeclaration, AccessLabel, MemberDeclaration, MemberDeclarator, VirtSpecifier, PureSpecifier, BaseInitializer, MemberInitializer, CompoundStatement, NullStatement, ExpressionStatement, IfStatement, WhileStatement, DoStatement, ForStatement, SwitchStatement, CaseStatement, DefaultStatement, BreakStatement, ContinueStatement, ReturnStatement, TryBlock, Handler, Ellipsis, SynchronizedStatement, AtomicStatement, Absent}
+use Rattle.cpp_ast.specs.declared.kinds.NodeKind.TheVariants.{IntegerLiteral, CharacterLiteral, StringLiteral, BooleanLiteral, PointerLiteral, This}
+use Rattle.cpp_ast.specs.declared.kinds.NodeKind.TheVariants.{UnqualifiedId, QualifiedId, StdAbort, ParenthesizedExpression, FunctionalCast, StaticCast, Lambda}
+use Rattle.cpp_ast.specs.declared.kinds.NodeKind.TheVariants.{Subscript, FunctionCall, MemberAccess, PointerMemberAccess, PostfixIncrement, UnaryExpression}
+use Rattle.cpp_ast.specs.declared.kinds.NodeKind.TheVariants.{SizeofExpression, SizeofType, CastExpression, BinaryExpression, ConditionalExpression}
+use Rattle.cpp_ast.specs.declared.kinds.NodeKind.TheVariants.{AssignmentExpression, ThrowExpression, CommaExpression, LambdaIntroducer, CaptureDefault}
+use Rattle.cpp_ast.specs.declared.kinds.NodeKind.TheVariants.{SimpleCapture, ReferenceCapture, ThisCapture, LambdaDeclarator, Mutable, TrailingReturnType}
+use Rattle.cpp_ast.specs.declared.kinds.NodeKind.TheVariants.{TypeSpecifierSeq, CvQualifier, SimpleTypeSpecifier, TypeName, TxException, TypeId}
+use Rattle.cpp_ast.specs.declared.kinds.NodeKind.TheVariants.{PointerDeclarator, ReferenceDeclarator, ArrayDeclarator, FunctionDeclarator}
+use Rattle.cpp_ast.specs.declared.kinds.NodeKind.TheVariants.{ParenthesizedDeclarator, DeclaratorId, QualifiedDeclaratorId, DestructorId, QualifiedDestructorId}
+use Rattle.cpp_ast.specs.declared.kinds.NodeKind.TheVariants.{OmittedId, ParameterDeclarationClause, ParameterDeclaration, FunctionQualifiers, TxQualifier}
+use Rattle.cpp_ast.specs.declared.kinds.NodeKind.TheVariants.{NoexceptSpecification, InitDeclarator, EqualInitializer, ParenthesizedInitializer, BracedInitList}
+use Rattle.cpp_ast.specs.declared.kinds.NodeKind.TheVariants.{Attribute, DeclSpecifier, AliasDeclaration, ClassDeclaration, ClassSpecifier, ClassKey}
+use Rattle.cpp_ast.specs.declared.kinds.NodeKind.TheVariants.{BaseSpecifier, AccessSpecifier, MemberSpecification, EnumSpecifier, EnumeratorDefinition}
+use Rattle.cpp_ast.specs.declared.kinds.NodeKind.TheVariants.{LinkageSpecification, LinkageBlock, SimpleDeclaration, FunctionDefinition, ConstructorDeclaration}
+use Rattle.cpp_ast.specs.declared.kinds.NodeKind.TheVariants.{ConstructorDefinition, DestructorDeclaration, DestructorDefinition, EmptyDeclaration, AccessLabel}
+use Rattle.cpp_ast.specs.declared.kinds.NodeKind.TheVariants.{MemberDeclaration, MemberDeclarator, VirtSpecifier, PureSpecifier, BaseInitializer}
+use Rattle.cpp_ast.specs.declared.kinds.NodeKind.TheVariants.{MemberInitializer, CompoundStatement, NullStatement, ExpressionStatement, IfStatement}
+use Rattle.cpp_ast.specs.declared.kinds.NodeKind.TheVariants.{WhileStatement, DoStatement, ForStatement, SwitchStatement, CaseStatement, DefaultStatement}
+use Rattle.cpp_ast.specs.declared.kinds.NodeKind.TheVariants.{BreakStatement, ContinueStatement, ReturnStatement, TryBlock, Handler, Ellipsis}
+use Rattle.cpp_ast.specs.declared.kinds.NodeKind.TheVariants.{SynchronizedStatement, AtomicStatement, Absent}
 
 -- which kinds a kid may have: one kind only, or each kind that passes a test
 pub data Which : Type 0 where

@@ -39,12 +39,14 @@ greatest_append (e ∷ es) ys = ap (λ (n : ℕ). max e.align n) (greatest_appen
 pub joined : (a b c : LayoutCursor) (xs ys : List Extent) → Follows a xs b → Follows b ys c → Follows a (xs ++ ys) c
 joined a b c xs ys f g = record {
   end = g.end ∙ ap (λ (n : ℕ). end_from n ys) f.end ∙ sym (end_append a.end xs ys);
-  align = g.align ∙ ap (λ (n : ℕ). max n (greatest_align ys)) f.align ∙ sym (max_assoc a.align (greatest_align xs) (greatest_align ys)) ∙ ap (λ (n : ℕ). max a.align n) (sym (greatest_append xs ys));
+  align = g.align ∙ ap (λ (n : ℕ). max n (greatest_align ys)) f.align ∙ sym (max_assoc a.align (greatest_align xs) (greatest_align ys))
+      ∙ ap (λ (n : ℕ). max a.align n) (sym (greatest_append xs ys));
   bounds = g.bounds;
 }
 
 pub over_later : (a b : LayoutCursor) (xs ys : List Extent) → Follows a xs b → GREATEST_SIZE < end_from b.end ys → GREATEST_SIZE < end_from a.end (xs ++ ys)
-over_later a b xs ys f h = let p : end_from b.end ys ≡ end_from a.end (xs ++ ys) = ap (λ (n : ℕ). end_from n ys) f.end ∙ sym (end_append a.end xs ys) in omega arith
+over_later a b xs ys f h = let p : end_from b.end ys ≡ end_from a.end (xs ++ ys) = ap (λ (n : ℕ). end_from n ys) f.end ∙ sym (end_append a.end xs ys) in
+    omega arith
 
 pub over_first : (s : ℕ) (xs ys : List Extent) → Aligned ys → GREATEST_SIZE < end_from s xs → GREATEST_SIZE < end_from s (xs ++ ys)
 over_first s xs ys h o = let p = end_append s xs ys in let q = end_low (end_from s xs) ys h in omega arith

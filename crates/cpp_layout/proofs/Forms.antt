@@ -62,7 +62,8 @@ array_vacant n s false p q = let e : n ≡ 0 = grind (arith, nat_tests) in ap (�
 
 array_part : (n s x : ℕ) (b : Bool) → (n == 0 || b) ≡ false → (b ≡ false → x ≤ s) → x ≤ n * s
 array_part n s x true p q = absurd (grind (arith, nat_tests))
-array_part n s x false p q = let e : 1 ≤ n = grind (arith, nat_tests) in let l : x ≤ s = q refl in let m : 1 * s ≤ n * s = mul-le 1 s n s e (omega arith) in omega arith
+array_part n s x false p q = let e : 1 ≤ n = grind (arith, nat_tests) in let l : x ≤ s = q refl in let m : 1 * s ≤ n * s = mul-le 1 s n s e (omega arith) in
+    omega arith
 
 -- an array of no elements has size 0
 pub vacant_size : (g : ℕ → Extent) (f : Form) → is_vacant f ≡ true → (form_extent g f).size ≡ 0
@@ -113,10 +114,12 @@ align_agrees g h (class n) p = p n refl
 align_agrees g h (closure n) p = p n refl
 align_agrees g h (tx_ex (typ f c v)) p = align_agrees g h f p
 
-pub aligned_by : (g : ℕ → Extent) (f : Form) (o : Option ℕ) (p a : ℕ) → o ≡ Some p → o ≡ held_form f → a ≡ (g p).align → (form_extent (λ n. scalar a) f).align ≡ (form_extent g f).align
+pub aligned_by : (g : ℕ → Extent) (f : Form) (o : Option ℕ) (p a : ℕ) → o ≡ Some p → o ≡ held_form f → a ≡ (g p).align
+    → (form_extent (λ n. scalar a) f).align ≡ (form_extent g f).align
 aligned_by g f o p a q h e = align_agrees (λ n. scalar a) g f (λ x r. let k : p ≡ x = cc in e ∙ ap (λ (z : ℕ). (g z).align) k)
 
-pub aligned_alone : (g : ℕ → Extent) (f : Form) (o : Option ℕ) (a : ℕ) → o ≡ None → o ≡ held_form f → (form_extent (λ n. scalar a) f).align ≡ (form_extent g f).align
+pub aligned_alone : (g : ℕ → Extent) (f : Form) (o : Option ℕ) (a : ℕ) → o ≡ None → o ≡ held_form f
+    → (form_extent (λ n. scalar a) f).align ≡ (form_extent g f).align
 aligned_alone g f o a q h = align_agrees (λ n. scalar a) g f (λ x r. absurd cc)
 
 -- Answers
@@ -125,32 +128,40 @@ abbrev pub Answers : Option SizeAlign → Extent → Type 0
 Answers o e = MatchOption o (GREATEST_SIZE < e.size) (λ s. Measured e s)
 
 pub shown_is : (e : Extent) (s : SizeAlign) → Measured e s → shown s ≡ e
-shown_is e s m = ap (λ (z : ℕ). let x : Extent = record { size = z; align = s.align } in x) m.size ∙ ap (λ (z : ℕ). let x : Extent = record { size = e.size; align = z } in x) m.align
+shown_is e s m = ap (λ (z : ℕ). let x : Extent = record { size = z; align = s.align } in x) m.size
+    ∙ ap (λ (z : ℕ). let x : Extent = record { size = e.size; align = z } in x) m.align
 
 pub self_measured : (e : Extent) (s : SizeAlign) → Measured e s → Measured (shown s) s
-self_measured e s m = let p = m.size in let q = m.align in let w = m.within in let l = m.low in let h = m.high in record { size = refl; align = refl; within = omega arith; low = omega arith; high = omega arith }
+self_measured e s m = let p = m.size in let q = m.align in let w = m.within in let l = m.low in let h = m.high in
+    record { size = refl; align = refl; within = omega arith; low = omega arith; high = omega arith }
 
 pub answers_along : (o : Option SizeAlign) (x y : Extent) → x ≡ y → Answers o x → Answers o y
 answers_along o x y e a = subst (λ (z : Extent). Answers o z) e a
 
-pub answers_by : (g : ℕ → Extent) (f : Form) (h : Option ℕ) (p : ℕ) (o : Option SizeAlign) (s : SizeAlign) → h ≡ Some p → h ≡ held_form f → Measured (g p) s → Answers o (form_extent (λ n. shown s) f) → Answers o (form_extent g f)
-answers_by g f h p o s q e m a = answers_along o (form_extent (λ n. shown s) f) (form_extent g f) (form_agrees (λ n. shown s) g f (λ x r. let k : p ≡ x = cc in shown_is (g p) s m ∙ ap g k)) a
+pub answers_by : (g : ℕ → Extent) (f : Form) (h : Option ℕ) (p : ℕ) (o : Option SizeAlign) (s : SizeAlign) → h ≡ Some p → h ≡ held_form f → Measured (g p) s
+    → Answers o (form_extent (λ n. shown s) f) → Answers o (form_extent g f)
+answers_by g f h p o s q e m a = answers_along o (form_extent (λ n. shown s) f) (form_extent g f)
+    (form_agrees (λ n. shown s) g f (λ x r. let k : p ≡ x = cc in shown_is (g p) s m ∙ ap g k)) a
 
-pub answers_alone : (g : ℕ → Extent) (f : Form) (h : Option ℕ) (o : Option SizeAlign) (s : SizeAlign) → h ≡ None → h ≡ held_form f → Answers o (form_extent (λ n. shown s) f) → Answers o (form_extent g f)
+pub answers_alone : (g : ℕ → Extent) (f : Form) (h : Option ℕ) (o : Option SizeAlign) (s : SizeAlign) → h ≡ None → h ≡ held_form f
+    → Answers o (form_extent (λ n. shown s) f) → Answers o (form_extent g f)
 answers_alone g f h o s q e a = answers_along o (form_extent (λ n. shown s) f) (form_extent g f) (form_agrees (λ n. shown s) g f (λ x r. absurd cc)) a
 
 pub none_answers : (o : Option SizeAlign) (e : Extent) → o ≡ None → GREATEST_SIZE < e.size → Answers o e
 none_answers o e p l = subst (λ (z : Option SizeAlign). Answers z e) (sym p) l
 
-pub large_part : (g : ℕ → Extent) (f : Form) (h : Option ℕ) (p : ℕ) → h ≡ Some p → h ≡ held_form f → is_vacant f ≡ false → GREATEST_SIZE < (g p).size → GREATEST_SIZE < (form_extent g f).size
+pub large_part : (g : ℕ → Extent) (f : Form) (h : Option ℕ) (p : ℕ) → h ≡ Some p → h ≡ held_form f → is_vacant f ≡ false → GREATEST_SIZE < (g p).size
+    → GREATEST_SIZE < (form_extent g f).size
 large_part g f h p q e v l = let k : held_form f ≡ Some p = cc in let m = part_size g f p v k in omega arith
 
-pub large_elements : (g : ℕ → Extent) (f : Form) (t : Form) (c v : Bool) (n : ℕ) → f ≡ array (typ t c v) n → is_vacant f ≡ false → GREATEST_SIZE < (form_extent g t).size → GREATEST_SIZE < (form_extent g f).size
+pub large_elements : (g : ℕ → Extent) (f : Form) (t : Form) (c v : Bool) (n : ℕ) → f ≡ array (typ t c v) n → is_vacant f ≡ false
+    → GREATEST_SIZE < (form_extent g t).size → GREATEST_SIZE < (form_extent g f).size
 large_elements g f t c v n e p l =
     let q : (n == 0 || is_vacant t) ≡ false = ap is_vacant (sym e) ∙ p in
     let m : 1048577 ≤ n * (form_extent g t).size = array_part n (form_extent g t).size 1048577 (is_vacant t) q (λ z. omega arith) in
     let s : (form_extent g f).size ≡ n * (form_extent g t).size = ap (λ (z : Form). (form_extent g z).size) e in
     omega arith
 
-pub vacant_measured : (g : ℕ → Extent) (f : Form) (a : ℕ) → is_vacant f ≡ true → a ≡ (form_extent g f).align → 1 ≤ a → a ≤ 8 → Measured (form_extent g f) (record { size = 0; align = a })
+pub vacant_measured : (g : ℕ → Extent) (f : Form) (a : ℕ) → is_vacant f ≡ true → a ≡ (form_extent g f).align → 1 ≤ a → a ≤ 8
+    → Measured (form_extent g f) (record { size = 0; align = a })
 vacant_measured g f a v e l h = let s = vacant_size g f v in record { size = sym s; align = e; within = omega arith; low = omega arith; high = omega arith }

@@ -21,11 +21,32 @@ abbrev pub member : Form → Member
 member f = record { name = []; typ = plain f }
 
 abbrev pub virtual_function : Function
-virtual_function = record { name = []; signature = signature none (plain void) false; is_const = false; is_virtual = true; is_override = false; is_final = false; pure_virtual = false; safety = Plain; considered = false; no_except = false; at = record { source = 0; offset = 0 } }
+virtual_function = record {
+  name = [];
+  signature = signature none (plain void) false;
+  is_const = false;
+  is_virtual = true;
+  is_override = false;
+  is_final =
+      false;
+  pure_virtual = false;
+  safety = Plain;
+  considered = false;
+  no_except = false;
+  at = record { source = 0; offset = 0 };
+}
 
 -- a class that was completed after `number` others
 abbrev pub completed : ℕ → Option ℕ → List Function → List Form → Class
-completed number base functions forms = record { name = []; base = base; members = map member forms; functions = functions; is_final = false; complete = Some number }
+completed number base functions forms = record {
+  name = [];
+  base = base;
+  members = map member forms;
+  functions = functions;
+  is_final = false;
+  complete =
+      Some number;
+}
 
 abbrev pub examples : List Class
 examples =
@@ -45,4 +66,5 @@ member_offsets n None = []
 
 -- the size and the alignment of the class at index `n`, and the offsets of its members
 abbrev pub Takes : ℕ → ℕ → ℕ → List ℕ → Type 0
-Takes n size align offsets = ((class_extent examples n).size ≡ size) × ((class_extent examples n).align ≡ align) × (member_offsets n (slice_get examples n) ≡ offsets)
+Takes n size align offsets = ((class_extent examples n).size ≡ size) × ((class_extent examples n).align ≡ align)
+    × (member_offsets n (slice_get examples n) ≡ offsets)

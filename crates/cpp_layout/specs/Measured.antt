@@ -55,7 +55,8 @@ member_extents classes members = map (member_extent (class_extent classes)) memb
 
 -- the offset of a member after the items before it
 abbrev pub member_offset : List Class → ℕ → Class → ℕ → Member → ℕ
-member_offset classes n c i m = offset_after (head_items (class_extent classes) classes n c ++ member_extents classes (take i c.members)) (member_extent (class_extent classes) m)
+member_offset classes n c i m = offset_after (head_items (class_extent classes) classes n c ++ member_extents classes (take i c.members))
+    (member_extent (class_extent classes) m)
 
 -- Rows of items
 

@@ -4,10 +4,12 @@ use Rattle.std.proofs.Math.ListN.{get_or-eq_default}
 use Rattle.std.proofs.lemmas.Bool.Decides.{nat_tests}
 use Rattle.std.proofs.lemmas.Bool.{cases_lt}
 use Rattle.cpp_lex.specs.declared.piece.PieceKind.{PieceKind}
-use Rattle.cpp_lex.specs.declared.piece.PieceKind.TheVariants.{Blank, LineComment, BlockComment, HashLine, Word, IntegerLiteral, CharacterLiteral, StringLiteral, Punctuator}
+use Rattle.cpp_lex.specs.declared.piece.PieceKind.TheVariants.{Blank, LineComment, BlockComment, HashLine, Word, IntegerLiteral, CharacterLiteral}
+use Rattle.cpp_lex.specs.declared.piece.PieceKind.TheVariants.{StringLiteral, Punctuator}
 use Rattle.cpp_lex.specs.Bytes.{is_letter, is_word_byte, is_blank, is_line_byte, is_line_blank, is_digit}
 use Rattle.cpp_lex.specs.Words.{IsWord}
-use Rattle.cpp_lex.specs.Ints.{Digits, one, more, marked, Prefixed, hexadecimal, binary, Literal, decimal, octal, prefixed, LongSuffix, one_l, two_l, Suffix, no_suffix, only_u, only_l, u_then_l, l_then_u, is_u, is_l}
+use Rattle.cpp_lex.specs.Ints.{Digits, one, more, marked, Prefixed, hexadecimal, binary, Literal, decimal, octal, prefixed, LongSuffix, one_l, two_l, Suffix}
+use Rattle.cpp_lex.specs.Ints.{no_suffix, only_u, only_l, u_then_l, l_then_u, is_u, is_l}
 use Rattle.cpp_lex.specs.Quoted.{OneOf, itself, escaped, SomeOf, no_more, one_more, EscapeBody, by_letter, in_octal, in_hex, is_char_byte, is_str_byte}
 use Rattle.cpp_lex.specs.Puncts.{IsPunct, single, double, triple}
 use Rattle.cpp_lex.specs.Skipped.{IsLineComment, IsHashLine, IsFirstOnLine}
@@ -28,8 +30,10 @@ digit_is_there text base at h = let high : 0 < slice_index text at = grind (arit
 
 pub digits_within : (base : ℕ) (text : List ℕ) (from to : ℕ) → Digits base text from to → Within text from to
 digits_within base text from to (one d) = record { after = omega arith; inside = let h = digit_is_there text base from d in omega arith }
-digits_within base text from to (more {at = at} ds d) = let before = digits_within base text from at ds in let h = digit_is_there text base at d in record { after = omega arith; inside = omega arith }
-digits_within base text from to (marked {at = at} ds m d) = let before = digits_within base text from at ds in let h = digit_is_there text base (at + 1) d in record { after = omega arith; inside = omega arith }
+digits_within base text from to (more {at = at} ds d) = let before = digits_within base text from at ds in let h = digit_is_there text base at d in
+    record { after = omega arith; inside = omega arith }
+digits_within base text from to (marked {at = at} ds m d) = let before = digits_within base text from at ds in let h = digit_is_there text base (at + 1) d in
+    record { after = omega arith; inside = omega arith }
 
 pub prefixed_within : (text : List ℕ) (from to : ℕ) → Prefixed text from to → Within text from to
 prefixed_within text from to (hexadecimal is ds) = let w = digits_within 16 text (from + 2) to ds in record { after = omega arith; inside = w.inside }
@@ -46,7 +50,8 @@ u_is_there text at h = let high : 0 < slice_index text at = grind (arith, nat_te
 l_is_there : (text : List ℕ) (at : ℕ) → is_l (slice_index text at) ≡ true → at < length text
 l_is_there text at h = let high : 0 < slice_index text at = grind (arith, nat_tests) in there text at high
 
-same_l : (text : List ℕ) (at : ℕ) → is_l (slice_index text at) ≡ true → slice_index text (at + 1) ≡ slice_index text at → is_l (slice_index text (at + 1)) ≡ true
+same_l : (text : List ℕ) (at : ℕ) → is_l (slice_index text at) ≡ true → slice_index text (at + 1) ≡ slice_index text at
+    → is_l (slice_index text (at + 1)) ≡ true
 same_l text at h e = rw e h
 
 pub long_within : (text : List ℕ) (from to : ℕ) → LongSuffix text from to → Within text from to
@@ -63,7 +68,8 @@ suffix_from text from to h no_suffix = record { behind = omega arith; inside = h
 suffix_from text from to h (only_u u) = let t = u_is_there text from u in record { behind = omega arith; inside = omega arith }
 suffix_from text from to h (only_l l) = let w = long_within text from to l in record { behind = omega arith; inside = w.inside }
 suffix_from text from to h (u_then_l u l) = let w = long_within text (from + 1) to l in record { behind = omega arith; inside = w.inside }
-suffix_from text from to h (l_then_u {mid = mid} l u) = let w = long_within text from mid l in let t = u_is_there text mid u in record { behind = omega arith; inside = omega arith }
+suffix_from text from to h (l_then_u {mid = mid} l u) = let w = long_within text from mid l in let t = u_is_there text mid u in
+    record { behind = omega arith; inside = omega arith }
 
 escape_after : (text : List ℕ) (from to : ℕ) → EscapeBody text from to → from < to
 escape_after text from to (by_letter h) = omega arith
@@ -76,7 +82,8 @@ one_of_after test text from to (escaped e) = escape_after text from to e.body
 
 pub some_of_after : (test : ℕ → Bool) (text : List ℕ) (from to : ℕ) → SomeOf test text from to → from ≤ to
 some_of_after test text from to no_more = omega arith
-some_of_after test text from to (one_more {mid = mid} o s) = let a = one_of_after test text from mid o in let b = some_of_after test text mid to s in omega arith
+some_of_after test text from to (one_more {mid = mid} o s) = let a = one_of_after test text from mid o in let b = some_of_after test text mid to s in
+    omega arith
 
 number_is_there : (text : List ℕ) (at n : ℕ) → slice_index text at ≡ n → 0 < n → at < length text
 number_is_there text at n e h = there text at (omega arith)
@@ -85,9 +92,12 @@ punct_is_there : (text : List ℕ) (at : ℕ) → is_punct_byte (slice_index tex
 punct_is_there text at h = let high : 0 < slice_index text at = grind (arith, nat_tests) in there text at high
 
 punct_within : (text : List ℕ) (from to : ℕ) → IsPunct text from to → Within text from to
-punct_within text from to (single n h) = let t = punct_is_there text from (single_byte (slice_index text from) h) in record { after = omega arith; inside = omega arith }
-punct_within text from to (double h) = let t = punct_is_there text (from + 1) (double_end (slice_index text from) (slice_index text (from + 1)) h) in record { after = omega arith; inside = omega arith }
-punct_within text from to (triple h) = let t = punct_is_there text (from + 2) (triple_end (slice_index text from) (slice_index text (from + 1)) (slice_index text (from + 2)) h) in record { after = omega arith; inside = omega arith }
+punct_within text from to (single n h) = let t = punct_is_there text from (single_byte (slice_index text from) h) in
+    record { after = omega arith; inside = omega arith }
+punct_within text from to (double h) = let t = punct_is_there text (from + 1) (double_end (slice_index text from) (slice_index text (from + 1)) h) in
+    record { after = omega arith; inside = omega arith }
+punct_within text from to (triple h) = let t = punct_is_there text (from + 2)
+    (triple_end (slice_index text from) (slice_index text (from + 1)) (slice_index text (from + 2)) h) in record { after = omega arith; inside = omega arith }
 
 pub spelled_within : (text : List ℕ) (kind : PieceKind) (from to : ℕ) → Spells text kind from to → Within text from to
 spelled_within text Blank from to s = let r = s.rest.ordered in record { after = omega arith; inside = s.rest.inside }
@@ -174,8 +184,10 @@ suffix_dark text from to h (l_then_u {mid = mid} l u) = dark_at text mid to refl
 
 punct_dark : (text : List ℕ) (from to : ℕ) → IsPunct text from to → EndsDark text to
 punct_dark text from to (single n h) = dark_at text from to refl (dark_punct (slice_index text from) (single_byte (slice_index text from) h))
-punct_dark text from to (double h) = dark_at text (from + 1) to (omega arith) (dark_punct (slice_index text (from + 1)) (double_end (slice_index text from) (slice_index text (from + 1)) h))
-punct_dark text from to (triple h) = dark_at text (from + 2) to (omega arith) (dark_punct (slice_index text (from + 2)) (triple_end (slice_index text from) (slice_index text (from + 1)) (slice_index text (from + 2)) h))
+punct_dark text from to (double h) = dark_at text (from + 1) to (omega arith)
+    (dark_punct (slice_index text (from + 1)) (double_end (slice_index text from) (slice_index text (from + 1)) h))
+punct_dark text from to (triple h) = dark_at text (from + 2) to (omega arith)
+    (dark_punct (slice_index text (from + 2)) (triple_end (slice_index text from) (slice_index text (from + 1)) (slice_index text (from + 2)) h))
 
 word_dark : (text : List ℕ) (from to : ℕ) → IsWord text from to → EndsDark text to
 word_dark text from to s = let r = s.rest.ordered in elim (cases_lt (from + 1) to) [
@@ -198,7 +210,8 @@ dark_not_first text to e f = elim (cases_lt e.position f.line) [
       let ends = e.ends in
       elim f.begins [
         | inl z ↦ absurd (omega arith)
-        | inr b ↦ let same : f.line - 1 ≡ e.position = omega arith in newline_is_not_dark (slice_index text e.position) (subst (λ (n : ℕ). slice_index text n ≡ 10) same b.1) e.dark
+        | inr b ↦ let same : f.line - 1 ≡ e.position = omega arith in
+            newline_is_not_dark (slice_index text e.position) (subst (λ (n : ℕ). slice_index text n ≡ 10) same b.1) e.dark
       ]
 ]
 
@@ -206,7 +219,8 @@ no_newline : (b : ℕ) → b ≡ 10 → is_line_byte b ≡ true → ⊥
 no_newline b h g = grind (arith, nat_tests)
 
 -- nor behind what is all on one line and begins with such a byte
-line_not_first : (text : List ℕ) (from to : ℕ) → is_dark (slice_index text from) ≡ true → from < to → ((k : ℕ) → from ≤ k → k < to → is_line_byte (slice_index text k) ≡ true) → IsFirstOnLine text to → ⊥
+line_not_first : (text : List ℕ) (from to : ℕ) → is_dark (slice_index text from) ≡ true → from < to
+    → ((k : ℕ) → from ≤ k → k < to → is_line_byte (slice_index text k) ≡ true) → IsFirstOnLine text to → ⊥
 line_not_first text from to dark after line f = elim (cases_lt from f.line) [
   | inr h ↦ blank_is_not_dark (slice_index text from) (f.blanks.each from h after) dark
   | inl h ↦ let ordered = f.blanks.ordered in elim f.begins [
@@ -242,14 +256,21 @@ hash_line text from to s k low high = elim (cases_lt from k) [
 -- behind a piece that is no blank nothing is the first of its line
 pub not_first_behind : (text : List ℕ) (kind : PieceKind) (from to : ℕ) → Spells text kind from to → (kind ≡ Blank → ⊥) → IsFirstOnLine text to → ⊥
 not_first_behind text Blank from to s other f = other refl
-not_first_behind text LineComment from to s other f = line_not_first text from to (dark_number (slice_index text from) 47 s.opened.one (omega arith)) (let w = spelled_within text LineComment from to s in w.after) (comment_line text from to s) f
+not_first_behind text LineComment from to s other f =
+    line_not_first text from to (dark_number (slice_index text from) 47 s.opened.one (omega arith))
+    (let w = spelled_within text LineComment from to s in w.after) (comment_line text from to s) f
 not_first_behind text BlockComment from to s other f =
     let room = s.room in
     let same : to - 2 + 1 ≡ to - 1 = omega arith in
-    dark_not_first text to (dark_at text (to - 1) to (omega arith) (dark_number (slice_index text (to - 1)) 47 (subst (λ (n : ℕ). slice_index text n ≡ 47) same s.closed.two) (omega arith))) f
-not_first_behind text HashLine from to s other f = line_not_first text from to (dark_number (slice_index text from) 35 s.hash (omega arith)) (let w = spelled_within text HashLine from to s in w.after) (hash_line text from to s) f
+    dark_not_first text to (dark_at text (to - 1) to (omega arith)
+    (dark_number (slice_index text (to - 1)) 47 (subst (λ (n : ℕ). slice_index text n ≡ 47) same s.closed.two) (omega arith))) f
+not_first_behind text HashLine from to s other f = line_not_first text from to (dark_number (slice_index text from) 35 s.hash (omega arith))
+    (let w = spelled_within text HashLine from to s in w.after) (hash_line text from to s) f
 not_first_behind text Word from to s other f = dark_not_first text to (word_dark text from to s) f
-not_first_behind text IntegerLiteral from to s other f = dark_not_first text to (suffix_dark text s.digits_end to (literal_dark text from s.digits_end s.digits) s.suffix) f
-not_first_behind text CharacterLiteral from to s other f = dark_not_first text to (dark_at text s.inner_end to s.ends (dark_number (slice_index text s.inner_end) 39 s.closed (omega arith))) f
-not_first_behind text StringLiteral from to s other f = dark_not_first text to (dark_at text s.inner_end to s.ends (dark_number (slice_index text s.inner_end) 34 s.closed (omega arith))) f
+not_first_behind text IntegerLiteral from to s other f =
+    dark_not_first text to (suffix_dark text s.digits_end to (literal_dark text from s.digits_end s.digits) s.suffix) f
+not_first_behind text CharacterLiteral from to s other f =
+    dark_not_first text to (dark_at text s.inner_end to s.ends (dark_number (slice_index text s.inner_end) 39 s.closed (omega arith))) f
+not_first_behind text StringLiteral from to s other f =
+    dark_not_first text to (dark_at text s.inner_end to s.ends (dark_number (slice_index text s.inner_end) 34 s.closed (omega arith))) f
 not_first_behind text Punctuator from to s other f = dark_not_first text to (punct_dark text from to s) f

@@ -1,13 +1,16 @@
 -- What spells a piece at a position has the kind that the place's first two bytes leave.
-use Rattle.std.proofs.Common.{List, [], ◌∷◌, ◌≡◌, ℕ, ◌+◌, ◌≤◌, ◌⊎◌, inl, inr, Bool, true, false, slice_index, refl, subst, arith, if◌then◌else◌, nat_eq, nat_le, ◌&&◌, ◌||◌}
+use Rattle.std.proofs.Common.{List, [], ◌∷◌, ◌≡◌, ℕ, ◌+◌, ◌≤◌, ◌⊎◌, inl, inr, Bool, true, false, slice_index, refl, subst, arith, if◌then◌else◌, nat_eq, nat_le}
+use Rattle.std.proofs.Common.{◌&&◌, ◌||◌}
 use Rattle.std.proofs.lemmas.Bool.Decides.{nat_tests}
 use Rattle.std.specs.Char.{is_ascii_digit}
 use Rattle.std.specs.List.{list_any, list_all}
 use Rattle.cpp_lex.specs.declared.piece.PieceKind.{PieceKind}
-use Rattle.cpp_lex.specs.declared.piece.PieceKind.TheVariants.{Blank, LineComment, BlockComment, HashLine, Word, IntegerLiteral, CharacterLiteral, StringLiteral, Punctuator}
+use Rattle.cpp_lex.specs.declared.piece.PieceKind.TheVariants.{Blank, LineComment, BlockComment, HashLine, Word, IntegerLiteral, CharacterLiteral}
+use Rattle.cpp_lex.specs.declared.piece.PieceKind.TheVariants.{StringLiteral, Punctuator}
 use Rattle.cpp_lex.specs.Bytes.{is_letter, is_blank, is_digit}
 use Rattle.cpp_lex.specs.Ints.{Digits, one, more, marked, Literal, decimal, octal, prefixed}
-use Rattle.cpp_lex.specs.Puncts.{IsPunct, single, double, triple, single_puncts, double_puncts, triple_puncts, is_single_punct, is_double_punct, is_triple_punct, is_pair, is_triple, opens_comment}
+use Rattle.cpp_lex.specs.Puncts.{IsPunct, single, double, triple, single_puncts, double_puncts, triple_puncts, is_single_punct, is_double_punct}
+use Rattle.cpp_lex.specs.Puncts.{is_triple_punct, is_pair, is_triple, opens_comment}
 use Rattle.cpp_lex.specs.Kinds.{kind_by, kind_of}
 use Rattle.cpp_lex.specs.Pieces.{Spells, IsLegal, PieceAt, NoPiece}
 
@@ -50,7 +53,8 @@ any_single test (x ∷ xs) b all any =
     ]
 
 -- the same of the first bytes of pairs and triples, and of the last ones
-any_pair : (test : ℕ → Bool) (xs : List (List ℕ)) (b c : ℕ) → list_all (λ x. test (slice_index x 0)) xs ≡ true → list_any (is_pair b c) xs ≡ true → test b ≡ true
+any_pair : (test : ℕ → Bool) (xs : List (List ℕ)) (b c : ℕ) → list_all (λ x. test (slice_index x 0)) xs ≡ true → list_any (is_pair b c) xs ≡ true
+    → test b ≡ true
 any_pair test [] b c all any = absurd cc
 any_pair test (x ∷ xs) b c all any =
     let parts = and_true (test (slice_index x 0)) (list_all (λ x. test (slice_index x 0)) xs) all in
@@ -59,7 +63,8 @@ any_pair test (x ∷ xs) b c all any =
       | inr there ↦ any_pair test xs b c parts.1 there
     ]
 
-any_pair_end : (test : ℕ → Bool) (xs : List (List ℕ)) (b c : ℕ) → list_all (λ x. test (slice_index x 1)) xs ≡ true → list_any (is_pair b c) xs ≡ true → test c ≡ true
+any_pair_end : (test : ℕ → Bool) (xs : List (List ℕ)) (b c : ℕ) → list_all (λ x. test (slice_index x 1)) xs ≡ true → list_any (is_pair b c) xs ≡ true
+    → test c ≡ true
 any_pair_end test [] b c all any = absurd cc
 any_pair_end test (x ∷ xs) b c all any =
     let parts = and_true (test (slice_index x 1)) (list_all (λ x. test (slice_index x 1)) xs) all in
@@ -68,7 +73,8 @@ any_pair_end test (x ∷ xs) b c all any =
       | inr there ↦ any_pair_end test xs b c parts.1 there
     ]
 
-any_triple : (test : ℕ → Bool) (xs : List (List ℕ)) (b c d : ℕ) → list_all (λ x. test (slice_index x 0)) xs ≡ true → list_any (is_triple b c d) xs ≡ true → test b ≡ true
+any_triple : (test : ℕ → Bool) (xs : List (List ℕ)) (b c d : ℕ) → list_all (λ x. test (slice_index x 0)) xs ≡ true → list_any (is_triple b c d) xs ≡ true
+    → test b ≡ true
 any_triple test [] b c d all any = absurd cc
 any_triple test (x ∷ xs) b c d all any =
     let parts = and_true (test (slice_index x 0)) (list_all (λ x. test (slice_index x 0)) xs) all in
@@ -77,7 +83,8 @@ any_triple test (x ∷ xs) b c d all any =
       | inr there ↦ any_triple test xs b c d parts.1 there
     ]
 
-any_triple_end : (test : ℕ → Bool) (xs : List (List ℕ)) (b c d : ℕ) → list_all (λ x. test (slice_index x 2)) xs ≡ true → list_any (is_triple b c d) xs ≡ true → test d ≡ true
+any_triple_end : (test : ℕ → Bool) (xs : List (List ℕ)) (b c d : ℕ) → list_all (λ x. test (slice_index x 2)) xs ≡ true → list_any (is_triple b c d) xs ≡ true
+    → test d ≡ true
 any_triple_end test [] b c d all any = absurd cc
 any_triple_end test (x ∷ xs) b c d all any =
     let parts = and_true (test (slice_index x 2)) (list_all (λ x. test (slice_index x 2)) xs) all in
@@ -114,7 +121,8 @@ triple_end b c d h = any_triple_end is_punct_byte triple_puncts b c d refl h
 abbrev begins_no_comment : List ℕ → Bool
 begins_no_comment x = if nat_eq (slice_index x 0) 47 && (nat_eq (slice_index x 1) 47 || nat_eq (slice_index x 1) 42) then false else true
 
-pair_here : (e f b c : ℕ) → (if nat_eq e 47 && (nat_eq f 47 || nat_eq f 42) then false else true) ≡ true → (nat_eq e b && nat_eq f c) ≡ true → opens_comment b c ≡ false
+pair_here : (e f b c : ℕ) → (if nat_eq e 47 && (nat_eq f 47 || nat_eq f 42) then false else true) ≡ true → (nat_eq e b && nat_eq f c) ≡ true
+    → opens_comment b c ≡ false
 pair_here e f b c h g = grind (arith, nat_tests)
 
 pair_no_comment : (xs : List (List ℕ)) (b c : ℕ) → list_all begins_no_comment xs ≡ true → list_any (is_pair b c) xs ≡ true → opens_comment b c ≡ false
@@ -181,10 +189,12 @@ kind_spelled text Word from to s = rw s.first refl
 kind_spelled text IntegerLiteral from to s = let d = literal_first text from s.digits_end s.digits in rw (digit_is_no_letter (slice_index text from) d, d) refl
 kind_spelled text CharacterLiteral from to s = rw s.opened refl
 kind_spelled text StringLiteral from to s = rw s.opened refl
-kind_spelled text Punctuator from to s = let f = punct_front text from to s in by_parts (slice_index text from) (slice_index text (from + 1)) f.byte f.no_comment
+kind_spelled text Punctuator from to s = let f = punct_front text from to s in
+    by_parts (slice_index text from) (slice_index text (from + 1)) f.byte f.no_comment
 
 -- a piece from its kind's own readings
-pub piece_by : (text : List ℕ) (kind : PieceKind) (from to : ℕ) → Spells text kind from to → ((end : ℕ) → Spells text kind from end → end ≤ to) → IsLegal text kind from to → PieceAt text kind from to
+pub piece_by : (text : List ℕ) (kind : PieceKind) (from to : ℕ) → Spells text kind from to → ((end : ℕ) → Spells text kind from end → end ≤ to)
+    → IsLegal text kind from to → PieceAt text kind from to
 piece_by text kind from to spelled longest legal = record {
   spelled = spelled;
   longest = λ other end o.

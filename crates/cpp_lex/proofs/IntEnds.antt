@@ -1,10 +1,12 @@
 -- How far integer literals reach.
-use Rattle.std.proofs.Common.{List, ◌≡◌, ◌≢◌, ℕ, ◌+◌, ◌<◌, ◌≤◌, ◌⊎◌, inl, inr, true, false, length, Option, Some, None, refl, ◌∙◌, subst, ap, arith, slice_index}
+use Rattle.std.proofs.Common.{List, ◌≡◌, ◌≢◌, ℕ, ◌+◌, ◌<◌, ◌≤◌, ◌⊎◌, inl, inr, true, false, length, Option, Some, None, refl, ◌∙◌, subst, ap, arith}
+use Rattle.std.proofs.Common.{slice_index}
 use Rattle.std.proofs.Math.ListN.{get_or-eq_default}
 use Rattle.std.proofs.lemmas.Bool.{cases_lt}
 use Rattle.std.proofs.lemmas.Bool.Decides.{nat_tests}
 use Rattle.cpp_lex.specs.Bytes.{is_digit}
-use Rattle.cpp_lex.specs.Ints.{Digits, one, more, marked, Prefixed, hexadecimal, binary, Literal, decimal, octal, prefixed, LongSuffix, one_l, two_l, Suffix, no_suffix, only_u, only_l, u_then_l, l_then_u, is_u, is_l, IsInt}
+use Rattle.cpp_lex.specs.Ints.{Digits, one, more, marked, Prefixed, hexadecimal, binary, Literal, decimal, octal, prefixed, LongSuffix, one_l, two_l, Suffix}
+use Rattle.cpp_lex.specs.Ints.{no_suffix, only_u, only_l, u_then_l, l_then_u, is_u, is_l, IsInt}
 use Rattle.cpp_lex.specs.Readings.{IsFurthest, IsLongest}
 use Rattle.cpp_lex.proofs.Fronts.{digits_first}
 use Rattle.cpp_lex.proofs.Ends.{digits_within, prefixed_within, literal_within, long_within, suffix_from}
@@ -23,13 +25,15 @@ last_digit base text from to (marked {at = at} ds m d) = record { position = at 
 mark_is_no_digit : (base b : ℕ) → b ≡ 39 → is_digit base b ≡ true → ⊥
 mark_is_no_digit base b e h = grind (arith, nat_tests)
 
-pub digits_furthest : (base : ℕ) (text : List ℕ) (from at : ℕ) → Digits base text from at → is_digit base (slice_index text at) ≡ false → (slice_index text at ≡ 39 → is_digit base (slice_index text (at + 1)) ≡ false) → (end : ℕ) → Digits base text from end → end ≤ at
+pub digits_furthest : (base : ℕ) (text : List ℕ) (from at : ℕ) → Digits base text from at → is_digit base (slice_index text at) ≡ false
+    → (slice_index text at ≡ 39 → is_digit base (slice_index text (at + 1)) ≡ false) → (end : ℕ) → Digits base text from end → end ≤ at
 digits_furthest base text from at here no_digit no_mark end (one d) = let w = digits_within base text from at here in omega (arith, w.after)
 digits_furthest base text from at here no_digit no_mark end (more {at = position} ds d) =
     let before : position ≤ at = digits_furthest base text from at here no_digit no_mark position ds in
     elim (cases_lt position at) [
       | inl h ↦ omega arith
-      | inr h ↦ let same : position ≡ at = omega arith in let yes : is_digit base (slice_index text at) ≡ true = subst (λ (n : ℕ). is_digit base (slice_index text n) ≡ true) same d in absurd cc
+      | inr h ↦ let same : position ≡ at = omega arith in let yes : is_digit base (slice_index text at) ≡ true =
+          subst (λ (n : ℕ). is_digit base (slice_index text n) ≡ true) same d in absurd cc
     ]
 digits_furthest base text from at here no_digit no_mark end (marked {at = position} ds m d) =
     let before : position ≤ at = digits_furthest base text from at here no_digit no_mark position ds in
@@ -38,7 +42,8 @@ digits_furthest base text from at here no_digit no_mark end (marked {at = positi
     elim (cases_lt (position + 1) at) [
       | inl h ↦ omega arith
       | inr h ↦ elim (cases_lt position at) [
-        | inl g ↦ let same : last.position ≡ position = omega arith in absurd (mark_is_no_digit base (slice_index text position) m (subst (λ (n : ℕ). is_digit base (slice_index text n) ≡ true) same last.digit))
+        | inl g ↦ let same : last.position ≡ position = omega arith in
+            absurd (mark_is_no_digit base (slice_index text position) m (subst (λ (n : ℕ). is_digit base (slice_index text n) ≡ true) same last.digit))
         | inr g ↦
             let same : position ≡ at = omega arith in
             let mark : slice_index text at ≡ 39 = subst (λ (n : ℕ). slice_index text n ≡ 39) same m in
@@ -65,7 +70,8 @@ pub end_is_no_mark : (text : List ℕ) (at : ℕ) → length text ≤ at → sli
 end_is_no_mark text at h e = let z = behind_end text at h in omega arith
 
 -- literals that do not begin with 0
-pub decimal_end : (text : List ℕ) (from : ℕ) → slice_index text from ≢ 48 → (o : Option ℕ) → IsLongest (λ to. Digits 10 text from to) o → IsLongest (λ to. Literal text from to) o
+pub decimal_end : (text : List ℕ) (from : ℕ) → slice_index text from ≢ 48 → (o : Option ℕ) → IsLongest (λ to. Digits 10 text from to) o
+    → IsLongest (λ to. Literal text from to) o
 decimal_end text from other None none = λ end l. elim l [
   | decimal is ds ↦ none end ds
   | octal is ds ↦ other is
@@ -81,7 +87,8 @@ decimal_end text from other (Some to) here = record {
 }
 
 -- x and hexadecimal digits, b and binary digits, or neither
-pub hexadecimal_end : (text : List ℕ) (from : ℕ) → slice_index text (from + 1) ≡ 120 → (o : Option ℕ) → IsLongest (λ to. Digits 16 text (from + 2) to) o → IsLongest (λ to. Prefixed text from to) o
+pub hexadecimal_end : (text : List ℕ) (from : ℕ) → slice_index text (from + 1) ≡ 120 → (o : Option ℕ) → IsLongest (λ to. Digits 16 text (from + 2) to) o
+    → IsLongest (λ to. Prefixed text from to) o
 hexadecimal_end text from is_x None none = λ end p. elim p [
   | hexadecimal is ds ↦ none end ds
   | binary is ds ↦ absurd (omega arith)
@@ -94,7 +101,8 @@ hexadecimal_end text from is_x (Some to) here = record {
   ];
 }
 
-pub binary_end : (text : List ℕ) (from : ℕ) → slice_index text (from + 1) ≡ 98 → (o : Option ℕ) → IsLongest (λ to. Digits 2 text (from + 2) to) o → IsLongest (λ to. Prefixed text from to) o
+pub binary_end : (text : List ℕ) (from : ℕ) → slice_index text (from + 1) ≡ 98 → (o : Option ℕ) → IsLongest (λ to. Digits 2 text (from + 2) to) o
+    → IsLongest (λ to. Prefixed text from to) o
 binary_end text from is_b None none = λ end p. elim p [
   | hexadecimal is ds ↦ absurd (omega arith)
   | binary is ds ↦ none end ds
@@ -129,7 +137,8 @@ octal_short text from to is p end ds =
     let letter = letter_ends (slice_index text (from + 1)) (prefix_letter text from to p) in
     digits_furthest 8 text from (from + 1) (one (zero_is_octal (slice_index text from) is)) letter.0 (λ e. absurd (letter.1 e)) end ds
 
-pub prefixed_end : (text : List ℕ) (from to : ℕ) → slice_index text from ≡ 48 → IsFurthest (λ to. Prefixed text from to) to → IsFurthest (λ to. Literal text from to) to
+pub prefixed_end : (text : List ℕ) (from to : ℕ) → slice_index text from ≡ 48 → IsFurthest (λ to. Prefixed text from to) to
+    → IsFurthest (λ to. Literal text from to) to
 prefixed_end text from to is_zero here =
     let w = prefixed_within text from to here.reads in
     record {
@@ -141,7 +150,8 @@ prefixed_end text from to is_zero here =
       ];
     }
 
-pub octal_end : (text : List ℕ) (from : ℕ) → slice_index text from ≡ 48 → ((end : ℕ) → Prefixed text from end → ⊥) → (o : Option ℕ) → IsLongest (λ to. Digits 8 text from to) o → IsLongest (λ to. Literal text from to) o
+pub octal_end : (text : List ℕ) (from : ℕ) → slice_index text from ≡ 48 → ((end : ℕ) → Prefixed text from end → ⊥) → (o : Option ℕ)
+    → IsLongest (λ to. Digits 8 text from to) o → IsLongest (λ to. Literal text from to) o
 octal_end text from is_zero unprefixed None none = λ end l. elim l [
   | decimal is ds ↦ is is_zero
   | octal is ds ↦ none end ds
@@ -182,16 +192,27 @@ suffix_view text at end (l_then_u {mid = mid} l u) = see_l_u mid l u refl
 pub no_long : (text : List ℕ) (at : ℕ) → is_l (slice_index text at) ≡ false → (end : ℕ) → LongSuffix text at end → ⊥
 no_long text at h end l = elim (long_view text at end l) [ see_one is e ↦ cc | see_two is e f ↦ cc ]
 
-pub two_end : (text : List ℕ) (at : ℕ) → is_l (slice_index text at) ≡ true → slice_index text (at + 1) ≡ slice_index text at → IsFurthest (λ to. LongSuffix text at to) (at + 2)
-two_end text at is e = record { reads = two_l is e; furthest = λ end l. elim (long_view text at end l) [ see_one is2 ends ↦ omega arith | see_two is2 e2 ends ↦ omega arith ] }
+pub two_end : (text : List ℕ) (at : ℕ) → is_l (slice_index text at) ≡ true → slice_index text (at + 1) ≡ slice_index text at
+    → IsFurthest (λ to. LongSuffix text at to) (at + 2)
+two_end text at is e = record {
+  reads = two_l is e;
+  furthest = λ end l. elim
+      (long_view text at end l) [ see_one is2 ends ↦ omega arith | see_two is2 e2 ends ↦ omega arith ];
+}
 
-pub one_end : (text : List ℕ) (at : ℕ) → is_l (slice_index text at) ≡ true → slice_index text (at + 1) ≢ slice_index text at → IsFurthest (λ to. LongSuffix text at to) (at + 1)
-one_end text at is e = record { reads = one_l is; furthest = λ end l. elim (long_view text at end l) [ see_one is2 ends ↦ omega arith | see_two is2 e2 ends ↦ absurd (e e2) ] }
+pub one_end : (text : List ℕ) (at : ℕ) → is_l (slice_index text at) ≡ true → slice_index text (at + 1) ≢ slice_index text at
+    → IsFurthest (λ to. LongSuffix text at to) (at + 1)
+one_end text at is e = record {
+  reads = one_l is;
+  furthest = λ end l. elim
+      (long_view text at end l) [ see_one is2 ends ↦ omega arith | see_two is2 e2 ends ↦ absurd (e e2) ];
+}
 
 u_is_no_l : (b : ℕ) → is_u b ≡ true → is_l b ≡ false
 u_is_no_l b h = grind (arith, nat_tests)
 
-pub u_l_end : (text : List ℕ) (at to : ℕ) → is_u (slice_index text at) ≡ true → IsFurthest (λ to. LongSuffix text (at + 1) to) to → IsFurthest (λ to. Suffix text at to) to
+pub u_l_end : (text : List ℕ) (at to : ℕ) → is_u (slice_index text at) ≡ true → IsFurthest (λ to. LongSuffix text (at + 1) to) to
+    → IsFurthest (λ to. Suffix text at to) to
 u_l_end text at to u here =
     let w = long_within text (at + 1) to here.reads in
     let after = w.after in
@@ -207,7 +228,8 @@ u_l_end text at to u here =
       ];
     }
 
-pub u_end : (text : List ℕ) (at : ℕ) → is_u (slice_index text at) ≡ true → ((end : ℕ) → LongSuffix text (at + 1) end → ⊥) → IsFurthest (λ to. Suffix text at to) (at + 1)
+pub u_end : (text : List ℕ) (at : ℕ) → is_u (slice_index text at) ≡ true → ((end : ℕ) → LongSuffix text (at + 1) end → ⊥)
+    → IsFurthest (λ to. Suffix text at to) (at + 1)
 u_end text at u none_behind =
     let none = no_long text at (u_is_no_l (slice_index text at) u) in
     record {
@@ -221,7 +243,8 @@ u_end text at u none_behind =
       ];
     }
 
-pub plain_end : (text : List ℕ) (at : ℕ) → is_u (slice_index text at) ≡ false → ((end : ℕ) → LongSuffix text at end → ⊥) → IsFurthest (λ to. Suffix text at to) at
+pub plain_end : (text : List ℕ) (at : ℕ) → is_u (slice_index text at) ≡ false → ((end : ℕ) → LongSuffix text at end → ⊥)
+    → IsFurthest (λ to. Suffix text at to) at
 plain_end text at no_u none = record {
   reads = no_suffix;
   furthest = λ end s. elim (suffix_view text at end s) [
@@ -237,7 +260,8 @@ l_is_no_u : (b : ℕ) → is_l b ≡ true → is_u b ≡ false
 l_is_no_u b h = grind (arith, nat_tests)
 
 -- a u behind a long suffix stands behind the longest one
-u_at_end : (text : List ℕ) (at mid end : ℕ) → IsFurthest (λ to. LongSuffix text at to) end → LongSuffix text at mid → is_u (slice_index text mid) ≡ true → mid ≡ end
+u_at_end : (text : List ℕ) (at mid end : ℕ) → IsFurthest (λ to. LongSuffix text at to) end → LongSuffix text at mid → is_u (slice_index text mid) ≡ true
+    → mid ≡ end
 u_at_end text at mid end here l u =
     elim (long_view text at end here.reads) [
       | see_one is ends ↦ elim (long_view text at mid l) [
@@ -253,7 +277,8 @@ u_at_end text at mid end here l u =
       ]
     ]
 
-pub l_u_end : (text : List ℕ) (at to : ℕ) → is_u (slice_index text at) ≡ false → IsFurthest (λ to. LongSuffix text at to) to → is_u (slice_index text to) ≡ true → IsFurthest (λ to. Suffix text at to) (to + 1)
+pub l_u_end : (text : List ℕ) (at to : ℕ) → is_u (slice_index text at) ≡ false → IsFurthest (λ to. LongSuffix text at to) to → is_u (slice_index text to) ≡ true
+    → IsFurthest (λ to. Suffix text at to) (to + 1)
 l_u_end text at to no_u here u =
     let w = long_within text at to here.reads in
     let after = w.after in
@@ -268,7 +293,8 @@ l_u_end text at to no_u here u =
       ];
     }
 
-pub l_end : (text : List ℕ) (at to : ℕ) → is_u (slice_index text at) ≡ false → IsFurthest (λ to. LongSuffix text at to) to → is_u (slice_index text to) ≡ false → IsFurthest (λ to. Suffix text at to) to
+pub l_end : (text : List ℕ) (at to : ℕ) → is_u (slice_index text at) ≡ false → IsFurthest (λ to. LongSuffix text at to) to → is_u (slice_index text to) ≡ false
+    → IsFurthest (λ to. Suffix text at to) to
 l_end text at to no_u here no_u_behind =
     let w = long_within text at to here.reads in
     let after = w.after in
@@ -279,7 +305,8 @@ l_end text at to no_u here no_u_behind =
         | see_u u2 ends ↦ absurd cc
         | see_l l ↦ here.furthest end l
         | see_u_l u2 l ↦ absurd cc
-        | see_l_u mid l u2 ends ↦ let e : mid ≡ to = u_at_end text at mid to here l u2 in let u3 : is_u (slice_index text to) ≡ true = subst (λ (n : ℕ). is_u (slice_index text n) ≡ true) e u2 in absurd cc
+        | see_l_u mid l u2 ends ↦ let e : mid ≡ to = u_at_end text at mid to here l u2 in let u3 : is_u (slice_index text to) ≡ true =
+            subst (λ (n : ℕ). is_u (slice_index text n) ≡ true) e u2 in absurd cc
       ];
     }
 
@@ -310,7 +337,8 @@ mark_no_suffix b n e h = record { no_u = mark_no_u b n e h; no_l = mark_no_l b n
 
 -- a byte of digits begins no suffix
 digits_no_suffix : (base : ℕ) (text : List ℕ) (from to : ℕ) → Digits base text from to → (k : ℕ) → from ≤ k → k < to → NoSuffix (slice_index text k)
-digits_no_suffix base text from to (one d) k low high = let same : from ≡ k = omega arith in subst (λ (n : ℕ). NoSuffix (slice_index text n)) same (digit_no_suffix base (slice_index text from) d)
+digits_no_suffix base text from to (one d) k low high = let same : from ≡ k = omega arith in
+    subst (λ (n : ℕ). NoSuffix (slice_index text n)) same (digit_no_suffix base (slice_index text from) d)
 digits_no_suffix base text from to (more {at = at} ds d) k low high = elim (cases_lt k at) [
   | inl h ↦ digits_no_suffix base text from at ds k low h
   | inr h ↦ let same : at ≡ k = omega arith in subst (λ (n : ℕ). NoSuffix (slice_index text n)) same (digit_no_suffix base (slice_index text at) d)
@@ -323,9 +351,11 @@ digits_no_suffix base text from to (marked {at = at} ds m d) k low high = elim (
   ]
 ]
 
-behind_prefix : (base : ℕ) (text : List ℕ) (from to letter : ℕ) → slice_index text (from + 1) ≡ letter → (letter ≡ 39) ⊎ ((letter ≡ 120) ⊎ (letter ≡ 98)) → Digits base text (from + 2) to → (k : ℕ) → from < k → k < to → NoSuffix (slice_index text k)
+behind_prefix : (base : ℕ) (text : List ℕ) (from to letter : ℕ) → slice_index text (from + 1) ≡ letter → (letter ≡ 39) ⊎ ((letter ≡ 120) ⊎ (letter ≡ 98))
+    → Digits base text (from + 2) to → (k : ℕ) → from < k → k < to → NoSuffix (slice_index text k)
 behind_prefix base text from to letter e h ds k low high = elim (cases_lt k (from + 2)) [
-  | inl g ↦ let same : from + 1 ≡ k = omega arith in subst (λ (n : ℕ). NoSuffix (slice_index text n)) same (mark_no_suffix (slice_index text (from + 1)) letter e h)
+  | inl g ↦ let same : from + 1 ≡ k = omega arith in subst (λ (n : ℕ). NoSuffix (slice_index text n)) same
+      (mark_no_suffix (slice_index text (from + 1)) letter e h)
   | inr g ↦ digits_no_suffix base text (from + 2) to ds k g high
 ]
 
@@ -348,7 +378,8 @@ empty_suffix text at end n s = elim (suffix_view text at end s) [
   | see_l_u mid l u2 ends ↦ absurd (no_long text at n.no_l mid l)
 ]
 
-pub int_furthest : (text : List ℕ) (from digits_end to : ℕ) → IsFurthest (λ to. Literal text from to) digits_end → IsFurthest (λ to. Suffix text digits_end to) to → IsFurthest (λ to. IsInt text from to) to
+pub int_furthest : (text : List ℕ) (from digits_end to : ℕ) → IsFurthest (λ to. Literal text from to) digits_end
+    → IsFurthest (λ to. Suffix text digits_end to) to → IsFurthest (λ to. IsInt text from to) to
 int_furthest text from digits_end to here suffix =
     let w = literal_within text from digits_end here.reads in
     let f = suffix_from text digits_end to w.inside suffix.reads in
@@ -359,7 +390,8 @@ int_furthest text from digits_end to here suffix =
           let before : i.digits_end ≤ digits_end = here.furthest i.digits_end i.digits in
           let w2 = literal_within text from i.digits_end i.digits in
           elim (cases_lt i.digits_end digits_end) [
-            | inl h ↦ let e = empty_suffix text i.digits_end end (literal_no_suffix text from digits_end here.reads i.digits_end w2.after h) i.suffix in omega arith
+            | inl h ↦ let e = empty_suffix text i.digits_end end (literal_no_suffix text from digits_end here.reads i.digits_end w2.after h) i.suffix in
+                omega arith
             | inr h ↦ let same : i.digits_end ≡ digits_end = omega arith in suffix.furthest end (subst (λ (n : ℕ). Suffix text n end) same i.suffix)
           ];
     }

@@ -1,14 +1,17 @@
 -- What holds of every list of tokens.
-use Rattle.std.proofs.Common.{List, [], ◌∷◌, ◌++◌, ◌≡◌, ℕ, ◌<◌, ◌≤◌, Bool, true, false, length, Option, Some, None, if◌then◌else◌, ◌&&◌, refl, sym, ◌∙◌, subst, ap, arith, slice_range}
+use Rattle.std.proofs.Common.{List, [], ◌∷◌, ◌++◌, ◌≡◌, ℕ, ◌<◌, ◌≤◌, Bool, true, false, length, Option, Some, None, if◌then◌else◌, ◌&&◌, refl, sym, ◌∙◌, subst}
+use Rattle.std.proofs.Common.{ap, arith, slice_range}
 use Rattle.std.specs.Prelude.{All}
 use Rattle.std.proofs.lemmas.List.Elements.{All-nil, All-cons, All-head, All-tail, All-append}
 use Rattle.cpp_lex.specs.declared.piece.PieceKind.{PieceKind}
-use Rattle.cpp_lex.specs.declared.piece.PieceKind.TheVariants.{Blank, LineComment, BlockComment, HashLine, Word, IntegerLiteral, CharacterLiteral, StringLiteral, Punctuator}
+use Rattle.cpp_lex.specs.declared.piece.PieceKind.TheVariants.{Blank, LineComment, BlockComment, HashLine, Word, IntegerLiteral, CharacterLiteral}
+use Rattle.cpp_lex.specs.declared.piece.PieceKind.TheVariants.{StringLiteral, Punctuator}
 use Rattle.cpp_lex.specs.declared.TokKind.{TokKind}
 use Rattle.cpp_lex.specs.declared.TokKind.TheVariants.{Name, Key, Int, Char}
 use Rattle.cpp_lex.specs.Words.{is_keyword}
 use Rattle.cpp_lex.specs.Pieces.{PieceAt, NoPiece, Piece, Pieces, done, next}
-use Rattle.cpp_lex.specs.Tokens.{Lexeme, token_kind, piece_value, token_of, token_at, kept, is_str, as_one, joined_to, joined, IsTokens, IsFaultAt, IsAscending, IsTyped}
+use Rattle.cpp_lex.specs.Tokens.{Lexeme, token_kind, piece_value, token_of, token_at, kept, is_str, as_one, joined_to, joined, IsTokens, IsFaultAt, IsAscending}
+use Rattle.cpp_lex.specs.Tokens.{IsTyped}
 use Rattle.cpp_lex.proofs.Ends.{spelled_within}
 use Rattle.cpp_lex.proofs.Readings.{same_reading}
 use Rattle.cpp_lex.proofs.Values.{char_small}
@@ -37,7 +40,8 @@ ascending_from : (from mid to : ℕ) (ts : List Lexeme) → from ≤ mid → IsA
 ascending_from from mid to [] h a = omega arith
 ascending_from from mid to (t ∷ ts) h a = (let b = a.0 in omega arith, a.1, a.2)
 
-ascending_of : (kind : Option TokKind) (from mid to value : ℕ) (bytes : List ℕ) (rest : List Lexeme) → from < mid → IsAscending mid rest to → IsAscending from (token_of kind from mid value bytes ++ rest) to
+ascending_of : (kind : Option TokKind) (from mid to value : ℕ) (bytes : List ℕ) (rest : List Lexeme) → from < mid → IsAscending mid rest to
+    → IsAscending from (token_of kind from mid value bytes ++ rest) to
 ascending_of None from mid to value bytes rest h a = ascending_from from mid to rest (omega arith) a
 ascending_of (Some kind) from mid to value bytes rest h a = (omega arith, h, a)
 
@@ -48,11 +52,13 @@ kept_ascending text {from} {to} (next {mid = mid} {pieces = pieces} kind p rest)
     let w = spelled_within text kind from mid p.spelled in
     ascending_of (token_kind kind bytes) from mid to (piece_value kind bytes) bytes (kept text pieces) w.after (kept_ascending text rest)
 
-choose_ascending : (strings : Bool) (from to : ℕ) (t a : Lexeme) (rest : List Lexeme) → from ≤ t.from → t.from < t.to → IsAscending t.to (a ∷ rest) to → IsAscending from (if strings then as_one t a ∷ rest else t ∷ a ∷ rest) to
+choose_ascending : (strings : Bool) (from to : ℕ) (t a : Lexeme) (rest : List Lexeme) → from ≤ t.from → t.from < t.to → IsAscending t.to (a ∷ rest) to
+    → IsAscending from (if strings then as_one t a ∷ rest else t ∷ a ∷ rest) to
 choose_ascending true from to t a rest h g b = (h, let x = b.0 in let y = b.1 in omega arith, b.2)
 choose_ascending false from to t a rest h g b = (h, g, b)
 
-joined_to_ascending : (from to : ℕ) (t : Lexeme) (ts : List Lexeme) → from ≤ t.from → t.from < t.to → IsAscending t.to ts to → IsAscending from (joined_to t ts) to
+joined_to_ascending : (from to : ℕ) (t : Lexeme) (ts : List Lexeme) → from ≤ t.from → t.from < t.to → IsAscending t.to ts to
+    → IsAscending from (joined_to t ts) to
 joined_to_ascending from to t [] h g a = (h, g, a)
 joined_to_ascending from to t (a ∷ rest) h g b = choose_ascending (is_str t.kind && is_str a.kind) from to t a rest h g b
 
@@ -68,7 +74,8 @@ tokens_ascending text ts a = rw a.are_kept (joined_ascending 0 (length text) (ke
 neither_typed : (token : Lexeme) → (token.kind ≡ Int → ⊥) → (token.kind ≡ Char → ⊥) → IsTyped token
 neither_typed token no_int no_char = record { int = λ e. absurd (no_int e); char = λ e. absurd (no_char e) }
 
-choice_typed : (keyword : Bool) (from to : ℕ) (bytes : List ℕ) → IsTyped (record { kind = if keyword then Key else Name; from = from; to = to; value = 0; bytes = bytes })
+choice_typed : (keyword : Bool) (from to : ℕ) (bytes : List ℕ)
+    → IsTyped (record { kind = if keyword then Key else Name; from = from; to = to; value = 0; bytes = bytes })
 choice_typed true from to bytes = neither_typed _ (λ e. cc) (λ e. cc)
 choice_typed false from to bytes = neither_typed _ (λ e. cc) (λ e. cc)
 
@@ -88,7 +95,8 @@ token_typed text Punctuator from to p = alone _ (neither_typed _ (λ e. cc) (λ 
 
 kept_typed : (text : List ℕ) {from to : ℕ} {pieces : List Piece} → Pieces text from pieces to → All IsTyped (kept text pieces)
 kept_typed text done = All-nil IsTyped
-kept_typed text {from} (next {mid = mid} {pieces = pieces} kind p rest) = All-append IsTyped (token_at text kind from mid) (kept text pieces) (token_typed text kind from mid p) (kept_typed text rest)
+kept_typed text {from} (next {mid = mid} {pieces = pieces} kind p rest) =
+    All-append IsTyped (token_at text kind from mid) (kept text pieces) (token_typed text kind from mid p) (kept_typed text rest)
 
 str_is_no_int : (kind : TokKind) → is_str kind ≡ true → kind ≡ Int → ⊥
 str_is_no_int kind h e = let g : is_str kind ≡ false = rw e refl in cc
@@ -96,8 +104,10 @@ str_is_no_int kind h e = let g : is_str kind ≡ false = rw e refl in cc
 str_is_no_char : (kind : TokKind) → is_str kind ≡ true → kind ≡ Char → ⊥
 str_is_no_char kind h e = let g : is_str kind ≡ false = rw e refl in cc
 
-choose_typed : (first second : Bool) (t a : Lexeme) (rest : List Lexeme) → is_str t.kind ≡ first → All IsTyped (t ∷ a ∷ rest) → All IsTyped (if first && second then as_one t a ∷ rest else t ∷ a ∷ rest)
-choose_typed true true t a rest e h = All-cons IsTyped (as_one t a) rest (neither_typed (as_one t a) (str_is_no_int t.kind e) (str_is_no_char t.kind e)) (All-tail IsTyped a rest (All-tail IsTyped t (a ∷ rest) h))
+choose_typed : (first second : Bool) (t a : Lexeme) (rest : List Lexeme) → is_str t.kind ≡ first → All IsTyped (t ∷ a ∷ rest)
+    → All IsTyped (if first && second then as_one t a ∷ rest else t ∷ a ∷ rest)
+choose_typed true true t a rest e h = All-cons IsTyped (as_one t a) rest (neither_typed (as_one t a) (str_is_no_int t.kind e) (str_is_no_char t.kind e))
+    (All-tail IsTyped a rest (All-tail IsTyped t (a ∷ rest) h))
 choose_typed true false t a rest e h = h
 choose_typed false second t a rest e h = h
 

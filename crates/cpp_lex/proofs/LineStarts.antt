@@ -25,7 +25,8 @@ marker_is_no_blank text at m = elim m [
       p_is_no_blank (slice_index text at) same
 ]
 
-pub same_marker : (text : List ℕ) (from at end : ℕ) → IsFurthest (Run is_line_blank text (from + 1)) at → (s : IsHashLine text from end) → is_line_blank (slice_index text at) ≡ false → s.marker_at ≡ at
+pub same_marker : (text : List ℕ) (from at end : ℕ) → IsFurthest (Run is_line_blank text (from + 1)) at → (s : IsHashLine text from end)
+    → is_line_blank (slice_index text at) ≡ false → s.marker_at ≡ at
 same_marker text from at end blanks s no_blank = elim (cases_lt s.marker_at at) [
   | inl h ↦
       let ordered = s.blanks.ordered in
@@ -35,7 +36,8 @@ same_marker text from at end blanks s no_blank = elim (cases_lt s.marker_at at) 
   | inr h ↦ let far = blanks.furthest s.marker_at s.blanks in omega arith
 ]
 
-pub no_hash_line : (text : List ℕ) (from at : ℕ) → IsFurthest (Run is_line_blank text (from + 1)) at → (IsMarker text at → ⊥) → (end : ℕ) → IsHashLine text from end → ⊥
+pub no_hash_line : (text : List ℕ) (from at : ℕ) → IsFurthest (Run is_line_blank text (from + 1)) at → (IsMarker text at → ⊥) → (end : ℕ)
+    → IsHashLine text from end → ⊥
 no_hash_line text from at blanks no_marker end s = elim (cases_lt s.marker_at at) [
   | inl h ↦
       let ordered = s.blanks.ordered in
@@ -62,7 +64,8 @@ line_blank : (b : ℕ) → is_blank b ≡ true → b ≢ 10 → is_line_blank b 
 line_blank b h other = grind (arith, nat_tests)
 
 -- one blank further
-pub first_further : (text : List ℕ) (at : ℕ) → at < length text → is_blank (slice_index text at) ≡ true → slice_index text at ≢ 10 → IsFirstOnLine text at → IsFirstOnLine text (at + 1)
+pub first_further : (text : List ℕ) (at : ℕ) → at < length text → is_blank (slice_index text at) ≡ true → slice_index text at ≢ 10 → IsFirstOnLine text at
+    → IsFirstOnLine text (at + 1)
 first_further text at h blank other f =
     let ordered = f.blanks.ordered in
     record {
@@ -73,7 +76,8 @@ first_further text at h blank other f =
         inside = omega arith;
         each = λ k low high. elim (cases_lt k at) [
           | inl g ↦ f.blanks.each k low g
-          | inr g ↦ let same : at ≡ k = omega arith in subst (λ (n : ℕ). is_line_blank (slice_index text n) ≡ true) same (line_blank (slice_index text at) blank other)
+          | inr g ↦ let same : at ≡ k = omega arith in
+              subst (λ (n : ℕ). is_line_blank (slice_index text n) ≡ true) same (line_blank (slice_index text at) blank other)
         ];
       };
     }

@@ -1,5 +1,6 @@
 -- Numbers grow with each digit.
-use Rattle.std.proofs.Common.{List, [], ◌∷◌, ◌≡◌, ℕ, ◌+◌, ◌*◌, ◌<◌, ◌≤◌, Bool, true, false, if◌then◌else◌, length, refl, arith, slice_index, drop, drop-cons, add-one}
+use Rattle.std.proofs.Common.{List, [], ◌∷◌, ◌≡◌, ℕ, ◌+◌, ◌*◌, ◌<◌, ◌≤◌, Bool, true, false, if◌then◌else◌, length, refl, arith, slice_index, drop, drop-cons}
+use Rattle.std.proofs.Common.{add-one}
 use Rattle.std.proofs.Math.Nat.{mul-le-mul_left}
 use Rattle.std.proofs.Math.ListN.{drop_of_length-le}
 use Rattle.std.specs.Prelude.{fold}
@@ -23,7 +24,8 @@ unfolding number
 number_from base bytes = refl
 
 -- one byte further
-pub fold_step : (base total at : ℕ) (bytes : List ℕ) → at < length bytes → fold (with_byte base) total (drop at bytes) ≡ fold (with_byte base) (with_byte base total (slice_index bytes at)) (drop (at + 1) bytes)
+pub fold_step : (base total at : ℕ) (bytes : List ℕ) → at < length bytes
+    → fold (with_byte base) total (drop at bytes) ≡ fold (with_byte base) (with_byte base total (slice_index bytes at)) (drop (at + 1) bytes)
 fold_step base total at bytes h = rw (add-one, drop-cons bytes at 0) refl
 
 -- behind the last byte

@@ -4,7 +4,8 @@ use Rattle.std.proofs.lemmas.Bool.{cases_lt}
 use Rattle.std.proofs.lemmas.Bool.Decides.{nat_tests}
 use Rattle.std.specs.List.{find, list_any, count_by}
 use Rattle.cpp_lex.specs.declared.piece.PieceKind.{PieceKind}
-use Rattle.cpp_lex.specs.declared.piece.PieceKind.TheVariants.{Blank, LineComment, BlockComment, HashLine, Word, IntegerLiteral, CharacterLiteral, StringLiteral, Punctuator}
+use Rattle.cpp_lex.specs.declared.piece.PieceKind.TheVariants.{Blank, LineComment, BlockComment, HashLine, Word, IntegerLiteral, CharacterLiteral}
+use Rattle.cpp_lex.specs.declared.piece.PieceKind.TheVariants.{StringLiteral, Punctuator}
 use Rattle.tx_ints.specs.declared.kinds.IntKind.{IntKind}
 use Rattle.tx_ints.specs.declared.kinds.IntKind.TheVariants.{Bool, Char, SChar, UChar, Short, UShort, Int, UInt, Long, ULong, LLong, ULLong}
 use Rattle.cpp_lex.specs.Ints.{int_largest, int_types, int_type_of, int_value, is_decimal, is_u, is_l}
@@ -17,7 +18,8 @@ use Rattle.cpp_lex.proofs.Fronts.{piece_by, none_by_kind}
 use Rattle.cpp_lex.proofs.Ends.{spelled_within, one_of_after}
 use Rattle.cpp_lex.proofs.Values.{char_small, range_length}
 
-pub piece_at : (text : List ℕ) (kind : PieceKind) (from to : ℕ) → IsFurthest (λ to. Spells text kind from to) to → IsLegal text kind from to → PieceAt text kind from to
+pub piece_at : (text : List ℕ) (kind : PieceKind) (from to : ℕ) → IsFurthest (λ to. Spells text kind from to) to → IsLegal text kind from to
+    → PieceAt text kind from to
 piece_at text kind from to here legal = piece_by text kind from to here.reads here.furthest legal
 
 -- where nothing of the place's kind is spelled, no piece begins
@@ -28,8 +30,10 @@ nothing_spelled text kind from e none = none_by_kind text kind from e (λ to p. 
 same_end : (text : List ℕ) (kind : PieceKind) (from to end : ℕ) → IsFurthest (λ to. Spells text kind from to) to → PieceAt text kind from end → end ≡ to
 same_end text kind from to end here p = let a : end ≤ to = here.furthest end p.spelled in let b : to ≤ end = p.longest kind to here.reads in omega arith
 
-pub not_legal : (text : List ℕ) (kind : PieceKind) (from to : ℕ) → kind_of text from ≡ kind → IsFurthest (λ to. Spells text kind from to) to → (IsLegal text kind from to → ⊥) → NoPiece text from
-not_legal text kind from to e here illegal = none_by_kind text kind from e (λ end p. illegal (subst (λ (n : ℕ). IsLegal text kind from n) (same_end text kind from to end here p) p.legal))
+pub not_legal : (text : List ℕ) (kind : PieceKind) (from to : ℕ) → kind_of text from ≡ kind → IsFurthest (λ to. Spells text kind from to) to
+    → (IsLegal text kind from to → ⊥) → NoPiece text from
+not_legal text kind from to e here illegal = none_by_kind text kind from e
+    (λ end p. illegal (subst (λ (n : ℕ). IsLegal text kind from n) (same_end text kind from to end here p) p.legal))
 
 -- no kind holds a value of 2 to the 64 or more
 too_great : (value : ℕ) (kind : IntKind) → 2 ^ 64 ≤ value → nat_le value (int_largest kind) ≡ false
@@ -52,9 +56,11 @@ none_holds value (kind ∷ kinds) h = rw (too_great value kind h) (none_holds va
 
 no_type : (bytes : List ℕ) (value : ℕ) → 2 ^ 64 ≤ value → IsSome (int_type_of bytes value) → ⊥
 unfolding int_type_of
-no_type bytes value h some = let none = none_holds value (int_types (is_decimal bytes) (list_any is_u bytes) (count_by is_l bytes)) h in let g : IsSome {T = IntKind} None = rw none at some in cc
+no_type bytes value h some = let none = none_holds value (int_types (is_decimal bytes) (list_any is_u bytes) (count_by is_l bytes)) h in
+    let g : IsSome {T = IntKind} None = rw none at some in cc
 
-no_value_legal : (text : List ℕ) (kind : PieceKind) (from to : ℕ) → 2 ^ 64 ≤ piece_value kind (slice_range text from to) → Spells text kind from to → IsLegal text kind from to → ⊥
+no_value_legal : (text : List ℕ) (kind : PieceKind) (from to : ℕ) → 2 ^ 64 ≤ piece_value kind (slice_range text from to) → Spells text kind from to
+    → IsLegal text kind from to → ⊥
 no_value_legal text Blank from to h s l = omega arith
 no_value_legal text LineComment from to h s l = omega arith
 no_value_legal text BlockComment from to h s l = omega arith
@@ -65,7 +71,8 @@ no_value_legal text CharacterLiteral from to h s l = let small = char_small text
 no_value_legal text StringLiteral from to h s l = omega arith
 no_value_legal text Punctuator from to h s l = omega arith
 
-pub no_value : (text : List ℕ) (kind : PieceKind) (from to : ℕ) → kind_of text from ≡ kind → IsFurthest (λ to. Spells text kind from to) to → 2 ^ 64 ≤ piece_value kind (slice_range text from to) → NoPiece text from
+pub no_value : (text : List ℕ) (kind : PieceKind) (from to : ℕ) → kind_of text from ≡ kind → IsFurthest (λ to. Spells text kind from to) to
+    → 2 ^ 64 ≤ piece_value kind (slice_range text from to) → NoPiece text from
 no_value text kind from to e here great = not_legal text kind from to e here (λ legal. no_value_legal text kind from to great here.reads legal)
 
 -- a character has two bytes at least

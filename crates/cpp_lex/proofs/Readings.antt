@@ -14,7 +14,8 @@ pub record SameReading (ps qs : List Piece) (to end : ℕ) : Type 0 where
   pub pieces : ps ≡ qs
   pub position : to ≡ end
 
-pub same_reading : (text : List ℕ) {from to end : ℕ} {ps qs : List Piece} → Pieces text from ps to → Pieces text from qs end → NoPiece text to → NoPiece text end → SameReading ps qs to end
+pub same_reading : (text : List ℕ) {from to end : ℕ} {ps qs : List Piece} → Pieces text from ps to → Pieces text from qs end → NoPiece text to
+    → NoPiece text end → SameReading ps qs to end
 same_reading text done done h g = record { pieces = refl; position = refl }
 same_reading text done (next l q y) h g = absurd (h l _ q)
 same_reading text (next k p x) done h g = absurd (g k _ p)
@@ -26,6 +27,7 @@ same_reading text {from} {end = end} (next {mid = a} {pieces = ps} k p x) (next 
     record { pieces = cc; position = rest.position }
 
 -- one more piece
-pub snoc : (text : List ℕ) {from mid to : ℕ} {pieces : List Piece} (kind : PieceKind) → Pieces text from pieces mid → PieceAt text kind mid to → Pieces text from (pieces ++ (record { kind = kind; from = mid; to = to } ∷ [])) to
+pub snoc : (text : List ℕ) {from mid to : ℕ} {pieces : List Piece} (kind : PieceKind) → Pieces text from pieces mid → PieceAt text kind mid to
+    → Pieces text from (pieces ++ (record { kind = kind; from = mid; to = to } ∷ [])) to
 snoc text kind done p = next kind p done
 snoc text kind (next k q rest) p = next k q (snoc text kind rest p)

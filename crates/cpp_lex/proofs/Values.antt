@@ -1,5 +1,6 @@
 -- Parts of parts of a text, and the values that spellings have.
-use Rattle.std.proofs.Common.{List, ◌≡◌, ℕ, ◌+◌, ◌-◌, ◌<◌, ◌≤◌, Bool, true, false, length, Option, Some, None, IsSome, if◌then◌else◌, nat_eq, ◌||◌, refl, ◌∙◌, ap, arith, slice_index, slice_range, take, drop}
+use Rattle.std.proofs.Common.{List, ◌≡◌, ℕ, ◌+◌, ◌-◌, ◌<◌, ◌≤◌, Bool, true, false, length, Option, Some, None, IsSome, if◌then◌else◌, nat_eq, ◌||◌, refl, ◌∙◌}
+use Rattle.std.proofs.Common.{ap, arith, slice_index, slice_range, take, drop}
 use Rattle.std.specs.Prelude.{unwrap_or}
 use Rattle.std.proofs.lemmas.List.{drop-take, drop-drop, take-take, get_or-drop, get_or-take, length-take, length-drop}
 use Rattle.std.proofs.lemmas.Bool.Decides.{nat_tests}
@@ -28,7 +29,8 @@ pub range_length : (xs : List ℕ) (a b : ℕ) → b ≤ length xs → length (s
 range_length xs a b h = simp (length-take, length-drop) (omega arith)
 
 abbrev pick : Bool → Bool → Bool → Bool → Bool → Bool → Bool → Bool → ℕ → Option ℕ
-pick a b e f g k l m v = if a then Some 10 else (if b then Some 9 else (if e then Some 11 else (if f then Some 8 else (if g then Some 13 else (if k then Some 12 else (if l then Some 7 else (if m then Some v else None)))))))
+pick a b e f g k l m v = if a then Some 10 else (if b then Some 9 else
+    (if e then Some 11 else (if f then Some 8 else (if g then Some 13 else (if k then Some 12 else (if l then Some 7 else (if m then Some v else None)))))))
 
 pick_small : (a b e f g k l m : Bool) (v d : ℕ) → (m ≡ true → v ≤ 255) → IsSome (pick a b e f g k l m v) → unwrap_or (pick a b e f g k l m v) d ≤ 255
 pick_small true b e f g k l m v d h is = omega arith
@@ -46,7 +48,8 @@ itself_small c h = grind (arith, nat_tests)
 
 letter_small : (c d : ℕ) → IsSome (simple_escape c) → unwrap_or (simple_escape c) d ≤ 255
 unfolding simple_escape
-letter_small c d h = pick_small (nat_eq c 110) (nat_eq c 116) (nat_eq c 118) (nat_eq c 98) (nat_eq c 114) (nat_eq c 102) (nat_eq c 97) (nat_eq c 92 || nat_eq c 63 || nat_eq c 39 || nat_eq c 34) c d (itself_small c) h
+letter_small c d h = pick_small (nat_eq c 110) (nat_eq c 116) (nat_eq c 118) (nat_eq c 98) (nat_eq c 114) (nat_eq c 102) (nat_eq c 97)
+    (nat_eq c 92 || nat_eq c 63 || nat_eq c 39 || nat_eq c 34) c d (itself_small c) h
 
 pub digit_is_no_escape : (c : ℕ) → is_digit 8 c ≡ true → simple_escape c ≡ None
 unfolding simple_escape
@@ -59,7 +62,8 @@ digit_is_no_x c h = grind (arith, nat_tests)
 abbrev value_by : ℕ → List ℕ → ℕ
 value_by c bytes = unwrap_or (simple_escape c) (if nat_eq c 120 then number 16 bytes else number 8 bytes)
 
-escape_value_by : (text : List ℕ) (from to : ℕ) → from + 1 < to → escape_value (slice_range text from to) ≡ value_by (slice_index text (from + 1)) (slice_range text from to)
+escape_value_by : (text : List ℕ) (from to : ℕ) → from + 1 < to
+    → escape_value (slice_range text from to) ≡ value_by (slice_index text (from + 1)) (slice_range text from to)
 unfolding escape_value
 escape_value_by text from to h = ap (λ (c : ℕ). value_by c (slice_range text from to)) (range_at text from to 1 h)
 
@@ -84,16 +88,20 @@ escape_small text from to b = rw (escape_value_by text from to (body_room text f
 abbrev char_by : ℕ → List ℕ → ℕ
 char_by b inner = if nat_eq b 92 then escape_value inner else b
 
-pub char_value_by : (text : List ℕ) (from inner_end to : ℕ) → from + 1 < inner_end → to ≡ inner_end + 1 → to ≤ length text → char_value (slice_range text from to) ≡ char_by (slice_index text (from + 1)) (slice_range text (from + 1) inner_end)
+pub char_value_by : (text : List ℕ) (from inner_end to : ℕ) → from + 1 < inner_end → to ≡ inner_end + 1 → to ≤ length text
+    → char_value (slice_range text from to) ≡ char_by (slice_index text (from + 1)) (slice_range text (from + 1) inner_end)
 unfolding char_value
 char_value_by text from inner_end to h e g =
     let l : length (slice_range text from to) ≡ to - from = range_length text from to g in
     let b : slice_index (slice_range text from to) 1 ≡ slice_index text (from + 1) = range_at text from to 1 (omega arith) in
     let n : length (slice_range text from to) - 1 ≡ inner_end - from = omega arith in
-    let r : slice_range (slice_range text from to) 1 (inner_end - from) ≡ slice_range text (from + 1) (from + (inner_end - from)) = range_range text from to 1 (inner_end - from) (omega arith) (omega arith) in
+    let r : slice_range (slice_range text from to) 1 (inner_end - from) ≡ slice_range text (from + 1) (from + (inner_end - from)) =
+    range_range text from to 1 (inner_end - from) (omega arith) (omega arith) in
     let m : from + (inner_end - from) ≡ inner_end = omega arith in
-    let i : slice_range (slice_range text from to) 1 (length (slice_range text from to) - 1) ≡ slice_range text (from + 1) inner_end = ap (slice_range (slice_range text from to) 1) n ∙ r ∙ ap (slice_range text (from + 1)) m in
-    ap (λ (z : ℕ). char_by z (slice_range (slice_range text from to) 1 (length (slice_range text from to) - 1))) b ∙ ap (char_by (slice_index text (from + 1))) i
+    let i : slice_range (slice_range text from to) 1 (length (slice_range text from to) - 1) ≡ slice_range text (from + 1) inner_end =
+    ap (slice_range (slice_range text from to) 1) n ∙ r ∙ ap (slice_range text (from + 1)) m in
+    ap (λ (z : ℕ). char_by z (slice_range (slice_range text from to) 1 (length (slice_range text from to) - 1))) b
+    ∙ ap (char_by (slice_index text (from + 1))) i
 
 own_byte : (b : ℕ) → is_char_byte b ≡ true → (nat_eq b 92 ≡ false) × (b ≤ 255)
 own_byte b h = (grind (arith, nat_tests), grind (arith, nat_tests))

@@ -1,5 +1,6 @@
 -- Integer literals: C++14 [lex.icon].
-use Rattle.std.specs.Prelude.{◌≡◌, ◌≢◌, ℕ, ◌+◌, ◌-◌, ◌^◌, Bool, true, false, List, [], ◌∷◌, Option, slice_index, count_by, zero, suc, find, if◌then◌else◌, nat_eq, nat_le, ◌||◌}
+use Rattle.std.specs.Prelude.{◌≡◌, ◌≢◌, ℕ, ◌+◌, ◌-◌, ◌^◌, Bool, true, false, List, [], ◌∷◌, Option, slice_index, count_by, zero, suc, find, if◌then◌else◌}
+use Rattle.std.specs.Prelude.{nat_eq, nat_le, ◌||◌}
 use Rattle.std.specs.List.{list_any}
 use Rattle.cpp_lex.specs.Bytes.{is_digit}
 use Rattle.cpp_lex.specs.Numbers.{number}
@@ -11,7 +12,8 @@ use Rattle.tx_ints.specs.Integers.{width, is_signed}
 pub data Digits (base : ℕ) (text : List ℕ) : ℕ → ℕ → Type 0 where
   one : {at : ℕ} → is_digit base (slice_index text at) ≡ true → Digits base text at (at + 1)
   more : {from at : ℕ} → Digits base text from at → is_digit base (slice_index text at) ≡ true → Digits base text from (at + 1)
-  marked : {from at : ℕ} → Digits base text from at → slice_index text at ≡ 39 → is_digit base (slice_index text (at + 1)) ≡ true → Digits base text from (at + 2)
+  marked : {from at : ℕ} → Digits base text from at → slice_index text at ≡ 39 → is_digit base (slice_index text (at + 1)) ≡ true
+      → Digits base text from (at + 2)
 
 -- behind the 0 at a position x and hexadecimal digits, or b and binary digits
 pub data Prefixed (text : List ℕ) : ℕ → ℕ → Type 0 where
@@ -57,7 +59,8 @@ is_decimal bytes = if nat_eq (slice_index bytes 0) 48 then false else true
 
 -- the base that a spelling is written in
 abbrev pub base_of : List ℕ → ℕ
-base_of bytes = if nat_eq (slice_index bytes 0) 48 then (if nat_eq (slice_index bytes 1) 120 then 16 else (if nat_eq (slice_index bytes 1) 98 then 2 else 8)) else 10
+base_of bytes = if nat_eq (slice_index bytes 0) 48 then
+    (if nat_eq (slice_index bytes 1) 120 then 16 else (if nat_eq (slice_index bytes 1) 98 then 2 else 8)) else 10
 
 -- the number that a spelling writes: no mark, no letter of a prefix and none of a suffix is a digit of its base
 unfoldable pub int_value : List ℕ → ℕ

@@ -1,7 +1,8 @@
 -- The pieces of a text: tokens and what is skipped between them, each the longest that its position allows.
 use Rattle.std.specs.Prelude.{◌≡◌, ◌≢◌, ℕ, ◌+◌, ◌≤◌, false, List, [], ◌∷◌, IsSome, slice_index, slice_range}
 use Rattle.cpp_lex.specs.declared.piece.PieceKind.{PieceKind}
-use Rattle.cpp_lex.specs.declared.piece.PieceKind.TheVariants.{Blank, LineComment, BlockComment, HashLine, Word, IntegerLiteral, CharacterLiteral, StringLiteral, Punctuator}
+use Rattle.cpp_lex.specs.declared.piece.PieceKind.TheVariants.{Blank, LineComment, BlockComment, HashLine, Word, IntegerLiteral, CharacterLiteral}
+use Rattle.cpp_lex.specs.declared.piece.PieceKind.TheVariants.{StringLiteral, Punctuator}
 use Rattle.cpp_lex.specs.Bytes.{is_word_byte, is_quote}
 use Rattle.cpp_lex.specs.Words.{IsWord}
 use Rattle.cpp_lex.specs.Ints.{IsInt, int_type_of, int_value}
@@ -65,4 +66,5 @@ pub record Piece : Type 0 where
 -- the text from a position up to another is these pieces, one after the other
 pub data Pieces (text : List ℕ) : ℕ → List Piece → ℕ → Type 0 where
   done : {at : ℕ} → Pieces text at [] at
-  next : {from mid to : ℕ} {pieces : List Piece} → (kind : PieceKind) → PieceAt text kind from mid → Pieces text mid pieces to → Pieces text from (record { kind = kind; from = from; to = mid } ∷ pieces) to
+  next : {from mid to : ℕ} {pieces : List Piece} → (kind : PieceKind) → PieceAt text kind from mid → Pieces text mid pieces to
+      → Pieces text from (record { kind = kind; from = from; to = mid } ∷ pieces) to

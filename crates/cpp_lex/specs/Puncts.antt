@@ -44,6 +44,7 @@ opens_comment b c = nat_eq b 47 && (nat_eq c 47 || nat_eq c 42)
 
 -- one of the puncts, where no comment begins
 pub data IsPunct (text : List ℕ) (from : ℕ) : ℕ → Type 0 where
-  single : opens_comment (slice_index text from) (slice_index text (from + 1)) ≡ false → is_single_punct (slice_index text from) ≡ true → IsPunct text from (from + 1)
+  single : opens_comment (slice_index text from) (slice_index text (from + 1)) ≡ false → is_single_punct (slice_index text from) ≡ true
+      → IsPunct text from (from + 1)
   double : is_double_punct (slice_index text from) (slice_index text (from + 1)) ≡ true → IsPunct text from (from + 2)
   triple : is_triple_punct (slice_index text from) (slice_index text (from + 1)) (slice_index text (from + 2)) ≡ true → IsPunct text from (from + 3)

@@ -1,5 +1,6 @@
 -- Character and string literals with their escapes: C++14 [lex.ccon], [lex.string].
-use Rattle.std.specs.Prelude.{◌≡◌, ℕ, ◌+◌, ◌-◌, ◌<◌, ◌≤◌, Bool, true, false, List, length, Option, Some, None, IsSome, if◌then◌else◌, nat_eq, nat_le, ◌&&◌, ◌||◌, slice_index, slice_range, unwrap_or}
+use Rattle.std.specs.Prelude.{◌≡◌, ℕ, ◌+◌, ◌-◌, ◌<◌, ◌≤◌, Bool, true, false, List, length, Option, Some, None, IsSome, if◌then◌else◌, nat_eq, nat_le, ◌&&◌}
+use Rattle.std.specs.Prelude.{◌||◌, slice_index, slice_range, unwrap_or}
 use Rattle.cpp_lex.specs.Bytes.{is_digit, Run}
 use Rattle.cpp_lex.specs.Numbers.{number}
 

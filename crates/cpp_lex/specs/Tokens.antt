@@ -1,6 +1,7 @@
 -- The tokens of a text: its pieces that are not skipped, where strings with nothing but skipped pieces between them
 -- make one token. And where a text has none.
-use Rattle.std.specs.Prelude.{◌≡◌, ℕ, ◌<◌, ◌≤◌, List, [], ◌∷◌, ◌++◌, Bool, true, false, length, map, Option, Some, None, IsSome, if◌then◌else◌, ◌&&◌, slice_range}
+use Rattle.std.specs.Prelude.{◌≡◌, ℕ, ◌<◌, ◌≤◌, List, [], ◌∷◌, ◌++◌, Bool, true, false, length, map, Option, Some, None, IsSome, if◌then◌else◌, ◌&&◌}
+use Rattle.std.specs.Prelude.{slice_range}
 use Rattle.cpp_lex.specs.declared.TokKind.{TokKind}
 use Rattle.cpp_lex.specs.declared.TokKind.TheVariants.{Name, Key, Punct, Int, Char, Str}
 use Rattle.cpp_lex.specs.declared.Token.{Token}
@@ -8,7 +9,8 @@ use Rattle.cpp_lex.specs.declared.Tokens.{Tokens}
 use Rattle.cpp_lex.specs.declared.LexFault.{LexFault}
 use Rattle.cpp_lex.specs.declared.LexFault.TheVariants.{At, Memory}
 use Rattle.cpp_lex.specs.declared.piece.PieceKind.{PieceKind}
-use Rattle.cpp_lex.specs.declared.piece.PieceKind.TheVariants.{Blank, LineComment, BlockComment, HashLine, Word, IntegerLiteral, CharacterLiteral, StringLiteral, Punctuator}
+use Rattle.cpp_lex.specs.declared.piece.PieceKind.TheVariants.{Blank, LineComment, BlockComment, HashLine, Word, IntegerLiteral, CharacterLiteral}
+use Rattle.cpp_lex.specs.declared.piece.PieceKind.TheVariants.{StringLiteral, Punctuator}
 use Rattle.cpp_lex.specs.declared.piece.Piece.{Piece as ReadPiece}
 use Rattle.cpp_lex.specs.Words.{is_keyword}
 use Rattle.cpp_lex.specs.Ints.{int_value, int_type_of}

@@ -15,11 +15,13 @@ module _ {Z : Type 0} where
   pairs_of entries = map (λ pair. (pair.0.items, pair.1)) entries
 
   -- the look-up of a name is that in the map
-  pub entity_of-pairs : (name : List ℕ) (entries : List (Vec ℕ Z × Entity)) → entity_of (pairs_of entries) name ≡ lookup (λ key. bytes_eq name key.items) entries
+  pub entity_of-pairs : (name : List ℕ) (entries : List (Vec ℕ Z × Entity))
+      → entity_of (pairs_of entries) name ≡ lookup (λ key. bytes_eq name key.items) entries
   entity_of-pairs name [] = refl
   entity_of-pairs name (pair ∷ rest) = ap (λ o. cond (bytes_eq name pair.0.items) (Some pair.1) o) (entity_of-pairs name rest)
 
   -- a pair at the end of the entries
-  pub pairs_of-append : (entries : List (Vec ℕ Z × Entity)) (name : Vec ℕ Z) (entity : Entity) → pairs_of (entries ++ (name, entity) ∷ []) ≡ pairs_of entries ++ (name.items, entity) ∷ []
+  pub pairs_of-append : (entries : List (Vec ℕ Z × Entity)) (name : Vec ℕ Z) (entity : Entity)
+      → pairs_of (entries ++ (name, entity) ∷ []) ≡ pairs_of entries ++ (name.items, entity) ∷ []
   pairs_of-append [] name entity = refl
   pairs_of-append (pair ∷ rest) name entity = ap (λ more. (pair.0.items, pair.1) ∷ more) (pairs_of-append rest name entity)

@@ -1,5 +1,6 @@
 -- The candidate that a call means, by computation (C++14 13.3).
-use Rattle.std.specs.Prelude.{◌≡◌, ◌==◌, ◌&&◌, ◌||◌, not, ℕ, zero, suc, Bool, true, false, List, [], ◌∷◌, length, Option, Some, None, is_some, Result, Ok, Err, if◌then◌else◌}
+use Rattle.std.specs.Prelude.{◌≡◌, ◌==◌, ◌&&◌, ◌||◌, not, ℕ, zero, suc, Bool, true, false, List, [], ◌∷◌, length, Option, Some, None, is_some, Result, Ok, Err}
+use Rattle.std.specs.Prelude.{if◌then◌else◌}
 use Rattle.cpp_types.specs.Class.{Class}
 use Rattle.cpp_overload.specs.Overload.{Candidate, Argument, conversion_at, better_at, count_of, parameters_of, IsChosen}
 use Rattle.cpp_overload.specs.declared.calls.NoBest.{NoBest}
@@ -57,4 +58,5 @@ choice_of (Err (Ambiguous i j)) = none_best
 
 -- what a call means is what is found by computation
 abbrev pub ChosenIsMeant : Type 0
-ChosenIsMeant = (classes : List Class) (cands : List Candidate) (args : List Argument) (r : Result ℕ NoBest) → IsChosen classes cands args r → chosen classes cands args ≡ choice_of r
+ChosenIsMeant = (classes : List Class) (cands : List Candidate) (args : List Argument) (r : Result ℕ NoBest) → IsChosen classes cands args r
+    → chosen classes cands args ≡ choice_of r

@@ -76,7 +76,8 @@ better_of x s y t = false
 
 -- the argument's conversion for the first candidate is better than for the second
 abbrev pub better_at : List Class → List Argument → Candidate → Candidate → ℕ → Bool
-better_at classes args p q i = better_of (conversion_at classes args p i) (typ_at (parameters_of p) i) (conversion_at classes args q i) (typ_at (parameters_of q) i)
+better_at classes args p q i = better_of (conversion_at classes args p i) (typ_at (parameters_of p) i) (conversion_at classes args q i)
+    (typ_at (parameters_of q) i)
 
 -- as many parameters as arguments, and a conversion for each
 pub record IsViable (classes : List Class) (args : List Argument) (p : Candidate) : Type 0 where

@@ -1,6 +1,7 @@
 -- What a member can be whose type begins at an index, by what stands behind its first declarator. Below, m is the index behind
 -- the longest declarator, and e that behind the longest initializer, if = stands at m.
-use Rattle.std.proofs.Common.{◌≡◌, ℕ, zero, suc, ◌+◌, inl, inr, ◌<◌, nat_eq, true, false, not, ◌&&◌, refl, sym as back, ◌∙◌, ap, subst, arith, length, Option, None}
+use Rattle.std.proofs.Common.{◌≡◌, ℕ, zero, suc, ◌+◌, inl, inr, ◌<◌, nat_eq, true, false, not, ◌&&◌, refl, sym as back, ◌∙◌, ap, subst, arith, length, Option}
+use Rattle.std.proofs.Common.{None}
 use Rattle.std.proofs.Common.{true≢false}
 use Rattle.std.proofs.lemmas.Bool.{not-true, and_from, and_parts, cases_Bool}
 use Rattle.cpp_syntax.specs.declared.terminal.Terminal.{Terminal}

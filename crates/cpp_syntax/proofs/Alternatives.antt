@@ -7,7 +7,8 @@
 -- left_past_or x y e h z             : LongestMatch (p ∣ before_no test q ∣ o)  where o has no text
 -- where_over x e f                   : NoDerivation (where_ test p), where the longest text is refused, and each shorter one
 -- where_chain c e refl f             : LongestMatch (where_ test (q · many p)) of a chain whose end passes, and no longer run does
-use Rattle.std.proofs.Common.{◌≡◌, ℕ, ◌<◌, ◌≤◌, inl, inr, Bool, true, false, not, ◌&&◌, refl, sym as back, ◌∙◌, subst, ap, arith, Option, Some, None, true≢false}
+use Rattle.std.proofs.Common.{◌≡◌, ℕ, ◌<◌, ◌≤◌, inl, inr, Bool, true, false, not, ◌&&◌, refl, sym as back, ◌∙◌, subst, ap, arith, Option, Some, None}
+use Rattle.std.proofs.Common.{true≢false}
 use Rattle.std.proofs.lemmas.Bool.{not_from_false, cases_lt, and_from, and_parts, not-true}
 use Rattle.cpp_syntax.specs.declared.terminal.Terminal.{Terminal}
 use Rattle.cpp_syntax.specs.Source.{Source, terminal_at}

@@ -2,16 +2,27 @@
 --
 -- text_balanced x refl : Balanced source.terminals a b    where x is a text from a to b of a rule with `effect p [] ≡ Some []`
 -- form_balanced x      : the same of a form
-use Rattle.std.proofs.Common.{◌≡◌, ℕ, zero, suc, ◌+◌, inl, inr, nat_eq, Bool, true, false, ◌&&◌, ◌||◌, if◌then◌else◌, option_and_then, refl, sym as back, ◌∙◌, ap, arith, subst, List, [], ◌∷◌, ◌++◌, Option, Some, None, true≢false}
+use Rattle.std.proofs.Common.{◌≡◌, ℕ, zero, suc, ◌+◌, inl, inr, nat_eq, Bool, true, false, ◌&&◌, ◌||◌, if◌then◌else◌, option_and_then, refl, sym as back, ◌∙◌}
+use Rattle.std.proofs.Common.{ap, arith, subst, List, [], ◌∷◌, ◌++◌, Option, Some, None, true≢false}
 use Rattle.std.proofs.lemmas.Bool.{and_parts, cases_Bool, cond-true, cond-false}
 use Rattle.cpp_syntax.specs.declared.terminal.Terminal.{Terminal}
 use Rattle.cpp_syntax.specs.declared.terminal.Terminal.TheVariants as terminal
 use Rattle.cpp_syntax.specs.Source.{Source}
 use Rattle.cpp_syntax.specs.Terminals.{level_of, is_unbracketed, open_paren, close_paren, open_bracket, close_bracket, open_brace, close_brace}
 use Rattle.cpp_syntax.specs.Balance.{terminal_in, closes, Balanced, is_empty, is_token, is_bracket}
-use Rattle.cpp_syntax.specs.Rules.{whole, by_shape, named, unnamed, either, in_block, qualified, plain, Nonterminal, primary_expression, lambda_expression, lambda_introducer, lambda_declarator, functional_type, expression_list, postfix_expression, unary_expression, cast_expression, binary_expression, conditional_expression, assignment_expression, expression, type_specifier, type_specifier_seq, type_id, declarator, direct_declarator, parameter_declaration, parameter_declaration_clause, function_qualifiers, balanced, braced_init_list, initializer, init_declarator, block_declaration, shaped_choice, shaped_init_declarator, shaped_declaration, compound_statement, statement, for_init_statement, handler, enumerator_definition, declaration_head, simple_declaration, constructor_declarator, destructor_declarator, member_initializer, member_declarator, initialized_member, listed_member, member_declaration, declaration, translation_unit, Lookahead, Rule, nothing, word, mark, mark_next, mark_name, ◌·◌, ◌∣◌, many, form, node_at, wrap, with_body, where_, before_no, if_, unless}
+use Rattle.cpp_syntax.specs.Rules.{whole, by_shape, named, unnamed, either, in_block, qualified, plain, Nonterminal, primary_expression, lambda_expression}
+use Rattle.cpp_syntax.specs.Rules.{lambda_introducer, lambda_declarator, functional_type, expression_list, postfix_expression, unary_expression}
+use Rattle.cpp_syntax.specs.Rules.{cast_expression, binary_expression, conditional_expression, assignment_expression, expression, type_specifier}
+use Rattle.cpp_syntax.specs.Rules.{type_specifier_seq, type_id, declarator, direct_declarator, parameter_declaration, parameter_declaration_clause}
+use Rattle.cpp_syntax.specs.Rules.{function_qualifiers, balanced, braced_init_list, initializer, init_declarator, block_declaration, shaped_choice}
+use Rattle.cpp_syntax.specs.Rules.{shaped_init_declarator, shaped_declaration, compound_statement, statement, for_init_statement, handler}
+use Rattle.cpp_syntax.specs.Rules.{enumerator_definition, declaration_head, simple_declaration, constructor_declarator, destructor_declarator}
+use Rattle.cpp_syntax.specs.Rules.{member_initializer, member_declarator, initialized_member, listed_member, member_declaration, declaration, translation_unit}
+use Rattle.cpp_syntax.specs.Rules.{Lookahead, Rule, nothing, word, mark, mark_next, mark_name, ◌·◌, ◌∣◌, many, form, node_at, wrap, with_body, where_}
+use Rattle.cpp_syntax.specs.Rules.{before_no, if_, unless}
 use Rattle.cpp_syntax.specs.Grammar.{production}
-use Rattle.cpp_syntax.specs.Derivations.{Read, Bodies, Derives, is_nothing, is_word, is_mark, is_mark_next, is_mark_name, is_both, is_left, is_right, is_last, is_more, is_form, is_node, is_wrap, is_kept_apart, is_in_tree, is_where, is_before, is_if, is_unless}
+use Rattle.cpp_syntax.specs.Derivations.{Read, Bodies, Derives, is_nothing, is_word, is_mark, is_mark_next, is_mark_name, is_both, is_left, is_right, is_last}
+use Rattle.cpp_syntax.specs.Derivations.{is_more, is_form, is_node, is_wrap, is_kept_apart, is_in_tree, is_where, is_before, is_if, is_unless}
 use Rattle.cpp_syntax.proofs.TerminalTables.{passes, at_each, implies, implied}
 use Rattle.cpp_syntax.proofs.OperatorLevels.{passes_by as each_passes}
 

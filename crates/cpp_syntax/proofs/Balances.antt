@@ -2,7 +2,8 @@
 --
 -- run_text b r, text_run x   : Balanced source.terminals a b, as a text of the production of balanced, and back
 -- balanced_long p r          : the tokens between partners are the longest balanced ones from their index
-use Rattle.std.proofs.Common.{◌≡◌, ℕ, ◌+◌, ◌<◌, ◌≤◌, ◌⊎◌, inl, inr, Bool, true, false, ◌||◌, refl, sym as back, ◌∙◌, subst, ap, arith, List, Option, None, true≢false}
+use Rattle.std.proofs.Common.{◌≡◌, ℕ, ◌+◌, ◌<◌, ◌≤◌, ◌⊎◌, inl, inr, Bool, true, false, ◌||◌, refl, sym as back, ◌∙◌, subst, ap, arith, List, Option, None}
+use Rattle.std.proofs.Common.{true≢false}
 use Rattle.std.proofs.lemmas.Bool.{or_left}
 use Rattle.cpp_syntax.specs.declared.terminal.Terminal.{Terminal}
 use Rattle.cpp_syntax.specs.declared.terminal.Terminal.TheVariants as terminal

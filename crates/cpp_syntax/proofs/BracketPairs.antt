@@ -1,5 +1,6 @@
 -- Brackets and those that close them: there is one at most, and the pairing of them token by token.
-use Rattle.std.proofs.Common.{◌≡◌, ◌⊎◌, inl, inr, ◌↔◌, ℕ, zero, suc, ◌+◌, ◌<◌, ◌≤◌, nat_lt, nat_le, Bool, true, false, ◌||◌, if◌then◌else◌, List, [], ◌∷◌, ◌++◌, length, drop, set, get_or, slice_index_or, Option, Some, None, refl, sym, ◌∙◌, subst, ap, arith, true≢false, length-append}
+use Rattle.std.proofs.Common.{◌≡◌, ◌⊎◌, inl, inr, ◌↔◌, ℕ, zero, suc, ◌+◌, ◌<◌, ◌≤◌, nat_lt, nat_le, Bool, true, false, ◌||◌, if◌then◌else◌, List, [], ◌∷◌, ◌++◌}
+use Rattle.std.proofs.Common.{length, drop, set, get_or, slice_index_or, Option, Some, None, refl, sym, ◌∙◌, subst, ap, arith, true≢false, length-append}
 use Rattle.std.proofs.lemmas.Bool.{ltb-true, ltb-false, lt-ltb, cases_Bool}
 use Rattle.std.proofs.lemmas.List.{get_or_append_left, get_or-set_other, get_or-set_same, length-set}
 use Rattle.std.proofs.Math.Seq.{get_or-append_seam}
@@ -10,7 +11,8 @@ use Rattle.cpp_syntax.specs.Terminals.{is_unbracketed}
 use Rattle.cpp_syntax.specs.FirstSets.{opens}
 use Rattle.cpp_syntax.specs.Balance.{terminal_in, closes, Balanced, is_empty, is_token, is_bracket, Partners, IsPartner, partner_in}
 use Rattle.cpp_syntax.specs.Pairing.{first_or_index, AreOpen, StandsIn, IsKnown, Paired}
-use Rattle.cpp_syntax.proofs.Balances.{goes_inside, pair, parens, brackets, braces, opening, opening_goes, closing_stops, unbracketed_goes, behind_start, shorter}
+use Rattle.cpp_syntax.proofs.Balances.{goes_inside, pair, parens, brackets, braces, opening, opening_goes, closing_stops, unbracketed_goes, behind_start}
+use Rattle.cpp_syntax.proofs.Balances.{shorter}
 
 -- terminals
 

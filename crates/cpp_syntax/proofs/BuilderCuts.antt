@@ -1,5 +1,6 @@
 -- A builder that is cut back.
-use Rattle.std.proofs.Common.{◌≡◌, ℕ, zero, suc, ◌+◌, ◌<◌, ◌≤◌, nat_lt, nat_le, ◌&&◌, if◌then◌else◌, true, List, [], ◌∷◌, ◌++◌, length, map, take, drop, get_or, refl, sym, ◌∙◌, nat_eq, ap, subst, arith, length-append, length-take-le, append-nil}
+use Rattle.std.proofs.Common.{◌≡◌, ℕ, zero, suc, ◌+◌, ◌<◌, ◌≤◌, nat_lt, nat_le, ◌&&◌, if◌then◌else◌, true, List, [], ◌∷◌, ◌++◌, length, map, take, drop, get_or}
+use Rattle.std.proofs.Common.{refl, sym, ◌∙◌, nat_eq, ap, subst, arith, length-append, length-take-le, append-nil}
 use Rattle.std.specs.List.{concat, list_all, sum_by, count_by}
 use Rattle.std.proofs.lemmas.Bool.{and_parts, and_from}
 use Rattle.std.proofs.lemmas.List.{map-append, length-map, take-append-drop, take-append-le, take-map}
@@ -15,7 +16,8 @@ use Rattle.cpp_syntax.specs.declared.positions.Checkpoint.{Checkpoint}
 use Rattle.cpp_syntax.specs.declared.positions.OpenBody.{OpenBody}
 use Rattle.cpp_syntax.specs.Gathers.{last_or_none}
 use Rattle.cpp_syntax.specs.Derivations.{Body, Read}
-use Rattle.cpp_syntax.specs.View.{BuilderState, EachShows, appended, builder_state, count_trees, count_lambdas_in, IsBuilt, IsMark, body_of, lams_of, lambdas_at, lambdas_from, lambdas_made, running, trees_at, values_from}
+use Rattle.cpp_syntax.specs.View.{BuilderState, EachShows, appended, builder_state, count_trees, count_lambdas_in, IsBuilt, IsMark, body_of, lams_of}
+use Rattle.cpp_syntax.specs.View.{lambdas_at, lambdas_from, lambdas_made, running, trees_at, values_from}
 use Rattle.cpp_syntax.proofs.NodeValues.{below_take}
 use Rattle.cpp_syntax.proofs.TreeLists.{as_many}
 use Rattle.cpp_syntax.proofs.GatheredNodes.{each_take, running_take, front_and_back}

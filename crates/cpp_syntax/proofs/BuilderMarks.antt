@@ -5,7 +5,8 @@ use Rattle.cpp_ast.specs.declared.arena.Node.{Node}
 use Rattle.cpp_ast.specs.declared.arena.NodeId.{NodeId}
 use Rattle.cpp_syntax.specs.declared.positions.Checkpoint.{Checkpoint}
 use Rattle.cpp_syntax.specs.declared.positions.OpenBody.{OpenBody}
-use Rattle.cpp_syntax.specs.View.{BuilderState, builder_state, count_trees, count_lambdas_in, IsMark, IsBuilt, lams_of, body_of, trees_at, trees_from, values_at, values_from, no_tree, tree_made, lambdas_at}
+use Rattle.cpp_syntax.specs.View.{BuilderState, builder_state, count_trees, count_lambdas_in, IsMark, IsBuilt, lams_of, body_of, trees_at, trees_from}
+use Rattle.cpp_syntax.specs.View.{values_at, values_from, no_tree, tree_made, lambdas_at}
 use Rattle.cpp_syntax.proofs.TreeLists.{count_of, as_many}
 
 pub trees_count : (nodes : List Node) (ids : List NodeId) → count_trees (trees_at nodes ids) ≡ length ids

@@ -1,5 +1,6 @@
 -- What a builder shows when a node is added, and when it is cut back.
-use Rattle.std.proofs.Common.{◌≡◌, ℕ, zero, suc, ◌+◌, ◌<◌, ◌≤◌, nat_lt, true, List, [], ◌∷◌, ◌++◌, Option, Some, None, slice_get, length, map, take, drop, get_or, refl, sym, ◌∙◌, ap, subst, arith, length-append, length-take-le, append_assoc, append-nil}
+use Rattle.std.proofs.Common.{◌≡◌, ℕ, zero, suc, ◌+◌, ◌<◌, ◌≤◌, nat_lt, true, List, [], ◌∷◌, ◌++◌, Option, Some, None, slice_get, length, map, take, drop}
+use Rattle.std.proofs.Common.{get_or, refl, sym, ◌∙◌, ap, subst, arith, length-append, length-take-le, append_assoc, append-nil}
 use Rattle.std.specs.List.{concat, list_all}
 use Rattle.std.proofs.lemmas.Bool.{and_parts, ltb-true}
 use Rattle.std.proofs.lemmas.List.{map-append, length-map, take-append-drop, take-append-le, take-map}
@@ -15,7 +16,8 @@ use Rattle.cpp_syntax.specs.declared.positions.Checkpoint.{Checkpoint}
 use Rattle.cpp_syntax.specs.declared.positions.OpenBody.{OpenBody}
 use Rattle.cpp_syntax.specs.Gathers.{Gathered}
 use Rattle.cpp_syntax.specs.Derivations.{Body, Read, join, one_tree, no_read, and_then, reads_node, with_body_apart}
-use Rattle.cpp_syntax.specs.View.{BuilderState, appended, builder_state, count_trees, IsBuilt, IsMark, body_of, lams_of, token_of, trees_at, trees_of, trees_from, values_from, tree_made, no_tree}
+use Rattle.cpp_syntax.specs.View.{BuilderState, appended, builder_state, count_trees, IsBuilt, IsMark, body_of, lams_of, token_of, trees_at, trees_of}
+use Rattle.cpp_syntax.specs.View.{trees_from, values_from, tree_made, no_tree}
 use Rattle.cpp_syntax.proofs.NodeValues.{at_gathered}
 use Rattle.cpp_syntax.proofs.TreeLists.{trees_of-append, join_parts, join_none, Same}
 use Rattle.cpp_syntax.proofs.BuilderMarks.{trees_count}

@@ -1,15 +1,19 @@
 -- The shapes of declarations, from those of their parts.
-use Rattle.std.proofs.Common.{◌≡◌, ℕ, zero, suc, ◌+◌, ◌<◌, ◌≤◌, ◌⊎◌, inl, inr, ◌↔◌, Bool, true, false, not, ◌&&◌, ◌||◌, refl, sym as back, ◌∙◌, ap, arith, subst, List, length, Option, Some, None, Result, Ok, Err, true≢false}
+use Rattle.std.proofs.Common.{◌≡◌, ℕ, zero, suc, ◌+◌, ◌<◌, ◌≤◌, ◌⊎◌, inl, inr, ◌↔◌, Bool, true, false, not, ◌&&◌, ◌||◌, refl, sym as back, ◌∙◌, ap, arith}
+use Rattle.std.proofs.Common.{subst, List, length, Option, Some, None, Result, Ok, Err, true≢false}
 use Rattle.std.proofs.lemmas.Bool.{cases_lt, and_from, and_parts, or_left}
 use Rattle.std.specs.declared.alloc.AllocError.{AllocError}
 use Rattle.cpp_syntax.specs.declared.terminal.Terminal.{Terminal}
 use Rattle.cpp_syntax.specs.declared.terminal.Terminal.TheVariants as terminal
 use Rattle.cpp_syntax.specs.Source.{Source, terminal_at}
-use Rattle.cpp_syntax.specs.Terminals.{is_unseparated, is_chosen, is_unbracketed, equal, comma, colon, question, semicolon, open_paren, close_paren, open_bracket, close_bracket, open_brace, close_brace, ReadsAs}
+use Rattle.cpp_syntax.specs.Terminals.{is_unseparated, is_chosen, is_unbracketed, equal, comma, colon, question, semicolon, open_paren, close_paren}
+use Rattle.cpp_syntax.specs.Terminals.{open_bracket, close_bracket, open_brace, close_brace, ReadsAs}
 use Rattle.cpp_syntax.specs.Balance.{closes, Balanced, Partners, IsPartner}
-use Rattle.cpp_syntax.specs.Rules.{by_shape, named, type_specifier_seq, declarator, balanced, shaped_choice, shaped_init_declarator, shaped_declaration, parameters, a_declaration, Lookahead, Rule, nothing, word, ◌·◌, ◌∣◌, many, some, form, unless, optional}
+use Rattle.cpp_syntax.specs.Rules.{by_shape, named, type_specifier_seq, declarator, balanced, shaped_choice, shaped_init_declarator, shaped_declaration}
+use Rattle.cpp_syntax.specs.Rules.{parameters, a_declaration, Lookahead, Rule, nothing, word, ◌·◌, ◌∣◌, many, some, form, unless, optional}
 use Rattle.cpp_syntax.specs.Grammar.{production, list, bracketed, shaped_token, shaped_initializers}
-use Rattle.cpp_syntax.specs.Derivations.{Read, no_read, first_or, kept_apart, Bodies, Derives, is_word, is_both, is_left, is_right, is_last, is_more, is_form, is_unless}
+use Rattle.cpp_syntax.specs.Derivations.{Read, no_read, first_or, kept_apart, Bodies, Derives, is_word, is_both, is_left, is_right, is_last, is_more, is_form}
+use Rattle.cpp_syntax.specs.Derivations.{is_unless}
 use Rattle.cpp_syntax.specs.FirstSets.{rule_nullable, rule_continuation_set}
 use Rattle.cpp_syntax.specs.Longest.{IsNoLonger, LongestMatch, NoDerivation}
 use Rattle.cpp_syntax.specs.Lookahead.{lookahead_types, lookahead}

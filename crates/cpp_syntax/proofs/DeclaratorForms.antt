@@ -5,14 +5,17 @@
 -- with_head_long reading naming refl x       : the longest text with a head is that of the form   (unnamed, either)
 -- without_head_long reading naming x y       : where there is no head
 -- head_apart, omitted_apart, suffixes_apart reading naming
-use Rattle.std.proofs.Common.{◌≡◌, ℕ, ◌+◌, ◌<◌, ◌≤◌, inl, inr, nat_lt, Bool, true, false, not, ◌&&◌, refl, sym as back, ◌∙◌, subst, ap, arith, Option, true≢false}
+use Rattle.std.proofs.Common.{◌≡◌, ℕ, ◌+◌, ◌<◌, ◌≤◌, inl, inr, nat_lt, Bool, true, false, not, ◌&&◌, refl, sym as back, ◌∙◌, subst, ap, arith, Option}
+use Rattle.std.proofs.Common.{true≢false}
 use Rattle.std.proofs.lemmas.Bool.{cases_lt, and_from, and_parts, not-true, cases_Bool}
 use Rattle.cpp_syntax.specs.declared.terminal.Terminal.{Terminal}
 use Rattle.cpp_syntax.specs.Source.{Source, terminal_at}
 use Rattle.cpp_syntax.specs.Terminals.{is_type_name, colon_colon, open_paren, close_paren, open_bracket}
-use Rattle.cpp_syntax.specs.Rules.{Reading, whole, by_shape, Naming, Nonterminal, named, unnamed, either, in_block, type_specifier, type_specifier_seq, declarator, parameter_declaration, parameter_declaration_clause, Lookahead, Rule, ◌·◌, ◌∣◌, many, form}
+use Rattle.cpp_syntax.specs.Rules.{Reading, whole, by_shape, Naming, Nonterminal, named, unnamed, either, in_block, type_specifier, type_specifier_seq}
+use Rattle.cpp_syntax.specs.Rules.{declarator, parameter_declaration, parameter_declaration_clause, Lookahead, Rule, ◌·◌, ◌∣◌, many, form}
 use Rattle.cpp_syntax.specs.Grammar.{suffix, function_parameters, declarator_id, parenthesized_declarator, declarator_head, omitted_id, parameter_list}
-use Rattle.cpp_syntax.specs.Derivations.{Read, Bodies, Derives, is_nothing, is_word, is_mark, is_both, is_left, is_right, is_last, is_more, is_form, is_node, is_wrap, is_where}
+use Rattle.cpp_syntax.specs.Derivations.{Read, Bodies, Derives, is_nothing, is_word, is_mark, is_both, is_left, is_right, is_last, is_more, is_form, is_node}
+use Rattle.cpp_syntax.specs.Derivations.{is_wrap, is_where}
 use Rattle.cpp_syntax.specs.FirstSets.{first_set, need_not_name, first_of_declarator, first_of_types, rule_first_set, rule_nullable}
 use Rattle.cpp_syntax.specs.Longest.{LongestMatch, NoDerivation}
 use Rattle.cpp_syntax.proofs.TerminalTables.{passes, at_each, implies, implied}

@@ -1,5 +1,6 @@
 -- The shapes of declarators and of parameters, from those of their parts.
-use Rattle.std.proofs.Common.{◌≡◌, ℕ, zero, suc, ◌+◌, ◌<◌, ◌≤◌, ◌⊎◌, inl, inr, ◌↔◌, nat_lt, Bool, true, false, not, ◌&&◌, ◌||◌, if◌then◌else◌, refl, sym as back, ◌∙◌, ap, arith, subst, List, length, Option, Some, None, Result, Ok, Err, true≢false}
+use Rattle.std.proofs.Common.{◌≡◌, ℕ, zero, suc, ◌+◌, ◌<◌, ◌≤◌, ◌⊎◌, inl, inr, ◌↔◌, nat_lt, Bool, true, false, not, ◌&&◌, ◌||◌, if◌then◌else◌, refl}
+use Rattle.std.proofs.Common.{sym as back, ◌∙◌, ap, arith, subst, List, length, Option, Some, None, Result, Ok, Err, true≢false}
 use Rattle.std.specs.declared.alloc.AllocError.{AllocError}
 use Rattle.std.proofs.lemmas.Bool.{cases_lt, cases_eq, cases_Bool, and_from, and_parts}
 use Rattle.cpp_ast.specs.declared.kinds.NodeKind.{NodeKind}
@@ -7,26 +8,36 @@ use Rattle.cpp_ast.specs.declared.kinds.NodeKind.TheVariants.{CvQualifier, Funct
 use Rattle.cpp_syntax.specs.declared.terminal.Terminal.{Terminal}
 use Rattle.cpp_syntax.specs.declared.terminal.Terminal.TheVariants as terminal
 use Rattle.cpp_syntax.specs.Source.{Source, terminal_at}
-use Rattle.cpp_syntax.specs.Terminals.{is_name, is_type_name, const_word, noexcept_word, is_safety, colon_colon, comma, star, amp, void_word, open_paren, close_paren, open_bracket, close_bracket}
+use Rattle.cpp_syntax.specs.Terminals.{is_name, is_type_name, const_word, noexcept_word, is_safety, colon_colon, comma, star, amp, void_word, open_paren}
+use Rattle.cpp_syntax.specs.Terminals.{close_paren, open_bracket, close_bracket}
 use Rattle.cpp_syntax.specs.Types.{holds_something}
 use Rattle.cpp_syntax.specs.Balance.{closes, Balanced, is_empty, Partners, IsPartner}
-use Rattle.cpp_syntax.specs.Rules.{by_shape, Naming, named, unnamed, either, in_block, declarator, direct_declarator, parameter_declaration, parameter_declaration_clause, function_qualifiers, balanced, parameters, Lookahead, at_first, Rule, nothing, word, mark, ◌·◌, ◌∣◌, many, form, node_at, wrap, where_, if_, unless, optional}
-use Rattle.cpp_syntax.specs.Grammar.{production, leaf, cv_qualifiers, tx_qualifier, noexcept_specification, list, array_bound, array_suffix, function_parameters, function_suffix, parameters_behind, suffix, qualified_declarator_id, declarator_id, pointer_declarator, reference_declarator, parenthesized_declarator, declarator_head, omitted_id, parameter_list}
-use Rattle.cpp_syntax.specs.Derivations.{Read, no_read, kept_apart, Bodies, Derives, is_nothing, is_word, is_mark, is_both, is_left, is_right, is_last, is_more, is_form, is_node, is_wrap, is_where}
+use Rattle.cpp_syntax.specs.Rules.{by_shape, Naming, named, unnamed, either, in_block, declarator, direct_declarator, parameter_declaration}
+use Rattle.cpp_syntax.specs.Rules.{parameter_declaration_clause, function_qualifiers, balanced, parameters, Lookahead, at_first, Rule, nothing, word, mark, ◌·◌}
+use Rattle.cpp_syntax.specs.Rules.{◌∣◌, many, form, node_at, wrap, where_, if_, unless, optional}
+use Rattle.cpp_syntax.specs.Grammar.{production, leaf, cv_qualifiers, tx_qualifier, noexcept_specification, list, array_bound, array_suffix}
+use Rattle.cpp_syntax.specs.Grammar.{function_parameters, function_suffix, parameters_behind, suffix, qualified_declarator_id, declarator_id}
+use Rattle.cpp_syntax.specs.Grammar.{pointer_declarator, reference_declarator, parenthesized_declarator, declarator_head, omitted_id, parameter_list}
+use Rattle.cpp_syntax.specs.Derivations.{Read, no_read, kept_apart, Bodies, Derives, is_nothing, is_word, is_mark, is_both, is_left, is_right, is_last, is_more}
+use Rattle.cpp_syntax.specs.Derivations.{is_form, is_node, is_wrap, is_where}
 use Rattle.cpp_syntax.specs.FirstSets.{need_not_name, rule_nullable}
 use Rattle.cpp_syntax.specs.Longest.{LongestMatch, NoDerivation, is_free}
 use Rattle.cpp_syntax.specs.Lookahead.{lookahead_types}
-use Rattle.cpp_syntax.specs.Shapes.{SpansBehind, Spans, NoSpan, Recognised, RecognisedBehind, AlwaysRecognised, ParametersAt, KnownAt, ParametersFound, BehindParameters, ParametersPassed, HeadAt, has_head, has_none, HeadFound, IdFound, is_outside_blocks, is_qualified_name_at}
+use Rattle.cpp_syntax.specs.Shapes.{SpansBehind, Spans, NoSpan, Recognised, RecognisedBehind, AlwaysRecognised, ParametersAt, KnownAt, ParametersFound}
+use Rattle.cpp_syntax.specs.Shapes.{BehindParameters, ParametersPassed, HeadAt, has_head, has_none, HeadFound, IdFound, is_outside_blocks, is_qualified_name_at}
 use Rattle.cpp_syntax.specs.Names.{may_name}
 use Rattle.cpp_syntax.proofs.FirstTerminals.{ends_behind, not_empty}
 use Rattle.cpp_syntax.proofs.DisjointFirstSets.{apart}
 use Rattle.cpp_syntax.proofs.WithinTokens.{token_inside}
 use Rattle.cpp_syntax.proofs.Balances.{balanced_long, text_run}
-use Rattle.cpp_syntax.proofs.LongestMatches.{mark_none, word_none, neither, left, right, seq_none, node_none, where_none, where_refused, where_long, form_none, none_at, wrap_long, wrap_none, if_long, if_none, if_unseen}
+use Rattle.cpp_syntax.proofs.LongestMatches.{mark_none, word_none, neither, left, right, seq_none, node_none, where_none, where_refused, where_long, form_none}
+use Rattle.cpp_syntax.proofs.LongestMatches.{none_at, wrap_long, wrap_none, if_long, if_none, if_unseen}
 use Rattle.cpp_syntax.proofs.Alternatives.{empty_at}
 use Rattle.cpp_syntax.proofs.DeclaratorForms.{with_head_long, without_head_long, head_apart, omitted_apart, suffixes_apart}
 use Rattle.cpp_syntax.proofs.ParameterClauses.{clause, clause_void, clause_kept}
-use Rattle.cpp_syntax.proofs.Recognisers.{SpansMany, spans_nothing, spans_word, spans_mark, spans_leaf, spans_node, spans_form, spans_seq, spans_then, spans_left, spans_right, spans_filled, spans_taken, spans_left_out, none_after, none_seq, behind_any, span_ahead, many_starts, many_goes, many_stops}
+use Rattle.cpp_syntax.proofs.Recognisers.{SpansMany, spans_nothing, spans_word, spans_mark, spans_leaf, spans_node, spans_form, spans_seq, spans_then}
+use Rattle.cpp_syntax.proofs.Recognisers.{spans_left, spans_right, spans_filled, spans_taken, spans_left_out, none_after, none_seq, behind_any, span_ahead}
+use Rattle.cpp_syntax.proofs.Recognisers.{many_starts, many_goes, many_stops}
 use Rattle.cpp_syntax.proofs.ShapeDerivations.{no_parentheses, none_inside, not_closed, parameters_seen, function_seen, begins_inside}
 use Rattle.cpp_syntax.proofs.TypeShapes.{refused_by, never_missing_unnamed, never_missing_either}
 

@@ -9,7 +9,8 @@ use Rattle.std.proofs.lemmas.Bool.{cases_lt, or_left, or_right, and_from}
 use Rattle.cpp_syntax.specs.Source.{Source, terminal_at}
 use Rattle.cpp_syntax.specs.Terminals.{open_brace}
 use Rattle.cpp_syntax.specs.Rules.{compound_statement, Lookahead, a_cast, a_type_in_parentheses, parameters, a_declaration, Rule, many, form}
-use Rattle.cpp_syntax.specs.Derivations.{Read, Bodies, Derives, is_nothing, is_word, is_mark, is_mark_next, is_mark_name, is_both, is_left, is_right, is_last, is_more, is_form, is_node, is_wrap, is_kept_apart, is_in_tree, is_where, is_before, is_if, is_unless}
+use Rattle.cpp_syntax.specs.Derivations.{Read, Bodies, Derives, is_nothing, is_word, is_mark, is_mark_next, is_mark_name, is_both, is_left, is_right, is_last}
+use Rattle.cpp_syntax.specs.Derivations.{is_more, is_form, is_node, is_wrap, is_kept_apart, is_in_tree, is_where, is_before, is_if, is_unless}
 use Rattle.cpp_syntax.specs.FirstSets.{AreParametersAhead, may_be_seen, may_be_unseen, rule_first_set, rule_nullable, StartsRule}
 use Rattle.cpp_syntax.proofs.Tables.{first_set_holds, nullable_holds}
 

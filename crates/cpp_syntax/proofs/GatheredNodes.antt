@@ -1,5 +1,6 @@
 -- One node more, whose kids are the last trees: what a builder keeps.
-use Rattle.std.proofs.Common.{◌≡◌, ℕ, zero, suc, ◌+◌, ◌<◌, ◌≤◌, nat_lt, nat_le, nat_eq, ◌&&◌, if◌then◌else◌, Bool, true, false, List, [], ◌∷◌, ◌++◌, Option, Some, slice_get, length, map, take, drop, get_or, refl, sym, ◌∙◌, ap, subst, arith, length-append, append_assoc, append-nil}
+use Rattle.std.proofs.Common.{◌≡◌, ℕ, zero, suc, ◌+◌, ◌<◌, ◌≤◌, nat_lt, nat_le, nat_eq, ◌&&◌, if◌then◌else◌, Bool, true, false, List, [], ◌∷◌, ◌++◌, Option}
+use Rattle.std.proofs.Common.{Some, slice_get, length, map, take, drop, get_or, refl, sym, ◌∙◌, ap, subst, arith, length-append, append_assoc, append-nil}
 use Rattle.std.specs.List.{concat, list_all, sum_by, count_by}
 use Rattle.std.proofs.lemmas.Bool.{and_parts, and_from, ltb-true, lt-ltb}
 use Rattle.std.proofs.lemmas.List.{map-append, length-map, take-append-drop, drop-append-le, take-map}
@@ -16,7 +17,8 @@ use Rattle.cpp_ast.specs.Trees.{Tree, node, Trees, none, more, Shows, ShowsAll, 
 use Rattle.cpp_ast.specs.Units.{times_in, times_a_kid}
 use Rattle.cpp_syntax.specs.declared.positions.OpenBody.{OpenBody}
 use Rattle.cpp_syntax.specs.Gathers.{Gathered}
-use Rattle.cpp_syntax.specs.View.{EachShows, IsBuilt, running, is_lambda, lams_of, lambdas_at, lambdas_from, lambdas_made, values_at, values_from, trees_at, trees_from, tree_made, no_tree}
+use Rattle.cpp_syntax.specs.View.{EachShows, IsBuilt, running, is_lambda, lams_of, lambdas_at, lambdas_from, lambdas_made, values_at, values_from, trees_at}
+use Rattle.cpp_syntax.specs.View.{trees_from, tree_made, no_tree}
 use Rattle.cpp_syntax.proofs.NodeLambdas.{own_lambda}
 use Rattle.cpp_syntax.proofs.NodeValues.{values_long, values_snoc, at_grow, at_gathered, at_last, below_take, below_drop, value_grow, value_last}
 

@@ -8,7 +8,9 @@ use Rattle.std.proofs.lemmas.Bool.{and_parts}
 use Rattle.cpp_ast.specs.Trees.{Trees, none, more}
 use Rattle.cpp_syntax.specs.Source.{Source}
 use Rattle.cpp_syntax.specs.Rules.{Lookahead, Rule, ◌·◌, many}
-use Rattle.cpp_syntax.specs.Derivations.{Body, Read, join, no_read, and_then, Bodies, Derives, is_nothing, is_word, is_mark, is_mark_next, is_mark_name, is_both, is_left, is_right, is_last, is_more, is_form, is_node, is_wrap, is_kept_apart, is_in_tree, is_where, is_before, is_if, is_unless}
+use Rattle.cpp_syntax.specs.Derivations.{Body, Read, join, no_read, and_then, Bodies, Derives, is_nothing, is_word, is_mark, is_mark_next, is_mark_name}
+use Rattle.cpp_syntax.specs.Derivations.{is_both, is_left, is_right, is_last, is_more, is_form, is_node, is_wrap, is_kept_apart, is_in_tree, is_where}
+use Rattle.cpp_syntax.specs.Derivations.{is_before, is_if, is_unless}
 use Rattle.cpp_syntax.specs.Longest.{IsNoLonger, LongestMatch, NoDerivation, is_free}
 
 -- What was read, one behind the other.

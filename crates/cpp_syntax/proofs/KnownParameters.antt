@@ -1,5 +1,6 @@
 -- Tables of parameters, and what is known from them.
-use Rattle.std.proofs.Common.{◌≡◌, ℕ, ◌+◌, ◌-◌, ◌<◌, ◌≤◌, ◌⊎◌, inl, inr, nat_lt, if◌then◌else◌, Bool, true, false, refl, sym as back, ◌∙◌, ap, subst, arith, List, length, get_or, slice_set, Option, Some, None, is_some, true≢false}
+use Rattle.std.proofs.Common.{◌≡◌, ℕ, ◌+◌, ◌-◌, ◌<◌, ◌≤◌, ◌⊎◌, inl, inr, nat_lt, if◌then◌else◌, Bool, true, false, refl, sym as back, ◌∙◌, ap, subst, arith}
+use Rattle.std.proofs.Common.{List, length, get_or, slice_set, Option, Some, None, is_some, true≢false}
 use Rattle.std.proofs.lemmas.Bool.{cases_lt}
 use Rattle.std.proofs.lemmas.List.{get_or_past, get_or-set_same, get_or-set_other, length-set}
 use Rattle.cpp_syntax.specs.declared.terminal.Terminal.TheVariants as terminal

@@ -2,7 +2,8 @@
 --
 -- bodies_in x h    : of a text with the bodies apart, and trees for them, the text with the bodies in its trees
 -- bodies_apart x   : of a text with the bodies in its trees, the text with the bodies apart, and trees for them
-use Rattle.std.proofs.Common.{◌≡◌, ℕ, zero, suc, ◌+◌, inl, inr, Bool, true, false, not, ◌&&◌, ◌||◌, refl, sym as back, ◌∙◌, ap, ap₂, arith, subst, List, [], ◌∷◌, ◌++◌, Option, Some, None, true≢false, append_assoc, append-nil}
+use Rattle.std.proofs.Common.{◌≡◌, ℕ, zero, suc, ◌+◌, inl, inr, Bool, true, false, not, ◌&&◌, ◌||◌, refl, sym as back, ◌∙◌, ap, ap₂, arith, subst, List, []}
+use Rattle.std.proofs.Common.{◌∷◌, ◌++◌, Option, Some, None, true≢false, append_assoc, append-nil}
 use Rattle.std.proofs.lemmas.Bool.{and_parts, not-true, or_cases}
 use Rattle.cpp_ast.specs.declared.arena.At.{At}
 use Rattle.cpp_ast.specs.declared.kinds.NodeKind.{NodeKind}
@@ -10,9 +11,21 @@ use Rattle.cpp_ast.specs.declared.kinds.NodeKind.TheVariants as kind
 use Rattle.cpp_ast.specs.Trees.{Tree, node, Trees}
 use Rattle.cpp_syntax.specs.Source.{Source, terminal_at, position_at}
 use Rattle.cpp_syntax.specs.Terminals.{open_brace, close_brace}
-use Rattle.cpp_syntax.specs.Rules.{whole, by_shape, named, unnamed, either, in_block, qualified, plain, Nonterminal, primary_expression, lambda_expression, lambda_introducer, lambda_declarator, functional_type, expression_list, postfix_expression, unary_expression, cast_expression, binary_expression, conditional_expression, assignment_expression, expression, type_specifier, type_specifier_seq, type_id, declarator, direct_declarator, parameter_declaration, parameter_declaration_clause, function_qualifiers, balanced, braced_init_list, initializer, init_declarator, block_declaration, shaped_choice, shaped_init_declarator, shaped_declaration, compound_statement, statement, for_init_statement, handler, enumerator_definition, declaration_head, simple_declaration, constructor_declarator, destructor_declarator, member_initializer, member_declarator, initialized_member, listed_member, member_declaration, declaration, translation_unit, Lookahead, Rule, nothing, word, mark, mark_next, mark_name, ◌·◌, ◌∣◌, many, form, node_at, wrap, with_body, where_, before_no, if_, unless}
+use Rattle.cpp_syntax.specs.Rules.{whole, by_shape, named, unnamed, either, in_block, qualified, plain, Nonterminal, primary_expression, lambda_expression}
+use Rattle.cpp_syntax.specs.Rules.{lambda_introducer, lambda_declarator, functional_type, expression_list, postfix_expression, unary_expression}
+use Rattle.cpp_syntax.specs.Rules.{cast_expression, binary_expression, conditional_expression, assignment_expression, expression, type_specifier}
+use Rattle.cpp_syntax.specs.Rules.{type_specifier_seq, type_id, declarator, direct_declarator, parameter_declaration, parameter_declaration_clause}
+use Rattle.cpp_syntax.specs.Rules.{function_qualifiers, balanced, braced_init_list, initializer, init_declarator, block_declaration, shaped_choice}
+use Rattle.cpp_syntax.specs.Rules.{shaped_init_declarator, shaped_declaration, compound_statement, statement, for_init_statement, handler}
+use Rattle.cpp_syntax.specs.Rules.{enumerator_definition, declaration_head, simple_declaration, constructor_declarator, destructor_declarator}
+use Rattle.cpp_syntax.specs.Rules.{member_initializer, member_declarator, initialized_member, listed_member, member_declaration, declaration, translation_unit}
+use Rattle.cpp_syntax.specs.Rules.{Lookahead, Rule, nothing, word, mark, mark_next, mark_name, ◌·◌, ◌∣◌, many, form, node_at, wrap, with_body, where_}
+use Rattle.cpp_syntax.specs.Rules.{before_no, if_, unless}
 use Rattle.cpp_syntax.specs.Grammar.{production}
-use Rattle.cpp_syntax.specs.Derivations.{Body, Read, join, one_tree, no_read, and_then, first_or, token_of_name, positioned, position_of_first, reads_node, with_body_apart, Bodies, in_trees, kept_apart, Derives, is_nothing, is_word, is_mark, is_mark_next, is_mark_name, is_both, is_left, is_right, is_last, is_more, is_form, is_node, is_wrap, is_kept_apart, is_in_tree, is_where, is_before, is_if, is_unless}
+use Rattle.cpp_syntax.specs.Derivations.{Body, Read, join, one_tree, no_read, and_then, first_or, token_of_name, positioned, position_of_first, reads_node}
+use Rattle.cpp_syntax.specs.Derivations.{with_body_apart, Bodies, in_trees, kept_apart, Derives, is_nothing, is_word, is_mark, is_mark_next, is_mark_name}
+use Rattle.cpp_syntax.specs.Derivations.{is_both, is_left, is_right, is_last, is_more, is_form, is_node, is_wrap, is_kept_apart, is_in_tree, is_where}
+use Rattle.cpp_syntax.specs.Derivations.{is_before, is_if, is_unless}
 use Rattle.cpp_syntax.specs.View.{is_lambda}
 use Rattle.cpp_syntax.specs.Balance.{Balanced}
 use Rattle.cpp_syntax.proofs.IndependentDerivations.{free}

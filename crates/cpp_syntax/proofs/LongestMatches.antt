@@ -16,16 +16,21 @@
 -- before_no    before_long x e, before_none x, before_over x e refl (a token that is refused follows)
 -- if_, unless  if_long s x, if_none x, if_unseen n; unless_long n x, unless_none x, unless_seen s
 -- with_body    body_long x refl e y f                           (the body kept apart)
-use Rattle.std.proofs.Common.{◌≡◌, ℕ, ◌+◌, ◌<◌, ◌≤◌, ◌⊎◌, inl, inr, Bool, true, false, not, ◌&&◌, ◌||◌, refl, sym as back, ◌∙◌, subst, ap, ap₂, arith, Option, Some, None, true≢false}
+use Rattle.std.proofs.Common.{◌≡◌, ℕ, ◌+◌, ◌<◌, ◌≤◌, ◌⊎◌, inl, inr, Bool, true, false, not, ◌&&◌, ◌||◌, refl, sym as back, ◌∙◌, subst, ap, ap₂, arith, Option}
+use Rattle.std.proofs.Common.{Some, None, true≢false}
 use Rattle.std.proofs.lemmas.Bool.{not_from_false, cases_lt, or_left, or_right, and_from}
 use Rattle.cpp_ast.specs.declared.kinds.NodeKind.{NodeKind}
 use Rattle.cpp_syntax.specs.declared.terminal.Terminal.{Terminal}
 use Rattle.cpp_syntax.specs.declared.terminal.Terminal.TheVariants as terminal
 use Rattle.cpp_syntax.specs.Source.{Source, terminal_at, position_at}
 use Rattle.cpp_syntax.specs.Terminals.{open_brace, close_brace}
-use Rattle.cpp_syntax.specs.Rules.{Nonterminal, balanced, Lookahead, Positioning, Rule, nothing, word, mark, mark_next, mark_name, ◌·◌, ◌∣◌, many, form, node_at, wrap, with_body, where_, before_no, if_, unless, optional}
+use Rattle.cpp_syntax.specs.Rules.{Nonterminal, balanced, Lookahead, Positioning, Rule, nothing, word, mark, mark_next, mark_name, ◌·◌, ◌∣◌, many, form}
+use Rattle.cpp_syntax.specs.Rules.{node_at, wrap, with_body, where_, before_no, if_, unless, optional}
 use Rattle.cpp_syntax.specs.Grammar.{production}
-use Rattle.cpp_syntax.specs.Derivations.{Read, no_read, and_then, first_or, token_of_name, declared_in, positioned, position_of_first, reads_node, with_body_apart, in_trees, kept_apart, Bodies, Derives, is_nothing, is_word, is_mark, is_mark_next, is_mark_name, is_both, is_left, is_right, is_last, is_more, is_form, is_node, is_wrap, is_kept_apart, is_in_tree, is_where, is_before, is_if, is_unless}
+use Rattle.cpp_syntax.specs.Derivations.{Read, no_read, and_then, first_or, token_of_name, declared_in, positioned, position_of_first, reads_node}
+use Rattle.cpp_syntax.specs.Derivations.{with_body_apart, in_trees, kept_apart, Bodies, Derives, is_nothing, is_word, is_mark, is_mark_next, is_mark_name}
+use Rattle.cpp_syntax.specs.Derivations.{is_both, is_left, is_right, is_last, is_more, is_form, is_node, is_wrap, is_kept_apart, is_in_tree, is_where}
+use Rattle.cpp_syntax.specs.Derivations.{is_before, is_if, is_unless}
 use Rattle.cpp_syntax.specs.FirstSets.{continuation_set, rule_first_set, rule_nullable, rule_continuation_set, StartsRule, ContinuesRule}
 use Rattle.cpp_syntax.specs.Longest.{IsNoLonger, LongestMatch, NoDerivation}
 use Rattle.cpp_syntax.proofs.Tables.{continuation_set_holds}

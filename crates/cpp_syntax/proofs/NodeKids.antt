@@ -1,5 +1,6 @@
 -- The kids of a node and the trees that they show.
-use Rattle.std.proofs.Common.{◌≡◌, ℕ, zero, suc, ◌+◌, ◌<◌, ◌≤◌, List, [], ◌∷◌, length, drop, get_or, slice_get, drop-cons, Some, refl, sym, ◌∙◌, ap, subst, arith}
+use Rattle.std.proofs.Common.{◌≡◌, ℕ, zero, suc, ◌+◌, ◌<◌, ◌≤◌, List, [], ◌∷◌, length, drop, get_or, slice_get, drop-cons, Some, refl, sym, ◌∙◌, ap, subst}
+use Rattle.std.proofs.Common.{arith}
 use Rattle.cpp_ast.specs.declared.arena.Node.{Node}
 use Rattle.cpp_ast.specs.declared.arena.NodeId.{NodeId}
 use Rattle.cpp_ast.specs.Trees.{Tree, node, Trees, none, more, kind_of, Shows, ShowsAll}

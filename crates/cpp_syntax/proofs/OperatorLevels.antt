@@ -4,7 +4,8 @@
 -- operated_none f                     : NoDerivation (operated n)      where the terminal has not the level n + 1
 -- level_read x                        : of the production's chain, binary_expression (n + 1)
 -- level_over x f, levels_over d x f   : binary_expression (n + 1), and (n + d), where no operator of these levels follows
-use Rattle.std.proofs.Common.{◌≡◌, ℕ, zero, suc, ◌+◌, ◌≤◌, inl, inr, nat_le, nat_eq, Bool, true, false, not, ◌&&◌, ◌||◌, refl, subst, arith, List, [], ◌∷◌, Option, None}
+use Rattle.std.proofs.Common.{◌≡◌, ℕ, zero, suc, ◌+◌, ◌≤◌, inl, inr, nat_le, nat_eq, Bool, true, false, not, ◌&&◌, ◌||◌, refl, subst, arith, List, [], ◌∷◌}
+use Rattle.std.proofs.Common.{Option, None}
 use Rattle.std.specs.List.{list_all}
 use Rattle.std.proofs.lemmas.Bool.{and_from, cases_Bool}
 use Rattle.cpp_ast.specs.declared.kinds.NodeKind.TheVariants.{BinaryExpression}

@@ -3,7 +3,8 @@
 -- Of x, the longest text of optional (parameter_list reading) from a to b:
 -- clause_void x t e  : the clause is void          where void stands at a and b ≡ a + 1
 -- clause_kept x f    : the clause is that text     where it is not so
-use Rattle.std.proofs.Common.{◌≡◌, ℕ, zero, suc, ◌+◌, ◌-◌, ◌<◌, ◌⊎◌, inl, inr, nat_eq, true, false, ◌&&◌, refl, sym as back, ◌∙◌, subst, ap, arith, List, [], ◌∷◌, take, drop, length, get_or, slice_range, Option, None, true≢false}
+use Rattle.std.proofs.Common.{◌≡◌, ℕ, zero, suc, ◌+◌, ◌-◌, ◌<◌, ◌⊎◌, inl, inr, nat_eq, true, false, ◌&&◌, refl, sym as back, ◌∙◌, subst, ap, arith, List, []}
+use Rattle.std.proofs.Common.{◌∷◌, take, drop, length, get_or, slice_range, Option, None, true≢false}
 use Rattle.std.proofs.lemmas.Bool.{and_from, and_parts, cases_Bool, not_from_false, not_from_true}
 use Rattle.cpp_syntax.specs.declared.terminal.Terminal.{Terminal}
 use Rattle.cpp_syntax.specs.declared.terminal.Terminal.TheVariants as terminal

@@ -27,7 +27,8 @@ use Rattle.cpp_syntax.proofs.FirstTerminals.{ends_behind}
 use Rattle.cpp_syntax.proofs.DisjointFirstSets.{apart}
 use Rattle.cpp_syntax.proofs.IndependentDerivations.{free_long}
 use Rattle.cpp_syntax.proofs.Readers.{appended_none, appended_both}
-use Rattle.cpp_syntax.proofs.LongestMatches.{seq, wrap_long, mark_long, mark_next_long, where_long, before_long, if_long, unless_long, body_long, ManySoFar, many_begins, many_more, many_ends, Chain, chain_begins, chain_more, chain_ends}
+use Rattle.cpp_syntax.proofs.LongestMatches.{seq, wrap_long, mark_long, mark_next_long, where_long, before_long, if_long, unless_long, body_long, ManySoFar}
+use Rattle.cpp_syntax.proofs.LongestMatches.{many_begins, many_more, many_ends, Chain, chain_begins, chain_more, chain_ends}
 
 pub gained_then : (u : BuilderState) {v w : BuilderState} (r s : Read) → v ≡ appended u r → w ≡ appended v s → w ≡ appended u (and_then r s)
 gained_then u r s e f = f ∙ ap (λ (z : BuilderState). appended z s) e ∙ appended_both u r s

@@ -3,7 +3,8 @@ use Rattle.std.proofs.Common.{◌≡◌, ℕ, ◌+◌, ◌<◌, ◌≤◌, Bool,
 use Rattle.cpp_ast.specs.declared.kinds.NodeKind.{NodeKind}
 use Rattle.cpp_syntax.specs.declared.terminal.Terminal.{Terminal}
 use Rattle.cpp_syntax.specs.Source.{Source, terminal_at, position_at}
-use Rattle.cpp_syntax.specs.Rules.{Nonterminal, Lookahead, Positioning, at_first, Rule, nothing, word, mark, ◌·◌, ◌∣◌, many, form, node_at, wrap, where_, if_, unless, optional}
+use Rattle.cpp_syntax.specs.Rules.{Nonterminal, Lookahead, Positioning, at_first, Rule, nothing, word, mark, ◌·◌, ◌∣◌, many, form, node_at, wrap, where_, if_}
+use Rattle.cpp_syntax.specs.Rules.{unless, optional}
 use Rattle.cpp_syntax.specs.Grammar.{production, leaf}
 use Rattle.cpp_syntax.specs.Derivations.{Read, no_read, and_then, first_or, reads_node, positioned, kept_apart}
 use Rattle.cpp_syntax.specs.Lookahead.{lookahead}
@@ -12,7 +13,8 @@ use Rattle.cpp_syntax.specs.Longest.{LongestMatch, NoDerivation, is_free}
 use Rattle.cpp_syntax.specs.View.{BuilderState, appended}
 use Rattle.cpp_syntax.specs.Parsed.{Leaves, ReadsLongest, NoneOf}
 use Rattle.cpp_syntax.proofs.DisjointFirstSets.{apart}
-use Rattle.cpp_syntax.proofs.LongestMatches.{nothing_long, word_long, mark_long, word_none, mark_none, seq, seq_none, seq_ends, left, right, neither, taken, left_out, form_long, form_none, node_long, node_none}
+use Rattle.cpp_syntax.proofs.LongestMatches.{nothing_long, word_long, mark_long, word_none, mark_none, seq, seq_none, seq_ends, left, right, neither, taken}
+use Rattle.cpp_syntax.proofs.LongestMatches.{left_out, form_long, form_none, node_long, node_none}
 use Rattle.cpp_syntax.proofs.IndependentDerivations.{and_then_none, and_then_assoc, free_long, free_none}
 
 -- What was gained.

@@ -7,7 +7,8 @@ use Rattle.std.proofs.Common.{◌≡◌, ℕ, ◌+◌, ◌<◌, ◌≤◌, Bool,
 use Rattle.cpp_ast.specs.declared.kinds.NodeKind.{NodeKind}
 use Rattle.cpp_syntax.specs.declared.terminal.Terminal.{Terminal}
 use Rattle.cpp_syntax.specs.Source.{Source, terminal_at, position_at}
-use Rattle.cpp_syntax.specs.Rules.{Nonterminal, Lookahead, Positioning, Rule, nothing, word, mark, ◌·◌, ◌∣◌, many, form, node_at, wrap, where_, if_, unless, optional}
+use Rattle.cpp_syntax.specs.Rules.{Nonterminal, Lookahead, Positioning, Rule, nothing, word, mark, ◌·◌, ◌∣◌, many, form, node_at, wrap, where_, if_, unless}
+use Rattle.cpp_syntax.specs.Rules.{optional}
 use Rattle.cpp_syntax.specs.Grammar.{production, leaf}
 use Rattle.cpp_syntax.specs.Derivations.{Read, no_read, and_then, first_or, kept_apart, Derives}
 use Rattle.cpp_syntax.specs.Lookahead.{lookahead_types}
@@ -17,7 +18,9 @@ use Rattle.cpp_syntax.specs.Shapes.{SpansBehind, Spans, NoSpan, KnownFrom}
 use Rattle.cpp_syntax.proofs.FirstTerminals.{ends_behind}
 use Rattle.cpp_syntax.proofs.DisjointFirstSets.{apart}
 use Rattle.cpp_syntax.proofs.IndependentDerivations.{free_long, free_none}
-use Rattle.cpp_syntax.proofs.LongestMatches.{nothing_long, word_long, mark_long, seq, seq_none, seq_ends, left, right, neither, taken, left_out, form_long, form_none, node_long, node_none, wrap_long, where_long, if_long, unless_long, ManySoFar, many_begins, many_more, many_ends, Chain, chain_begins, chain_more, chain_ends}
+use Rattle.cpp_syntax.proofs.LongestMatches.{nothing_long, word_long, mark_long, seq, seq_none, seq_ends, left, right, neither, taken, left_out, form_long}
+use Rattle.cpp_syntax.proofs.LongestMatches.{form_none, node_long, node_none, wrap_long, where_long, if_long, unless_long, ManySoFar, many_begins, many_more}
+use Rattle.cpp_syntax.proofs.LongestMatches.{many_ends, Chain, chain_begins, chain_more, chain_ends}
 use Rattle.cpp_syntax.proofs.Alternatives.{OnlyEmpty, left_filled}
 
 -- a rule that spans behind nothing does behind anything

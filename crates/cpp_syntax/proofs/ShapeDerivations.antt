@@ -1,14 +1,20 @@
 -- Types and parameters by their shape look at nothing: their texts are the same whatever is seen.
-use Rattle.std.proofs.Common.{◌≡◌, ℕ, ◌+◌, ◌<◌, ◌⊎◌, inl, inr, Bool, true, false, not, ◌&&◌, refl, sym as back, ◌∙◌, ap, subst, length, Option, None, true≢false}
+use Rattle.std.proofs.Common.{◌≡◌, ℕ, ◌+◌, ◌<◌, ◌⊎◌, inl, inr, Bool, true, false, not, ◌&&◌, refl, sym as back, ◌∙◌, ap, subst, length, Option, None}
+use Rattle.std.proofs.Common.{true≢false}
 use Rattle.std.proofs.lemmas.Bool.{and_parts, cases_lt}
 use Rattle.std.proofs.lemmas.List.{get_or_past}
 use Rattle.cpp_syntax.specs.declared.terminal.Terminal.{Terminal}
 use Rattle.cpp_syntax.specs.declared.terminal.Terminal.TheVariants as terminal
 use Rattle.cpp_syntax.specs.Source.{Source, terminal_at}
 use Rattle.cpp_syntax.specs.Terminals.{open_paren, close_paren}
-use Rattle.cpp_syntax.specs.Rules.{Reading, whole, by_shape, Naming, named, unnamed, either, in_block, Nonterminal, type_specifier, type_specifier_seq, type_id, declarator, direct_declarator, parameter_declaration, parameter_declaration_clause, function_qualifiers, balanced, parameters, Lookahead, Rule, nothing, word, mark, mark_next, mark_name, ◌·◌, ◌∣◌, many, form, node_at, wrap, with_body, where_, before_no, if_, unless}
+use Rattle.cpp_syntax.specs.Rules.{Reading, whole, by_shape, Naming, named, unnamed, either, in_block, Nonterminal, type_specifier, type_specifier_seq, type_id}
+use Rattle.cpp_syntax.specs.Rules.{declarator, direct_declarator, parameter_declaration, parameter_declaration_clause, function_qualifiers, balanced}
+use Rattle.cpp_syntax.specs.Rules.{parameters, Lookahead, Rule, nothing, word, mark, mark_next, mark_name, ◌·◌, ◌∣◌, many, form, node_at, wrap, with_body}
+use Rattle.cpp_syntax.specs.Rules.{where_, before_no, if_, unless}
 use Rattle.cpp_syntax.specs.Grammar.{production, function_parameters}
-use Rattle.cpp_syntax.specs.Derivations.{Read, no_read, kept_apart, Bodies, Derives, is_nothing, is_word, is_mark, is_mark_next, is_mark_name, is_both, is_left, is_right, is_last, is_more, is_form, is_node, is_wrap, is_kept_apart, is_in_tree, is_where, is_before, is_if, is_unless}
+use Rattle.cpp_syntax.specs.Derivations.{Read, no_read, kept_apart, Bodies, Derives, is_nothing, is_word, is_mark, is_mark_next, is_mark_name, is_both, is_left}
+use Rattle.cpp_syntax.specs.Derivations.{is_right, is_last, is_more, is_form, is_node, is_wrap, is_kept_apart, is_in_tree, is_where, is_before, is_if}
+use Rattle.cpp_syntax.specs.Derivations.{is_unless}
 use Rattle.cpp_syntax.specs.FirstSets.{rule_nullable, rule_first_set}
 use Rattle.cpp_syntax.specs.Lookahead.{lookahead_types, Shape, InParentheses}
 use Rattle.cpp_syntax.specs.Shapes.{Spans, NoSpan, ParametersAt, BehindType}

@@ -8,7 +8,15 @@ use Rattle.std.proofs.lemmas.Bool.{and_parts, or_cases}
 use Rattle.cpp_ast.specs.declared.kinds.NodeKind.TheVariants.{BinaryExpression}
 use Rattle.cpp_syntax.specs.declared.terminal.Terminal.{Terminal}
 use Rattle.cpp_syntax.specs.Terminals.{level_of}
-use Rattle.cpp_syntax.specs.Rules.{whole, by_shape, named, unnamed, either, in_block, qualified, plain, Nonterminal, Rule, ◌·◌, many, form, mark, wrap, primary_expression, lambda_expression, lambda_introducer, lambda_declarator, functional_type, expression_list, postfix_expression, unary_expression, cast_expression, binary_expression, conditional_expression, assignment_expression, expression, type_specifier, type_specifier_seq, type_id, declarator, direct_declarator, parameter_declaration, parameter_declaration_clause, function_qualifiers, balanced, braced_init_list, initializer, init_declarator, block_declaration, shaped_choice, shaped_init_declarator, shaped_declaration, compound_statement, statement, for_init_statement, handler, enumerator_definition, declaration_head, simple_declaration, constructor_declarator, destructor_declarator, member_initializer, member_declarator, initialized_member, listed_member, member_declaration, declaration, translation_unit}
+use Rattle.cpp_syntax.specs.Rules.{whole, by_shape, named, unnamed, either, in_block, qualified, plain, Nonterminal, Rule, ◌·◌, many, form, mark, wrap}
+use Rattle.cpp_syntax.specs.Rules.{primary_expression, lambda_expression, lambda_introducer, lambda_declarator, functional_type, expression_list}
+use Rattle.cpp_syntax.specs.Rules.{postfix_expression, unary_expression, cast_expression, binary_expression, conditional_expression, assignment_expression}
+use Rattle.cpp_syntax.specs.Rules.{expression, type_specifier, type_specifier_seq, type_id, declarator, direct_declarator, parameter_declaration}
+use Rattle.cpp_syntax.specs.Rules.{parameter_declaration_clause, function_qualifiers, balanced, braced_init_list, initializer, init_declarator}
+use Rattle.cpp_syntax.specs.Rules.{block_declaration, shaped_choice, shaped_init_declarator, shaped_declaration, compound_statement, statement}
+use Rattle.cpp_syntax.specs.Rules.{for_init_statement, handler, enumerator_definition, declaration_head, simple_declaration, constructor_declarator}
+use Rattle.cpp_syntax.specs.Rules.{destructor_declarator, member_initializer, member_declarator, initialized_member, listed_member, member_declaration}
+use Rattle.cpp_syntax.specs.Rules.{declaration, translation_unit}
 use Rattle.cpp_syntax.specs.Grammar.{production}
 use Rattle.cpp_syntax.specs.FirstSets.{first_set, nullable, continuation_set, continuation_of_primary, rule_first_set, rule_nullable, rule_continuation_set}
 use Rattle.cpp_syntax.proofs.TerminalTables.{passes, at_each, implies, implied}

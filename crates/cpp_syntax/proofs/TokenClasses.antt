@@ -1,5 +1,6 @@
 -- Tokens and what they are to the grammar.
-use Rattle.std.proofs.Common.{◌≡◌, ℕ, zero, suc, ◌+◌, ◌-◌, ◌<◌, ◌≤◌, Bool, true, false, if◌then◌else◌, nat_lt, ◌&&◌, List, [], ◌∷◌, ◌++◌, length, map, get_or, slice_get, Option, Some, None, refl, sym, ◌∙◌, ap, subst, arith, cond, length-append}
+use Rattle.std.proofs.Common.{◌≡◌, ℕ, zero, suc, ◌+◌, ◌-◌, ◌<◌, ◌≤◌, Bool, true, false, if◌then◌else◌, nat_lt, ◌&&◌, List, [], ◌∷◌, ◌++◌, length, map, get_or}
+use Rattle.std.proofs.Common.{slice_get, Option, Some, None, refl, sym, ◌∙◌, ap, subst, arith, cond, length-append}
 use Rattle.std.specs.Str.{bytes_eq}
 use Rattle.std.proofs.lemmas.Slice.Eq.{bytes_eq-Decides}
 use Rattle.std.proofs.lemmas.Option.{none-some}
@@ -9,7 +10,8 @@ use Rattle.cpp_lex.specs.declared.TokKind.{TokKind}
 use Rattle.cpp_lex.specs.declared.TokKind.TheVariants as token
 use Rattle.cpp_syntax.specs.declared.terminal.Terminal.{Terminal}
 use Rattle.cpp_syntax.specs.declared.terminal.Terminal.TheVariants as terminal
-use Rattle.cpp_syntax.specs.Classes.{introduces, is_introduced, qualifies, class_at, class_by, name_class, name_terminal, type_index, names_type, or_here, end_of, each_below, terminals_of}
+use Rattle.cpp_syntax.specs.Classes.{introduces, is_introduced, qualifies, class_at, class_by, name_class, name_terminal, type_index, names_type, or_here}
+use Rattle.cpp_syntax.specs.Classes.{end_of, each_below, terminals_of}
 use Rattle.cpp_syntax.specs.Balance.{IsPartner, IsTable, partner_in}
 use Rattle.std.proofs.lemmas.List.{length-map}
 

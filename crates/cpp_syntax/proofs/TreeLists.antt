@@ -1,12 +1,14 @@
 -- Trees one behind the other, how many they are and how many lambdas are in them.
-use Rattle.std.proofs.Common.{◌≡◌, ℕ, zero, suc, ◌+◌, ◌<◌, ◌≤◌, List, [], ◌∷◌, ◌++◌, length, map, take, drop, get_or, refl, sym, ◌∙◌, ap, arith, Bool, true, false, length-append, if◌then◌else◌, append_assoc, append-nil}
+use Rattle.std.proofs.Common.{◌≡◌, ℕ, zero, suc, ◌+◌, ◌<◌, ◌≤◌, List, [], ◌∷◌, ◌++◌, length, map, take, drop, get_or, refl, sym, ◌∙◌, ap, arith, Bool, true}
+use Rattle.std.proofs.Common.{false, length-append, if◌then◌else◌, append_assoc, append-nil}
 use Rattle.std.specs.List.{concat}
 use Rattle.std.proofs.lemmas.List.{map-append, length-map}
 use Rattle.cpp_ast.specs.declared.arena.Node.{Node}
 use Rattle.cpp_ast.specs.declared.arena.NodeId.{NodeId}
 use Rattle.cpp_ast.specs.Trees.{Tree, node, Trees, none, more}
 use Rattle.cpp_syntax.specs.Derivations.{join, one_tree}
-use Rattle.cpp_syntax.specs.View.{trees_of, count_trees, count_lambdas, count_lambdas_in, is_lambda, values_at, values_from, tree_made, lambdas_made, no_tree, trees_from, trees_at, lambdas_from, lambdas_at}
+use Rattle.cpp_syntax.specs.View.{trees_of, count_trees, count_lambdas, count_lambdas_in, is_lambda, values_at, values_from, tree_made, lambdas_made, no_tree}
+use Rattle.cpp_syntax.specs.View.{trees_from, trees_at, lambdas_from, lambdas_at}
 use Rattle.cpp_syntax.proofs.NodeValues.{at_map}
 
 pub trees_of-append : (ts us : List Tree) → trees_of (ts ++ us) ≡ join (trees_of ts) (trees_of us)

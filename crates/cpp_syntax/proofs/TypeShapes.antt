@@ -2,7 +2,8 @@
 --
 -- thrown_none, after_thrown, after_thrown_none  : std::tx_exception< and what follows it, for any rule that begins so
 -- words_span                                    : the words that spell a type
-use Rattle.std.proofs.Common.{◌≡◌, ℕ, zero, suc, ◌+◌, ◌-◌, ◌<◌, ◌≤◌, ◌⊎◌, inl, inr, Bool, true, false, not, ◌&&◌, refl, sym as back, ◌∙◌, ap, arith, subst, length, Option, Some, None, Result, Ok, Err, true≢false}
+use Rattle.std.proofs.Common.{◌≡◌, ℕ, zero, suc, ◌+◌, ◌-◌, ◌<◌, ◌≤◌, ◌⊎◌, inl, inr, Bool, true, false, not, ◌&&◌, refl, sym as back, ◌∙◌, ap, arith, subst}
+use Rattle.std.proofs.Common.{length, Option, Some, None, Result, Ok, Err, true≢false}
 use Rattle.std.specs.declared.alloc.AllocError.{AllocError}
 use Rattle.std.proofs.lemmas.Bool.{cases_lt, and_from, and_parts, not-true}
 use Rattle.cpp_ast.specs.declared.kinds.NodeKind.{NodeKind}
@@ -12,9 +13,11 @@ use Rattle.cpp_syntax.specs.declared.terminal.Terminal.TheVariants as terminal
 use Rattle.cpp_syntax.specs.Source.{Source, terminal_at}
 use Rattle.cpp_syntax.specs.Terminals.{is_type_word, is_type_name, std, colon_colon, tx_exception_word, less, greater, open_paren, close_paren}
 use Rattle.cpp_syntax.specs.Types.{spells_a_type}
-use Rattle.cpp_syntax.specs.Rules.{by_shape, either, unnamed, type_specifier, type_specifier_seq, type_id, declarator, parameter_declaration, Lookahead, Rule, nothing, word, mark, ◌·◌, ◌∣◌, many, form, node_at, where_, some}
+use Rattle.cpp_syntax.specs.Rules.{by_shape, either, unnamed, type_specifier, type_specifier_seq, type_id, declarator, parameter_declaration, Lookahead, Rule}
+use Rattle.cpp_syntax.specs.Rules.{nothing, word, mark, ◌·◌, ◌∣◌, many, form, node_at, where_, some}
 use Rattle.cpp_syntax.specs.Grammar.{leaf, cv_qualifiers, type_name, tx_exception}
-use Rattle.cpp_syntax.specs.Derivations.{Read, no_read, kept_apart, Bodies, Derives, is_nothing, is_word, is_mark, is_both, is_left, is_right, is_last, is_more, is_form, is_node}
+use Rattle.cpp_syntax.specs.Derivations.{Read, no_read, kept_apart, Bodies, Derives, is_nothing, is_word, is_mark, is_both, is_left, is_right, is_last, is_more}
+use Rattle.cpp_syntax.specs.Derivations.{is_form, is_node}
 use Rattle.cpp_syntax.specs.FirstSets.{rule_nullable}
 use Rattle.cpp_syntax.specs.Longest.{LongestMatch, NoDerivation, is_free}
 use Rattle.cpp_syntax.specs.Lookahead.{lookahead_types, InParentheses}
@@ -24,7 +27,8 @@ use Rattle.cpp_syntax.proofs.FirstTerminals.{ends_behind, not_empty}
 use Rattle.cpp_syntax.proofs.DisjointFirstSets.{apart}
 use Rattle.cpp_syntax.proofs.LongestMatches.{mark_none, word_none, neither, seq_none, node_none, where_none, form_none}
 use Rattle.cpp_syntax.proofs.Alternatives.{where_chain}
-use Rattle.cpp_syntax.proofs.Recognisers.{SpansChain, spans_word, spans_mark, spans_leaf, spans_node, spans_form, spans_seq, spans_left, spans_right, none_after, none_seq, chain_starts, chain_goes, chain_ahead}
+use Rattle.cpp_syntax.proofs.Recognisers.{SpansChain, spans_word, spans_mark, spans_leaf, spans_node, spans_form, spans_seq, spans_left, spans_right}
+use Rattle.cpp_syntax.proofs.Recognisers.{none_after, none_seq, chain_starts, chain_goes, chain_ahead}
 use Rattle.cpp_syntax.proofs.ShapeDerivations.{one_end, in_parentheses}
 
 -- a terminal that passes one test does not pass another

@@ -1,5 +1,6 @@
 -- Words of types, one behind the other, and when they spell a type.
-use Rattle.std.proofs.Common.{◌≡◌, ℕ, zero, suc, ◌+◌, ◌-◌, ◌<◌, ◌≤◌, ◌⊎◌, inl, inr, nat_le, nat_eq, Bool, true, false, not, ◌&&◌, ◌||◌, refl, sym as back, ◌∙◌, subst, ap, ap₂, arith, List, [], ◌∷◌, ◌++◌, take, drop, length, get_or, slice_range, count_by, Option, Some, None, true≢false}
+use Rattle.std.proofs.Common.{◌≡◌, ℕ, zero, suc, ◌+◌, ◌-◌, ◌<◌, ◌≤◌, ◌⊎◌, inl, inr, nat_le, nat_eq, Bool, true, false, not, ◌&&◌, ◌||◌, refl, sym as back, ◌∙◌}
+use Rattle.std.proofs.Common.{subst, ap, ap₂, arith, List, [], ◌∷◌, ◌++◌, take, drop, length, get_or, slice_range, count_by, Option, Some, None, true≢false}
 use Rattle.std.proofs.Math.Seq.{take-add}
 use Rattle.std.proofs.lemmas.List.{drop-drop}
 use Rattle.std.proofs.lemmas.List.Sums.{sum_by-append}

@@ -1,5 +1,6 @@
 -- Trees whose lambdas have their bodies, and the same trees without them.
-use Rattle.std.proofs.Common.{◌≡◌, ℕ, true, false, ◌||◌, if◌then◌else◌, refl, sym as back, ◌∙◌, ap, ap₂, subst, List, [], ◌∷◌, ◌++◌, Option, is_some, true≢false, append_assoc, append-nil}
+use Rattle.std.proofs.Common.{◌≡◌, ℕ, true, false, ◌||◌, if◌then◌else◌, refl, sym as back, ◌∙◌, ap, ap₂, subst, List, [], ◌∷◌, ◌++◌, Option, is_some}
+use Rattle.std.proofs.Common.{true≢false, append_assoc, append-nil}
 use Rattle.std.proofs.lemmas.Bool.{cond-false}
 use Rattle.cpp_ast.specs.declared.kinds.NodeKind.{NodeKind}
 use Rattle.cpp_ast.specs.declared.kinds.NodeKind.TheVariants as kind

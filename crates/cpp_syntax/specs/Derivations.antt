@@ -6,7 +6,8 @@ use Rattle.cpp_ast.specs.declared.kinds.NodeKind.TheVariants as kind
 use Rattle.cpp_ast.specs.Trees.{Tree, node, Trees, none, more}
 use Rattle.cpp_syntax.specs.declared.terminal.Terminal.{Terminal}
 use Rattle.cpp_syntax.specs.Source.{Source, terminal_at, position_at}
-use Rattle.cpp_syntax.specs.Rules.{Nonterminal, balanced, compound_statement, Lookahead, Positioning, at_first, at_token, at_name, Rule, nothing, word, mark, mark_next, mark_name, ◌·◌, ◌∣◌, many, form, node_at, wrap, with_body, where_, before_no, if_, unless}
+use Rattle.cpp_syntax.specs.Rules.{Nonterminal, balanced, compound_statement, Lookahead, Positioning, at_first, at_token, at_name, Rule, nothing, word, mark}
+use Rattle.cpp_syntax.specs.Rules.{mark_next, mark_name, ◌·◌, ◌∣◌, many, form, node_at, wrap, with_body, where_, before_no, if_, unless}
 use Rattle.cpp_syntax.specs.Terminals.{open_brace, close_brace}
 use Rattle.cpp_syntax.specs.Grammar.{production}
 

@@ -2,8 +2,21 @@
 use Rattle.std.specs.Prelude.{◌≡◌, ℕ, nat_le, Bool, true, false, not, ◌&&◌, ◌||◌}
 use Rattle.cpp_syntax.specs.declared.terminal.Terminal.{Terminal}
 use Rattle.cpp_syntax.specs.Source.{Source, terminal_at}
-use Rattle.cpp_syntax.specs.Terminals.{is_name, is_type_name, is_integer, is_character, is_string, is_boolean, is_type_word, is_cv, is_safety, is_virt, is_class_key, is_access, is_specifier, is_atomic, is_prefix, is_step, level_of, is_assignment, is_unbracketed, is_unseparated, std, nullptr_word, const_word, this_word, sizeof_word, static_cast_word, throw_word, mutable_word, noexcept_word, using_word, enum_word, extern_word, inline_word, virtual_word, explicit_word, if_word, while_word, do_word, for_word, switch_word, case_word, default_word, break_word, continue_word, return_word, try_word, catch_word, synchronized_word, open_paren, open_bracket, open_brace, semicolon, comma, question, dot, arrow, star, amp, tilde, equal}
-use Rattle.cpp_syntax.specs.Rules.{Naming, named, unnamed, either, in_block, Nonterminal, primary_expression, lambda_expression, lambda_introducer, lambda_declarator, functional_type, expression_list, postfix_expression, unary_expression, cast_expression, binary_expression, conditional_expression, assignment_expression, expression, type_specifier, type_specifier_seq, type_id, declarator, direct_declarator, parameter_declaration, parameter_declaration_clause, function_qualifiers, balanced, braced_init_list, initializer, init_declarator, block_declaration, shaped_choice, shaped_init_declarator, shaped_declaration, compound_statement, statement, for_init_statement, handler, enumerator_definition, declaration_head, simple_declaration, constructor_declarator, destructor_declarator, member_initializer, member_declarator, initialized_member, listed_member, member_declaration, declaration, translation_unit, qualified, plain, Lookahead, parameters, Rule, nothing, word, mark, mark_next, mark_name, ◌·◌, ◌∣◌, many, form, node_at, wrap, with_body, where_, before_no, if_, unless}
+use Rattle.cpp_syntax.specs.Terminals.{is_name, is_type_name, is_integer, is_character, is_string, is_boolean, is_type_word, is_cv, is_safety, is_virt}
+use Rattle.cpp_syntax.specs.Terminals.{is_class_key, is_access, is_specifier, is_atomic, is_prefix, is_step, level_of, is_assignment, is_unbracketed}
+use Rattle.cpp_syntax.specs.Terminals.{is_unseparated, std, nullptr_word, const_word, this_word, sizeof_word, static_cast_word, throw_word, mutable_word}
+use Rattle.cpp_syntax.specs.Terminals.{noexcept_word, using_word, enum_word, extern_word, inline_word, virtual_word, explicit_word, if_word, while_word}
+use Rattle.cpp_syntax.specs.Terminals.{do_word, for_word, switch_word, case_word, default_word, break_word, continue_word, return_word, try_word, catch_word}
+use Rattle.cpp_syntax.specs.Terminals.{synchronized_word, open_paren, open_bracket, open_brace, semicolon, comma, question, dot, arrow, star, amp, tilde, equal}
+use Rattle.cpp_syntax.specs.Rules.{Naming, named, unnamed, either, in_block, Nonterminal, primary_expression, lambda_expression, lambda_introducer}
+use Rattle.cpp_syntax.specs.Rules.{lambda_declarator, functional_type, expression_list, postfix_expression, unary_expression, cast_expression}
+use Rattle.cpp_syntax.specs.Rules.{binary_expression, conditional_expression, assignment_expression, expression, type_specifier, type_specifier_seq, type_id}
+use Rattle.cpp_syntax.specs.Rules.{declarator, direct_declarator, parameter_declaration, parameter_declaration_clause, function_qualifiers, balanced}
+use Rattle.cpp_syntax.specs.Rules.{braced_init_list, initializer, init_declarator, block_declaration, shaped_choice, shaped_init_declarator, shaped_declaration}
+use Rattle.cpp_syntax.specs.Rules.{compound_statement, statement, for_init_statement, handler, enumerator_definition, declaration_head, simple_declaration}
+use Rattle.cpp_syntax.specs.Rules.{constructor_declarator, destructor_declarator, member_initializer, member_declarator, initialized_member, listed_member}
+use Rattle.cpp_syntax.specs.Rules.{member_declaration, declaration, translation_unit, qualified, plain, Lookahead, parameters, Rule, nothing, word, mark}
+use Rattle.cpp_syntax.specs.Rules.{mark_next, mark_name, ◌·◌, ◌∣◌, many, form, node_at, wrap, with_body, where_, before_no, if_, unless}
 
 -- What texts begin with.
 

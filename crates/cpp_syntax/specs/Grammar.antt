@@ -3,10 +3,45 @@
 use Rattle.std.specs.Prelude.{zero, suc, nat_eq, Bool}
 use Rattle.cpp_syntax.specs.declared.terminal.Terminal.{Terminal}
 use Rattle.cpp_ast.specs.declared.kinds.NodeKind.{NodeKind}
-use Rattle.cpp_ast.specs.declared.kinds.NodeKind.TheVariants.{IntegerLiteral, CharacterLiteral, StringLiteral, BooleanLiteral, PointerLiteral, This, UnqualifiedId, QualifiedId, StdAbort, ParenthesizedExpression, FunctionalCast, StaticCast, Lambda, Subscript, FunctionCall, MemberAccess, PointerMemberAccess, PostfixIncrement, UnaryExpression, SizeofExpression, SizeofType, CastExpression, BinaryExpression, ConditionalExpression, AssignmentExpression, ThrowExpression, CommaExpression, LambdaIntroducer, CaptureDefault, SimpleCapture, ReferenceCapture, ThisCapture, LambdaDeclarator, Mutable, TrailingReturnType, TypeSpecifierSeq, CvQualifier, SimpleTypeSpecifier, TypeName, TxException, TypeId, PointerDeclarator, ReferenceDeclarator, ArrayDeclarator, FunctionDeclarator, ParenthesizedDeclarator, DeclaratorId, QualifiedDeclaratorId, DestructorId, QualifiedDestructorId, OmittedId, ParameterDeclarationClause, ParameterDeclaration, FunctionQualifiers, TxQualifier, NoexceptSpecification, InitDeclarator, EqualInitializer, ParenthesizedInitializer, BracedInitList, Attribute, DeclSpecifier, AliasDeclaration, ClassDeclaration, ClassSpecifier, ClassKey, BaseSpecifier, AccessSpecifier, MemberSpecification, EnumSpecifier, EnumeratorDefinition, LinkageSpecification, LinkageBlock, SimpleDeclaration, FunctionDefinition, ConstructorDeclaration, ConstructorDefinition, DestructorDeclaration, DestructorDefinition, EmptyDeclaration, AccessLabel, MemberDeclaration, MemberDeclarator, VirtSpecifier, PureSpecifier, BaseInitializer, MemberInitializer, CompoundStatement, NullStatement, ExpressionStatement, IfStatement, WhileStatement, DoStatement, ForStatement, SwitchStatement, CaseStatement, DefaultStatement, BreakStatement, ContinueStatement, ReturnStatement, TryBlock, Handler, Ellipsis, SynchronizedStatement, AtomicStatement, Absent}
-use Rattle.cpp_syntax.specs.Terminals.{is_name, is_type_name, is_integer, is_zero, is_character, is_string, is_boolean, is_type_word, is_cv, is_safety, is_virt, is_class_key, is_access, is_specifier, is_atomic, is_prefix, is_step, level_of, is_assignment, is_capture_default, is_unbracketed, is_unseparated, is_chosen, std, abort_word, tx_exception_word, optimize_word, final_word, nullptr_word, void_word, const_word, this_word, sizeof_word, static_cast_word, throw_word, mutable_word, noexcept_word, using_word, enum_word, extern_word, inline_word, virtual_word, explicit_word, if_word, else_word, while_word, do_word, for_word, switch_word, case_word, default_word, break_word, continue_word, return_word, try_word, catch_word, synchronized_word, open_paren, close_paren, open_bracket, close_bracket, open_brace, close_brace, semicolon, comma, colon, colon_colon, question, dot, arrow, ellipsis, star, amp, tilde, less, greater, equal}
+use Rattle.cpp_ast.specs.declared.kinds.NodeKind.TheVariants.{IntegerLiteral, CharacterLiteral, StringLiteral, BooleanLiteral, PointerLiteral, This}
+use Rattle.cpp_ast.specs.declared.kinds.NodeKind.TheVariants.{UnqualifiedId, QualifiedId, StdAbort, ParenthesizedExpression, FunctionalCast, StaticCast, Lambda}
+use Rattle.cpp_ast.specs.declared.kinds.NodeKind.TheVariants.{Subscript, FunctionCall, MemberAccess, PointerMemberAccess, PostfixIncrement, UnaryExpression}
+use Rattle.cpp_ast.specs.declared.kinds.NodeKind.TheVariants.{SizeofExpression, SizeofType, CastExpression, BinaryExpression, ConditionalExpression}
+use Rattle.cpp_ast.specs.declared.kinds.NodeKind.TheVariants.{AssignmentExpression, ThrowExpression, CommaExpression, LambdaIntroducer, CaptureDefault}
+use Rattle.cpp_ast.specs.declared.kinds.NodeKind.TheVariants.{SimpleCapture, ReferenceCapture, ThisCapture, LambdaDeclarator, Mutable, TrailingReturnType}
+use Rattle.cpp_ast.specs.declared.kinds.NodeKind.TheVariants.{TypeSpecifierSeq, CvQualifier, SimpleTypeSpecifier, TypeName, TxException, TypeId}
+use Rattle.cpp_ast.specs.declared.kinds.NodeKind.TheVariants.{PointerDeclarator, ReferenceDeclarator, ArrayDeclarator, FunctionDeclarator}
+use Rattle.cpp_ast.specs.declared.kinds.NodeKind.TheVariants.{ParenthesizedDeclarator, DeclaratorId, QualifiedDeclaratorId, DestructorId, QualifiedDestructorId}
+use Rattle.cpp_ast.specs.declared.kinds.NodeKind.TheVariants.{OmittedId, ParameterDeclarationClause, ParameterDeclaration, FunctionQualifiers, TxQualifier}
+use Rattle.cpp_ast.specs.declared.kinds.NodeKind.TheVariants.{NoexceptSpecification, InitDeclarator, EqualInitializer, ParenthesizedInitializer, BracedInitList}
+use Rattle.cpp_ast.specs.declared.kinds.NodeKind.TheVariants.{Attribute, DeclSpecifier, AliasDeclaration, ClassDeclaration, ClassSpecifier, ClassKey}
+use Rattle.cpp_ast.specs.declared.kinds.NodeKind.TheVariants.{BaseSpecifier, AccessSpecifier, MemberSpecification, EnumSpecifier, EnumeratorDefinition}
+use Rattle.cpp_ast.specs.declared.kinds.NodeKind.TheVariants.{LinkageSpecification, LinkageBlock, SimpleDeclaration, FunctionDefinition, ConstructorDeclaration}
+use Rattle.cpp_ast.specs.declared.kinds.NodeKind.TheVariants.{ConstructorDefinition, DestructorDeclaration, DestructorDefinition, EmptyDeclaration, AccessLabel}
+use Rattle.cpp_ast.specs.declared.kinds.NodeKind.TheVariants.{MemberDeclaration, MemberDeclarator, VirtSpecifier, PureSpecifier, BaseInitializer}
+use Rattle.cpp_ast.specs.declared.kinds.NodeKind.TheVariants.{MemberInitializer, CompoundStatement, NullStatement, ExpressionStatement, IfStatement}
+use Rattle.cpp_ast.specs.declared.kinds.NodeKind.TheVariants.{WhileStatement, DoStatement, ForStatement, SwitchStatement, CaseStatement, DefaultStatement}
+use Rattle.cpp_ast.specs.declared.kinds.NodeKind.TheVariants.{BreakStatement, ContinueStatement, ReturnStatement, TryBlock, Handler, Ellipsis}
+use Rattle.cpp_ast.specs.declared.kinds.NodeKind.TheVariants.{SynchronizedStatement, AtomicStatement, Absent}
+use Rattle.cpp_syntax.specs.Terminals.{is_name, is_type_name, is_integer, is_zero, is_character, is_string, is_boolean, is_type_word, is_cv, is_safety, is_virt}
+use Rattle.cpp_syntax.specs.Terminals.{is_class_key, is_access, is_specifier, is_atomic, is_prefix, is_step, level_of, is_assignment, is_capture_default}
+use Rattle.cpp_syntax.specs.Terminals.{is_unbracketed, is_unseparated, is_chosen, std, abort_word, tx_exception_word, optimize_word, final_word, nullptr_word}
+use Rattle.cpp_syntax.specs.Terminals.{void_word, const_word, this_word, sizeof_word, static_cast_word, throw_word, mutable_word, noexcept_word, using_word}
+use Rattle.cpp_syntax.specs.Terminals.{enum_word, extern_word, inline_word, virtual_word, explicit_word, if_word, else_word, while_word, do_word, for_word}
+use Rattle.cpp_syntax.specs.Terminals.{switch_word, case_word, default_word, break_word, continue_word, return_word, try_word, catch_word, synchronized_word}
+use Rattle.cpp_syntax.specs.Terminals.{open_paren, close_paren, open_bracket, close_bracket, open_brace, close_brace, semicolon, comma, colon, colon_colon}
+use Rattle.cpp_syntax.specs.Terminals.{question, dot, arrow, ellipsis, star, amp, tilde, less, greater, equal}
 use Rattle.cpp_syntax.specs.Types.{spells_a_type, is_not_void, holds_something, is_before_no_name, is_not_zero}
-use Rattle.cpp_syntax.specs.Rules.{Reading, whole, by_shape, Naming, named, unnamed, either, in_block, Nonterminal, primary_expression, lambda_expression, lambda_introducer, lambda_declarator, functional_type, expression_list, postfix_expression, unary_expression, cast_expression, binary_expression, conditional_expression, assignment_expression, expression, type_specifier, type_specifier_seq, type_id, declarator, direct_declarator, parameter_declaration, parameter_declaration_clause, function_qualifiers, balanced, braced_init_list, initializer, init_declarator, block_declaration, shaped_choice, shaped_init_declarator, shaped_declaration, compound_statement, statement, for_init_statement, handler, enumerator_definition, declaration_head, simple_declaration, constructor_declarator, destructor_declarator, member_initializer, member_declarator, initialized_member, listed_member, member_declaration, declaration, translation_unit, qualified, plain, a_cast, a_type_in_parentheses, parameters, a_declaration, at_token, at_name, Rule, nothing, word, mark, mark_next, mark_name, ◌·◌, ◌∣◌, many, form, node_at, wrap, with_body, where_, before_no, if_, unless, optional, some, node}
+use Rattle.cpp_syntax.specs.Rules.{Reading, whole, by_shape, Naming, named, unnamed, either, in_block, Nonterminal, primary_expression, lambda_expression}
+use Rattle.cpp_syntax.specs.Rules.{lambda_introducer, lambda_declarator, functional_type, expression_list, postfix_expression, unary_expression}
+use Rattle.cpp_syntax.specs.Rules.{cast_expression, binary_expression, conditional_expression, assignment_expression, expression, type_specifier}
+use Rattle.cpp_syntax.specs.Rules.{type_specifier_seq, type_id, declarator, direct_declarator, parameter_declaration, parameter_declaration_clause}
+use Rattle.cpp_syntax.specs.Rules.{function_qualifiers, balanced, braced_init_list, initializer, init_declarator, block_declaration, shaped_choice}
+use Rattle.cpp_syntax.specs.Rules.{shaped_init_declarator, shaped_declaration, compound_statement, statement, for_init_statement, handler}
+use Rattle.cpp_syntax.specs.Rules.{enumerator_definition, declaration_head, simple_declaration, constructor_declarator, destructor_declarator}
+use Rattle.cpp_syntax.specs.Rules.{member_initializer, member_declarator, initialized_member, listed_member, member_declaration, declaration, translation_unit}
+use Rattle.cpp_syntax.specs.Rules.{qualified, plain, a_cast, a_type_in_parentheses, parameters, a_declaration, at_token, at_name, Rule, nothing, word, mark}
+use Rattle.cpp_syntax.specs.Rules.{mark_next, mark_name, ◌·◌, ◌∣◌, many, form, node_at, wrap, with_body, where_, before_no, if_, unless, optional, some, node}
 
 -- A list with commas.
 abbrev pub list : Rule → Rule

@@ -1,7 +1,8 @@
 -- The longest text of a rule from an index, behind what was read before.
 use Rattle.std.specs.Prelude.{◌≡◌, ℕ, ◌<◌, ◌⊎◌, Bool, true, false, ◌&&◌, Option, None}
 use Rattle.cpp_syntax.specs.Source.{Source}
-use Rattle.cpp_syntax.specs.Rules.{Nonterminal, Lookahead, Rule, nothing, word, mark, mark_next, mark_name, ◌·◌, ◌∣◌, many, form, node_at, wrap, with_body, where_, before_no, if_, unless}
+use Rattle.cpp_syntax.specs.Rules.{Nonterminal, Lookahead, Rule, nothing, word, mark, mark_next, mark_name, ◌·◌, ◌∣◌, many, form, node_at, wrap, with_body}
+use Rattle.cpp_syntax.specs.Rules.{where_, before_no, if_, unless}
 use Rattle.cpp_syntax.specs.Derivations.{Read, no_read, and_then, Bodies, Derives}
 use Rattle.cpp_syntax.specs.FirstSets.{Continues, ContinuesRule}
 

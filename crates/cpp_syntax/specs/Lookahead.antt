@@ -3,7 +3,8 @@ use Rattle.std.specs.Prelude.{◌≡◌, ℕ, zero, suc, ◌+◌, Bool, true, fa
 use Rattle.cpp_ast.specs.Trees.{Trees}
 use Rattle.cpp_syntax.specs.Source.{Source, terminal_at}
 use Rattle.cpp_syntax.specs.Terminals.{begins_operand, open_paren, close_paren, is_step}
-use Rattle.cpp_syntax.specs.Rules.{by_shape, Nonterminal, type_id, parameter_declaration_clause, shaped_declaration, translation_unit, Lookahead, a_cast, a_type_in_parentheses, parameters, a_declaration, form}
+use Rattle.cpp_syntax.specs.Rules.{by_shape, Nonterminal, type_id, parameter_declaration_clause, shaped_declaration, translation_unit, Lookahead, a_cast}
+use Rattle.cpp_syntax.specs.Rules.{a_type_in_parentheses, parameters, a_declaration, form}
 use Rattle.cpp_syntax.specs.Derivations.{Body, Read, no_read, in_trees, kept_apart, Bodies, Derives}
 
 -- The operand of a cast begins at an index: with a token that begins one, with ( that no ) follows, or with ++ or --

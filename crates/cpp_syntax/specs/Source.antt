@@ -1,5 +1,6 @@
 -- The tokens of a unit as the grammar sees them.
-use Rattle.std.specs.Prelude.{ℕ, ◌+◌, Bool, true, false, List, [], ◌∷◌, ◌&&◌, ◌||◌, codes, length, map, take, slice_get, slice_index_or, get_or, Option, Some, None, if◌then◌else◌, zero, suc}
+use Rattle.std.specs.Prelude.{ℕ, ◌+◌, Bool, true, false, List, [], ◌∷◌, ◌&&◌, ◌||◌, codes, length, map, take, slice_get, slice_index_or, get_or, Option, Some}
+use Rattle.std.specs.Prelude.{None, if◌then◌else◌, zero, suc}
 use Rattle.std.specs.List.{list_any}
 use Rattle.std.specs.Str.{bytes_eq}
 use Rattle.cpp_lex.specs.Tokens.{Lexeme}

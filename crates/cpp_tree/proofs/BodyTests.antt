@@ -47,4 +47,5 @@ test_is_body s body h =
     record { nodes = f.0; block = f.1; end = e.1; words = d.1; items = c.1; within = b.1; once = distinct_once (places_of body) a.1 }
 
 pub body_is_test : (s : Setting) (body : Tree) → WellFormedBody s body → body_fits s body ≡ true
-body_is_test s body w = and_from _ _ (and_from _ _ (and_from _ _ (and_from _ _ (and_from _ _ (and_from _ _ w.nodes w.block) w.end) w.words) w.items) w.within) (once_distinct (places_of body) w.once)
+body_is_test s body w = and_from _ _ (and_from _ _ (and_from _ _ (and_from _ _ (and_from _ _ (and_from _ _ w.nodes w.block) w.end) w.words) w.items) w.within)
+    (once_distinct (places_of body) w.once)

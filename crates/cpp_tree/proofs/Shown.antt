@@ -1,5 +1,6 @@
 -- What a list of nodes shows, and that it stays shown when nodes are added.
-use Rattle.std.proofs.Common.{◌≡◌, ℕ, zero, suc, ◌+◌, ◌<◌, ◌≤◌, List, [], ◌∷◌, ◌++◌, length, Some, refl, sym, ◌∙◌, subst, ap, arith, append_assoc, slice_get, append-nil, length-append, get_or, take, true, nat_lt, fold}
+use Rattle.std.proofs.Common.{◌≡◌, ℕ, zero, suc, ◌+◌, ◌<◌, ◌≤◌, List, [], ◌∷◌, ◌++◌, length, Some, refl, sym, ◌∙◌, subst, ap, arith, append_assoc, slice_get}
+use Rattle.std.proofs.Common.{append-nil, length-append, get_or, take, true, nat_lt, fold}
 use Rattle.std.specs.Prelude.{false}
 use Rattle.std.proofs.lemmas.Bool.{and_parts, ltb-true, ltb-false}
 use Rattle.std.proofs.lemmas.Option.{slice_get_within, slice_get-get_or, get_or_from_slice_get}
@@ -13,7 +14,8 @@ use Rattle.cpp_tree.specs.declared.kinds.TKind.{TKind}
 use Rattle.cpp_tree.specs.declared.arena.TNodeId.{TNodeId}
 use Rattle.cpp_tree.specs.declared.arena.TNode.{TNode}
 use Rattle.cpp_tree.specs.Trees.{Tree, node, Trees, none, more, literal}
-use Rattle.cpp_tree.specs.Arena.{are_below, IsOrdered, IsForest, times_in, times_a_kid, tree_at, trees_at, tree_of, with_node, trees_of, Grows, Adds, NodeAt, Shows, ShowsAll, Extends}
+use Rattle.cpp_tree.specs.Arena.{are_below, IsOrdered, IsForest, times_in, times_a_kid, tree_at, trees_at, tree_of, with_node, trees_of, Grows, Adds, NodeAt}
+use Rattle.cpp_tree.specs.Arena.{Shows, ShowsAll, Extends}
 
 get_grow : (ns extra : List TNode) (id : ℕ) (n : TNode) → slice_get ns id ≡ Some n → slice_get (ns ++ extra) id ≡ Some n
 get_grow ns extra id n h =
@@ -33,8 +35,16 @@ get_last ns n =
 
 -- Growth
 
-abbrev stands_more : (ns extra : List TNode) (id : ℕ) (kind : TKind) (t : Typ) (cat : Cat) (place : At) → NodeAt ns id kind t cat place → NodeAt (ns ++ extra) id kind t cat place
-stands_more ns extra id kind t cat place s = record { found = s.found; stands = get_grow ns extra id s.found s.stands; kind_is = s.kind_is; typ_is = s.typ_is; cat_is = s.cat_is; at_is = s.at_is }
+abbrev stands_more : (ns extra : List TNode) (id : ℕ) (kind : TKind) (t : Typ) (cat : Cat) (place : At) → NodeAt ns id kind t cat place
+    → NodeAt (ns ++ extra) id kind t cat place
+stands_more ns extra id kind t cat place s = record {
+  found = s.found;
+  stands = get_grow ns extra id s.found s.stands;
+  kind_is = s.kind_is;
+  typ_is = s.typ_is;
+  cat_is = s.cat_is;
+  at_is = s.at_is;
+}
 
 mutual
   shows_more : (ns extra : List TNode) (id : ℕ) (t : Tree) → Shows ns id t → Shows (ns ++ extra) id t
@@ -53,10 +63,15 @@ pub extends_refl : (ns : List TNode) → Extends ns ns
 extends_refl ns = record { extra = []; appended = sym (append-nil ns) }
 
 pub extends_trans : (a b c : List TNode) → Extends a b → Extends b c → Extends a c
-extends_trans a b c x y = record { extra = x.extra ++ y.extra; appended = y.appended ∙ ap (λ (z : List TNode). z ++ y.extra) x.appended ∙ append_assoc a x.extra y.extra }
+extends_trans a b c x y = record {
+  extra = x.extra ++ y.extra;
+  appended = y.appended ∙ ap (λ (z : List TNode). z ++ y.extra) x.appended
+      ∙ append_assoc a x.extra y.extra;
+}
 
 -- one node more shows the tree of its kids' trees
-pub adds_shows : (old : List TNode) (added : TNode) (kids : Trees) → ShowsAll old added.kids.items kids → Shows (old ++ added ∷ []) (length old) (node added.kind (typ_of added.ty) added.cat added.at kids)
+pub adds_shows : (old : List TNode) (added : TNode) (kids : Trees) → ShowsAll old added.kids.items kids
+    → Shows (old ++ added ∷ []) (length old) (node added.kind (typ_of added.ty) added.cat added.at kids)
 adds_shows old added kids s = (
   record { found = added; stands = get_last old added; kind_is = refl; typ_is = refl; cat_is = refl; at_is = refl },
   shows_all_more old (added ∷ []) added.kids.items kids s,
@@ -119,7 +134,8 @@ length_fold ts (n ∷ ns) =
     omega arith
 
 -- the trees of these kids are the same in a list that agrees below a bound
-same_kids : (bound : ℕ) (ts us : List Tree) (ids : List TNodeId) → ((i : ℕ) → i < bound → get_or us i (literal 0) ≡ get_or ts i (literal 0)) → are_below bound ids ≡ true → trees_at us ids ≡ trees_at ts ids
+same_kids : (bound : ℕ) (ts us : List Tree) (ids : List TNodeId) → ((i : ℕ) → i < bound → get_or us i (literal 0) ≡ get_or ts i (literal 0))
+    → are_below bound ids ≡ true → trees_at us ids ≡ trees_at ts ids
 same_kids bound ts us [] same below = refl
 same_kids bound ts us (id ∷ ids) same below =
     let parts = and_parts (nat_lt id.0 bound) (are_below bound ids) below in
@@ -127,7 +143,8 @@ same_kids bound ts us (id ∷ ids) same below =
     let there : trees_at us ids ≡ trees_at ts ids = same_kids bound ts us ids same parts.1 in
     cc
 
-tree_is : (ts : List Tree) (ns : List TNode) (i j : ℕ) (n : TNode) → j ≡ length ts + i → slice_get ns i ≡ Some n → are_below j n.kids.items ≡ true → get_or (fold with_node ts ns) j (literal 0) ≡ tree_of (fold with_node ts ns) n
+tree_is : (ts : List Tree) (ns : List TNode) (i j : ℕ) (n : TNode) → j ≡ length ts + i → slice_get ns i ≡ Some n → are_below j n.kids.items ≡ true
+    → get_or (fold with_node ts ns) j (literal 0) ≡ tree_of (fold with_node ts ns) n
 tree_is ts [] i j n e h below = absurd cc
 tree_is ts (m ∷ ns) zero j n e h below =
     let all : List Tree = fold with_node (with_node ts m) ns in
@@ -172,7 +189,8 @@ found [] i h = absurd (omega arith)
 found (n ∷ ns) zero h = (n, refl)
 found (n ∷ ns) (suc i) h = found ns i (omega arith)
 
-all_shown : (ns : List TNode) (bound : ℕ) → ((id : TNodeId) → id.0 < bound → Shows ns id.0 (tree_at (trees_of ns) id)) → (ids : List TNodeId) → are_below bound ids ≡ true → ShowsAll ns ids (trees_at (trees_of ns) ids)
+all_shown : (ns : List TNode) (bound : ℕ) → ((id : TNodeId) → id.0 < bound → Shows ns id.0 (tree_at (trees_of ns) id)) → (ids : List TNodeId)
+    → are_below bound ids ≡ true → ShowsAll ns ids (trees_at (trees_of ns) ids)
 all_shown ns bound each [] low = refl
 all_shown ns bound each (id ∷ ids) low =
     let p = and_parts (nat_lt id.0 bound) (are_below bound ids) low in
@@ -185,15 +203,18 @@ shows_below ns o (suc bound) id low h =
     let there : slice_get ns id.0 ≡ Some n = (found ns id.0 h).1 in
     let tree : tree_at (trees_of ns) id ≡ tree_of (trees_of ns) n = tree_of_node ns id n o there in
     let kid : (k : TNodeId) → k.0 < id.0 → Shows ns k.0 (tree_at (trees_of ns) k) = λ k g. shows_below ns o bound k (omega (arith, g)) (omega (arith, g)) in
-    subst (λ (t : Tree). Shows ns id.0 t) (sym tree)
-    (record { found = n; stands = there; kind_is = refl; typ_is = refl; cat_is = refl; at_is = refl }, all_shown ns id.0 kid n.kids.items (o.lower id.0 n there))
+    subst (λ (t : Tree). Shows ns id.0 t) (sym tree) (
+      record { found = n; stands = there; kind_is = refl; typ_is = refl; cat_is = refl; at_is = refl },
+      all_shown ns id.0 kid n.kids.items (o.lower id.0 n there),
+    )
 
 pub shows_tree : (ns : List TNode) (id : TNodeId) → IsOrdered ns → id.0 < length ns → Shows ns id.0 (tree_at (trees_of ns) id)
 shows_tree ns id o h = shows_below ns o (suc id.0) id (omega arith) h
 
 -- One node more
 
-pub pushed : (ns all : List TNode) (n : TNode) (id : TNodeId) → all ≡ ns ++ n ∷ [] → id.0 ≡ length ns → Adds (trees_of ns) (trees_of all) id (tree_of (trees_of ns) n)
+pub pushed : (ns all : List TNode) (n : TNode) (id : TNodeId) → all ≡ ns ++ n ∷ [] → id.0 ≡ length ns
+    → Adds (trees_of ns) (trees_of all) id (tree_of (trees_of ns) n)
 unfolding trees_of
 pushed ns all n id e h =
     let ts : List Tree = fold with_node [] ns in
@@ -213,7 +234,8 @@ none_there (suc i) n e = absurd cc
 pub no_nodes : IsOrdered []
 no_nodes = record { lower = λ id n e. absurd (none_there id n e) }
 
-either_place : (old : List TNode) (added : TNode) → IsOrdered old → are_below (length old) added.kids.items ≡ true → (id : ℕ) (n : TNode) → slice_get (old ++ added ∷ []) id ≡ Some n → are_below id n.kids.items ≡ true
+either_place : (old : List TNode) (added : TNode) → IsOrdered old → are_below (length old) added.kids.items ≡ true → (id : ℕ) (n : TNode)
+    → slice_get (old ++ added ∷ []) id ≡ Some n → are_below id n.kids.items ≡ true
 either_place old added o below id n e = elim (nat_lt id (length old)) as (λ b. nat_lt id (length old) ≡ b → are_below id n.kids.items ≡ true) [
   | true ↦ λ low.
       let h : id < length old = ltb-true id (length old) low in
@@ -239,4 +261,7 @@ pub no_kids : IsForest []
 no_kids = record { once = λ id. omega arith }
 
 pub forest_more : (old : List TNode) (added : TNode) → ((id : ℕ) → times_a_kid id old + times_in id added.kids.items ≤ 1) → IsForest (old ++ added ∷ [])
-forest_more old added h = record { once = λ id. rw (sum_by-append (λ (n : TNode). times_in id n.kids.items) old (added ∷ [])) (let few : times_a_kid id old + times_in id added.kids.items ≤ 1 = h id in omega (arith, few)) }
+forest_more old added h = record {
+  once = λ id. rw (sum_by-append (λ (n : TNode). times_in id n.kids.items) old (added ∷ []))
+      (let few : times_a_kid id old + times_in id added.kids.items ≤ 1 = h id in omega (arith, few));
+}

@@ -8,7 +8,8 @@ use Rattle.tx_ints.specs.declared.kinds.BinOp.TheVariants.{Add}
 use Rattle.cpp_layout.specs.cpp_types.Typ.{Typ, typ, int, ptr, ref, class, closure, void, Typs, signature, none as none_typs, more as more_typs}
 use Rattle.cpp_layout.specs.cpp_types.Class.{Class, Member, Function}
 use Rattle.cpp_layout.specs.cpp_types.declared.classes.Safety.TheVariants.{None as Unsaid}
-use Rattle.cpp_tree.specs.declared.kinds.TKind.TheVariants.{Literal, Local, Load, Binary, Conditional, Materialize, Throw, Call, VirtualCall, Store, Construct, Pieces, Piece, Block, Init, Loop, Switch, Return, Destroy, Field}
+use Rattle.cpp_tree.specs.declared.kinds.TKind.TheVariants.{Literal, Local, Load, Binary, Conditional, Materialize, Throw, Call, VirtualCall, Store, Construct}
+use Rattle.cpp_tree.specs.declared.kinds.TKind.TheVariants.{Pieces, Piece, Block, Init, Loop, Switch, Return, Destroy, Field}
 use Rattle.cpp_tree.specs.declared.program.FuncKind.{FuncKind}
 use Rattle.cpp_tree.specs.declared.program.FuncKind.TheVariants.{Plain, Constructor, Destructor}
 use Rattle.cpp_tree.specs.declared.program.Linkage.TheVariants.{External}
@@ -20,10 +21,36 @@ use Rattle.cpp_tree.specs.Rows.{Setting}
 use Rattle.cpp_tree.specs.WellFormed.{outermost, fits, body_fits}
 
 abbrev pub declared_as : (virtual : Bool) → Typs → Typ → Function
-declared_as virtual typs result = record { name = []; signature = signature typs result false; is_const = false; is_virtual = virtual; is_override = false; is_final = false; pure_virtual = false; safety = Unsaid; considered = false; no_except = false; at = nowhere }
+declared_as virtual typs result = record {
+  name = [];
+  signature = signature typs result false;
+  is_const = false;
+  is_virtual = virtual;
+  is_override = false;
+  is_final = false;
+  pure_virtual = false;
+  safety = Unsaid;
+  considered = false;
+  no_except = false;
+  at = nowhere;
+}
 
 abbrev pub func : FuncKind → Option ℕ → Typ → Typs → List Typ → ℕ → List Typ → Func
-func kind owner result typs params words frame = record { symbol = []; declared = declared_as false typs result; linkage = External; text = []; kind = kind; class = owner; implicit = false; words = words; params = map (λ (t : Typ). record { typ = t; at = nowhere }) params; frame = frame; body = None; closed_at = 0 }
+func kind owner result typs params words frame = record {
+  symbol = [];
+  declared = declared_as false typs result;
+  linkage = External;
+  text = [];
+  kind = kind;
+  class = owner;
+  implicit = false;
+  words = words;
+  params = map (λ (t : Typ). record { typ = t; at = nowhere }) params;
+  frame = frame;
+  body = None;
+  closed_at =
+      0;
+}
 
 abbrev pub int_type : Typ
 int_type = plain (int Int)
@@ -173,7 +200,8 @@ capture offset t init = prvalue (Piece offset) t (init ∷ [])
 
 -- `auto l = [&i, d] { .. };`, with these destructions
 abbrev pub lambda_variable : List Tree → Tree
-lambda_variable destroys = effect Init (lvalue (Local 5) lambda [] ∷ prvalue Pieces lambda (capture 0 (plain (ref int_type)) (prvalue (Store ULong false) (plain (ref int_type)) (place 2 ∷ []))
+lambda_variable destroys = effect Init (lvalue (Local 5) lambda [] ∷ prvalue Pieces lambda
+    (capture 0 (plain (ref int_type)) (prvalue (Store ULong false) (plain (ref int_type)) (place 2 ∷ []))
     ∷ capture 8 d build
     ∷ []) ∷ destroys)
 
@@ -182,7 +210,8 @@ destroy_at offset = effect (Destroy 2 offset 1 0) []
 
 -- the zeros at the end of k, with the member at an offset
 abbrev pub no_result : ℕ → Tree
-no_result offset = effect Init (prvalue (Load ULong false) (plain void) (lvalue (Local 0) (plain (ptr d)) [] ∷ []) ∷ effect Pieces (effect (Piece offset) (effect (Store Int false) (number 0 ∷ []) ∷ [])
+no_result offset = effect Init (prvalue (Load ULong false) (plain void) (lvalue (Local 0) (plain (ptr d)) [] ∷ []) ∷ effect Pieces
+    (effect (Piece offset) (effect (Store Int false) (number 0 ∷ []) ∷ [])
     ∷ []) ∷ [])
 
 -- Bodies of f: the block in which the statements stand ends in a `return`

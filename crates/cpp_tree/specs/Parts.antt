@@ -1,5 +1,6 @@
 -- Where the parts of an object lie: what the numbers in the nodes that build and destroy one have to be.
-use Rattle.std.specs.Prelude.{ℕ, zero, suc, ◌+◌, ◌*◌, ◌-◌, ◌/◌, ◌==◌, nat_le, nat_lt, Bool, true, false, ◌&&◌, ◌||◌, List, [], ◌∷◌, ◌++◌, length, slice_get, Option, Some, None, is_some, option_map, option_and_then, unwrap_or, cond}
+use Rattle.std.specs.Prelude.{ℕ, zero, suc, ◌+◌, ◌*◌, ◌-◌, ◌/◌, ◌==◌, nat_le, nat_lt, Bool, true, false, ◌&&◌, ◌||◌, List, [], ◌∷◌, ◌++◌, length, slice_get}
+use Rattle.std.specs.Prelude.{Option, Some, None, is_some, option_map, option_and_then, unwrap_or, cond}
 use Rattle.std.specs.List.{list_any}
 use Rattle.tx_ints.specs.declared.kinds.IntKind.{IntKind}
 use Rattle.cpp_layout.specs.cpp_types.Typ.{Typ, typ, Form, array, class, closure, tx_ex}
@@ -42,7 +43,8 @@ pub record Part : Type 0 where
   pub typ : Typ
 
 abbrev pub member_part : List Class → ℕ → Class → ℕ → Option Part
-member_part classes n c i = cond (nat_lt i 4294967296) (option_map (λ (m : Member). record { offset = member_offset classes n c i m; typ = m.typ }) (slice_get c.members i)) None
+member_part classes n c i = cond (nat_lt i 4294967296)
+    (option_map (λ (m : Member). record { offset = member_offset classes n c i m; typ = m.typ }) (slice_get c.members i)) None
 
 abbrev pub part_behind : List Class → ℕ → Class → Option ℕ → ℕ → Option Part
 part_behind classes n c None i = member_part classes n c i
@@ -70,7 +72,8 @@ pointer_behind classes (Some b) = option_map (λ (size : ℕ). next_multiple siz
 
 -- the class adds its class pointer there
 abbrev pub adds_pointer_at : List Class → ℕ → ℕ → Bool
-adds_pointer_at classes at n = has_class_pointer classes n && passes (λ (c : Class). passes (λ (offset : ℕ). offset == at) (pointer_behind classes c.base)) (slice_get classes n)
+adds_pointer_at classes at n = has_class_pointer classes n
+    && passes (λ (c : Class). passes (λ (offset : ℕ). offset == at) (pointer_behind classes c.base)) (slice_get classes n)
 
 -- objects of the class have their class pointer there: that of the one class of its chain of bases, all at offset 0, that adds one
 abbrev pub has_pointer_at : List Class → ℕ → ℕ → Bool
@@ -208,7 +211,9 @@ element_scalars one stride (suc many) at = where_counted at (one at ++ element_s
 
 -- those of an object at an offset: of as many elements as its size has room for
 abbrev pub object_scalars : List Class → (of_class : ℕ → ℕ → List Scalar) → Typ → ℕ → List Scalar
-object_scalars classes of_class t at = cond (stride_of classes (element_of t) == 0) [] (element_scalars (one_element of_class (form_in (element_of t))) (stride_of classes (element_of t)) (stride_of classes t / stride_of classes (element_of t)) at)
+object_scalars classes of_class t at = cond (stride_of classes (element_of t) == 0) []
+    (element_scalars (one_element of_class (form_in (element_of t))) (stride_of classes (element_of t))
+    (stride_of classes t / stride_of classes (element_of t)) at)
 
 abbrev pub part_scalars : List Class → (of_class : ℕ → ℕ → List Scalar) → ℕ → Option Part → List Scalar
 part_scalars classes of_class at None = []
@@ -242,4 +247,5 @@ is_value_form f = is_object_form f || is_some (kind_in f)
 
 -- the scalars of an exception of this type, which has at most 64 bytes
 abbrev pub are_scalars : List Class → Typ → List Head → Bool
-are_scalars classes t hs = is_value_form (form_in t) && passes (λ (size : ℕ). nat_le size EXCEPTION_SIZE) (size_in classes t) && are_fields (scalars_of classes t) hs
+are_scalars classes t hs = is_value_form (form_in t) && passes (λ (size : ℕ). nat_le size EXCEPTION_SIZE) (size_in classes t)
+    && are_fields (scalars_of classes t) hs

@@ -1,5 +1,6 @@
 -- What each node asks of its own numbers, type and category and of its kids' kinds, types and categories.
-use Rattle.std.specs.Prelude.{ℕ, ◌==◌, nat_lt, Bool, true, false, not, ◌&&◌, ◌||◌, List, [], ◌∷◌, ◌++◌, length, drop, slice_get, Option, Some, None, is_some, cond}
+use Rattle.std.specs.Prelude.{ℕ, ◌==◌, nat_lt, Bool, true, false, not, ◌&&◌, ◌||◌, List, [], ◌∷◌, ◌++◌, length, drop, slice_get, Option, Some, None, is_some}
+use Rattle.std.specs.Prelude.{cond}
 use Rattle.std.specs.List.{list_all}
 use Rattle.tx_ints.specs.declared.kinds.IntKind.{IntKind}
 use Rattle.tx_ints.specs.declared.kinds.IntKind.TheVariants.{Int, Long, ULong}
@@ -16,11 +17,18 @@ use Rattle.cpp_layout.specs.cpp_types.declared.ranks.Cat.TheVariants.{Lvalue, Pr
 use Rattle.cpp_tree.specs.declared.kinds.Builtin.{Builtin}
 use Rattle.cpp_tree.specs.declared.kinds.Builtin.TheVariants.{PutChar, GetChar, Spawn, Join, Abort}
 use Rattle.cpp_tree.specs.declared.kinds.TKind.{TKind}
-use Rattle.cpp_tree.specs.declared.kinds.TKind.TheVariants.{Literal, Local, Global, Function as FunctionAddress, ClassTable, Load, Convert, Retype, Binary, Conditional, Comma, Assign, Update, CopyAssign, Materialize, FullExpression, Call, VirtualCall, PointerCall, Builtin as CallBuiltin, Throw, Rethrow, Store, CopyScalar, Construct, CopyConstruct, CopyFrom, Pieces, Piece, Elements, Block, Init, Defer, Loop, Switch, Case, Default, Break, Continue, Return, Try, Handler, Atomic, Synchronized, Destroy, Field}
+use Rattle.cpp_tree.specs.declared.kinds.TKind.TheVariants.{Literal, Local, Global, Function as FunctionAddress, ClassTable, Load, Convert, Retype, Binary}
+use Rattle.cpp_tree.specs.declared.kinds.TKind.TheVariants.{Conditional, Comma, Assign, Update, CopyAssign, Materialize, FullExpression, Call, VirtualCall}
+use Rattle.cpp_tree.specs.declared.kinds.TKind.TheVariants.{PointerCall, Builtin as CallBuiltin, Throw, Rethrow, Store, CopyScalar, Construct, CopyConstruct}
+use Rattle.cpp_tree.specs.declared.kinds.TKind.TheVariants.{CopyFrom, Pieces, Piece, Elements, Block, Init, Defer, Loop, Switch, Case, Default, Break, Continue}
+use Rattle.cpp_tree.specs.declared.kinds.TKind.TheVariants.{Return, Try, Handler, Atomic, Synchronized, Destroy, Field}
 use Rattle.cpp_tree.specs.declared.program.FuncKind.{FuncKind}
 use Rattle.cpp_tree.specs.declared.program.FuncKind.TheVariants.{Plain, Constructor, Destructor}
 use Rattle.cpp_tree.specs.Units.{Func, Global as GlobalRecord, SlotFunc}
-use Rattle.cpp_tree.specs.Typing.{Head, passes, form_in, is_volatile_typ, unqualified, is_void, is_class_typ, is_reference, is_class, without_exception, same_shape, kind_in, same_kind, scalar_of, is_scalar_value, word_kind, gives, is_promoted, gives_promoted, is_word_of, is_prvalue, is_statement_typ, is_bool, is_lvalue_of, is_prvalue_of, initialises, builds, is_result, Word, object, passed, are_words}
+use Rattle.cpp_tree.specs.Typing.{Head, passes, form_in, is_volatile_typ, unqualified, is_void, is_class_typ, is_reference, is_class, without_exception}
+use Rattle.cpp_tree.specs.Typing.{same_shape, kind_in, same_kind, scalar_of, is_scalar_value, word_kind, gives, is_promoted, gives_promoted, is_word_of}
+use Rattle.cpp_tree.specs.Typing.{is_prvalue, is_statement_typ, is_bool, is_lvalue_of, is_prvalue_of, initialises, builds, is_result, Word, object, passed}
+use Rattle.cpp_tree.specs.Typing.{are_words}
 use Rattle.cpp_tree.specs.Parts.{has_pointer_at, are_pieces, are_elements, are_destroyed, are_scalars}
 use Rattle.cpp_tree.specs.Roles.{is_throw}
 
@@ -208,7 +216,8 @@ builtin_result Abort = void
 abbrev pub builtin_words : Builtin → List Word
 builtin_words PutChar = passed (typ (int Int) false false) ∷ []
 builtin_words GetChar = []
-builtin_words Spawn = passed (typ (ptr (typ (func (signature (more (typ (int Long) false false) none) (typ void false false) false)) false false)) false false) ∷ passed (typ (int Long) false false) ∷ []
+builtin_words Spawn = passed (typ (ptr (typ (func (signature (more (typ (int Long) false false) none) (typ void false false) false)) false false)) false false)
+    ∷ passed (typ (int Long) false false) ∷ []
 builtin_words Join = passed (typ (int Int) false false) ∷ []
 builtin_words Abort = []
 

@@ -76,7 +76,20 @@ param_of p = record { typ = typ_of p.ty; at = p.at }
 
 -- a function, whose body is one of these trees
 abbrev pub func_of : List Tree → TFunc → Func
-func_of trees f = record { symbol = f.symbol.items; declared = function_of f.rec; linkage = f.linkage; text = f.text.items; kind = f.kind; class = f.class; implicit = f.implicit; words = f.words; params = map param_of f.params.items; frame = map typ_of f.frame.items; body = option_map (tree_at trees) f.body; closed_at = f.closed_at }
+func_of trees f = record {
+  symbol = f.symbol.items;
+  declared = function_of f.rec;
+  linkage = f.linkage;
+  text = f.text.items;
+  kind = f.kind;
+  class = f.class;
+  implicit = f.implicit;
+  words = f.words;
+  params = map param_of f.params.items;
+  frame = map typ_of f.frame.items;
+  body = option_map (tree_at trees) f.body;
+  closed_at = f.closed_at;
+}
 
 abbrev pub cell_of : InitCell → Cell
 cell_of c = record { offset = c.offset; size = c.size; what = c.what; value = c.value; symbol = c.symbol.items }
@@ -91,7 +104,12 @@ abbrev pub slot_of : SlotRec → SlotFunc
 slot_of s = record { name = s.name.items; signature = signature_of s.ty; class = s.class; func = s.func; safe = s.safe; dynamic = s.dynamic }
 
 abbrev pub unit_of : UnitTree → Unit
-unit_of u = record { funcs = map (func_of (trees_of u.nodes.items)) u.funcs.items; globals = map global_of u.globals.items; classes = map definition_of u.classes.items }
+unit_of u = record {
+  funcs = map (func_of (trees_of u.nodes.items)) u.funcs.items;
+  globals = map global_of u.globals.items;
+  classes =
+      map definition_of u.classes.items;
+}
 
 -- what a program shows
 abbrev pub program_of : Program → TypedProgram

@@ -1,5 +1,6 @@
 -- Well-formed programs.
-use Rattle.std.specs.Prelude.{◌≡◌, ℕ, suc, ◌+◌, ◌<◌, ◌≤◌, ◌==◌, nat_lt, nat_le, nat_eq, Bool, true, false, not, ◌&&◌, ◌||◌, List, [], ◌∷◌, ◌++◌, map, length, slice_get, drop, count_by, Option, Some, None, is_some, unwrap_or, cond}
+use Rattle.std.specs.Prelude.{◌≡◌, ℕ, suc, ◌+◌, ◌<◌, ◌≤◌, ◌==◌, nat_lt, nat_le, nat_eq, Bool, true, false, not, ◌&&◌, ◌||◌, List, [], ◌∷◌, ◌++◌, map, length}
+use Rattle.std.specs.Prelude.{slice_get, drop, count_by, Option, Some, None, is_some, unwrap_or, cond}
 use Rattle.std.specs.List.{list_all}
 use Rattle.cpp_layout.specs.cpp_types.Typ.{Typ, typ, Form, void, int, ptr, ref, array, class, closure, tx_ex}
 use Rattle.cpp_layout.specs.cpp_types.Class.{Class, InOrder, classes_of}
@@ -8,7 +9,8 @@ use Rattle.tx_ints.specs.declared.kinds.IntKind.{IntKind}
 use Rattle.tx_ints.specs.declared.kinds.IntKind.TheVariants.{ULong}
 use Rattle.cpp_layout.specs.cpp_types.declared.ranks.Cat.{Cat}
 use Rattle.cpp_tree.specs.declared.kinds.TKind.{TKind}
-use Rattle.cpp_tree.specs.declared.kinds.TKind.TheVariants.{Literal, Local, Conditional, Materialize, FullExpression, Store, Pieces, Piece, Elements, Block, Init, Defer, Loop, Switch, Break, Continue, Return, Handler}
+use Rattle.cpp_tree.specs.declared.kinds.TKind.TheVariants.{Literal, Local, Conditional, Materialize, FullExpression, Store, Pieces, Piece, Elements, Block}
+use Rattle.cpp_tree.specs.declared.kinds.TKind.TheVariants.{Init, Defer, Loop, Switch, Break, Continue, Return, Handler}
 use Rattle.cpp_tree.specs.declared.arena.TNode.{TNode}
 use Rattle.cpp_tree.specs.declared.arena.TNodeId.{TNodeId}
 use Rattle.cpp_tree.specs.declared.roles.Position.{Position}
@@ -21,7 +23,8 @@ use Rattle.cpp_tree.specs.declared.program.Program.{Program}
 use Rattle.cpp_tree.specs.Trees.{Tree, node, Trees, none, more, kind_of, kids_of}
 use Rattle.cpp_tree.specs.Arena.{IsOrdered, IsForest, trees_of, trees_at, tree_at}
 use Rattle.cpp_tree.specs.Units.{Func, Param, func_of, global_of, slot_of}
-use Rattle.cpp_tree.specs.Typing.{Head, head_of, passes, form_in, is_volatile_typ, is_void, is_class_typ, is_class, kind_in, is_kind, is_prvalue, is_statement_typ}
+use Rattle.cpp_tree.specs.Typing.{Head, head_of, passes, form_in, is_volatile_typ, is_void, is_class_typ, is_class, kind_in, is_kind, is_prvalue}
+use Rattle.cpp_tree.specs.Typing.{is_statement_typ}
 use Rattle.cpp_tree.specs.Parts.{Part, sized_class, part_of, count_of_parts, has_size, holds_complete}
 use Rattle.cpp_tree.specs.Roles.{Kids, kids_for, role_at, serves, way_fits, is_throw, is_label}
 use Rattle.cpp_tree.specs.Rows.{Setting, row_fits, is_constructor, is_destructor, result_of, object_words, words_of}
@@ -134,7 +137,8 @@ abbrev mutual
   pub zeroes : List Class → (volatile : Bool) → Typ → Tree → Bool
   zeroes classes volatile t (node Pieces u cat at kids) = is_statement_typ u cat && is_sized_class classes (class_in (form_to_zero t))
       && zero_parts classes (volatile_to_zero volatile t) (unwrap_or (class_in (form_to_zero t)) 0) 0 kids
-  zeroes classes volatile t (node (Elements count stride) u cat at (more kid none)) = is_statement_typ u cat && has_elements classes count stride (form_to_zero t)
+  zeroes classes volatile t (node (Elements count stride) u cat at (more kid none)) =
+      is_statement_typ u cat && has_elements classes count stride (form_to_zero t)
       && zeroes classes (volatile_to_zero volatile t) (element_in (form_to_zero t)) kid
   zeroes classes volatile t (node (Store k marked) u cat at (more word none)) = is_statement_typ u cat
       && zero_scalar (volatile_to_zero volatile t) (form_to_zero t) k marked word
@@ -217,7 +221,8 @@ abbrev mutual
   pub kids_fit : Setting → Position → Kids → ℕ → Trees → Bool
   kids_fit s p kids i none = true
   kids_fit s p kids i (more t ts) = is_some (role_at kids i) && is_kid (kind_of t)
-      && cond (is_zero_role (unwrap_or (role_at kids i) Value)) (zeroes s.classes false (result_of s.function) t) (fits s p (unwrap_or (role_at kids i) Value) t)
+      && cond (is_zero_role (unwrap_or (role_at kids i) Value)) (zeroes s.classes false (result_of s.function) t)
+      (fits s p (unwrap_or (role_at kids i) Value) t)
       && kids_fit s p kids (suc i) ts
 
 -- Bodies of functions
@@ -323,10 +328,18 @@ are_distinct (n ∷ ns) = times n ns == 0 && are_distinct ns
 
 abbrev pub body_fits : Setting → Tree → Bool
 body_fits s body = fits s outermost Statement body && is_body_of s.function.kind (kind_of body) && ends_well (result_of s.function) body
-    && words_fit s.function && list_all (is_item s.classes) s.function.frame && list_all (is_free_place s.function) (places_of body) && are_distinct (places_of body)
+    && words_fit s.function && list_all (is_item s.classes) s.function.frame && list_all (is_free_place s.function) (places_of body)
+    && are_distinct (places_of body)
 
 abbrev pub setting_of : Program → UnitTree → TFunc → Setting
-setting_of p u f = record { classes = classes_of p.classes.items; slots = map (λ slots. map slot_of slots.items) p.slots.items; funcs = map (func_of (trees_of u.nodes.items)) u.funcs.items; globals = map global_of u.globals.items; function = func_of (trees_of u.nodes.items) f }
+setting_of p u f = record {
+  classes = classes_of p.classes.items;
+  slots = map (λ slots. map slot_of slots.items) p.slots.items;
+  funcs = map
+      (func_of (trees_of u.nodes.items)) u.funcs.items;
+  globals = map global_of u.globals.items;
+  function = func_of (trees_of u.nodes.items) f;
+}
 
 -- how often a node is the body of a function
 abbrev pub is_root : ℕ → TFunc → Bool

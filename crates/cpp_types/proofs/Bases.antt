@@ -1,5 +1,6 @@
 -- The whole chain of bases of a class.
-use Rattle.std.proofs.Common.{◌≡◌, ◌∙◌, ℕ, zero, suc, ◌+◌, ◌<◌, ◌≤◌, List, [], ◌∷◌, Option, Some, None, slice_get, is_some, unwrap_or, cond, refl, sym, ap, arith}
+use Rattle.std.proofs.Common.{◌≡◌, ◌∙◌, ℕ, zero, suc, ◌+◌, ◌<◌, ◌≤◌, List, [], ◌∷◌, Option, Some, None, slice_get, is_some, unwrap_or, cond, refl, sym, ap}
+use Rattle.std.proofs.Common.{arith}
 use Rattle.std.specs.Option.{option_and_then}
 use Rattle.cpp_types.specs.Class.{Class, InOrder, base_of, completion_of}
 use Rattle.cpp_types.specs.Conversion.{chain, bases, first_and}
@@ -9,11 +10,13 @@ use Rattle.cpp_types.specs.Laws.{BasesUnroll, BasesAreWhole, BaseIsEarlier}
 abbrev size : List Class → ℕ → ℕ
 size classes n = unwrap_or (completion_of classes n) 0
 
-known_base : (o : Option Class) (b k : ℕ) → option_and_then (λ c. cond (is_some c.complete) c.base None) o ≡ Some b → option_and_then (λ c. c.complete) o ≡ Some k → (c : Class) × (o ≡ Some c) × (c.base ≡ Some b) × (c.complete ≡ Some k)
+known_base : (o : Option Class) (b k : ℕ) → option_and_then (λ c. cond (is_some c.complete) c.base None) o ≡ Some b
+    → option_and_then (λ c. c.complete) o ≡ Some k → (c : Class) × (o ≡ Some c) × (c.base ≡ Some b) × (c.complete ≡ Some k)
 known_base None b k h e = absurd cc
 known_base (Some c) b k h e = (c, refl, ap (λ (z : Option ℕ). cond (is_some z) c.base None) (sym e) ∙ h, e)
 
-known_number : (o : Option Class) (b : ℕ) → option_and_then (λ c. cond (is_some c.complete) c.base None) o ≡ Some b → (x : Option ℕ) → option_and_then (λ c. c.complete) o ≡ x → (k : ℕ) × (x ≡ Some k)
+known_number : (o : Option Class) (b : ℕ) → option_and_then (λ c. cond (is_some c.complete) c.base None) o ≡ Some b → (x : Option ℕ)
+    → option_and_then (λ c. c.complete) o ≡ x → (k : ℕ) × (x ≡ Some k)
 known_number None b h x e = absurd cc
 known_number (Some c) b h (Some k) e = (k, refl)
 known_number (Some c) b h None e = let g : None ≡ Some b = ap (λ (z : Option ℕ). cond (is_some z) c.base None) (sym e) ∙ h in absurd cc
@@ -43,12 +46,14 @@ enough : (classes : List Class) (m k n : ℕ) → InOrder classes → size class
 enough classes zero zero n o h g = refl
 enough classes zero (suc k) n o h g = ap (λ (z : Option ℕ). first_and z (chain k classes)) (sym (none_below classes n o h (base_of classes n) refl))
 enough classes (suc m) zero n o h g = ap (λ (z : Option ℕ). first_and z (chain m classes)) (none_below classes n o g (base_of classes n) refl)
-enough classes (suc m) (suc k) n o h g = first_same (base_of classes n) (chain m classes) (chain k classes) (λ b e. let l = lower classes n b o e in enough classes m k b o (omega arith) (omega arith))
+enough classes (suc m) (suc k) n o h g = first_same (base_of classes n) (chain m classes) (chain k classes)
+    (λ b e. let l = lower classes n b o e in enough classes m k b o (omega arith) (omega arith))
 
 pub bases_unroll : BasesUnroll
 bases_unroll classes n o =
     enough classes (size classes n) (suc (size classes n)) n o (omega arith) (omega arith)
-    ∙ first_same (base_of classes n) (chain (size classes n) classes) (bases classes) (λ b e. let l = lower classes n b o e in enough classes (size classes n) (size classes b) b o (omega arith) (omega arith))
+    ∙ first_same (base_of classes n) (chain (size classes n) classes) (bases classes)
+    (λ b e. let l = lower classes n b o e in enough classes (size classes n) (size classes b) b o (omega arith) (omega arith))
 
 at_front : (x : Option ℕ) (f : ℕ → List ℕ) → x ≡ slice_get (first_and x f) 0
 at_front None f = refl
@@ -59,7 +64,8 @@ empty_gives_none m zero h = absurd cc
 empty_gives_none m (suc i) h = absurd cc
 
 -- from the base on the law is that of the base
-behind_base : (classes : List Class) (i m : ℕ) → ((b : ℕ) → slice_get (b ∷ bases classes b) i ≡ Some m → base_of classes m ≡ slice_get (b ∷ bases classes b) (i + 1)) → (x : Option ℕ) → slice_get (first_and x (bases classes)) i ≡ Some m → base_of classes m ≡ slice_get (first_and x (bases classes)) (i + 1)
+behind_base : (classes : List Class) (i m : ℕ) → ((b : ℕ) → slice_get (b ∷ bases classes b) i ≡ Some m → base_of classes m ≡ slice_get (b ∷ bases classes b)
+    (i + 1)) → (x : Option ℕ) → slice_get (first_and x (bases classes)) i ≡ Some m → base_of classes m ≡ slice_get (first_and x (bases classes)) (i + 1)
 behind_base classes i m each None h = absurd (empty_gives_none m i h)
 behind_base classes i m each (Some b) h = each b h
 
@@ -71,4 +77,5 @@ bases_are_whole classes n (suc i) m o h =
     let u = bases_unroll classes n o in
     let e : suc (i + 1) ≡ suc i + 1 = omega arith in
     let g : slice_get (first_and (base_of classes n) (bases classes)) i ≡ Some m = ap (λ (z : List ℕ). slice_get z i) (sym u) ∙ h in
-    behind_base classes i m (λ b k. bases_are_whole classes b i m o k) (base_of classes n) g ∙ ap (λ (z : List ℕ). slice_get z (i + 1)) (sym u) ∙ ap (slice_get (n ∷ bases classes n)) e
+    behind_base classes i m (λ b k. bases_are_whole classes b i m o k) (base_of classes n) g ∙ ap (λ (z : List ℕ). slice_get z (i + 1)) (sym u)
+    ∙ ap (slice_get (n ∷ bases classes n)) e

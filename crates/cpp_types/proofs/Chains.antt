@@ -15,14 +15,19 @@ found : (b passed : ℕ) (xs : List ℕ) → Some (passed + 1) ≡ option_map (�
 found b passed xs = let h : (b == b) ≡ true = eq-eqb b b refl in rw h refl
 
 pub left_found : (classes : List Class) (base passed k n b : ℕ) → Some b ≡ base_of classes n → b ≡ base → Some (passed + 1) ≡ left classes base passed (suc k) n
-left_found classes base passed k n b e h = found base passed (chain k classes base) ∙ ap (λ (z : ℕ). option_map (λ j. passed + j) (steps_to base (z ∷ chain k classes z))) (sym h) ∙ ap (λ (o : Option ℕ). option_map (λ j. passed + j) (steps_to base (first_and o (chain k classes)))) e
+left_found classes base passed k n b e h = found base passed (chain k classes base)
+    ∙ ap (λ (z : ℕ). option_map (λ j. passed + j) (steps_to base (z ∷ chain k classes z))) (sym h)
+    ∙ ap (λ (o : Option ℕ). option_map (λ j. passed + j) (steps_to base (first_and o (chain k classes)))) e
 
 shifted : (passed : ℕ) (o : Option ℕ) → option_map (λ j. passed + 1 + j) o ≡ option_map (λ j. passed + j) (option_map suc o)
 shifted passed None = refl
 shifted passed (Some x) = let h : passed + 1 + x ≡ passed + suc x = omega arith in ap Some h
 
-passed_by : (base passed b : ℕ) (xs : List ℕ) → (b ≡ base → ⊥) → option_map (λ j. passed + j) (steps_to base (b ∷ xs)) ≡ option_map (λ j. passed + 1 + j) (steps_to base xs)
+passed_by : (base passed b : ℕ) (xs : List ℕ) → (b ≡ base → ⊥)
+    → option_map (λ j. passed + j) (steps_to base (b ∷ xs)) ≡ option_map (λ j. passed + 1 + j) (steps_to base xs)
 passed_by base passed b xs h = let e : (b == base) ≡ false = ne_eqb b base h in rw e (sym (shifted passed (steps_to base xs)))
 
-pub left_next : (classes : List Class) (base passed k n b : ℕ) → Some b ≡ base_of classes n → (b ≡ base → ⊥) → left classes base passed (suc k) n ≡ left classes base (passed + 1) k b
-left_next classes base passed k n b e h = sym (ap (λ (o : Option ℕ). option_map (λ j. passed + j) (steps_to base (first_and o (chain k classes)))) e) ∙ passed_by base passed b (chain k classes b) h
+pub left_next : (classes : List Class) (base passed k n b : ℕ) → Some b ≡ base_of classes n → (b ≡ base → ⊥)
+    → left classes base passed (suc k) n ≡ left classes base (passed + 1) k b
+left_next classes base passed k n b e h = sym (ap (λ (o : Option ℕ). option_map (λ j. passed + j) (steps_to base (first_and o (chain k classes)))) e)
+    ∙ passed_by base passed b (chain k classes b) h

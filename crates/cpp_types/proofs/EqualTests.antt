@@ -56,7 +56,8 @@ kind_refl ULLong = refl
 
 mutual
   typ_same : (s t : Typ) → typ_eq s t ≡ true → s ≡ t
-  typ_same (typ f c v) (typ g d w) h = let p = and_parts (flag_eq c d && flag_eq v w) (form_eq f g) h in let q = and_parts (flag_eq c d) (flag_eq v w) p.0 in let e = form_same f g p.1 in let i = flag_same c d q.0 in let j = flag_same v w q.1 in cc
+  typ_same (typ f c v) (typ g d w) h = let p = and_parts (flag_eq c d && flag_eq v w) (form_eq f g) h in let q = and_parts (flag_eq c d) (flag_eq v w) p.0 in
+      let e = form_same f g p.1 in let i = flag_same c d q.0 in let j = flag_same v w q.1 in cc
 
   form_same : (f g : Form) → form_eq f g ≡ true → f ≡ g
   form_same void void h = refl
@@ -73,7 +74,8 @@ mutual
   form_same _ _ h = absurd cc
 
   signature_same : (s t : Signature) → signature_eq s t ≡ true → s ≡ t
-  signature_same (signature ps r s) (signature qs q t) h = let p = and_parts (flag_eq s t && typ_eq r q) (typs_eq ps qs) h in let o = and_parts (flag_eq s t) (typ_eq r q) p.0 in let e = typs_same ps qs p.1 in let i = flag_same s t o.0 in let j = typ_same r q o.1 in cc
+  signature_same (signature ps r s) (signature qs q t) h = let p = and_parts (flag_eq s t && typ_eq r q) (typs_eq ps qs) h in let o =
+      and_parts (flag_eq s t) (typ_eq r q) p.0 in let e = typs_same ps qs p.1 in let i = flag_same s t o.0 in let j = typ_same r q o.1 in cc
 
   typs_same : (s t : Typs) → typs_eq s t ≡ true → s ≡ t
   typs_same none none h = refl
@@ -99,7 +101,8 @@ mutual
   form_refl (tx_ex t) = typ_refl t
 
   signature_refl : (s : Signature) → signature_eq s s ≡ true
-  signature_refl (signature ps r s) = and_from (flag_eq s s && typ_eq r r) (typs_eq ps ps) (and_from (flag_eq s s) (typ_eq r r) (flag_refl s) (typ_refl r)) (typs_refl ps)
+  signature_refl (signature ps r s) = and_from (flag_eq s s && typ_eq r r) (typs_eq ps ps) (and_from (flag_eq s s) (typ_eq r r) (flag_refl s) (typ_refl r))
+      (typs_refl ps)
 
   typs_refl : (ts : Typs) → typs_eq ts ts ≡ true
   typs_refl none = refl

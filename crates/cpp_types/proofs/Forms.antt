@@ -10,5 +10,6 @@ bare_plain : (s : Shape) → ((x : Box Ty Global) (n : ℕ) → s ≡ Array x n 
 bare_plain (Array' p s c v n) h = absurd (h _ n refl)
 bare_plain _ h = refl
 
-pub same_plain : (r : Bool) (s t : Shape) → ((x : Box Ty Global) (n : ℕ) → s ≡ Array x n → ⊥) → ((x : Box Ty Global) (n : ℕ) → t ≡ Array x n → ⊥) → r ≡ form_eq (shape_form s) (shape_form t) → r ≡ form_eq (bare_form (shape_form s)) (bare_form (shape_form t))
+pub same_plain : (r : Bool) (s t : Shape) → ((x : Box Ty Global) (n : ℕ) → s ≡ Array x n → ⊥) → ((x : Box Ty Global) (n : ℕ) → t ≡ Array x n → ⊥)
+    → r ≡ form_eq (shape_form s) (shape_form t) → r ≡ form_eq (bare_form (shape_form s)) (bare_form (shape_form t))
 same_plain r s t h k e = e ∙ sym (ap (λ (z : Form). form_eq z (bare_form (shape_form t))) (bare_plain s h) ∙ ap (form_eq (shape_form s)) (bare_plain t k))

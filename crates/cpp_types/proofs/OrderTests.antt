@@ -1,9 +1,11 @@
 -- The test of a list of classes in order.
-use Rattle.std.proofs.Common.{◌≡◌, ◌∙◌, ◌↔◌, ℕ, zero, suc, Bool, true, false, ◌&&◌, IsTrue, length, List, [], ◌∷◌, Option, Some, None, slice_get, refl, sym, ap, lt-ltb}
+use Rattle.std.proofs.Common.{◌≡◌, ◌∙◌, ◌↔◌, ℕ, zero, suc, Bool, true, false, ◌&&◌, IsTrue, length, List, [], ◌∷◌, Option, Some, None, slice_get, refl, sym, ap}
+use Rattle.std.proofs.Common.{lt-ltb}
 use Rattle.std.specs.List.{list_all}
 use Rattle.std.proofs.lemmas.Bool.{and_parts, ltb-true}
 use Rattle.cpp_types.specs.Class.{Class, Member, Function, InOrder, IndicesBelow, HoldsEarlier, CompleteBelow, completion_of, held, typ_below, signature_below}
-use Rattle.cpp_types.specs.Order.{each_passes, one_passes, is_below, members_below, functions_below, class_below, is_complete_below, members_earlier, holds_earlier, is_consistent, all_consistent}
+use Rattle.cpp_types.specs.Order.{each_passes, one_passes, is_below, members_below, functions_below, class_below, is_complete_below, members_earlier}
+use Rattle.cpp_types.specs.Order.{holds_earlier, is_consistent, all_consistent}
 
 both : (a b : Bool) → a ≡ true → b ≡ true → (a && b) ≡ true
 both true true h g = refl
@@ -31,7 +33,8 @@ each_from : (p : ℕ → Bool) (o : Option ℕ) → ((n : ℕ) → o ≡ Some n 
 each_from p None h = refl
 each_from p (Some k) h = h k refl
 
-complete_known : (classes : List Class) (limit n : ℕ) (o : Option ℕ) → completion_of classes n ≡ o → one_passes (is_below limit) o ≡ true → CompleteBelow classes limit n
+complete_known : (classes : List Class) (limit n : ℕ) (o : Option ℕ) → completion_of classes n ≡ o → one_passes (is_below limit) o ≡ true
+    → CompleteBelow classes limit n
 complete_known classes limit n None e h = absurd cc
 complete_known classes limit n (Some k) e h = record { number = k; complete = e; below = ltb-true k limit h }
 
@@ -63,22 +66,28 @@ holds_at classes c limit h =
     let p = and_parts (each_passes (is_complete_below classes limit) c.base) (members_earlier classes limit c.members) h in
     record {
       base = λ b e. complete_at classes limit b (each_at (is_complete_below classes limit) c.base p.0 b e);
-      members = λ i m e n f. complete_at classes limit n (each_at (is_complete_below classes limit) (held m.typ) (all_at (λ (x : Member). each_passes (is_complete_below classes limit) (held x.typ)) c.members p.1 i m e) n f);
+      members = λ i m e n f. complete_at classes limit n
+          (each_at (is_complete_below classes limit) (held m.typ)
+          (all_at (λ (x : Member). each_passes (is_complete_below classes limit) (held x.typ)) c.members p.1 i m e) n f);
     }
 
 holds_from : (classes : List Class) (c : Class) (limit : ℕ) → HoldsEarlier classes limit c → holds_earlier classes c limit ≡ true
 holds_from classes c limit p = both (each_passes (is_complete_below classes limit) c.base) (members_earlier classes limit c.members)
     (each_from (is_complete_below classes limit) c.base (λ b e. complete_from classes limit b (p.base b e)))
-    (all_from (λ (x : Member). each_passes (is_complete_below classes limit) (held x.typ)) c.members (λ i m e. each_from (is_complete_below classes limit) (held m.typ) (λ n f. complete_from classes limit n (p.members i m e n f))))
+    (all_from (λ (x : Member). each_passes (is_complete_below classes limit) (held x.typ)) c.members
+    (λ i m e. each_from (is_complete_below classes limit) (held m.typ) (λ n f. complete_from classes limit n (p.members i m e n f))))
 
 order_at : (classes : List Class) → all_consistent classes ≡ true → InOrder classes
 order_at classes h = record {
-  indices = λ i c e. indices_at (length classes) c (and_parts (class_below (length classes) c) (each_passes (holds_earlier classes c) c.complete) (all_at (is_consistent classes) classes h i c e)).0;
-  earlier = λ i c n e f. holds_at classes c n (each_at (holds_earlier classes c) c.complete (and_parts (class_below (length classes) c) (each_passes (holds_earlier classes c) c.complete) (all_at (is_consistent classes) classes h i c e)).1 n f);
+  indices = λ i c e. indices_at (length classes) c (and_parts (class_below (length classes) c) (each_passes (holds_earlier classes c) c.complete)
+      (all_at (is_consistent classes) classes h i c e)).0;
+  earlier = λ i c n e f. holds_at classes c n (each_at (holds_earlier classes c) c.complete
+      (and_parts (class_below (length classes) c) (each_passes (holds_earlier classes c) c.complete) (all_at (is_consistent classes) classes h i c e)).1 n f);
 }
 
 order_from : (classes : List Class) → InOrder classes → all_consistent classes ≡ true
-order_from classes o = all_from (is_consistent classes) classes (λ i c e. both (class_below (length classes) c) (each_passes (holds_earlier classes c) c.complete)
+order_from classes o = all_from (is_consistent classes) classes
+    (λ i c e. both (class_below (length classes) c) (each_passes (holds_earlier classes c) c.complete)
     (indices_from (length classes) c (o.indices i c e))
     (each_from (holds_earlier classes c) c.complete (λ n f. holds_from classes c n (o.earlier i c n e f))))
 

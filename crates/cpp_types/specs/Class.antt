@@ -36,11 +36,31 @@ abbrev pub member_of : MemberRec → Member
 member_of m = record { name = m.name.items; typ = typ_of m.ty }
 
 abbrev pub function_of : FuncRec → Function
-function_of f = record { name = f.name.items; signature = signature_of f.ty; is_const = f.is_const; is_virtual = f.is_virtual; is_override = f.is_override; is_final = f.is_final; pure_virtual = f.pure_virtual; safety = f.safety; considered = f.considered; no_except = f.no_except; at = f.at }
+function_of f = record {
+  name = f.name.items;
+  signature = signature_of f.ty;
+  is_const = f.is_const;
+  is_virtual = f.is_virtual;
+  is_override = f.is_override;
+  is_final = f.is_final;
+  pure_virtual = f.pure_virtual;
+  safety = f.safety;
+  considered = f.considered;
+  no_except = f.no_except;
+  at = f.at;
+}
 
 -- the tree that a class record shows
 abbrev pub class_of : ClassRec → Class
-class_of c = record { name = c.name.items; base = c.base; members = map member_of c.members.items; functions = map function_of c.functions.items; is_final = c.is_final; complete = c.complete }
+class_of c = record {
+  name = c.name.items;
+  base = c.base;
+  members = map member_of c.members.items;
+  functions = map function_of c.functions.items;
+  is_final =
+      c.is_final;
+  complete = c.complete;
+}
 
 abbrev pub classes_of : List ClassRec → List Class
 classes_of cs = map class_of cs

@@ -190,7 +190,8 @@ abbrev pub temporary : List Class → Bool → Typ → Typ → Option Conversion
 temporary classes literal s t = cond (only_const t) (bound Temporary (step_of classes literal (decayed s) (form_of t))) None
 
 abbrev pub direct : Cat → Typ → Typ → Step → Option Conversion
-direct cat s t step = cond (keeps (const_of s) (volatile_of s) (const_of t) (volatile_of t) && (is_lvalue cat || only_const t)) (Some (record { step = step; binding = Direct })) None
+direct cat s t step = cond (keeps (const_of s) (volatile_of s) (const_of t) (volatile_of t) && (is_lvalue cat || only_const t))
+    (Some (record { step = step; binding = Direct })) None
 
 abbrev pub object_binding : List Class → Cat → Bool → Typ → Typ → Option Step → Option Conversion
 object_binding classes cat literal s t (Some step) = direct cat s t step
@@ -198,7 +199,8 @@ object_binding classes cat literal s t None = temporary classes literal s t
 
 -- a reference to `t` bound to an expression of type `s` (C++14 8.5.3)
 abbrev pub reference_conversion : List Class → Cat → Bool → Typ → Typ → Option Conversion
-reference_conversion classes cat literal s t = cond (is_object cat s) (object_binding classes cat literal s t (related_step classes s t)) (temporary classes literal s t)
+reference_conversion classes cat literal s t = cond (is_object cat s) (object_binding classes cat literal s t (related_step classes s t))
+    (temporary classes literal s t)
 
 -- no expression has a reference type, and one of type `void` has no value
 abbrev pub has_value : Typ → Bool
@@ -255,7 +257,8 @@ is_wider None = false
 
 -- the second of two references refers to the type of the first with qualifiers added
 abbrev pub wider_reference : Typ → Typ → Bool
-wider_reference (typ (ref s) c v) (typ (ref t) d w) = form_eq (bare s) (bare t) && is_wider (flags_added (const_of s) (volatile_of s) (const_of t) (volatile_of t))
+wider_reference (typ (ref s) c v) (typ (ref t) d w) =
+    form_eq (bare s) (bare t) && is_wider (flags_added (const_of s) (volatile_of s) (const_of t) (volatile_of t))
 wider_reference s t = false
 
 abbrev pub referred : Typ → Typ
@@ -273,4 +276,5 @@ less_added a s b t = wider_reference s t || (not (is_null_step a) && not (is_nul
 
 -- whether the conversion `a` to `s` is better than the conversion `b` of the same expression to `t`
 abbrev pub better_conversion : Conversion → Typ → Conversion → Typ → Bool
-better_conversion a s b t = cond (rank_ordinal (rank_of a) == rank_ordinal (rank_of b)) (better_step a.step b.step || less_added a.step s b.step t) (nat_lt (rank_ordinal (rank_of a)) (rank_ordinal (rank_of b)))
+better_conversion a s b t = cond (rank_ordinal (rank_of a) == rank_ordinal (rank_of b)) (better_step a.step b.step || less_added a.step s b.step t)
+    (nat_lt (rank_ordinal (rank_of a)) (rank_ordinal (rank_of b)))

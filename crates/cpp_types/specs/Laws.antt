@@ -9,7 +9,8 @@ BasesUnroll = (classes : List Class) (n : ℕ) → InOrder classes → bases cla
 
 -- in the list of a class and its bases each is followed by its own base, and the last one has none
 abbrev pub BasesAreWhole : Type 0
-BasesAreWhole = (classes : List Class) (n i m : ℕ) → InOrder classes → slice_get (n ∷ bases classes n) i ≡ Some m → base_of classes m ≡ slice_get (n ∷ bases classes n) (i + 1)
+BasesAreWhole = (classes : List Class) (n i m : ℕ) → InOrder classes → slice_get (n ∷ bases classes n) i ≡ Some m
+    → base_of classes m ≡ slice_get (n ∷ bases classes n) (i + 1)
 
 -- a base is complete, and was so before the class
 abbrev pub BaseIsEarlier : Type 0

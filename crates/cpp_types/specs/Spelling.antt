@@ -73,7 +73,8 @@ abbrev mutual
 
   -- a function's type, with what stands before its parameters
   pub function_spelling : List Class → Signature → List ℕ → List ℕ
-  function_spelling classes (signature ps r safe) star = spelling classes r ++ (star ++ (codes "(" ++ (listed classes false ps ++ (codes ")" ++ where_set safe (codes " transaction_safe")))))
+  function_spelling classes (signature ps r safe) star =
+      spelling classes r ++ (star ++ (codes "(" ++ (listed classes false ps ++ (codes ")" ++ where_set safe (codes " transaction_safe")))))
 
   -- types with commas between them, and one before the first where the flag is set
   pub listed : List Class → Bool → Typs → List ℕ

@@ -13,5 +13,6 @@ use Rattle.elab_make.specs.elab_ctx.Steps.{and_then, check}
 use Rattle.elab_make.specs.elab_rules.Braces.{followed, byte_pieces, zero_rest}
 
 abbrev pub string_in : Ctx → Typ → Form → At → List ℕ → Result Tree ElabFault
-string_in c t (array e n) at bytes = and_then (check at BadInit (nat_lt (length bytes) n)) (λ y. Ok (node Pieces t Prvalue at (followed (byte_pieces e at 0 bytes) (zero_rest c e at (length bytes) (n - length bytes)))))
+string_in c t (array e n) at bytes = and_then (check at BadInit (nat_lt (length bytes) n))
+    (λ y. Ok (node Pieces t Prvalue at (followed (byte_pieces e at 0 bytes) (zero_rest c e at (length bytes) (n - length bytes)))))
 string_in c t f at bytes = Err (Ill at BadInit)

@@ -5,6 +5,7 @@ ghost use Rattle.elab_make.specs.cpp_types.Typ.{typ_of};
 ghost use Rattle.elab_make.specs.cpp_types.Class.{classes_of, member_of};
 ghost use Rattle.elab_make.specs.cpp_tree.Typing.{form_in, qualified};
 ghost use Rattle.elab_make.specs.elab_ctx.Ctx.{ctx_of, func_of};
+ghost use Rattle.elab_make.specs.elab_ctx.Places.{passes};
 ghost use Rattle.elab_make.specs.elab_ctx.Says.{Tells};
 ghost use Rattle.elab_make.specs.elab_rules.Objects.{size_of as size_by};
 ghost use Rattle.elab_make.specs.elab_rules.Initialising.{makes as makes_of, places_from};
@@ -13,8 +14,8 @@ ghost use Rattle.elab_make.specs.elab_rules.Braces.{is_virtual_member as is_virt
 ghost use Rattle.elab_make.specs.elab_init.Parts.{part_of};
 
 use elab_make::below::{
-    At, ElabFault, Env, FuncDecl, FuncKind, IllRule, MemberRec, ObjectPart, Shape, Ty, class_at,
-    completion, elab_init_ill as ill, qualified_type, same_number, size_of,
+    At, ElabFault, Env, FuncDecl, FuncKind, Functions, IllRule, MemberRec, ObjectPart, Shape, Ty,
+    class_at, completion, elab_init_ill as ill, qualified_type, same_number, size_of,
 };
 use elab_names::offset_at;
 use std::alloc::{AllocError, Global};
@@ -40,12 +41,33 @@ fn is_written_constructor(found: &FuncDecl, class: u32) -> bool
     same_number(class, found.class) && makes(found.kind) && !found.implicit
 }
 
+// Whether a virtual member of a class stands at a place.
+fn is_virtual_at(funcs: &Functions, place: u32, class: u32) -> bool
+    ensures { result ≡ passes (λ f. is_virtual_member_of class (func_of f)) (slice_get funcs.now place) }
+{
+    match funcs.get(place as usize) {
+        Some(found) => is_virtual_member(found, class),
+        None => false,
+    }
+}
+
+// Whether a constructor of a class that is written stands at a place.
+fn is_constructor_at(funcs: &Functions, place: u32, class: u32) -> bool
+    ensures { result ≡ passes (λ f. is_written_constructor_of class (func_of f)) (slice_get funcs.now place) }
+{
+    match funcs.get(place as usize) {
+        Some(found) => is_written_constructor(found, class),
+        None => false,
+    }
+}
+
 // Whether no function is a virtual member of a class.
-fn has_no_virtual(funcs: &[FuncDecl], class: u32) -> bool
+fn has_no_virtual(funcs: &Functions, class: u32) -> bool
     ensures { result ≡ is_empty (places_from (is_virtual_member_of class) 0 (map func_of funcs.now)) }
 {
-    for found in funcs {
-        if is_virtual_member(found, class) {
+    let members = funcs.of_class(class);
+    for place in members {
+        if is_virtual_at(funcs, *place, class) {
             return false;
         }
     }
@@ -53,11 +75,12 @@ fn has_no_virtual(funcs: &[FuncDecl], class: u32) -> bool
 }
 
 // Whether no function is a constructor of a class that is written.
-fn has_no_constructor(funcs: &[FuncDecl], class: u32) -> bool
+fn has_no_constructor(funcs: &Functions, class: u32) -> bool
     ensures { result ≡ is_empty (places_from (is_written_constructor_of class) 0 (map func_of funcs.now)) }
 {
-    for found in funcs {
-        if is_written_constructor(found, class) {
+    let members = funcs.of_class(class);
+    for place in members {
+        if is_constructor_at(funcs, *place, class) {
             return false;
         }
     }
@@ -78,8 +101,8 @@ pub fn is_aggregate_class(env: &Env, class: u32) -> bool
     ensures { result ≡ is_aggregate_class_of (ctx_of env.now) class }
 {
     has_no_base(env, class)
-        && has_no_virtual(env.funcs.as_slice(), class)
-        && has_no_constructor(env.funcs.as_slice(), class)
+        && has_no_virtual(&env.funcs, class)
+        && has_no_constructor(&env.funcs, class)
 }
 
 /// Whether braces initialise objects of a type; arrays and aggregates.

@@ -16,7 +16,8 @@ use Rattle.elab_expr.specs.elab_rules.Braces.{item_of, items_of, piece, part_in,
 
 -- an item as a part
 abbrev pub placed_item : List Lexeme → Ctx → Work → Tree → At → Part → syntax.Tree → Result Made ElabFault
-placed_item s c w object at p x = and_then (item_of s c w (part_at p.offset p.typ at object) p.typ x) (λ (m : Made). Ok (record { tree = piece c p.offset p.typ (tree_place m.tree) m.tree; work = m.work }))
+placed_item s c w object at p x = and_then (item_of s c w (part_at p.offset p.typ at object) p.typ x)
+    (λ (m : Made). Ok (record { tree = piece c p.offset p.typ (tree_place m.tree) m.tree; work = m.work }))
 
 -- as the part that an index names
 abbrev pub item_piece : List Lexeme → Ctx → Work → Tree → Typ → ℕ → At → syntax.Tree → Result Made ElabFault
@@ -24,4 +25,5 @@ item_piece s c w object t i at x = and_then (expect (syntax_place x) BadInit (pa
 
 -- braces with these items
 abbrev pub braced : List Lexeme → Ctx → Work → Tree → Typ → At → syntax.Trees → Result Made ElabFault
-braced s c w object t at items = and_then (braceable c at (form_in t)) (λ y. and_then (items_of s c w object t 0 at items) (λ (r : MadeAll). Ok (pieces_made t at r)))
+braced s c w object t at items = and_then (braceable c at (form_in t))
+    (λ y. and_then (items_of s c w object t 0 at items) (λ (r : MadeAll). Ok (pieces_made t at r)))

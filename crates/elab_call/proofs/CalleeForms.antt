@@ -32,7 +32,8 @@ by_form c w at o (node kind t cat p kids) os = refl
 pub call_is : (c : Ctx) (w : Work) (at : At) (o : Operand) (os : List Operand) → call c w at o os ≡ call_by c w at o o.tree os (callee_form o.tree)
 call_is c w at o os = by_form c w at o o.tree os
 
-pub form_is : (trees : List Tree) (callee : Callee) (ids : List TNodeId) → form_shown trees (form_with callee (counted ids)) ≡ called_by callee (trees_at trees ids)
+pub form_is : (trees : List Tree) (callee : Callee) (ids : List TNodeId)
+    → form_shown trees (form_with callee (counted ids)) ≡ called_by callee (trees_at trees ids)
 form_is trees (Functions k) [] = refl
 form_is trees (Functions k) (id ∷ []) = refl
 form_is trees (Functions k) (id ∷ j ∷ ids) = refl
@@ -60,6 +61,9 @@ form_within n Value [] h = refl
 form_within n Value (id ∷ []) h = refl
 form_within n Value (id ∷ j ∷ ids) h = refl
 
-pub form_found : (trees : List Tree) (t : Tree) (kind : TKind) (ty : Typ) (cat : Cat) (ids : List TNodeId) (k : Callee) (n : Kids) (f : CalleeForm) → kind_of t ≡ kind → typ_in t ≡ ty → cat_of t ≡ cat → kids_of t ≡ trees_at trees ids → k ≡ callee_in kind ty cat → n ≡ counted ids → f ≡ form_with k n → form_shown trees f ≡ callee_form t
+pub form_found : (trees : List Tree) (t : Tree) (kind : TKind) (ty : Typ) (cat : Cat) (ids : List TNodeId) (k : Callee) (n : Kids) (f : CalleeForm)
+    → kind_of t ≡ kind → typ_in t ≡ ty → cat_of t ≡ cat → kids_of t ≡ trees_at trees ids → k ≡ callee_in kind ty cat → n ≡ counted ids → f ≡ form_with k n
+    → form_shown trees f ≡ callee_form t
 form_found trees t kind ty cat ids k n f a b d e g h i =
-    ap (form_shown trees) (i ∙ ap (λ (z : Kids). form_with k z) h) ∙ form_is trees k ids ∙ sym (ap (λ (z : Trees). called_by (callee_at t) z) e ∙ ap (λ (z : Callee). called_by z (trees_at trees ids)) (named_by t kind ty cat a b d ∙ sym g))
+    ap (form_shown trees) (i ∙ ap (λ (z : Kids). form_with k z) h) ∙ form_is trees k ids
+    ∙ sym (ap (λ (z : Trees). called_by (callee_at t) z) e ∙ ap (λ (z : Callee). called_by z (trees_at trees ids)) (named_by t kind ty cat a b d ∙ sym g))

@@ -1,5 +1,6 @@
 -- The index of a function among those of its class is counted among their places.
-use Rattle.std.proofs.Common.{◌≡◌, ◌∙◌, ◌+◌, ◌≤◌, ◌<◌, nat_lt, ℕ, zero, suc, Bool, true, false, List, [], ◌∷◌, map, Option, Some, None, if◌then◌else◌, refl, sym, ap, arith}
+use Rattle.std.proofs.Common.{◌≡◌, ◌∙◌, ◌+◌, ◌≤◌, ◌<◌, nat_lt, ℕ, zero, suc, Bool, true, false, List, [], ◌∷◌, map, Option, Some, None, if◌then◌else◌, refl}
+use Rattle.std.proofs.Common.{sym, ap, arith}
 use Rattle.std.proofs.lemmas.Bool.{lt-ltb, le-ltb}
 use Rattle.elab_make.specs.elab_ctx.Ctx.{func_of}
 use Rattle.elab_make.specs.elab_ctx.Places.{places_where, is_member_of, is_number}
@@ -28,7 +29,8 @@ one_step : (k i : ℕ) (rest : List ℕ) (b : Bool) → i < k → places_before 
 one_step k i rest true h = ap (λ (z : Bool). (if z then 1 else 0) + places_before k rest) (lt-ltb i k h)
 one_step k i rest false h = sym (zero_more (places_before k rest))
 
-counted : (n i k j : ℕ) (fs : List FuncDecl) → j ≡ i + k → places_before j (places_where (is_member_of n) i fs) ≡ count_before (is_of_class n) k (map func_of fs)
+counted : (n i k j : ℕ) (fs : List FuncDecl) → j ≡ i + k
+    → places_before j (places_where (is_member_of n) i fs) ≡ count_before (is_of_class n) k (map func_of fs)
 counted n i zero j fs e = none_before n j i fs (omega (arith, e))
 counted n i (suc k) j [] e = refl
 counted n i (suc k) j (f ∷ fs) e =
@@ -36,5 +38,6 @@ counted n i (suc k) j (f ∷ fs) e =
     ∙ ap (λ (z : ℕ). (if is_number n f.class then 1 else 0) + z) (counted n (suc i) k j fs (omega (arith, e)))
     ∙ ap (λ (b : Bool). (if b then 1 else 0) + count_before (is_of_class n) k (map func_of fs)) (number_is n f.class)
 
-pub index_counted : (n k : ℕ) (fs : List FuncDecl) (places : List ℕ) → places ≡ places_where (is_member_of n) 0 fs → places_before k places ≡ index_in_class n k (map func_of fs)
+pub index_counted : (n k : ℕ) (fs : List FuncDecl) (places : List ℕ) → places ≡ places_where (is_member_of n) 0 fs
+    → places_before k places ≡ index_in_class n k (map func_of fs)
 index_counted n k fs places e = ap (places_before k) e ∙ counted n 0 k k fs (omega arith)

@@ -81,7 +81,8 @@ closure_class f = None
 
 -- a call of a lambda's object that stands where it is
 abbrev pub closure_called : Ctx → Work → At → ℕ → Operand → List Operand → Result Made ElabFault
-closure_called c w at n o os = and_then (best_of c at (places_from (is_closure_call n) 0 c.funcs) (o ∷ os)) (λ i. called c w at (Call i) (func_at c.funcs i).declared.signature (one o.tree) os)
+closure_called c w at n o os = and_then (best_of c at (places_from (is_closure_call n) 0 c.funcs) (o ∷ os))
+    (λ i. called c w at (Call i) (func_at c.funcs i).declared.signature (one o.tree) os)
 
 -- the functions to which a pointer points
 abbrev pub function_in : Form → Option Signature

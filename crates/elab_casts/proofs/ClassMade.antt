@@ -14,5 +14,8 @@ use Rattle.elab_forms.specs.elab_rules.Casts.{as_expression}
 use Rattle.elab_forms.proofs.Steps.{then_adds}
 use Rattle.elab_casts.specs.Rows.{class_made}
 
-pub class_makes : (c : Ctx) (w work : Work) (at : At) (t u : Typ) (os : List Operand) (n0 n1 n2 : List Tree) (id r : TNodeId) → u ≡ unqualified t → MadeAt n0 n1 work id (from_values c w u at os) → Adds n1 n2 r (as_expression at u (tree_at n1 id)) → MadeAt n0 n2 work r (class_made c w at t os)
-class_makes c w work at t u os n0 n1 n2 id r e m a = subst (λ (z : Typ). MadeAt n0 n2 work r (and_then (from_values c w z at os) (λ (x : Made). Ok (with_tree (as_expression at z) x)))) e (then_adds n0 n1 n2 work id r (from_values c w u at os) (as_expression at u) m a)
+pub class_makes : (c : Ctx) (w work : Work) (at : At) (t u : Typ) (os : List Operand) (n0 n1 n2 : List Tree) (id r : TNodeId) → u ≡ unqualified t
+    → MadeAt n0 n1 work id (from_values c w u at os) → Adds n1 n2 r (as_expression at u (tree_at n1 id)) → MadeAt n0 n2 work r (class_made c w at t os)
+class_makes c w work at t u os n0 n1 n2 id r e m a = subst
+    (λ (z : Typ). MadeAt n0 n2 work r (and_then (from_values c w z at os) (λ (x : Made). Ok (with_tree (as_expression at z) x)))) e
+    (then_adds n0 n1 n2 work id r (from_values c w u at os) (as_expression at u) m a)

@@ -29,7 +29,8 @@ class_made c w at t os = and_then (from_values c w (unqualified t) at os) (λ (m
 
 -- `T()` of a type that is no class
 abbrev pub zero_made : Work → At → Typ → Result Made ElabFault
-zero_made w at t = if is_void t then Ok (record { tree = node Retype (plain void) Prvalue at (one (number ULong 0 at)); work = w }) else and_then (check at BadInit (is_some (kind_in (form_in t)))) (λ y. Ok (record { tree = node (Literal 0) (unqualified t) Prvalue at none; work = w }))
+zero_made w at t = if is_void t then Ok (record { tree = node Retype (plain void) Prvalue at (one (number ULong 0 at)); work = w }) else and_then
+    (check at BadInit (is_some (kind_in (form_in t)))) (λ y. Ok (record { tree = node (Literal 0) (unqualified t) Prvalue at none; work = w }))
 
 -- `T(a, b, ..)` of any number of values but one
 abbrev pub many_made : Ctx → Work → At → Typ → List Operand → Result Made ElabFault
@@ -44,4 +45,5 @@ void_made c w at o = with_tree (λ (e : Tree). retyped at (plain void) Prvalue e
 
 -- a value that is thrown
 abbrev pub value_thrown : Ctx → Work → At → Tree → Result Made ElabFault
-value_thrown c w at v = and_then (check at BadThrow (is_thrown_scalar (form_in (typ_in v)))) (λ y. Ok (record { tree = throw_node c at (typ_in v) v; work = w }))
+value_thrown c w at v = and_then (check at BadThrow (is_thrown_scalar (form_in (typ_in v))))
+    (λ y. Ok (record { tree = throw_node c at (typ_in v) v; work = w }))

@@ -10,7 +10,8 @@ use Rattle.elab_ctx.specs.Says.{Faults, Given, Gives}
 use Rattle.elab_ctx.proofs.Looks.{grows_trans}
 
 -- what is known of a fault stays known of what follows from it
-pub faults_in : {A B : Type 0} (f : Result A ElabFault → Result B ElabFault) (e : ElabFault) (x : Result A ElabFault) → ((d : ElabFault) → f (Err d) ≡ Err d) → Faults e x → Faults e (f x)
+pub faults_in : {A B : Type 0} (f : Result A ElabFault → Result B ElabFault) (e : ElabFault) (x : Result A ElabFault) → ((d : ElabFault) → f (Err d) ≡ Err d)
+    → Faults e x → Faults e (f x)
 faults_in f (Ill at rule) x h g = ap f g ∙ h (Ill at rule)
 faults_in f (Override at rule) x h g = ap f g ∙ h (Override at rule)
 faults_in f (JumpIntoBlock at) x h g = ap f g ∙ h (JumpIntoBlock at)
@@ -34,6 +35,7 @@ made_adds old new r t x a e = record { grows = a.grows; within = a.within; is = 
 pub adds_after : (a b c : List Tree) (r : TNodeId) (t u : Tree) → Grows a b → t ≡ u → Adds b c r t → Adds a c r u
 adds_after a b c r t u g e m = record { grows = grows_trans g m.grows; within = m.within; is = m.is ∙ e }
 
-pub last_adds : (a b c : List Tree) (r : Result TNodeId AllocError) (t u : Tree) → Grows a b → t ≡ u → IfOk r (λ (id : TNodeId). Adds b c id t) → IfOk r (λ (id : TNodeId). Adds a c id u)
+pub last_adds : (a b c : List Tree) (r : Result TNodeId AllocError) (t u : Tree) → Grows a b → t ≡ u → IfOk r (λ (id : TNodeId). Adds b c id t)
+    → IfOk r (λ (id : TNodeId). Adds a c id u)
 last_adds a b c (Ok r) t u g e m = adds_after a b c r t u g e m
 last_adds a b c (Err x) t u g e m = tt

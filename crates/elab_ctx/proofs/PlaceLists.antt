@@ -1,5 +1,6 @@
 -- The places of those that pass a test, as the list grows, is cut, and changes.
-use Rattle.std.proofs.Common.{◌≡◌, ◌∙◌, ◌<◌, ◌≤◌, ◌+◌, ◌-◌, ◌==◌, ◌&&◌, not, ℕ, zero, suc, Bool, true, false, List, [], ◌∷◌, ◌++◌, length, take, get_or, slice_set, Option, Some, None, is_some, if◌then◌else◌, ◌⊎◌, inl, inr, refl, sym, ap, arith}
+use Rattle.std.proofs.Common.{◌≡◌, ◌∙◌, ◌<◌, ◌≤◌, ◌+◌, ◌-◌, ◌==◌, ◌&&◌, not, ℕ, zero, suc, Bool, true, false, List, [], ◌∷◌, ◌++◌, length, take, get_or}
+use Rattle.std.proofs.Common.{slice_set, Option, Some, None, is_some, if◌then◌else◌, ◌⊎◌, inl, inr, refl, sym, ap, arith}
 use Rattle.std.proofs.lemmas.Bool.{and_right, cases_lt}
 use Rattle.std.proofs.Math.Seq.{take-append_seam, take-length}
 use Rattle.std.proofs.lemmas.List.{length-append, take_all}
@@ -15,10 +16,12 @@ moved true false i j is = refl
 moved false true i j is = refl
 moved false false i j is = refl
 
-pub places_push : {A : Type 0} (test : A → Bool) (i j : ℕ) (xs : List A) (x : A) → j ≡ i + length xs → places_where test i (xs ++ x ∷ []) ≡ one_more (test x) (places_where test i xs) j
+pub places_push : {A : Type 0} (test : A → Bool) (i j : ℕ) (xs : List A) (x : A) → j ≡ i + length xs
+    → places_where test i (xs ++ x ∷ []) ≡ one_more (test x) (places_where test i xs) j
 places_push test i j [] x e = let same : i ≡ j = omega arith in ap (λ (z : ℕ). if test x then z ∷ [] else []) same
 places_push test i j (y ∷ ys) x e =
-    ap (λ (z : List ℕ). if test y then i ∷ z else z) (places_push test (suc i) j ys x (omega arith)) ∙ moved (test y) (test x) i j (places_where test (suc i) ys)
+    ap (λ (z : List ℕ). if test y then i ∷ z else z) (places_push test (suc i) j ys x (omega arith))
+    ∙ moved (test y) (test x) i j (places_where test (suc i) ys)
 
 -- One less
 
@@ -28,13 +31,16 @@ one_back true is j =
     sym (take-append_seam is (j ∷ [])) ∙ ap (λ (n : ℕ). take n (is ++ j ∷ [])) long
 one_back false is j = refl
 
-pub places_pop : {A : Type 0} (test : A → Bool) (old new : List A) (x : A) → old ≡ new ++ x ∷ [] → places_where test 0 new ≡ one_less (test x) (places_where test 0 old)
+pub places_pop : {A : Type 0} (test : A → Bool) (old new : List A) (x : A) → old ≡ new ++ x ∷ []
+    → places_where test 0 new ≡ one_less (test x) (places_where test 0 old)
 places_pop test old new x e =
-    one_back (test x) (places_where test 0 new) (length new) ∙ ap (one_less (test x)) (sym (places_push test 0 (length new) new x (omega arith)) ∙ ap (places_where test 0) (sym e))
+    one_back (test x) (places_where test 0 new) (length new)
+    ∙ ap (one_less (test x)) (sym (places_push test 0 (length new) new x (omega arith)) ∙ ap (places_where test 0) (sym e))
 
 -- One changed, which the test does not see
 
-pub places_changed : {A : Type 0} (test : A → Bool) (g : A → A) → ((x : A) → test (g x) ≡ test x) → (i k : ℕ) (xs : List A) → places_where test i (changed_at g k xs) ≡ places_where test i xs
+pub places_changed : {A : Type 0} (test : A → Bool) (g : A → A) → ((x : A) → test (g x) ≡ test x) → (i k : ℕ) (xs : List A)
+    → places_where test i (changed_at g k xs) ≡ places_where test i xs
 places_changed test g same i k [] = refl
 places_changed test g same i zero (x ∷ xs) = ap (λ (b : Bool). if b then i ∷ places_where test (suc i) xs else places_where test (suc i) xs) (same x)
 places_changed test g same i (suc k) (x ∷ xs) = ap (λ (z : List ℕ). if test x then i ∷ z else z) (places_changed test g same (suc i) k xs)
@@ -52,11 +58,14 @@ changed_past g (y ∷ ys) (suc k) h = ap (λ z. y ∷ z) (changed_past g ys k (o
 
 -- The table behind one more function, and behind one less
 
-pub pushed : {A : Type 0} (test : A → Bool) (xs now : List A) (x : A) (place : ℕ) (old new : List ℕ) (b : Bool) → now ≡ xs ++ x ∷ [] → place ≡ length xs → b ≡ true → old ≡ places_where test 0 xs → new ≡ one_more (b && test x) old place → new ≡ places_where test 0 now
+pub pushed : {A : Type 0} (test : A → Bool) (xs now : List A) (x : A) (place : ℕ) (old new : List ℕ) (b : Bool) → now ≡ xs ++ x ∷ [] → place ≡ length xs
+    → b ≡ true → old ≡ places_where test 0 xs → new ≡ one_more (b && test x) old place → new ≡ places_where test 0 now
 pushed test xs now x place old new b grown at ok was is =
-    is ∙ ap (λ (z : Bool). one_more (z && test x) old place) ok ∙ ap (λ (z : List ℕ). one_more (test x) z place) was ∙ sym (places_push test 0 place xs x (omega arith)) ∙ ap (places_where test 0) (sym grown)
+    is ∙ ap (λ (z : Bool). one_more (z && test x) old place) ok ∙ ap (λ (z : List ℕ). one_more (test x) z place) was
+    ∙ sym (places_push test 0 place xs x (omega arith)) ∙ ap (places_where test 0) (sym grown)
 
-pub popped : {A : Type 0} (test : A → Bool) (before now : List A) (x : A) (old new : List ℕ) → before ≡ now ++ x ∷ [] → old ≡ places_where test 0 before → new ≡ one_less (test x) old → new ≡ places_where test 0 now
+pub popped : {A : Type 0} (test : A → Bool) (before now : List A) (x : A) (old new : List ℕ) → before ≡ now ++ x ∷ [] → old ≡ places_where test 0 before
+    → new ≡ one_less (test x) old → new ≡ places_where test 0 now
 popped test before now x old new cut was is = is ∙ ap (one_less (test x)) was ∙ sym (places_pop test before now x cut)
 
 -- a function stands in one of the tables
@@ -68,7 +77,8 @@ pub no_member : (n : ℕ) (f : FuncDecl) → f.class ≡ None → is_member_of n
 no_member n f e = ap (is_number n) e
 
 pub free_is : (name own : List ℕ) (f : FuncDecl) → f.class ≡ None → own ≡ f.rec.name.items → bytes_eq name own ≡ is_free_of name f
-free_is name own f e o = ap (bytes_eq name) o ∙ by (bytes_eq name f.rec.name.items) ∙ ap (λ (z : Option ℕ). bytes_eq name f.rec.name.items && not (is_some z)) (sym e)
+free_is name own f e o = ap (bytes_eq name) o ∙ by (bytes_eq name f.rec.name.items)
+    ∙ ap (λ (z : Option ℕ). bytes_eq name f.rec.name.items && not (is_some z)) (sym e)
   where
     by : (b : Bool) → b ≡ (b && true)
     by true = refl

@@ -1,5 +1,6 @@
 -- A search by a test is a search among the places of those that pass another test, where whoever passes the one passes the other.
-use Rattle.std.proofs.Common.{◌≡◌, ◌∙◌, ◌+◌, ◌||◌, ℕ, zero, suc, Bool, true, false, List, [], ◌∷◌, map, slice_get, unwrap_or, slice_set, Option, Some, if◌then◌else◌, refl, sym, ap, arith, true≢false}
+use Rattle.std.proofs.Common.{◌≡◌, ◌∙◌, ◌+◌, ◌||◌, ℕ, zero, suc, Bool, true, false, List, [], ◌∷◌, map, slice_get, unwrap_or, slice_set, Option, Some}
+use Rattle.std.proofs.Common.{if◌then◌else◌, refl, sym, ap, arith, true≢false}
 use Rattle.std.specs.List.{list_any}
 use Rattle.elab_ctx.specs.Places.{places_where, first_where, passes, first_among, kept_among, any_among, changed_at}
 
@@ -17,9 +18,11 @@ module _ {A : Type 0} where
 module _ {A : Type 0} (test asks : A → Bool) (more : (x : A) → test x ≡ true → asks x ≡ true) where
   kept_step : (ws : List A) (i : ℕ) (x : A) (rest : List ℕ) (b c : Bool) → test x ≡ b → asks x ≡ c → slice_get ws i ≡ Some x
       → (if b then i ∷ kept_among test ws rest else kept_among test ws rest) ≡ kept_among test ws (if c then i ∷ rest else rest)
-  kept_step ws i x rest true true t a at = ap (λ (z : Bool). if z then i ∷ kept_among test ws rest else kept_among test ws rest) (sym t ∙ ap (passes test) (sym at))
+  kept_step ws i x rest true true t a at = ap (λ (z : Bool). if z then i ∷ kept_among test ws rest else kept_among test ws rest)
+      (sym t ∙ ap (passes test) (sym at))
   kept_step ws i x rest true false t a at = absurd (true≢false (sym (more x t) ∙ a))
-  kept_step ws i x rest false true t a at = ap (λ (z : Bool). if z then i ∷ kept_among test ws rest else kept_among test ws rest) (sym t ∙ ap (passes test) (sym at))
+  kept_step ws i x rest false true t a at = ap (λ (z : Bool). if z then i ∷ kept_among test ws rest else kept_among test ws rest)
+      (sym t ∙ ap (passes test) (sym at))
   kept_step ws i x rest false false t a at = refl
 
   kept_from : (ws : List A) (i : ℕ) (xs : List A) → Behind ws i xs → places_where test i xs ≡ kept_among test ws (places_where asks i xs)
@@ -82,7 +85,8 @@ module _ {A B : Type 0} (g : A → B) (test : B → Bool) where
   any_shown (x ∷ xs) = ap (λ (z : Bool). test (g x) || z) (any_shown xs)
 
 -- one that is changed, as a list that shows it says it
-pub changed_shown : {A B : Type 0} (f : A → B) (g : A → A) (h : B → B) (xs : List A) (i : ℕ) (d : B) → ((x : A) → f (g x) ≡ h (f x)) → map f (changed_at g i xs) ≡ slice_set (map f xs) i (h (unwrap_or (slice_get (map f xs) i) d))
+pub changed_shown : {A B : Type 0} (f : A → B) (g : A → A) (h : B → B) (xs : List A) (i : ℕ) (d : B) → ((x : A) → f (g x) ≡ h (f x))
+    → map f (changed_at g i xs) ≡ slice_set (map f xs) i (h (unwrap_or (slice_get (map f xs) i) d))
 changed_shown f g h [] i d same = refl
 changed_shown f g h (x ∷ xs) zero d same = ap (λ z. z ∷ map f xs) (same x)
 changed_shown f g h (x ∷ xs) (suc i) d same = ap (λ z. f x ∷ z) (changed_shown f g h xs i d same)

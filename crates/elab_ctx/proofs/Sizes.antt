@@ -16,7 +16,8 @@ complete_by classes n (Some k) e h = record { number = k; complete = e }
 
 known_at : (classes : List Class) (o : Option ℕ) → is_known classes o ≡ true → (e : ℕ) → o ≡ Some e → IsComplete classes e
 known_at classes None h e q = absurd cc
-known_at classes (Some n) h e q = complete_by classes e (completion_of classes e) refl (let s : n ≡ e = cc in ap (λ (z : ℕ). is_some (completion_of classes z)) (sym s) ∙ h)
+known_at classes (Some n) h e q = complete_by classes e (completion_of classes e) refl
+    (let s : n ≡ e = cc in ap (λ (z : ℕ). is_some (completion_of classes z)) (sym s) ∙ h)
 
 pub holds_complete : (classes : List Class) (f : Form) → is_whole classes f ≡ true → HoldsComplete classes f
 holds_complete classes f h = record { held = λ e q. known_at classes (held_form f) h e q }

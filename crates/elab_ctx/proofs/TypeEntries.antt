@@ -27,16 +27,22 @@ module _ {Z : Type 0} where
   pairs_of entries = map (λ pair. (pair.0.items, pair.1)) entries
 
   -- the look-up of a name is that in the map
-  pub called_is : (name : List ℕ) (entries : List (Vec ℕ Z × Ty)) → type_called name (map named_of (pairs_of entries)) ≡ option_map typ_of (lookup (λ key. bytes_eq name key.items) entries)
+  pub called_is : (name : List ℕ) (entries : List (Vec ℕ Z × Ty))
+      → type_called name (map named_of (pairs_of entries)) ≡ option_map typ_of (lookup (λ key. bytes_eq name key.items) entries)
   called_is name [] = refl
-  called_is name (pair ∷ rest) = cond_map (bytes_eq name pair.0.items) pair.1 (lookup (λ key. bytes_eq name key.items) rest) (type_called name (map named_of (pairs_of rest))) (called_is name rest)
+  called_is name (pair ∷ rest) = cond_map (bytes_eq name pair.0.items) pair.1 (lookup (λ key. bytes_eq name key.items) rest)
+      (type_called name (map named_of (pairs_of rest))) (called_is name rest)
 
   added_if : (b : Bool) (t : Ty) (pair : Vec ℕ Z × Ty) (rest more : List (Vec ℕ Z × Ty)) (ns : List Named) → map named_of (pairs_of more) ≡ ns
-      → map named_of (pairs_of (if b then (pair.0, t) ∷ rest else pair ∷ more)) ≡ (if b then record { name = pair.0.items; typ = typ_of t } ∷ map named_of (pairs_of rest) else record { name = pair.0.items; typ = typ_of pair.1 } ∷ ns)
+      → map named_of (pairs_of (if b then (pair.0, t) ∷ rest else pair ∷ more))
+      ≡ (if b then record { name = pair.0.items; typ = typ_of t } ∷ map named_of (pairs_of rest) else record { name = pair.0.items; typ = typ_of pair.1 }
+      ∷ ns)
   added_if true t pair rest more ns h = refl
   added_if false t pair rest more ns h = ap (λ (z : List Named). record { name = pair.0.items; typ = typ_of pair.1 } ∷ z) h
 
   -- a name with its type among the entries
-  pub added_is : (entries : List (Vec ℕ Z × Ty)) (name : Vec ℕ Z) (t : Ty) → map named_of (pairs_of (insert_entry same_name entries name t)) ≡ named_too (map named_of (pairs_of entries)) name.items (typ_of t)
+  pub added_is : (entries : List (Vec ℕ Z × Ty)) (name : Vec ℕ Z) (t : Ty)
+      → map named_of (pairs_of (insert_entry same_name entries name t)) ≡ named_too (map named_of (pairs_of entries)) name.items (typ_of t)
   added_is [] name t = refl
-  added_is (pair ∷ rest) name t = added_if (bytes_eq name.items pair.0.items) t pair rest (insert_entry same_name rest name t) (named_too (map named_of (pairs_of rest)) name.items (typ_of t)) (added_is rest name t)
+  added_is (pair ∷ rest) name t = added_if (bytes_eq name.items pair.0.items) t pair rest (insert_entry same_name rest name t)
+      (named_too (map named_of (pairs_of rest)) name.items (typ_of t)) (added_is rest name t)

@@ -146,7 +146,18 @@ pub record Work : Type 0 where
 -- What the records of the code show
 
 abbrev pub func_of : FuncDecl → Func
-func_of f = record { declared = function_of f.rec; kind = f.kind; class = f.class; linkage = f.linkage; implicit = f.implicit; is_defined = f.is_defined; builtin = f.builtin; params = map param_of f.params.items; text = f.text.items; closed_at = f.closed_at }
+func_of f = record {
+  declared = function_of f.rec;
+  kind = f.kind;
+  class = f.class;
+  linkage = f.linkage;
+  implicit = f.implicit;
+  is_defined = f.is_defined;
+  builtin = f.builtin;
+  params = map param_of f.params.items;
+  text = f.text.items;
+  closed_at = f.closed_at;
+}
 
 abbrev pub enumerator_of : EnumRec → Enumerator
 enumerator_of e = record { typ = typ_of e.ty; word = e.word }
@@ -160,7 +171,16 @@ special_of special_rec.Trivial = trivial
 special_of (special_rec.Function k) = function k
 
 abbrev pub traits_of : TraitsRec → Traits
-traits_of t = record { default = special_of t.default; copy = special_of t.copy; copies_const = t.copies_const; destructor = special_of t.destructor; is_assignable = t.is_assignable; is_abstract = t.is_abstract; is_volatile = t.is_volatile; is_trivially_copyable = t.is_trivially_copyable }
+traits_of t = record {
+  default = special_of t.default;
+  copy = special_of t.copy;
+  copies_const = t.copies_const;
+  destructor = special_of t.destructor;
+  is_assignable = t.is_assignable;
+  is_abstract = t.is_abstract;
+  is_volatile = t.is_volatile;
+  is_trivially_copyable = t.is_trivially_copyable;
+}
 
 abbrev pub variable_of : VariableRec → Variable
 variable_of v = record { typ = option_map typ_of v.ty; place = v.place }
@@ -185,7 +205,29 @@ abbrev pub closure_of : ClosureRec → Closure
 closure_of c = record { at = c.at; class = c.class; captures = map capture_of c.captures.items }
 
 abbrev pub ctx_of : Env → Ctx
-ctx_of e = record { source = e.source; scopes = e.scopes; types = map named_of e.types; classes = classes_of e.classes.items; traits = map traits_of e.traits.items; slots = map (λ slots. map slot_of slots.items) e.slots.items; defaults = map (default_of (trees_of e.default_nodes.items)) e.defaults.items; funcs = map func_of e.funcs; enumerators = map enumerator_of e.enumerators.items; variables = map variable_of e.variables.items; this = option_map this_of e.this; class = e.class; returns = returns_of e.returns; breaks = e.breaks; continues = e.continues; label = e.label; labels = labels_of e.labels; lambda = option_map lambda_of e.lambda; closures = map closure_of e.closures.items }
+ctx_of e = record {
+  source = e.source;
+  scopes = e.scopes;
+  types = map named_of e.types;
+  classes = classes_of e.classes.items;
+  traits =
+      map traits_of e.traits.items;
+  slots = map (λ slots. map slot_of slots.items) e.slots.items;
+  defaults =
+      map (default_of (trees_of e.default_nodes.items)) e.defaults.items;
+  funcs = map func_of e.funcs;
+  enumerators = map enumerator_of e.enumerators.items;
+  variables = map variable_of e.variables.items;
+  this = option_map this_of e.this;
+  class = e.class;
+  returns = returns_of e.returns;
+  breaks = e.breaks;
+  continues = e.continues;
+  label = e.label;
+  labels = labels_of e.labels;
+  lambda = option_map lambda_of e.lambda;
+  closures = map closure_of e.closures.items;
+}
 
 abbrev pub work_of : WorkRec → Work
 work_of w = record { frame = map typ_of w.frame.items; globals = map global_of w.globals.items }

@@ -1,5 +1,6 @@
 -- Places in a list: of those that pass a test, and tables of such places.
-use Rattle.std.specs.Prelude.{ℕ, zero, suc, Bool, not, ◌&&◌, ◌||◌, ◌==◌, ◌++◌, ◌-◌, List, [], ◌∷◌, length, take, Option, Some, None, is_some, if◌then◌else◌, slice_get, Vec, false}
+use Rattle.std.specs.Prelude.{ℕ, zero, suc, Bool, not, ◌&&◌, ◌||◌, ◌==◌, ◌++◌, ◌-◌, List, [], ◌∷◌, length, take, Option, Some, None, is_some, if◌then◌else◌}
+use Rattle.std.specs.Prelude.{slice_get, Vec, false}
 use Rattle.std.specs.Global.{Global}
 use Rattle.std.specs.Map.{lookup}
 use Rattle.std.specs.Str.{bytes_eq}

@@ -1,5 +1,6 @@
 -- Lists whose elements are read and replaced, and lists of types.
-use Rattle.std.proofs.Common.{◌≡◌, ◌∙◌, ◌<◌, ◌≤◌, ◌==◌, ℕ, zero, suc, List, [], ◌∷◌, length, map, get_or, Vec, Global, vec_len, unwrap_or, option_map, slice_get, slice_set, refl, sym, ap, arith, rules}
+use Rattle.std.proofs.Common.{◌≡◌, ◌∙◌, ◌<◌, ◌≤◌, ◌==◌, ℕ, zero, suc, List, [], ◌∷◌, length, map, get_or, Vec, Global, vec_len, unwrap_or, option_map}
+use Rattle.std.proofs.Common.{slice_get, slice_set, refl, sym, ap, arith, rules}
 use Rattle.std.proofs.Math.Dec.{eqb-suc-zero}
 use Rattle.std.proofs.lemmas.List.{map-set}
 use Rattle.std.proofs.lemmas.Option.{slice_get-map, slice_get_read}
@@ -19,7 +20,8 @@ pub shown_at : {A B : Type 0} (f : A → B) (xs : List A) (i : ℕ) (x : A) (d :
 shown_at {A} {B} f xs i x d h e = ap (λ o. unwrap_or o d) (slice_get-map f xs i ∙ ap (option_map f) (slice_get_read xs (length xs) i x refl h e))
 
 -- an element is replaced by one that shows what was read of it, changed
-pub changed_at : {A B : Type 0} (f : A → B) (g : B → B) (xs : List A) (i : ℕ) (x y : A) (d : B) → i < length xs → x ≡ get_or xs i x → f y ≡ g (f x) → map f (slice_set xs i y) ≡ slice_set (map f xs) i (g (unwrap_or (slice_get (map f xs) i) d))
+pub changed_at : {A B : Type 0} (f : A → B) (g : B → B) (xs : List A) (i : ℕ) (x y : A) (d : B) → i < length xs → x ≡ get_or xs i x → f y ≡ g (f x)
+    → map f (slice_set xs i y) ≡ slice_set (map f xs) i (g (unwrap_or (slice_get (map f xs) i) d))
 changed_at {A} {B} f g xs i x y d h e k = map-set f xs i y ∙ ap (slice_set (map f xs) i) (k ∙ ap g (sym (shown_at f xs i x d h e)))
 
 -- Types of parameters
@@ -32,11 +34,13 @@ count_is : (v : Vec Ty Global) → vec_len v ≡ length v.items
 count_is v = search rules
 
 pub takes_none : (f : FnTy) → (vec_len (out-FnTy f).params == 0) ≡ is_none_typs (signature_parameters (signature_of f))
-takes_none f = ap (λ (n : ℕ). n == 0) (count_is (out-FnTy f).params) ∙ sym (none_typs (out-FnTy f).params.items) ∙ ap (λ z. is_none_typs (signature_parameters z)) (sym (signature_view f))
+takes_none f = ap (λ (n : ℕ). n == 0) (count_is (out-FnTy f).params) ∙ sym (none_typs (out-FnTy f).params.items)
+    ∙ ap (λ z. is_none_typs (signature_parameters z)) (sym (signature_view f))
 
 -- Enumerators that get the type of their enum
 
-pub typed_at : (es : List EnumRec) (i : ℕ) (t : Ty) (x : EnumRec) → i < length es → x ≡ get_or es i x → map enumerator_of (slice_set es i (record { ty = t; word = x.word })) ≡ with_typ (map enumerator_of es) i (typ_of t)
+pub typed_at : (es : List EnumRec) (i : ℕ) (t : Ty) (x : EnumRec) → i < length es → x ≡ get_or es i x
+    → map enumerator_of (slice_set es i (record { ty = t; word = x.word })) ≡ with_typ (map enumerator_of es) i (typ_of t)
 typed_at [] i t x h e = absurd (omega arith)
 typed_at (y ∷ es) zero t x h e = ap (λ (z : EnumRec). record { typ = typ_of t; word = z.word } ∷ map enumerator_of es) e
 typed_at (y ∷ es) (suc i) t x h e = ap (λ (z : List Enumerator). enumerator_of y ∷ z) (typed_at es i t x (omega arith) e)

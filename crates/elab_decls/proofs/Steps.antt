@@ -12,7 +12,8 @@ pub faults_then : {A B : Type 0} (e : ElabFault) (x : Result A ElabFault) (f : A
 faults_then {A} {B} e x f h = faults_in (λ (z : Result A ElabFault). and_then z f) e x (λ d. refl) h
 
 -- a fault of what follows a step
-pub faults_after : {A B : Type 0} (e : ElabFault) (x : Result A ElabFault) (v : A) (f : A → Result B ElabFault) → x ≡ Ok v → Faults e (f v) → Faults e (and_then x f)
+pub faults_after : {A B : Type 0} (e : ElabFault) (x : Result A ElabFault) (v : A) (f : A → Result B ElabFault) → x ≡ Ok v → Faults e (f v)
+    → Faults e (and_then x f)
 faults_after {A} {B} e x v f h g = subst (λ (z : Result A ElabFault). Faults e (and_then z f)) (sym h) g
 
 -- the same of something that is equal
@@ -33,6 +34,7 @@ pub answers_refused : {A B : Type 0} (b : B) (r : Result A ElabFault) (e : ElabF
 answers_refused {A} {B} b r e x h g = subst (λ (z : Result A ElabFault). Answers b z x) (sym h) g
 
 -- an answer that is put to what stays
-pub answers_then : {A B C : Type 0} (b : B) (g : B → C) (r : Result A ElabFault) (x : Result B ElabFault) → Answers b r x → Answers (g b) r (and_then x (λ (w : B). Ok (g w)))
+pub answers_then : {A B C : Type 0} (b : B) (g : B → C) (r : Result A ElabFault) (x : Result B ElabFault) → Answers b r x
+    → Answers (g b) r (and_then x (λ (w : B). Ok (g w)))
 answers_then {A} {B} {C} b g (Ok a) x h = ap (λ (z : Result B ElabFault). and_then z (λ (w : B). Ok (g w))) h
 answers_then {A} {B} {C} b g (Err e) x h = faults_then e x (λ (w : B). Ok (g w)) h

@@ -19,7 +19,8 @@ abbrev pub valued_shown : ValuedRec → Valued
 valued_shown v = record { value = v.value; at = v.at }
 
 abbrev pub written_value : List Lexeme → Ctx → Work → At → syntax.Tree → Result Valued ElabFault
-written_value s c w at t = and_then (and_then (expression_of s c w t) (chosen_operand c)) (λ (o : Typed). and_then (enumerator_value at w o.operand) (λ (n : ℤ). Ok (record { value = n; at = o.operand.at })))
+written_value s c w at t = and_then (and_then (expression_of s c w t) (chosen_operand c))
+    (λ (o : Typed). and_then (enumerator_value at w o.operand) (λ (n : ℤ). Ok (record { value = n; at = o.operand.at })))
 
 -- the value of an enumerator: that of the kid behind its name, or the next
 abbrev pub found_value : List Lexeme → Ctx → Work → At → ℤ → syntax.Trees → Result Valued ElabFault

@@ -1,5 +1,6 @@
 -- What the records of the code show, and what answers say.
-use Rattle.std.specs.Prelude.{ℕ, zero, suc, pred, ℤ, Bool, true, false, not, ◌&&◌, ◌||◌, List, [], ◌∷◌, ◌++◌, length, Option, Some, None, Result, Ok, slice_get, slice_set, unwrap_or, if◌then◌else◌}
+use Rattle.std.specs.Prelude.{ℕ, zero, suc, pred, ℤ, Bool, true, false, not, ◌&&◌, ◌||◌, List, [], ◌∷◌, ◌++◌, length, Option, Some, None, Result, Ok, slice_get}
+use Rattle.std.specs.Prelude.{slice_set, unwrap_or, if◌then◌else◌}
 use Rattle.elab_expr.specs.tx_ints.declared.kinds.IntKind.TheVariants.{Int}
 use Rattle.cpp_types.specs.Typ.{Typ, int}
 use Rattle.cpp_types.specs.declared.classes.At.{At}
@@ -45,7 +46,10 @@ with_global w name x t = record w { globals = w.globals ++ new_global name x t �
 
 -- the first bytes of a global, which is defined by them
 abbrev pub with_cells : Work → ℕ → Typ → List Cell → Work
-with_cells w g t cells = record w { globals = slice_set w.globals g (record (unwrap_or (slice_get w.globals g) (new_global [] no_global_storage t)) { init = cells; defined = true }) }
+with_cells w g t cells = record w {
+  globals = slice_set w.globals g
+      (record (unwrap_or (slice_get w.globals g) (new_global [] no_global_storage t)) { init = cells; defined = true });
+}
 
 -- a name gets a meaning, unless it has one
 abbrev pub declared_as : Option Entity → Ctx → List ℕ → Entity → Ctx
@@ -60,7 +64,8 @@ with_exceptions h b = record h { qualifiers = record h.qualifiers { no_except = 
 
 -- what the words of a declaration of a function have to fit
 abbrev pub words_fit : Header → Result Bool ElabFault
-words_fit h = and_then (check h.at BadDeclaration (not h.qualifiers.is_const)) (λ b. and_then (dynamic_fits h) (λ d. check h.at OutOfProfile (not h.storage.is_c || may_be_c h)))
+words_fit h = and_then (check h.at BadDeclaration (not h.qualifiers.is_const))
+    (λ b. and_then (dynamic_fits h) (λ d. check h.at OutOfProfile (not h.storage.is_c || may_be_c h)))
 
 -- a function in its place
 abbrev pub placed_at : Env → ℕ → Placed
@@ -68,7 +73,8 @@ placed_at e i = record { ctx = ctx_of e; place = i }
 
 -- a function that was not declared before
 abbrev pub newly_declared : Ctx → Header → Result Placed ElabFault
-newly_declared c h = and_then (name_declared c h h.class) (λ (d : Ctx). Ok (record { ctx = record d { funcs = d.funcs ++ new_function h ∷ [] }; place = length d.funcs }))
+newly_declared c h = and_then (name_declared c h h.class)
+    (λ (d : Ctx). Ok (record { ctx = record d { funcs = d.funcs ++ new_function h ∷ [] }; place = length d.funcs }))
 
 -- Names of types
 
@@ -82,7 +88,11 @@ abbrev pub counted : Ctx → Work → List Body → ℤ → Enumerating
 counted c w bodies next = record { state = changed c w bodies; next = next }
 
 abbrev pub more_enumerators : Ctx → List ℕ → ℕ → Ctx
-more_enumerators c name w = record c { scopes = with_name c.scopes name (record { kind = entities.Enumerator; id = length c.enumerators }); enumerators = c.enumerators ++ record { typ = plain (int Int); word = w } ∷ [] }
+more_enumerators c name w = record c {
+  scopes = with_name c.scopes name (record { kind = entities.Enumerator; id = length c.enumerators });
+  enumerators =
+      c.enumerators ++ record { typ = plain (int Int); word = w } ∷ [];
+}
 
 abbrev pub named_again : Ctx → List ℕ → Ctx
 named_again c name = record c { scopes = with_name c.scopes name (record { kind = entities.Enumerator; id = pred (length c.enumerators) }) }
@@ -106,4 +116,5 @@ abbrev pub celled : Ctx → ℕ → Typ → List Typ → Made → Result Work El
 celled c g t frame m = and_then (cells_of c m.work m.tree) (λ cells. Ok (with_cells (record m.work { frame = frame }) g t cells))
 
 abbrev pub global_made : List Lexeme → Ctx → Work → At → Typ → syntax.Trees → ℕ → Result Work ElabFault
-global_made s c w at t init g = and_then (definable c t at) (λ x. and_then (object_by s c w (global_object g t at) t at init) (λ (m : Made). celled c g t w.frame m))
+global_made s c w at t init g = and_then (definable c t at)
+    (λ x. and_then (object_by s c w (global_object g t at) t at init) (λ (m : Made). celled c g t w.frame m))

@@ -22,35 +22,56 @@ use Rattle.elab_entry.specs.Ends.{address_of, object_end, value_end}
 stand : (a : List Tree) (before : List TNodeId) → are_within (length a) before ≡ true → AddsAll a a before (trees_at a before)
 stand a before w = record { grows = grows_refl a; within = w; are = refl }
 
-end_one : (a b : List Tree) (before next : List TNodeId) (r : TNodeId) (t : Tree) → are_within (length a) before ≡ true → Adds a b r t → next ≡ before ++ r ∷ [] → AddsAll a b next (followed_by (trees_at a before) (one t))
+end_one : (a b : List Tree) (before next : List TNodeId) (r : TNodeId) (t : Tree) → are_within (length a) before ≡ true → Adds a b r t → next ≡ before ++ r ∷ []
+    → AddsAll a b next (followed_by (trees_at a before) (one t))
 end_one a b before next r t w m n = adds_more a a b before (r ∷ []) next (trees_at a before) (one t) (stand a before w) (adds_one a b r t m) n
 
-pub end_two : (a b c : List Tree) (before mid next : List TNodeId) (r q : TNodeId) (t u : Tree) → are_within (length a) before ≡ true → Adds a b r t → Adds b c q u → mid ≡ before ++ r ∷ [] → next ≡ mid ++ q ∷ [] → AddsAll a c next (followed_by (trees_at a before) (two t u))
+pub end_two : (a b c : List Tree) (before mid next : List TNodeId) (r q : TNodeId) (t u : Tree) → are_within (length a) before ≡ true → Adds a b r t
+    → Adds b c q u → mid ≡ before ++ r ∷ [] → next ≡ mid ++ q ∷ [] → AddsAll a c next (followed_by (trees_at a before) (two t u))
 end_two a b c before mid next r q t u w m n e f =
     subst (λ (z : Trees). AddsAll a c next z) (followed_twice (trees_at a before) (one t) (one u))
     (adds_more a b c mid (q ∷ []) next (followed_by (trees_at a before) (one t)) (one u) (end_one a b before mid r t w m e) (adds_one b c q u n) f)
 
-pub end_value : (a b c : List Tree) (before next : List TNodeId) (r q : TNodeId) (t : Tree) (at : At) → are_within (length a) before ≡ true → Adds a b r t → Adds b c q (void_at forms.Return at (one (tree_at b r))) → next ≡ before ++ q ∷ [] → AddsAll a c next (followed_by (trees_at a before) (one (void_at forms.Return at (one t))))
-end_value a b c before next r q t at w m n e = end_one a c before next q (void_at forms.Return at (one t)) w (adds_after a b c q (void_at forms.Return at (one (tree_at b r))) (void_at forms.Return at (one t)) m.grows (ap (λ (z : Tree). void_at forms.Return at (one z)) m.is) n) e
+pub end_value : (a b c : List Tree) (before next : List TNodeId) (r q : TNodeId) (t : Tree) (at : At) → are_within (length a) before ≡ true → Adds a b r t
+    → Adds b c q (void_at forms.Return at (one (tree_at b r))) → next ≡ before ++ q ∷ []
+    → AddsAll a c next (followed_by (trees_at a before) (one (void_at forms.Return at (one t))))
+end_value a b c before next r q t at w m n e = end_one a c before next q (void_at forms.Return at (one t)) w
+    (adds_after a b c q (void_at forms.Return at (one (tree_at b r))) (void_at forms.Return at (one t)) m.grows
+    (ap (λ (z : Tree). void_at forms.Return at (one z)) m.is) n) e
 
 -- an object that is zero in every scalar
-pub zeroed_is : (a b d e : List Tree) (p q : TNodeId) (r : Result TNodeId AllocError) (c : Ctx) (t x y v : Typ) (at : At) → x ≡ y → y ≡ unqualified t → v ≡ plain void → Adds a b p (address_of at x) → Adds b d q (untyped (zeros c.classes at y)) → IfOk r (λ (id : TNodeId). Adds d e id (node forms.Init v Prvalue at (two (tree_at d p) (tree_at d q)))) → IfOk r (λ (id : TNodeId). Adds a e id (result_zeroed c t at))
+pub zeroed_is : (a b d e : List Tree) (p q : TNodeId) (r : Result TNodeId AllocError) (c : Ctx) (t x y v : Typ) (at : At) → x ≡ y → y ≡ unqualified t
+    → v ≡ plain void → Adds a b p (address_of at x) → Adds b d q (untyped (zeros c.classes at y))
+    → IfOk r (λ (id : TNodeId). Adds d e id (node forms.Init v Prvalue at (two (tree_at d p) (tree_at d q))))
+    → IfOk r (λ (id : TNodeId). Adds a e id (result_zeroed c t at))
 zeroed_is a b d e p q r c t x y v at f g h m n o =
     let first : tree_at d p ≡ address_of at (unqualified t) = at_grown b d p n.grows m.within ∙ m.is ∙ ap (address_of at) (f ∙ g) in
     let second : tree_at d q ≡ untyped (zeros c.classes at (unqualified t)) = n.is ∙ ap (λ (z : Typ). untyped (zeros c.classes at z)) g in
     last_adds a d e r (node forms.Init v Prvalue at (two (tree_at d p) (tree_at d q))) (result_zeroed c t at) (grows_trans m.grows n.grows)
-    (ap (λ (z : Typ). node forms.Init z Prvalue at (two (tree_at d p) (tree_at d q))) h ∙ ap (λ (z : Tree). void_at forms.Init at (two z (tree_at d q))) first ∙ ap (λ (z : Tree). void_at forms.Init at (two (address_of at (unqualified t)) z)) second)
+    (ap (λ (z : Typ). node forms.Init z Prvalue at (two (tree_at d p) (tree_at d q))) h ∙ ap (λ (z : Tree). void_at forms.Init at (two z (tree_at d q))) first
+    ∙ ap (λ (z : Tree). void_at forms.Init at (two (address_of at (unqualified t)) z)) second)
     o
 
 -- which end a body has
 
-pub end_none : (a : List Tree) (before : List TNodeId) (c : Ctx) (t : Typ) (at : At) → are_within (length a) before ≡ true → is_void t ≡ true → AddsAll a a before (followed_by (trees_at a before) (end_of c t at))
-end_none a before c t at w e = subst (λ (z : Trees). AddsAll a a before z) (sym (ap (λ (z : Bool). followed_by (trees_at a before) (if z then none else (if is_class_typ t then object_end c t at else value_end t at))) e ∙ followed_none (trees_at a before))) (stand a before w)
+pub end_none : (a : List Tree) (before : List TNodeId) (c : Ctx) (t : Typ) (at : At) → are_within (length a) before ≡ true → is_void t ≡ true
+    → AddsAll a a before (followed_by (trees_at a before) (end_of c t at))
+end_none a before c t at w e = subst (λ (z : Trees). AddsAll a a before z)
+    (sym (ap (λ (z : Bool). followed_by (trees_at a before) (if z then none else (if is_class_typ t then object_end c t at else value_end t at))) e
+    ∙ followed_none (trees_at a before))) (stand a before w)
 
-pub end_object : (a b : List Tree) (before next : List TNodeId) (c : Ctx) (t : Typ) (at : At) (r : Result (Unit {0}) AllocError) → is_void t ≡ false → is_class_typ t ≡ true → OnOk r (AddsAll a b next (followed_by (trees_at a before) (object_end c t at))) → OnOk r (AddsAll a b next (followed_by (trees_at a before) (end_of c t at)))
-end_object a b before next c t at (Ok u) e f m = subst (λ (z : Trees). AddsAll a b next (followed_by (trees_at a before) z)) (sym (ap (λ (z : Bool). if z then none else (if is_class_typ t then object_end c t at else value_end t at)) e ∙ ap (λ (z : Bool). if z then object_end c t at else value_end t at) f)) m
+pub end_object : (a b : List Tree) (before next : List TNodeId) (c : Ctx) (t : Typ) (at : At) (r : Result (Unit {0}) AllocError) → is_void t ≡ false
+    → is_class_typ t ≡ true → OnOk r (AddsAll a b next (followed_by (trees_at a before) (object_end c t at)))
+    → OnOk r (AddsAll a b next (followed_by (trees_at a before) (end_of c t at)))
+end_object a b before next c t at (Ok u) e f m = subst (λ (z : Trees). AddsAll a b next (followed_by (trees_at a before) z))
+    (sym (ap (λ (z : Bool). if z then none else (if is_class_typ t then object_end c t at else value_end t at)) e
+    ∙ ap (λ (z : Bool). if z then object_end c t at else value_end t at) f)) m
 end_object a b before next c t at (Err x) e f m = tt
 
-pub end_scalar : (a b : List Tree) (before next : List TNodeId) (c : Ctx) (t : Typ) (at : At) (r : Result (Unit {0}) AllocError) → is_void t ≡ false → is_class_typ t ≡ false → OnOk r (AddsAll a b next (followed_by (trees_at a before) (value_end t at))) → OnOk r (AddsAll a b next (followed_by (trees_at a before) (end_of c t at)))
-end_scalar a b before next c t at (Ok u) e f m = subst (λ (z : Trees). AddsAll a b next (followed_by (trees_at a before) z)) (sym (ap (λ (z : Bool). if z then none else (if is_class_typ t then object_end c t at else value_end t at)) e ∙ ap (λ (z : Bool). if z then object_end c t at else value_end t at) f)) m
+pub end_scalar : (a b : List Tree) (before next : List TNodeId) (c : Ctx) (t : Typ) (at : At) (r : Result (Unit {0}) AllocError) → is_void t ≡ false
+    → is_class_typ t ≡ false → OnOk r (AddsAll a b next (followed_by (trees_at a before) (value_end t at)))
+    → OnOk r (AddsAll a b next (followed_by (trees_at a before) (end_of c t at)))
+end_scalar a b before next c t at (Ok u) e f m = subst (λ (z : Trees). AddsAll a b next (followed_by (trees_at a before) z))
+    (sym (ap (λ (z : Bool). if z then none else (if is_class_typ t then object_end c t at else value_end t at)) e
+    ∙ ap (λ (z : Bool). if z then object_end c t at else value_end t at) f)) m
 end_scalar a b before next c t at (Err x) e f m = tt

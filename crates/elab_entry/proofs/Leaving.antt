@@ -29,12 +29,25 @@ order_kept b classes h i = (order_is (all_consistent classes) classes refl).1 (i
 
 abbrev left_with : Round → State → List Names → List Variable → Returns → List Typ → State
 left_with a st xs vs rs frame = record {
-  ctx = record st.ctx { scopes = xs; variables = vs; this = a.this; class = a.class; returns = rs; breaks = a.breaks; continues = a.continues; label = a.label; labels = a.labels; lambda = a.lambda; closures = a.closures };
+  ctx = record st.ctx {
+    scopes = xs;
+    variables = vs;
+    this = a.this;
+    class = a.class;
+    returns = rs;
+    breaks = a.breaks;
+    continues = a.continues;
+    label = a.label;
+    labels = a.labels;
+    lambda = a.lambda;
+    closures = a.closures;
+  };
   work = record st.work { frame = frame };
   bodies = st.bodies;
 }
 
-pub left_is : (a : Round) (st : State) (xs : List Names) (vs : List Variable) (rs : Returns) (frame : List Typ) → xs ≡ scopes_by a.scopes st.ctx.scopes → vs ≡ variables_by a.variables a.count st.ctx.variables → rs ≡ a.returns → frame ≡ a.frame → left_with a st xs vs rs frame ≡ left_by a st
+pub left_is : (a : Round) (st : State) (xs : List Names) (vs : List Variable) (rs : Returns) (frame : List Typ) → xs ≡ scopes_by a.scopes st.ctx.scopes
+    → vs ≡ variables_by a.variables a.count st.ctx.variables → rs ≡ a.returns → frame ≡ a.frame → left_with a st xs vs rs frame ≡ left_by a st
 left_is a st xs vs rs frame e f g h =
     ap (λ (z : List Names). left_with a st z vs rs frame) e
     ∙ ap (λ (z : List Variable). left_with a st (scopes_by a.scopes st.ctx.scopes) z rs frame) f

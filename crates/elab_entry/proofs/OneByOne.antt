@@ -28,24 +28,31 @@ pub record Steps (a b : StateRec) (rest x : Result State ElabFault) : Type 0 whe
 pub steps_first : (a : StateRec) (x : Result State ElabFault) → Steps a a x x
 steps_first a x = record { grown = grown_refl a; is = refl }
 
-pub steps_next : (a b c : StateRec) (rest x y : Result State ElabFault) (f : State → Result State ElabFault) → Steps a b rest x → rest ≡ and_then y f → Changed b c y → Steps a c (f (state_of c)) x
+pub steps_next : (a b c : StateRec) (rest x y : Result State ElabFault) (f : State → Result State ElabFault) → Steps a b rest x → rest ≡ and_then y f
+    → Changed b c y → Steps a c (f (state_of c)) x
 steps_next a b c rest x y f m e n = record { grown = grown_trans a b c m.grown n.grown; is = m.is ∙ e ∙ ap (λ (z : Result State ElabFault). and_then z f) n.is }
 
 pub steps_done : (a b : StateRec) (rest x : Result State ElabFault) → Steps a b rest x → rest ≡ Ok (state_of b) → Changed a b x
 steps_done a b rest x m e = record { grown = m.grown; is = m.is ∙ e }
 
-pub steps_fault : (a b : StateRec) (rest x y : Result State ElabFault) (f : State → Result State ElabFault) (e : ElabFault) → Steps a b rest x → rest ≡ and_then y f → Faults e y → Faults e x
+pub steps_fault : (a b : StateRec) (rest x y : Result State ElabFault) (f : State → Result State ElabFault) (e : ElabFault) → Steps a b rest x
+    → rest ≡ and_then y f → Faults e y → Faults e x
 steps_fault a b rest x y f e m h g = faults_same e (and_then y f) x (m.is ∙ h) (faults_in (λ (z : Result State ElabFault). and_then z f) e y (λ d. refl) g)
 
 -- one parameter, then the others
-one_then : (c : Result Bool ElabFault) (y : Bool → Result State ElabFault) (f : State → Result State ElabFault) → and_then c (λ (b : Bool). and_then (y b) f) ≡ and_then (and_then c y) f
+one_then : (c : Result Bool ElabFault) (y : Bool → Result State ElabFault) (f : State → Result State ElabFault)
+    → and_then c (λ (b : Bool). and_then (y b) f) ≡ and_then (and_then c y) f
 one_then (Ok b) y f = refl
 one_then (Err e) y f = refl
 
-with_one : (s : List Lexeme) (st : State) (p : Parameter) (ps : List Parameter) → with_parameters s st (p ∷ ps) ≡ and_then (one_parameter s st p) (λ (x : State). with_parameters s x ps)
-with_one s st p ps = one_then (check p.at Incomplete (is_complete st.ctx (held p.typ))) (λ (y : Bool). parameter_named s st p p.name) (λ (x : State). with_parameters s x ps)
+with_one : (s : List Lexeme) (st : State) (p : Parameter) (ps : List Parameter)
+    → with_parameters s st (p ∷ ps) ≡ and_then (one_parameter s st p) (λ (x : State). with_parameters s x ps)
+with_one s st p ps = one_then (check p.at Incomplete (is_complete st.ctx (held p.typ))) (λ (y : Bool). parameter_named s st p p.name)
+    (λ (x : State). with_parameters s x ps)
 
-pub with_next : (s : List Lexeme) (st : State) (ps : List ParameterRec) (i : ℕ) (p d : ParameterRec) → i < length ps → p ≡ get_or ps i d → with_parameters s st (map parameter_of (drop i ps)) ≡ and_then (one_parameter s st (parameter_of p)) (λ (x : State). with_parameters s x (map parameter_of (drop (i + 1) ps)))
+pub with_next : (s : List Lexeme) (st : State) (ps : List ParameterRec) (i : ℕ) (p d : ParameterRec) → i < length ps → p ≡ get_or ps i d
+    → with_parameters s st (map parameter_of (drop i ps))
+    ≡ and_then (one_parameter s st (parameter_of p)) (λ (x : State). with_parameters s x (map parameter_of (drop (i + 1) ps)))
 with_next s st ps i p d h e =
     ap (λ (z : List ParameterRec). with_parameters s st (map parameter_of z)) (drop_step ps i d h)
     ∙ ap (λ (z : ParameterRec). with_parameters s st (parameter_of z ∷ map parameter_of (drop (i + 1) ps))) (sym e)

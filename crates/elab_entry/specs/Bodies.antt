@@ -27,7 +27,18 @@ object_at None place = None
 -- another function is begun, in which nothing stands yet
 abbrev pub exchanged : State → Option This → Returns → List Typ → State
 exchanged st this rs frame = record {
-  ctx = record st.ctx { scopes = [] ∷ st.ctx.scopes; this = this; returns = rs; breaks = false; continues = false; label = Outside; labels = no_labels (plain void); lambda = None; closures = [] };
+  ctx = record st.ctx {
+    scopes = [] ∷ st.ctx.scopes;
+    this = this;
+    returns = rs;
+    breaks = false;
+    continues = false;
+    label = Outside;
+    labels = no_labels
+        (plain void);
+    lambda = None;
+    closures = [];
+  };
   work = record st.work { frame = frame };
   bodies = st.bodies;
 }
@@ -35,7 +46,19 @@ exchanged st this rs frame = record {
 -- into a function: no names and no variables yet, the words of a call in the frame
 abbrev pub entered : State → Typ → Option Typ → Option ℕ → State
 entered st r this cls = record {
-  ctx = record st.ctx { scopes = [] ∷ st.ctx.scopes; variables = []; this = this_at (result_items r) this; class = cls; returns = known r; breaks = false; continues = false; label = Outside; labels = no_labels (plain void); lambda = None; closures = [] };
+  ctx = record st.ctx {
+    scopes = [] ∷ st.ctx.scopes;
+    variables = [];
+    this = this_at (result_items r) this;
+    class = cls;
+    returns = known r;
+    breaks = false;
+    continues = false;
+    label = Outside;
+    labels = no_labels (plain void);
+    lambda = None;
+    closures = [];
+  };
   work = record st.work { frame = result_items r ++ this_items this };
   bodies = st.bodies;
 }
@@ -43,14 +66,25 @@ entered st r this cls = record {
 -- into the body of a lambda: the names of the function around are known, its variables only as captures (C++14 5.1.2 p17)
 abbrev pub entered_lambda : State → Typ → Typ → Returns → Lambda → State
 entered_lambda st r this rs l = record {
-  ctx = record st.ctx { scopes = [] ∷ st.ctx.scopes; this = Some (record { typ = this; place = length (result_items r) }); returns = rs; breaks = false; continues = false; label = Outside; labels = no_labels (plain void); lambda = Some l; closures = [] };
+  ctx = record st.ctx {
+    scopes = [] ∷ st.ctx.scopes;
+    this = Some (record { typ = this; place = length (result_items r) });
+    returns = rs;
+    breaks = false;
+    continues = false;
+    label = Outside;
+    labels = no_labels (plain void);
+    lambda = Some l;
+    closures = [];
+  };
   work = record st.work { frame = result_items r ++ plain (ptr this) ∷ [] };
   bodies = st.bodies;
 }
 
 -- a body is kept, with its frame, where that is not too large
 abbrev pub body_kept : State → At → ℕ → Tree → List Typ → Result State ElabFault
-body_kept st at place tree frame = and_then (within_frame st.ctx at frame) (λ y. Ok (record st { bodies = st.bodies ++ record { func = place; tree = tree; frame = frame } ∷ [] }))
+body_kept st at place tree frame = and_then (within_frame st.ctx at frame)
+    (λ y. Ok (record st { bodies = st.bodies ++ record { func = place; tree = tree; frame = frame } ∷ [] }))
 
 -- the same behind the function, whose inside this is
 abbrev pub body_made : Round → At → ℕ → Tree → State → Result State ElabFault
@@ -62,10 +96,14 @@ statements_in lams s st (syntax.node kind p token kids) = statements_of lams s s
 
 -- what stands in a body as one block, in the scope of the parameters
 abbrev pub body_inside : Lambdas → List Lexeme → State → Header → syntax.Tree → Result Done ElabFault
-body_inside lams s st h (syntax.node kind p token kids) = and_then (with_parameters s st h.params) (λ (e : State). and_then (statements_of lams s e kids) (λ (d : Done).
+body_inside lams s st h (syntax.node kind p token kids) =
+    and_then (with_parameters s st h.params) (λ (e : State). and_then (statements_of lams s e kids) (λ (d : Done).
     done (one (statement (forms.Block false) (at_of p) (followed_by d.trees (end_of d.state.ctx (signature_result h.signature) (at_of p))))) d.state))
 
 -- the body of a function that is no constructor and no destructor
 abbrev pub function_body : Lambdas → List Lexeme → State → Header → Option Typ → ℕ → syntax.Tree → Result State ElabFault
-function_body lams s st h this place (syntax.node kind p token kids) = and_then (check h.at Incomplete (is_complete st.ctx (held (signature_result h.signature)))) (λ x. and_then (with_parameters s (entered st (signature_result h.signature) this h.class) h.params) (λ (e : State).
-    and_then (statements_of lams s e kids) (λ (d : Done). body_made (round_function st) h.at place (statement (forms.Block false) (at_of p) (followed_by d.trees (end_of d.state.ctx (signature_result h.signature) (at_of p)))) d.state)))
+function_body lams s st h this place (syntax.node kind p token kids) =
+    and_then (check h.at Incomplete (is_complete st.ctx (held (signature_result h.signature))))
+    (λ x. and_then (with_parameters s (entered st (signature_result h.signature) this h.class) h.params) (λ (e : State).
+    and_then (statements_of lams s e kids) (λ (d : Done). body_made (round_function st) h.at place
+    (statement (forms.Block false) (at_of p) (followed_by d.trees (end_of d.state.ctx (signature_result h.signature) (at_of p)))) d.state)))

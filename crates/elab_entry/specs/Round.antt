@@ -30,7 +30,22 @@ pub record Round : Type 0 where
 
 -- what the record of the code shows, beside its nodes
 abbrev pub round_of : Around → Round
-round_of a = record { scopes = a.scopes; variables = option_map (λ vs. map variable_of vs.items) a.variables; count = a.count; this = option_map this_of a.this; class = a.class; returns = returns_of a.returns; breaks = a.breaks; continues = a.continues; label = a.label; labels = labels_of a.labels; lambda = option_map lambda_of a.lambda; closures = map closure_of a.closures.items; frame = map typ_of a.frame.items }
+round_of a = record {
+  scopes = a.scopes;
+  variables = option_map (λ vs. map variable_of vs.items) a.variables;
+  count = a.count;
+  this = option_map this_of a.this;
+  class = a.class;
+  returns = returns_of a.returns;
+  breaks = a.breaks;
+  continues = a.continues;
+  label = a.label;
+  labels = labels_of a.labels;
+  lambda =
+      option_map lambda_of a.lambda;
+  closures = map closure_of a.closures.items;
+  frame = map typ_of a.frame.items;
+}
 
 -- the trees round a function
 abbrev pub trees_round : Around → List Tree
@@ -39,7 +54,23 @@ trees_round a = trees_of a.nodes.items
 -- What is known of a state, as what stands round the next function
 
 abbrev pub round_with : Option (List Variable) → State → Round
-round_with vs st = record { scopes = length st.ctx.scopes; variables = vs; count = length st.ctx.variables; this = st.ctx.this; class = st.ctx.class; returns = st.ctx.returns; breaks = st.ctx.breaks; continues = st.ctx.continues; label = st.ctx.label; labels = st.ctx.labels; lambda = st.ctx.lambda; closures = st.ctx.closures; frame = st.work.frame }
+round_with vs st = record {
+  scopes = length st.ctx.scopes;
+  variables = vs;
+  count = length st.ctx.variables;
+  this = st.ctx.this;
+  class = st.ctx.class;
+  returns =
+      st.ctx.returns;
+  breaks = st.ctx.breaks;
+  continues = st.ctx.continues;
+  label = st.ctx.label;
+  labels = st.ctx.labels;
+  lambda = st.ctx.lambda;
+  closures =
+      st.ctx.closures;
+  frame = st.work.frame;
+}
 
 abbrev pub round_function : State → Round
 round_function st = round_with (Some st.ctx.variables) st
@@ -59,7 +90,20 @@ variables_by None n xs = take n xs
 
 abbrev pub left_by : Round → State → State
 left_by a st = record {
-  ctx = record st.ctx { scopes = scopes_by a.scopes st.ctx.scopes; variables = variables_by a.variables a.count st.ctx.variables; this = a.this; class = a.class; returns = a.returns; breaks = a.breaks; continues = a.continues; label = a.label; labels = a.labels; lambda = a.lambda; closures = a.closures };
+  ctx = record st.ctx {
+    scopes = scopes_by a.scopes st.ctx.scopes;
+    variables = variables_by a.variables a.count st.ctx.variables;
+    this = a.this;
+    class =
+        a.class;
+    returns = a.returns;
+    breaks = a.breaks;
+    continues = a.continues;
+    label = a.label;
+    labels = a.labels;
+    lambda = a.lambda;
+    closures = a.closures;
+  };
   work = record st.work { frame = a.frame };
   bodies = st.bodies;
 }

@@ -1,5 +1,6 @@
 -- Several operands, one behind the other.
-use Rattle.std.proofs.Common.{◌-◌, subst, Vec, Global, vec_len, rules, true≢false, ◌≡◌, ◌≢◌, ◌==◌, ◌<◌, ◌+◌, ◌≤◌, ℕ, zero, suc, arith, true, false, nat_lt, lt-ltb, List, [], ◌∷◌, ◌++◌, length, drop, take, get_or, Result, Ok, Err, refl, sym, ap, ◌∙◌, append_assoc, append-nil}
+use Rattle.std.proofs.Common.{◌-◌, subst, Vec, Global, vec_len, rules, true≢false, ◌≡◌, ◌≢◌, ◌==◌, ◌<◌, ◌+◌, ◌≤◌, ℕ, zero, suc, arith, true, false, nat_lt}
+use Rattle.std.proofs.Common.{lt-ltb, List, [], ◌∷◌, ◌++◌, length, drop, take, get_or, Result, Ok, Err, refl, sym, ap, ◌∙◌, append_assoc, append-nil}
 use Rattle.std.proofs.lemmas.Bool.{and_parts, ltb-true, eqb-true}
 use Rattle.elab_rows.specs.cpp_ast.Orders.{are_below}
 use Rattle.elab_rows.specs.cpp_lex.Tokens.{Lexeme}
@@ -29,7 +30,8 @@ behind_none : (y : Result TypedAll ElabFault) → y ≡ behind [] y
 behind_none (Ok r) = refl
 behind_none (Err e) = refl
 
-behind_one : (head : List Operand) (o : Operand) (y : Result TypedAll ElabFault) → behind head (and_then y (λ (xs : TypedAll). Ok (record { operands = o ∷ xs.operands; work = xs.work }))) ≡ behind (head ++ o ∷ []) y
+behind_one : (head : List Operand) (o : Operand) (y : Result TypedAll ElabFault)
+    → behind head (and_then y (λ (xs : TypedAll). Ok (record { operands = o ∷ xs.operands; work = xs.work }))) ≡ behind (head ++ o ∷ []) y
 behind_one head o (Ok r) = ap (λ (z : List Operand). Ok (record { operands = z; work = r.work })) (sym (append_assoc head (o ∷ []) r.operands))
 behind_one head o (Err e) = refl
 
@@ -44,41 +46,62 @@ shown_append ts [] o = refl
 shown_append ts (x ∷ os) o = ap (λ (z : List Operand). operand_in ts x ∷ z) (shown_append ts os o)
 
 -- those that were read, where `rest` are still to be read of what gives `x`
-pub record SoFar (s : List Lexeme) (c : Ctx) (l : List Closure) (a b : List Tree) (w : Work) (os : List OperandRec) (rest : syntax.Trees) (x : Result TypedAll ElabFault) : Type 0 where
+pub record SoFar (s : List Lexeme) (c : Ctx) (l : List Closure) (a b : List Tree) (w : Work) (os : List OperandRec) (rest : syntax.Trees)
+    (x : Result TypedAll ElabFault) : Type 0 where
   pub grows : Grows a b
   pub within : are_in (length b) os ≡ true
   pub is : x ≡ behind (operands_in b os) (operands_with s c l w rest)
 
-pub so_far_none : (s : List Lexeme) (c : Ctx) (l : List Closure) (a : List Tree) (w : Work) (os : List OperandRec) (rest : syntax.Trees) → os ≡ [] → SoFar s c l a a w os rest (operands_with s c l w rest)
-so_far_none s c l a w os rest e = record { grows = grows_refl a; within = rw e refl; is = behind_none (operands_with s c l w rest) ∙ ap (λ (z : List OperandRec). behind (operands_in a z) (operands_with s c l w rest)) (sym e) }
+pub so_far_none : (s : List Lexeme) (c : Ctx) (l : List Closure) (a : List Tree) (w : Work) (os : List OperandRec) (rest : syntax.Trees) → os ≡ []
+    → SoFar s c l a a w os rest (operands_with s c l w rest)
+so_far_none s c l a w os rest e = record {
+  grows = grows_refl a;
+  within = rw e refl;
+  is = behind_none (operands_with s c l w rest) ∙ ap
+      (λ (z : List OperandRec). behind (operands_in a z) (operands_with s c l w rest)) (sym e);
+}
 
-pub so_far_one : (s : List Lexeme) (c : Ctx) (l : List Closure) (a b d : List Tree) (w w2 : Work) (os os2 : List OperandRec) (o : OperandRec) (t : syntax.Tree) (rest left : syntax.Trees) (x : Result TypedAll ElabFault) → SoFar s c l a b w os left x → left ≡ syntax.more t rest → TypedAt b d w2 o (and_then (expression_with s c l w t) (chosen_operand c)) → os2 ≡ os ++ o ∷ [] → SoFar s c l a d w2 os2 rest x
+pub so_far_one : (s : List Lexeme) (c : Ctx) (l : List Closure) (a b d : List Tree) (w w2 : Work) (os os2 : List OperandRec) (o : OperandRec) (t : syntax.Tree)
+    (rest left : syntax.Trees) (x : Result TypedAll ElabFault) → SoFar s c l a b w os left x → left ≡ syntax.more t rest
+    → TypedAt b d w2 o (and_then (expression_with s c l w t) (chosen_operand c)) → os2 ≡ os ++ o ∷ [] → SoFar s c l a d w2 os2 rest x
 so_far_one s c l a b d w w2 os os2 o t rest left x m e n p =
     let kept : operands_in d os ≡ operands_in b os = operands_kept b d os n.grows m.within in
-    let shown : operands_in d os2 ≡ operands_in b os ++ operand_in d o ∷ [] = ap (operands_in d) p ∙ shown_append d os o ∙ ap (λ (z : List Operand). z ++ operand_in d o ∷ []) kept in
+    let shown : operands_in d os2 ≡ operands_in b os ++ operand_in d o ∷ [] = ap (operands_in d) p ∙ shown_append d os o
+    ∙ ap (λ (z : List Operand). z ++ operand_in d o ∷ []) kept in
     record {
       grows = grows_trans m.grows n.grows;
       within = rw p (in_append (length d) os o (are_in_grown b d os n.grows m.within) n.within);
       is = m.is ∙ ap (λ (z : syntax.Trees). behind (operands_in b os) (operands_with s c l w z)) e
-          ∙ ap (λ (z : Result Typed ElabFault). behind (operands_in b os) (and_then z (λ (y : Typed). and_then (operands_with s c l y.work rest) (λ (xs : TypedAll). Ok (record { operands = y.operand ∷ xs.operands; work = xs.work }))))) n.is
+          ∙ ap (λ (z : Result Typed ElabFault). behind (operands_in b os)
+          (and_then z (λ (y : Typed). and_then (operands_with s c l y.work rest)
+          (λ (xs : TypedAll). Ok (record { operands = y.operand ∷ xs.operands; work = xs.work }))))) n.is
           ∙ behind_one (operands_in b os) (operand_in d o) (operands_with s c l w2 rest)
           ∙ ap (λ (z : List Operand). behind z (operands_with s c l w2 rest)) (sym shown);
     }
 
-pub so_far_fault : (s : List Lexeme) (c : Ctx) (l : List Closure) (a b : List Tree) (w : Work) (os : List OperandRec) (t : syntax.Tree) (rest left : syntax.Trees) (x : Result TypedAll ElabFault) (f : ElabFault) → SoFar s c l a b w os left x → left ≡ syntax.more t rest → Faults f (and_then (expression_with s c l w t) (chosen_operand c)) → Faults f x
+pub so_far_fault : (s : List Lexeme) (c : Ctx) (l : List Closure) (a b : List Tree) (w : Work) (os : List OperandRec) (t : syntax.Tree)
+    (rest left : syntax.Trees) (x : Result TypedAll ElabFault) (f : ElabFault) → SoFar s c l a b w os left x → left ≡ syntax.more t rest
+    → Faults f (and_then (expression_with s c l w t) (chosen_operand c)) → Faults f x
 so_far_fault s c l a b w os t rest left x f m e n =
-    faults_same f _ x (m.is ∙ ap (λ (z : syntax.Trees). behind (operands_in b os) (operands_with s c l w z)) e) (faults_in (λ (z : Result Typed ElabFault). behind (operands_in b os) (and_then z (λ (y : Typed). and_then (operands_with s c l y.work rest) (λ (xs : TypedAll). Ok (record { operands = y.operand ∷ xs.operands; work = xs.work }))))) f (and_then (expression_with s c l w t) (chosen_operand c)) (λ d. refl) n)
+    faults_same f _ x (m.is ∙ ap (λ (z : syntax.Trees). behind (operands_in b os) (operands_with s c l w z)) e)
+    (faults_in (λ (z : Result Typed ElabFault). behind (operands_in b os)
+    (and_then z (λ (y : Typed). and_then (operands_with s c l y.work rest)
+    (λ (xs : TypedAll). Ok (record { operands = y.operand ∷ xs.operands; work = xs.work }))))) f (and_then (expression_with s c l w t) (chosen_operand c))
+    (λ d. refl) n)
 
-pub so_far_done : (s : List Lexeme) (c : Ctx) (l : List Closure) (a b : List Tree) (w : Work) (os : List OperandRec) (rest : syntax.Trees) (x : Result TypedAll ElabFault) → SoFar s c l a b w os rest x → rest ≡ syntax.none → AllTyped a b w os x
+pub so_far_done : (s : List Lexeme) (c : Ctx) (l : List Closure) (a b : List Tree) (w : Work) (os : List OperandRec) (rest : syntax.Trees)
+    (x : Result TypedAll ElabFault) → SoFar s c l a b w os rest x → rest ≡ syntax.none → AllTyped a b w os x
 so_far_done s c l a b w os rest x m e = record {
   grows = m.grows;
   within = m.within;
-  is = m.is ∙ ap (λ (z : syntax.Trees). behind (operands_in b os) (operands_with s c l w z)) e ∙ ap (λ (z : List Operand). Ok (record { operands = z; work = w })) (append-nil (operands_in b os));
+  is = m.is ∙ ap (λ (z : syntax.Trees). behind (operands_in b os) (operands_with s c l w z)) e
+      ∙ ap (λ (z : List Operand). Ok (record { operands = z; work = w })) (append-nil (operands_in b os));
 }
 
 -- Lists of syntax nodes
 
-pub trees_step : (ts : List syntax.Tree) (ids : List NodeId) (i : ℕ) (d : NodeId) → i < length ids → trees_at ts (drop i ids) ≡ syntax.more (syntax_at ts (get_or ids i d)) (trees_at ts (drop (i + 1) ids))
+pub trees_step : (ts : List syntax.Tree) (ids : List NodeId) (i : ℕ) (d : NodeId) → i < length ids
+    → trees_at ts (drop i ids) ≡ syntax.more (syntax_at ts (get_or ids i d)) (trees_at ts (drop (i + 1) ids))
 trees_step ts ids i d h = ap (trees_at ts) (drop_step ids i d h)
 
 pub trees_past : (ts : List syntax.Tree) (ids : List NodeId) (i : ℕ) → length ids ≤ i → trees_at ts (drop i ids) ≡ syntax.none
@@ -115,7 +138,8 @@ pub below_rest : (n : ℕ) (ids : List NodeId) → are_below n ids ≡ true → 
 below_rest n [] h = refl
 below_rest n (id ∷ ids) h = (and_parts (nat_lt id.0 n) (are_below n ids) h).1
 
-pub last_is : (all a b : List NodeId) (n : ℕ) (id : NodeId) → a ≡ all → b ≡ all → n ≡ length all → a ≡ take (length a - 1) a ++ id ∷ [] → all ≡ take (n - 1) b ++ id ∷ []
+pub last_is : (all a b : List NodeId) (n : ℕ) (id : NodeId) → a ≡ all → b ≡ all → n ≡ length all → a ≡ take (length a - 1) a ++ id ∷ []
+    → all ≡ take (n - 1) b ++ id ∷ []
 last_is all a b n id p q r h = rw (q, r) (subst (λ (z : List NodeId). z ≡ take (length z - 1) z ++ id ∷ []) p h)
 
 take_all : (n : ℕ) (ids : List NodeId) → n ≡ length ids → take n ids ≡ ids

@@ -33,8 +33,10 @@ pub read_is : (e : Tree) → is_read_when_dropped e ≡ is_read_by (kind_of e) (
 read_is (node kind t Lvalue at kids) = lvalue_read kind t at kids
 read_is (node kind t Prvalue at kids) = prvalue_unread kind t at kids
 
-pub read_same : (e : Tree) (k : TKind) (cat : Cat) (r : Result Bool AllocError) → kind_of e ≡ k → cat_of e ≡ cat → IfOk r (λ b. b ≡ is_read_by k cat (kids_of e)) → IfOk r (λ b. b ≡ is_read_when_dropped e)
-read_same e k cat (Ok b) p q h = h ∙ ap (λ (z : TKind). is_read_by z cat (kids_of e)) (sym p) ∙ ap (λ (z : Cat). is_read_by (kind_of e) z (kids_of e)) (sym q) ∙ sym (read_is e)
+pub read_same : (e : Tree) (k : TKind) (cat : Cat) (r : Result Bool AllocError) → kind_of e ≡ k → cat_of e ≡ cat
+    → IfOk r (λ b. b ≡ is_read_by k cat (kids_of e)) → IfOk r (λ b. b ≡ is_read_when_dropped e)
+read_same e k cat (Ok b) p q h = h ∙ ap (λ (z : TKind). is_read_by z cat (kids_of e)) (sym p) ∙ ap (λ (z : Cat). is_read_by (kind_of e) z (kids_of e)) (sym q)
+    ∙ sym (read_is e)
 read_same e k cat (Err x) p q h = tt
 
 pub not_one_kid : (trees : List Tree) (ids : List TNodeId) → length ids ≢ 1 → is_one_prvalue (trees_at trees ids) ≡ false

@@ -13,14 +13,17 @@ use Rattle.elab_make.specs.elab_ctx.Ctx.{Ctx, Work}
 use Rattle.elab_make.specs.elab_ctx.Steps.{and_then, check, Operand, Made}
 use Rattle.elab_make.specs.elab_rules.Values.{bool_type}
 use Rattle.elab_make.specs.elab_rules.Initialising.{initial, as_source}
-use Rattle.elab_make.specs.elab_rules.Operators.{value, arithmetic, as_pointer, is_null, assigned, is_throw, same_lvalues, conditional_node, two_numbers, branches}
+use Rattle.elab_make.specs.elab_rules.Operators.{value, arithmetic, as_pointer, is_null, assigned, is_throw, same_lvalues, conditional_node, two_numbers}
+use Rattle.elab_make.specs.elab_rules.Operators.{branches}
 use Rattle.elab_ops.specs.Forms.{value_initial}
 
 -- Assignments
 
 -- an operand that is no class object and is assigned another
 abbrev pub scalar_assigned : Ctx → Work → At → Operand → Operand → Result Made ElabFault
-scalar_assigned c w at a b = and_then (check at BadOperand (is_some (kind_in (form_in (typ_in a.tree))))) (λ x. and_then (initial c w (unqualified (typ_in a.tree)) b) (λ (m : Made). and_then (assigned at (kind_in (form_in (typ_in a.tree))) a m.tree) (λ (t : Tree). Ok (record { tree = t; work = m.work }))))
+scalar_assigned c w at a b = and_then (check at BadOperand (is_some (kind_in (form_in (typ_in a.tree)))))
+    (λ x. and_then (initial c w (unqualified (typ_in a.tree)) b)
+    (λ (m : Made). and_then (assigned at (kind_in (form_in (typ_in a.tree))) a m.tree) (λ (t : Tree). Ok (record { tree = t; work = m.work }))))
 
 -- an object as one of a class, where one is given
 abbrev pub as_object : At → Option ℕ → Tree → Tree
@@ -49,7 +52,8 @@ same_scalars f g = form_eq f g && is_some (kind_in f)
 
 -- where none is a pointer
 abbrev pub two_scalars : At → Tree → Form → Form → Operand → Operand → Result Tree ElabFault
-two_scalars at test f g a b = if same_scalars f g then Ok (conditional_node at (plain f) Prvalue test (value a) (value b)) else two_numbers at test (arithmetic f) (arithmetic g) a b
+two_scalars at test f g a b = if same_scalars f g then Ok (conditional_node at (plain f) Prvalue test (value a) (value b)) else two_numbers at test
+    (arithmetic f) (arithmetic g) a b
 
 -- by the value of the test
 abbrev pub conditional_by : Ctx → Work → At → Operand → Operand → Operand → Result Made ElabFault

@@ -36,12 +36,15 @@ pub initials_law : InitialsGrow
 initials_law c w t o m h = follows w m.work (held (made w) (Initialising.initial c w t o) m (initial c w t o) h)
 
 -- an operand whose functions are one function
-pub chosen_follows : (s : List Lexeme) (c : Ctx) (l : List Closure) (w : Work) (e : syntax.Tree) (x : Typed) → and_then (expression_with s c l w e) (chosen_operand c) ≡ Ok x → Follows w x.work
-chosen_follows s c l w e x h = follows w x.work (held (typed w) (and_then (expression_with s c l w e) (chosen_operand c)) x (chosen c w (expression_with s c l w e) (expression s c l w e)) h)
+pub chosen_follows : (s : List Lexeme) (c : Ctx) (l : List Closure) (w : Work) (e : syntax.Tree) (x : Typed)
+    → and_then (expression_with s c l w e) (chosen_operand c) ≡ Ok x → Follows w x.work
+chosen_follows s c l w e x h = follows w x.work (held (typed w) (and_then (expression_with s c l w e) (chosen_operand c)) x
+    (chosen c w (expression_with s c l w e) (expression s c l w e)) h)
 
 -- What is cut back to what stood before
 
-pub cut_again : (a b c : Work) (n k : ℕ) → Follows a b → n ≡ length a.frame → k ≡ length a.globals → c ≡ record { frame = take n b.frame; globals = take k b.globals } → c ≡ a
+pub cut_again : (a b c : Work) (n k : ℕ) → Follows a b → n ≡ length a.frame → k ≡ length a.globals
+    → c ≡ record { frame = take n b.frame; globals = take k b.globals } → c ≡ a
 cut_again a b c n k h p q e = e
     ∙ ap (λ (z : List Typ). record { frame = z; globals = take k b.globals }) (ap (λ (i : ℕ). take i b.frame) p ∙ h.frame)
     ∙ ap (λ (z : List Global). record { frame = a.frame; globals = z }) (ap (λ (i : ℕ). take i b.globals) q ∙ h.globals)

@@ -27,5 +27,7 @@ map_set [] i y = refl
 map_set (x ∷ xs) zero y = refl
 map_set (x ∷ xs) (suc i) y = ap (λ (z : List Traits). traits_of x ∷ z) (map_set xs i y)
 
-pub marked_traits : (xs : List TraitsRec) (i : ℕ) (x : TraitsRec) (b : Bool) → i < length xs → x ≡ get_or xs i x → map traits_of (slice_set xs i (record x { is_abstract = b })) ≡ marked_abstract (map traits_of xs) i b
-marked_traits xs i x b h e = map_set xs i (record x { is_abstract = b }) ∙ ap (λ (z : Traits). slice_set (map traits_of xs) i (record z { is_abstract = b })) (sym (shown_traits xs i x h e))
+pub marked_traits : (xs : List TraitsRec) (i : ℕ) (x : TraitsRec) (b : Bool) → i < length xs → x ≡ get_or xs i x
+    → map traits_of (slice_set xs i (record x { is_abstract = b })) ≡ marked_abstract (map traits_of xs) i b
+marked_traits xs i x b h e = map_set xs i (record x { is_abstract = b })
+    ∙ ap (λ (z : Traits). slice_set (map traits_of xs) i (record z { is_abstract = b })) (sym (shown_traits xs i x h e))

@@ -1,5 +1,6 @@
 -- A table of the functions that trees name says of each function whether they name it.
-use Rattle.std.proofs.Common.{◌≡◌, ◌<◌, ◌∙◌, ◌==◌, ℕ, zero, suc, Bool, true, false, ◌||◌, List, [], ◌∷◌, length, get_or, slice_set, replicate, refl, sym, ap, arith}
+use Rattle.std.proofs.Common.{◌≡◌, ◌<◌, ◌∙◌, ◌==◌, ℕ, zero, suc, Bool, true, false, ◌||◌, List, [], ◌∷◌, length, get_or, slice_set, replicate, refl, sym, ap}
+use Rattle.std.proofs.Common.{arith}
 use Rattle.std.proofs.lemmas.Bool.{eqb-true, eq-eqb}
 use Rattle.std.specs.List.{list_any}
 use Rattle.elab_entry.specs.cpp_tree.declared.kinds.TKind.{TKind}
@@ -81,13 +82,15 @@ mutual
   tree_says : (t : Tree) (ms : List Bool) (k : ℕ) → k < length ms → get_or (marked t ms) k false ≡ (get_or ms k false || refers k t)
   tree_says (node kind t cat at kids) ms k h =
       let more_there : k < length (marked_kind kind ms) = rw (kind_length kind ms) h in
-      trees_say kids (marked_kind kind ms) k more_there ∙ ap (λ (z : Bool). z || any_refers k kids) (kind_says kind ms k h) ∙ or_twice (get_or ms k false) (names_function k kind) (any_refers k kids)
+      trees_say kids (marked_kind kind ms) k more_there ∙ ap (λ (z : Bool). z || any_refers k kids) (kind_says kind ms k h)
+      ∙ or_twice (get_or ms k false) (names_function k kind) (any_refers k kids)
 
   trees_say : (ts : Trees) (ms : List Bool) (k : ℕ) → k < length ms → get_or (all_marked ts ms) k false ≡ (get_or ms k false || any_refers k ts)
   trees_say none ms k h = sym (or_false (get_or ms k false))
   trees_say (more t ts) ms k h =
       let more_there : k < length (marked t ms) = rw (tree_length t ms) h in
-      trees_say ts (marked t ms) k more_there ∙ ap (λ (z : Bool). z || any_refers k ts) (tree_says t ms k h) ∙ or_twice (get_or ms k false) (refers k t) (any_refers k ts)
+      trees_say ts (marked t ms) k more_there ∙ ap (λ (z : Bool). z || any_refers k ts) (tree_says t ms k h)
+      ∙ or_twice (get_or ms k false) (refers k t) (any_refers k ts)
 
 -- Bodies
 
@@ -95,11 +98,13 @@ bodies_length : (bs : List Body) (ms : List Bool) → length (body_marks bs ms) 
 bodies_length [] ms = refl
 bodies_length (b ∷ bs) ms = bodies_length bs (marked b.tree ms) ∙ tree_length b.tree ms
 
-bodies_say : (bs : List Body) (ms : List Bool) (k : ℕ) → k < length ms → get_or (body_marks bs ms) k false ≡ (get_or ms k false || list_any (λ (b : Body). refers k b.tree) bs)
+bodies_say : (bs : List Body) (ms : List Bool) (k : ℕ) → k < length ms
+    → get_or (body_marks bs ms) k false ≡ (get_or ms k false || list_any (λ (b : Body). refers k b.tree) bs)
 bodies_say [] ms k h = sym (or_false (get_or ms k false))
 bodies_say (b ∷ bs) ms k h =
     let more_there : k < length (marked b.tree ms) = rw (tree_length b.tree ms) h in
-    bodies_say bs (marked b.tree ms) k more_there ∙ ap (λ (z : Bool). z || list_any (λ (x : Body). refers k x.tree) bs) (tree_says b.tree ms k h) ∙ or_twice (get_or ms k false) (refers k b.tree) (list_any (λ (x : Body). refers k x.tree) bs)
+    bodies_say bs (marked b.tree ms) k more_there ∙ ap (λ (z : Bool). z || list_any (λ (x : Body). refers k x.tree) bs) (tree_says b.tree ms k h)
+    ∙ or_twice (get_or ms k false) (refers k b.tree) (list_any (λ (x : Body). refers k x.tree) bs)
 
 none_length : (n : ℕ) → length (replicate n false) ≡ n
 none_length zero = refl

@@ -53,7 +53,8 @@ base_trees c at n None g = Ok none
 
 -- the base, then the class pointer
 abbrev pub first_trees : Ctx → At → ℕ → Option Given → Result Trees ElabFault
-first_trees c at n g = and_then (base_trees c at n (base_of_class (slice_get c.classes n)) g) (λ (ts : Trees). Ok (followed_by ts (pointer_stored at n (pointer_offset c.classes n))))
+first_trees c at n g = and_then (base_trees c at n (base_of_class (slice_get c.classes n)) g)
+    (λ (ts : Trees). Ok (followed_by ts (pointer_stored at n (pointer_offset c.classes n))))
 
 -- a member by its own initialiser, or from nothing
 abbrev pub default_tree : Ctx → Work → At → ℕ → Typ → Option Default → Result Made ElabFault
@@ -61,4 +62,5 @@ default_tree c w at n t (Some d) = Ok (default_whole w (λ p. this_pointer p (ow
 default_tree c w at n t None = and_then (default_object c t at) (λ (e : Tree). Ok (record { tree = e; work = w }))
 
 abbrev pub member_default : Ctx → Work → At → ℕ → ℕ → Typ → Result Made ElabFault
-member_default c w at n i t = and_then (default_tree c w at n t (default_at n i c.defaults)) (λ (m : Made). Ok (record { tree = member_init c at at n i t m.tree; work = m.work }))
+member_default c w at n i t = and_then (default_tree c w at n t (default_at n i c.defaults))
+    (λ (m : Made). Ok (record { tree = member_init c at at n i t m.tree; work = m.work }))

@@ -30,16 +30,20 @@ part_from c w at t e = if is_array t then Ok (record { tree = array_copied c at 
 
 -- a member with its initialiser
 abbrev pub member_from : Ctx → Work → At → ℕ → Tree → Bool → ℕ → Typ → Result Made ElabFault
-member_from c w at n source is_const i t = and_then (part_from c w at t (part_of_source c n at source is_const i t)) (λ (x : Made). Ok (record { tree = member_init c at at n i t x.tree; work = x.work }))
+member_from c w at n source is_const i t = and_then (part_from c w at t (part_of_source c n at source is_const i t))
+    (λ (x : Made). Ok (record { tree = member_init c at at n i t x.tree; work = x.work }))
 
 -- the same, and the state behind it
 abbrev pub member_done : State → At → ℕ → Tree → Bool → ℕ → Typ → Result Done ElabFault
-member_done st at n source is_const i t = and_then (part_copied st at t (part_of_source st.ctx n at source is_const i t)) (λ (x : Made). done (one (member_init st.ctx at at n i t x.tree)) (with_work st x.work))
+member_done st at n source is_const i t = and_then (part_copied st at t (part_of_source st.ctx n at source is_const i t))
+    (λ (x : Made). done (one (member_init st.ctx at at n i t x.tree)) (with_work st x.work))
 
 -- the base with its initialiser
 abbrev pub base_from : Ctx → Work → At → ℕ → ℕ → Tree → Result Made ElabFault
-base_from c w at n b source = and_then (class_from (as_base_of c b) w (plain (class b)) at (own_operand at source)) (λ (m : Made). Ok (record { tree = base_init c at at n b m.tree; work = m.work }))
+base_from c w at n b source = and_then (class_from (as_base_of c b) w (plain (class b)) at (own_operand at source))
+    (λ (m : Made). Ok (record { tree = base_init c at at n b m.tree; work = m.work }))
 
 -- the base, then the class pointer
 abbrev pub first_copied : State → At → ℕ → Tree → Result Done ElabFault
-first_copied st at n source = and_then (base_copied st at n source (base_of_class (slice_get st.ctx.classes n))) (λ (b : Done). done (followed_by b.trees (pointer_stored at n (pointer_offset st.ctx.classes n))) b.state)
+first_copied st at n source = and_then (base_copied st at n source (base_of_class (slice_get st.ctx.classes n)))
+    (λ (b : Done). done (followed_by b.trees (pointer_stored at n (pointer_offset st.ctx.classes n))) b.state)

@@ -26,4 +26,5 @@ member_deferred c at n i t = deferred_if at (own_part c.classes n at (offset_at 
 
 -- the class pointer, and what is to be done for all parts
 abbrev pub parts_ended : Ctx → At → ℕ → Trees
-parts_ended c at n = followed_by (followed_by (pointer_stored at n (pointer_offset c.classes n)) (base_deferred c at n (base_of_class (slice_get c.classes n)))) (members_deferred c at n 0 (members_in (slice_get c.classes n)))
+parts_ended c at n = followed_by (followed_by (pointer_stored at n (pointer_offset c.classes n)) (base_deferred c at n (base_of_class (slice_get c.classes n))))
+    (members_deferred c at n 0 (members_in (slice_get c.classes n)))

@@ -47,7 +47,8 @@ inside_implied st at n kind p = constructor_inside st at n p
 
 -- its body
 abbrev pub body_implied : State → At → ℕ → ℕ → FuncKind → Option Typ → Result State ElabFault
-body_implied st at k n kind p = and_then (inside_implied (in_object st n) at n kind p) (λ (d : Done). body_made (round_function st) at k (the_tree at d.trees) d.state)
+body_implied st at k n kind p = and_then (inside_implied (in_object st n) at n kind p)
+    (λ (d : Done). body_made (round_function st) at k (the_tree at d.trees) d.state)
 
 -- the type of the first parameter
 abbrev pub first_of : Typs → Option Typ

@@ -27,21 +27,30 @@ map_append f (x ∷ xs) ys = ap (λ zs. f x ∷ zs) (map_append f xs ys)
 abbrev begin_at : List Class → ℕ → Class → ℕ → ℕ
 begin_at classes n c i = end_from 0 (head_items (class_extent classes) classes n c ++ member_extents classes (take i c.members))
 
-begin_next : (classes : List Class) (n : ℕ) (c : Class) (i : ℕ) (m : Member) (ms : List Member) → drop i c.members ≡ m ∷ ms → begin_at classes n c (suc i) ≡ next_multiple (begin_at classes n c i) (extent_of classes m.typ).align + (extent_of classes m.typ).size
+begin_next : (classes : List Class) (n : ℕ) (c : Class) (i : ℕ) (m : Member) (ms : List Member) → drop i c.members ≡ m ∷ ms
+    → begin_at classes n c (suc i) ≡ next_multiple (begin_at classes n c i) (extent_of classes m.typ).align + (extent_of classes m.typ).size
 begin_next classes n c i m ms h =
     let head : List Extent = head_items (class_extent classes) classes n c in
-    let more : member_extents classes (take (suc i) c.members) ≡ member_extents classes (take i c.members) ++ member_extent (class_extent classes) m ∷ [] = ap (member_extents classes) (take_more c.members i m ms h) ∙ map_append (member_extent (class_extent classes)) (take i c.members) (m ∷ []) in
-    ap (λ z. end_from 0 (head ++ z)) more ∙ ap (end_from 0) (sym (append_assoc head (member_extents classes (take i c.members)) (member_extent (class_extent classes) m ∷ []))) ∙ end_append 0 (head ++ member_extents classes (take i c.members)) (member_extent (class_extent classes) m ∷ [])
+    let more : member_extents classes (take (suc i) c.members) ≡ member_extents classes (take i c.members) ++ member_extent (class_extent classes) m ∷ [] =
+    ap (member_extents classes) (take_more c.members i m ms h) ∙ map_append (member_extent (class_extent classes)) (take i c.members) (m ∷ []) in
+    ap (λ z. end_from 0 (head ++ z)) more ∙ ap (end_from 0)
+    (sym (append_assoc head (member_extents classes (take i c.members)) (member_extent (class_extent classes) m ∷ [])))
+    ∙ end_append 0 (head ++ member_extents classes (take i c.members)) (member_extent (class_extent classes) m ∷ [])
 
-placed_at : (classes : List Class) (n : ℕ) (c : Class) (i : ℕ) (ms : List Member) → drop i c.members ≡ ms → members_from classes n c i ms ≡ placed classes (begin_at classes n c i) ms
+placed_at : (classes : List Class) (n : ℕ) (c : Class) (i : ℕ) (ms : List Member) → drop i c.members ≡ ms
+    → members_from classes n c i ms ≡ placed classes (begin_at classes n c i) ms
 placed_at classes n c i [] h = refl
 placed_at classes n c i (m ∷ ms) h =
-    let others : members_from classes n c (suc i) ms ≡ placed classes (begin_at classes n c (suc i)) ms = placed_at classes n c (suc i) ms (drop_more c.members i m ms h) in
-    ap (λ zs. record { offset = next_multiple (begin_at classes n c i) (extent_of classes m.typ).align; typ = m.typ } ∷ zs) (others ∙ ap (λ z. placed classes z ms) (begin_next classes n c i m ms h))
+    let others : members_from classes n c (suc i) ms ≡ placed classes (begin_at classes n c (suc i)) ms =
+    placed_at classes n c (suc i) ms (drop_more c.members i m ms h) in
+    ap (λ zs. record { offset = next_multiple (begin_at classes n c i) (extent_of classes m.typ).align; typ = m.typ } ∷ zs)
+    (others ∙ ap (λ z. placed classes z ms) (begin_next classes n c i m ms h))
 
-pub parts_placed : (classes : List Class) (n : ℕ) (c : Class) → slice_get classes n ≡ Some c → parts_of classes n ≡ base_part c.base ++ placed classes (end_from 0 (head_items (class_extent classes) classes n c)) c.members
+pub parts_placed : (classes : List Class) (n : ℕ) (c : Class) → slice_get classes n ≡ Some c
+    → parts_of classes n ≡ base_part c.base ++ placed classes (end_from 0 (head_items (class_extent classes) classes n c)) c.members
 parts_placed classes n c h =
-    let start : begin_at classes n c 0 ≡ end_from 0 (head_items (class_extent classes) classes n c) = ap (end_from 0) (append-nil (head_items (class_extent classes) classes n c)) in
+    let start : begin_at classes n c 0 ≡ end_from 0 (head_items (class_extent classes) classes n c) =
+    ap (end_from 0) (append-nil (head_items (class_extent classes) classes n c)) in
     ap (parts_in classes n) h ∙ ap (λ zs. base_part c.base ++ zs) (placed_at classes n c 0 c.members refl ∙ ap (λ z. placed classes z c.members) start)
 
 pub no_parts : (classes : List Class) (n : ℕ) → slice_get classes n ≡ None → parts_of classes n ≡ []

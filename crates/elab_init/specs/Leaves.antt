@@ -14,4 +14,5 @@ leaf_of Copied = copy_leaf
 
 -- parts of an object with these qualifiers, in which classes nest no deeper than this
 abbrev pub pieces_by : ℕ → LeafTree → List Class → At → Bool → Bool → List Part → Trees
-pieces_by depth leaf classes at c v ps = pieces (λ (p : Part). whole (class_whole depth leaf classes at) leaf classes at c v p.typ) (λ (p : Part). qualified c v p.typ) at ps
+pieces_by depth leaf classes at c v ps = pieces (λ (p : Part). whole (class_whole depth leaf classes at) leaf classes at c v p.typ)
+    (λ (p : Part). qualified c v p.typ) at ps

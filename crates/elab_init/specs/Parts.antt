@@ -12,4 +12,5 @@ part_of p = record { offset = p.offset; typ = typ_of p.ty }
 -- members behind items that end here
 abbrev pub placed : List Class → ℕ → List Member → List Part
 placed classes end [] = []
-placed classes end (m ∷ ms) = record { offset = next_multiple end (extent_of classes m.typ).align; typ = m.typ } ∷ placed classes (next_multiple end (extent_of classes m.typ).align + (extent_of classes m.typ).size) ms
+placed classes end (m ∷ ms) = record { offset = next_multiple end (extent_of classes m.typ).align; typ = m.typ }
+    ∷ placed classes (next_multiple end (extent_of classes m.typ).align + (extent_of classes m.typ).size) ms

@@ -15,7 +15,8 @@ use Rattle.elab_lambdas.specs.Outcomes.{Lists, Deduces}
 pub changes_fail : (a c : StateRec) (r : Result (Unit {0}) ElabFault) (e : ElabFault) (x : Result State ElabFault) → r ≡ Err e → Faults e x → Changes a c r x
 changes_fail a c r e x h m = subst (λ (z : Result (Unit {0}) ElabFault). Changes a c z x) (sym h) m
 
-pub lists_fail : (a c : StateRec) (r : Result (Vec TNodeId Global) ElabFault) (e : ElabFault) (x : Result Done ElabFault) → r ≡ Err e → Faults e x → Lists a c r x
+pub lists_fail : (a c : StateRec) (r : Result (Vec TNodeId Global) ElabFault) (e : ElabFault) (x : Result Done ElabFault) → r ≡ Err e → Faults e x
+    → Lists a c r x
 lists_fail a c r e x h m = subst (λ (z : Result (Vec TNodeId Global) ElabFault). Lists a c z x) (sym h) m
 
 pub deduces_fail : (a c : StateRec) (r : Result Ty ElabFault) (e : ElabFault) (x : Result Deduced ElabFault) → r ≡ Err e → Faults e x → Deduces a c r x

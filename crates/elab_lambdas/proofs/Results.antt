@@ -24,7 +24,8 @@ among_is s c w (node k.TrailingReturnType p token none) ts = refl
 among_is s c w (node k.TrailingReturnType p token (more t (more u us))) ts = refl
 among_is s c w (node kind p token kids) ts = refl
 
-first_is : (s : List Lexeme) (c : Ctx) (w : Work) (o : Option Tree) (ts : Trees) → result_among s c w ts ≡ result_written s c w (trailing ts) → first_or s c w o ts ≡ result_written s c w (tree_or o (trailing ts))
+first_is : (s : List Lexeme) (c : Ctx) (w : Work) (o : Option Tree) (ts : Trees) → result_among s c w ts ≡ result_written s c w (trailing ts)
+    → first_or s c w o ts ≡ result_written s c w (tree_or o (trailing ts))
 first_is s c w (Some t) ts e = refl
 first_is s c w None ts e = e
 
@@ -32,5 +33,7 @@ pub result_is : (s : List Lexeme) (c : Ctx) (w : Work) (ts : Trees) → result_a
 result_is s c w none = refl
 result_is s c w (more t ts) = among_is s c w t ts ∙ first_is s c w (trailing_in t) ts (result_is s c w ts)
 
-pub result_says : (s : List Lexeme) (c : Ctx) (w : Work) (ts : Trees) (o : Option Tree) (r : Result (Option Ty) ElabFault) → trailing ts ≡ o → Says (option_map typ_of) r (result_written s c w o) → Says (option_map typ_of) r (result_among s c w ts)
-result_says s c w ts o r e m = subst (λ (z : Result (Option Typ) ElabFault). Says (option_map typ_of) r z) (sym (result_is s c w ts ∙ ap (result_written s c w) e)) m
+pub result_says : (s : List Lexeme) (c : Ctx) (w : Work) (ts : Trees) (o : Option Tree) (r : Result (Option Ty) ElabFault) → trailing ts ≡ o
+    → Says (option_map typ_of) r (result_written s c w o) → Says (option_map typ_of) r (result_among s c w ts)
+result_says s c w ts o r e m = subst (λ (z : Result (Option Typ) ElabFault). Says (option_map typ_of) r z)
+    (sym (result_is s c w ts ∙ ap (result_written s c w) e)) m

@@ -101,8 +101,11 @@ module _ (cs : List Class) (s : List Lexeme) where
   all_lambdas st (syntax.more e es) h = passes (state_of cs) (state_of cs) (no_lambda s st e) _ (no_more st e h) (λ x g. all_lambdas x es g)
 
   by_operand : (st v : State) (t : Typ) (at : At) (e : syntax.Tree) → v.ctx.classes ≡ cs
-      → Holds (done_of cs) (and_then (Statements.full_operand no_lambda s v e) (λ (f : Full). Statements.initialised f.state t at (Statements.variable_tree st t at) f (Statements.copy_initialised f.state.ctx f.state.work t f.operand)))
-  by_operand st v t at e h = passes (full_of cs) (done_of cs) (Statements.full_operand no_lambda s v e) _ (operand v e h) (λ f g. initialised f.state t at _ f _ g)
+      → Holds (done_of cs) (and_then (Statements.full_operand no_lambda s v e)
+      (λ (f : Full). Statements.initialised f.state t at (Statements.variable_tree st t at) f
+      (Statements.copy_initialised f.state.ctx f.state.work t f.operand)))
+  by_operand st v t at e h = passes (full_of cs) (done_of cs) (Statements.full_operand no_lambda s v e) _ (operand v e h)
+      (λ f g. initialised f.state t at _ f _ g)
 
   by_expression : (st v : State) (t : Typ) (at : At) (e : syntax.Tree) (b : Bool) (o : Option ℕ) → v.ctx.classes ≡ cs
       → Holds (done_of cs) (Statements.by_expression no_lambda s st v t at e b o)
@@ -115,7 +118,8 @@ module _ (cs : List Class) (s : List Lexeme) where
   initialiser st v t at syntax.none h = search (behind, h)
   initialiser st v t at (syntax.more (syntax.node k.ParenthesizedInitializer p token es) syntax.none) h =
       passes (state_of cs) (done_of cs) (Statements.all_lambdas no_lambda s v es) _ (all_lambdas v es h) (λ x g. search (behind, g))
-  initialiser st v t at (syntax.more (syntax.node k.EqualInitializer p token (syntax.more (syntax.node k.BracedInitList q brace items) syntax.none)) syntax.none) h =
+  initialiser st v t at (syntax.more (syntax.node k.EqualInitializer p token
+      (syntax.more (syntax.node k.BracedInitList q brace items) syntax.none)) syntax.none) h =
       passes (state_of cs) (done_of cs) (Statements.all_lambdas no_lambda s v items) _ (all_lambdas v items h) (λ x g. search (behind, g))
   initialiser st v t at (syntax.more (syntax.node k.EqualInitializer p token (syntax.more e syntax.none)) syntax.none) h = by_expression st v t at e _ _ h
   initialiser st v t at kids h = tt
@@ -145,7 +149,9 @@ module _ (cs : List Class) (s : List Lexeme) where
   variable_by : (st : State) (name : List ℕ) (t : Typ) (at : At) (before : Option Typ) (init : syntax.Trees) (b : Bool) → st.ctx.classes ≡ cs
       → Holds (deduction_of cs) (Statements.variable_by no_lambda s st name t at before init b)
   variable_by st name t at before init true h = search (behind, auto_variable, h)
-  variable_by st name t at before init false h = without_auto before (Statements.plain_variable no_lambda s st name (Statements.bound_by_initialiser s t init) at init) (plain_variable st name (Statements.bound_by_initialiser s t init) at init h)
+  variable_by st name t at before init false h = without_auto before
+      (Statements.plain_variable no_lambda s st name (Statements.bound_by_initialiser s t init) at init)
+      (plain_variable st name (Statements.bound_by_initialiser s t init) at init h)
 
   variable : (st : State) (name : List ℕ) (t : Typ) (at : At) (before : Option Typ) (init : syntax.Trees) → st.ctx.classes ≡ cs
       → Holds (deduction_of cs) (Statements.variable no_lambda s st name t at before init)
@@ -160,12 +166,14 @@ module _ (cs : List Class) (s : List Lexeme) where
   declarator t d (syntax.node k.InitDeclarator p token (syntax.more x init)) h = search (behind, more_declared, variable, h)
   declarator t d (syntax.node kind p token kids) h = tt
 
-  declarators : (t : Typ) (d : Declaring) (xs : syntax.Trees) → d.state.ctx.classes ≡ cs → Holds (declaring_of cs) (Statements.block_declarators no_lambda s t d xs)
+  declarators : (t : Typ) (d : Declaring) (xs : syntax.Trees) → d.state.ctx.classes ≡ cs
+      → Holds (declaring_of cs) (Statements.block_declarators no_lambda s t d xs)
   declarators t d syntax.none h = h
   declarators t d (syntax.more x xs) h =
       passes (declaring_of cs) (declaring_of cs) (Statements.block_declarator no_lambda s t d x) _ (declarator t d x h) (λ y g. declarators t y xs g)
 
-  all_declared : (r : Result Declaring ElabFault) → Holds (declaring_of cs) r → Holds (done_of cs) (and_then r (λ (d : Declaring). Statements.done d.trees d.state))
+  all_declared : (r : Result Declaring ElabFault) → Holds (declaring_of cs) r
+      → Holds (done_of cs) (and_then r (λ (d : Declaring). Statements.done d.trees d.state))
   all_declared (Ok d) h = h
   all_declared (Err e) h = tt
 
@@ -175,8 +183,10 @@ module _ (cs : List Class) (s : List Lexeme) where
   declaration st at ts h = tt
 
   value : (at : At) (t : Typ) (f : Full) → f.state.ctx.classes ≡ cs
-      → Holds (done_of cs) (if is_class_typ t then and_then (class_from f.state.ctx f.state.work t f.operand.at f.operand) (λ (m : Made). Statements.done (one (Statements.class_returned at t f m)) (Statements.with_work f.state m.work))
-      else and_then (initial f.state.ctx f.state.work t f.operand) (λ (m : Made). Statements.done (one (Statements.return_node at (one (Statements.full f.operand.at m.tree)))) (Statements.with_work f.state m.work)))
+      → Holds (done_of cs) (if is_class_typ t then and_then (class_from f.state.ctx f.state.work t f.operand.at f.operand)
+      (λ (m : Made). Statements.done (one (Statements.class_returned at t f m)) (Statements.with_work f.state m.work))
+      else and_then (initial f.state.ctx f.state.work t f.operand)
+      (λ (m : Made). Statements.done (one (Statements.return_node at (one (Statements.full f.operand.at m.tree)))) (Statements.with_work f.state m.work)))
   value at t f h = either (done_of cs) (is_class_typ t) _ _ (search (behind, h)) (search (behind, h))
 
   returned_value : (at : At) (t : Typ) (f : Full) → f.state.ctx.classes ≡ cs → Holds (done_of cs) (Statements.return_value at t f)
@@ -193,9 +203,11 @@ module _ (cs : List Class) (s : List Lexeme) where
 
   returned : (st : State) (at : At) (ts : syntax.Trees) → st.ctx.classes ≡ cs → Holds (done_of cs) (Statements.returned no_lambda s st at ts)
   returned st at syntax.none h = return_nothing st at st.ctx.returns h
-  returned st at (syntax.more e ts) h = passes (full_of cs) (done_of cs) (Statements.full_operand no_lambda s st e) _ (operand st e h) (λ f g. return_by at f.state.ctx.returns f g)
+  returned st at (syntax.more e ts) h = passes (full_of cs) (done_of cs) (Statements.full_operand no_lambda s st e) _ (operand st e h)
+      (λ f g. return_by at f.state.ctx.returns f g)
 
-  case_checked : (st : State) (at : At) (o : Operand) (v : Tree) (w word : ℕ) → st.ctx.classes ≡ cs → Holds (done_of cs) (Statements.case_checked st at o v w word)
+  case_checked : (st : State) (at : At) (o : Operand) (v : Tree) (w word : ℕ) → st.ctx.classes ≡ cs
+      → Holds (done_of cs) (Statements.case_checked st at o v w word)
   case_checked st at o v w word h = search (behind, h)
 
   case_label : (st : State) (at : At) (e : syntax.Tree) → st.ctx.classes ≡ cs → Holds (done_of cs) (Statements.case_label s st at e)
@@ -265,7 +277,8 @@ module _ (cs : List Class) (s : List Lexeme) where
         next (and_then (Statements.statement_of no_lambda s (Statements.in_loop st) a) (Statements.a_part s a)) _
         (a_part (Statements.in_loop st) a (statement (Statements.in_loop st) a h)) (λ y f.
         next (Statements.condition no_lambda s (Statements.outer st y.state) e) _ (condition (Statements.outer st y.state) e f) (λ x g. g))
-    statement st (syntax.node k.ForStatement p token (syntax.more i (syntax.more e (syntax.more n (syntax.more (syntax.node k.CompoundStatement q brace kids) syntax.none))))) h =
+    statement st (syntax.node k.ForStatement p token (syntax.more i
+        (syntax.more e (syntax.more n (syntax.more (syntax.node k.CompoundStatement q brace kids) syntax.none))))) h =
         next (Statements.for_first no_lambda s (Statements.in_loop st) i) _ (for_first (Statements.in_loop st) i h) (λ f g.
         next (Statements.for_test no_lambda s f.state (at_of p) e) _ (for_test f.state (at_of p) e g) (λ x j.
         next (Statements.for_step no_lambda s x.state (at_of p) n) _ (for_step x.state (at_of p) n j) (λ z l.
@@ -275,11 +288,15 @@ module _ (cs : List Class) (s : List Lexeme) where
         next (Statements.for_test no_lambda s f.state (at_of p) e) _ (for_test f.state (at_of p) e g) (λ x j.
         next (Statements.for_step no_lambda s x.state (at_of p) n) _ (for_step x.state (at_of p) n j) (λ z l.
         next (and_then (Statements.statement_of no_lambda s z.state a) (Statements.a_part s a)) (λ (y : Done).
-        Statements.done (one (Statements.block (at_of p) (followed_by f.trees (one (Statements.statement (forms.Loop true) (at_of p) (three (Statements.the_tree (at_of p) x.trees) (Statements.the_tree (at_of p) y.trees) (Statements.the_tree (at_of p) z.trees))))))) (Statements.outer st y.state))
+        Statements.done (one (Statements.block (at_of p)
+        (followed_by f.trees (one (Statements.statement (forms.Loop true) (at_of p)
+        (three (Statements.the_tree (at_of p) x.trees) (Statements.the_tree (at_of p) y.trees) (Statements.the_tree (at_of p) z.trees)))))))
+        (Statements.outer st y.state))
         (a_part z.state a (statement z.state a l)) (λ y m. m))))
     statement st (syntax.node k.SwitchStatement p token (syntax.more e (syntax.more (syntax.node kind q brace kids) syntax.none))) h =
         passes (switched_of cs) (done_of cs) (Statements.switched no_lambda s st e) _ (switched st e h) (λ v g.
-        next (Statements.statements_of no_lambda s (Statements.in_switch v.state v.typ) kids) _ (statements (Statements.in_switch v.state v.typ) kids g) (λ d f. f))
+        next (Statements.statements_of no_lambda s (Statements.in_switch v.state v.typ) kids) _ (statements (Statements.in_switch v.state v.typ) kids g)
+        (λ d f. f))
     statement st (syntax.node k.CaseStatement p token (syntax.more e (syntax.more a syntax.none))) h =
         next (Statements.case_label s st (at_of p) e) _ (case_label st (at_of p) e h) (λ x g.
         next (Statements.statement_of no_lambda s x.state a) _ (statement x.state a g) (λ y f. f))

@@ -21,7 +21,9 @@ use Rattle.elab_entry.specs.elab_rules.Sizes.{typ_sized}
 use Rattle.elab_entry.specs.elab_rules.Types.{Parameter, Qualifiers, no_qualifiers, qualifiers_from, is_declared_safe, function_of}
 use Rattle.elab_entry.specs.elab_rules.Statements.{State, Done, Lambdas, done, statement, the_tree}
 use Rattle.elab_entry.specs.elab_rules.Functions.{end_of}
-use Rattle.elab_entry.specs.elab_rules.Lambdas.{Written, kids_of, place_of_tree, signature_in, result_in, lambda_entered, declared_closure, inside, body_statements, with_written, explicit_captures, default_in, default_captures, used_in, parameters_among, result_among, not_dynamic, has_mutable, closing}
+use Rattle.elab_entry.specs.elab_rules.Lambdas.{Written, kids_of, place_of_tree, signature_in, result_in, lambda_entered, declared_closure, inside}
+use Rattle.elab_entry.specs.elab_rules.Lambdas.{body_statements, with_written, explicit_captures, default_in, default_captures, used_in, parameters_among}
+use Rattle.elab_entry.specs.elab_rules.Lambdas.{result_among, not_dynamic, has_mutable, closing}
 use Rattle.elab_entry.specs.elab_types.Shown.{parameter_of, qualifiers_of}
 use Rattle.elab_entry.specs.elab_types.Syntax.{tree_at}
 use Rattle.elab_entry.specs.Round.{round_lambda, left_by}
@@ -48,7 +50,8 @@ written_of trees x = record {
 
 -- the type of the call
 abbrev pub call_signature : Ctx → At → Typ → List Parameter → Qualifiers → Result Signature ElabFault
-call_signature c at r ps q = and_then (function_of c at r ps (is_declared_safe q)) (λ (t : Typ). and_then (typ_sized c.classes at t) (λ y. Ok (signature_in (form_in t))))
+call_signature c at r ps q = and_then (function_of c at r ps (is_declared_safe q))
+    (λ (t : Typ). and_then (typ_sized c.classes at t) (λ y. Ok (signature_in (form_in t))))
 
 -- into the body of a lambda, whose class and call are declared
 abbrev pub closure_entered : State → Written → Returns → Typ → Signature → State
@@ -67,8 +70,10 @@ kept st x d = body_made (round_lambda st) x.at (length st.ctx.funcs) (the_tree x
 
 -- with its result known: the body once
 abbrev pub lambda_with : List Lexeme → State → Written → Typ → Signature → Result State ElabFault
-lambda_with s st x r sig = and_then (check x.at Incomplete (is_complete st.ctx (held r))) (λ y. and_then (body_statements s (closure_entered st x (known r) r sig) x) (λ (d : Done).
-    body_made (round_lambda st) x.at (length st.ctx.funcs) (statement (forms.Block false) x.body_at (followed_by d.trees (end_of d.state.ctx r x.body_at))) d.state))
+lambda_with s st x r sig = and_then (check x.at Incomplete (is_complete st.ctx (held r)))
+    (λ y. and_then (body_statements s (closure_entered st x (known r) r sig) x) (λ (d : Done).
+    body_made (round_lambda st) x.at (length st.ctx.funcs)
+    (statement (forms.Block false) x.body_at (followed_by d.trees (end_of d.state.ctx r x.body_at))) d.state))
 
 abbrev pub lambda_known : List Lexeme → State → Written → Typ → Result State ElabFault
 lambda_known s st x r = and_then (call_signature st.ctx x.at r x.params x.qualifiers) (λ (sig : Signature). lambda_with s st x r sig)
@@ -76,7 +81,13 @@ lambda_known s st x r = and_then (call_signature st.ctx x.at r x.params x.qualif
 -- only so much is left as there was before
 abbrev pub undone : State → State → State
 undone before st = record {
-  ctx = record st.ctx { classes = take (length before.ctx.classes) st.ctx.classes; traits = take (length before.ctx.traits) st.ctx.traits; slots = take (length before.ctx.slots) st.ctx.slots; funcs = take (length before.ctx.funcs) st.ctx.funcs };
+  ctx = record st.ctx {
+    classes = take (length before.ctx.classes) st.ctx.classes;
+    traits = take (length before.ctx.traits) st.ctx.traits;
+    slots = take
+        (length before.ctx.slots) st.ctx.slots;
+    funcs = take (length before.ctx.funcs) st.ctx.funcs;
+  };
   work = record st.work { globals = take (length before.work.globals) st.work.globals };
   bodies = take (length before.bodies) st.bodies;
 }
@@ -87,24 +98,41 @@ pub record Deduced : Type 0 where
   pub state : State
 
 abbrev pub result_read : List Lexeme → State → Written → Signature → Result Deduced ElabFault
-result_read s st x sig = and_then (body_statements s (closure_entered st x (deduced None) (plain void) sig) x) (λ (d : Done). Ok (record { typ = result_in d.state.ctx.returns; state = left_by (round_lambda st) d.state }))
+result_read s st x sig = and_then (body_statements s (closure_entered st x (deduced None) (plain void) sig) x)
+    (λ (d : Done). Ok (record { typ = result_in d.state.ctx.returns; state = left_by (round_lambda st) d.state }))
 
 abbrev pub result_deduced : List Lexeme → State → Written → Result Deduced ElabFault
-result_deduced s st x = and_then (call_signature st.ctx x.at (plain void) x.params x.qualifiers) (λ (sig : Signature). and_then (result_read s st x sig) (λ (r : Deduced). Ok (record { typ = r.typ; state = undone st r.state })))
+result_deduced s st x = and_then (call_signature st.ctx x.at (plain void) x.params x.qualifiers)
+    (λ (sig : Signature). and_then (result_read s st x sig) (λ (r : Deduced). Ok (record { typ = r.typ; state = undone st r.state })))
 
 abbrev pub result_of : List Lexeme → State → Written → Option Typ → Result Deduced ElabFault
 result_of s st x (Some r) = Ok (record { typ = r; state = st })
 result_of s st x None = result_deduced s st x
 
 abbrev pub lambda_made : List Lexeme → State → Written → Result State ElabFault
-lambda_made s st x = and_then (result_of s st x x.result) (λ (r : Deduced). and_then (lambda_known s r.state x r.typ) (λ (y : State). Ok (with_written y (length r.state.ctx.classes) x)))
+lambda_made s st x = and_then (result_of s st x x.result)
+    (λ (r : Deduced). and_then (lambda_known s r.state x r.typ) (λ (y : State). Ok (with_written y (length r.state.ctx.classes) x)))
 
 -- Its parts
 
 abbrev pub lambda_written : List Lexeme → State → At → syntax.Trees → syntax.Trees → syntax.Tree → Result Written ElabFault
-lambda_written s st at intro parts body = and_then (explicit_captures s st.ctx (default_in s intro) intro) (λ (xs : List Capture). and_then (parameters_among s st.ctx st.work parts) (λ (ps : List Parameter). and_then (not_dynamic at (qualifiers_from s no_qualifiers parts)) (λ y.
-    and_then (result_among s st.ctx st.work parts) (λ (r : Option Typ). and_then (default_captures st.ctx (default_in s intro) xs (used_in s st.ctx ps body)) (λ (ys : List Capture).
-    Ok (record { at = at; captures = ys; params = ps; qualifiers = qualifiers_from s no_qualifiers parts; is_mutable = has_mutable parts; result = r; body = kids_of body; body_at = place_of_tree body; closed = closing s body }))))))
+lambda_written s st at intro parts body = and_then (explicit_captures s st.ctx (default_in s intro) intro)
+    (λ (xs : List Capture). and_then (parameters_among s st.ctx st.work parts)
+    (λ (ps : List Parameter). and_then (not_dynamic at (qualifiers_from s no_qualifiers parts)) (λ y.
+    and_then (result_among s st.ctx st.work parts) (λ (r : Option Typ). and_then (default_captures st.ctx (default_in s intro) xs (used_in s st.ctx ps body))
+    (λ (ys : List Capture).
+    Ok (record {
+      at = at;
+      captures = ys;
+      params = ps;
+      qualifiers = qualifiers_from s no_qualifiers parts;
+      is_mutable = has_mutable parts;
+      result = r;
+      body =
+          kids_of body;
+      body_at = place_of_tree body;
+      closed = closing s body;
+    }))))))
 
 abbrev pub lambda_from : List Lexeme → State → At → syntax.Trees → syntax.Trees → syntax.Tree → Result State ElabFault
 lambda_from s st at intro parts body = and_then (lambda_written s st at intro parts body) (λ (x : Written). lambda_made s st x)

@@ -25,11 +25,15 @@ use Rattle.elab_rules.specs.elab_ctx.Ctx.{Ctx, Work}
 use Rattle.elab_rules.specs.elab_ctx.Steps.{and_then, check, expect, Operand, Made, TypedAll, at_of, spelling}
 use Rattle.elab_rules.specs.Objects.{traits_at}
 use Rattle.elab_rules.specs.Initialising.{initial, conversion, class_number, is_same_or_base, as_source, class_from}
-use Rattle.elab_rules.specs.Operators.{updated, scaled, value, value_form, arithmetic, assigned, copy_assigned, class_assigned_in, same_object, assignment, compound_numbers, compound_in, compound, movable, is_sum, same_work, truth, is_throw, is_null, as_pointer, conditional_node, same_lvalues, both_of_class, two_numbers, two_values, two_objects, branches, conditional}
+use Rattle.elab_rules.specs.Operators.{updated, scaled, value, value_form, arithmetic, assigned, copy_assigned, class_assigned_in, same_object, assignment}
+use Rattle.elab_rules.specs.Operators.{compound_numbers, compound_in, compound, movable, is_sum, same_work, truth, is_throw, is_null, as_pointer}
+use Rattle.elab_rules.specs.Operators.{conditional_node, same_lvalues, both_of_class, two_numbers, two_values, two_objects, branches, conditional}
 use Rattle.elab_rules.specs.Expressions.{row_of, assignment_of}
 use Rattle.elab_laws.specs.Reading.{On, IsPrvalue, IsLvalue, EachTwo}
 use Rattle.elab_laws.specs.Unary.{IsModifiable}
-use Rattle.elab_laws.specs.Assigning.{Simple, Compound, integer, pointer, simple_words, compound_words, Compounds, IsAs, Second, Throws, throws, throws_again, Either, both_throw, first_throws, second_throws, both_void, lvalues, objects, values, numbers_of, or_null, null_or, Chosen, Assignments, Commas, Conditionals}
+use Rattle.elab_laws.specs.Assigning.{Simple, Compound, integer, pointer, simple_words, compound_words, Compounds, IsAs, Second, Throws, throws, throws_again}
+use Rattle.elab_laws.specs.Assigning.{Either, both_throw, first_throws, second_throws, both_void, lvalues, objects, values, numbers_of, or_null, null_or}
+use Rattle.elab_laws.specs.Assigning.{Chosen, Assignments, Commas, Conditionals}
 use Rattle.elab_laws.proofs.Reading.{bind, skip, after, checked, expected, either, weaken, of_two, of_three, made_in, each_word, ForAll}
 use Rattle.elab_laws.proofs.Equal.{typ_same, form_same}
 use Rattle.elab_laws.proofs.Arithmetic.{form_is, number_from, points_from, some_number}
@@ -53,14 +57,18 @@ copy_law : (c : Ctx) (w : Work) (at : At) (x y : Operand) (f : Tree → Tree) (t
 copy_law c w at x y f t = checked (Tree_in (Becomes x)) y.at NoCopy (not (is_volatile_typ (typ_in y.tree))) _ (λ z. record { has_type = refl; category = refl })
 
 class_law : (c : Ctx) (w : Work) (at : At) (x y : Operand) (f : Form) → On (Tree_in (Becomes x)) (class_assigned_in c w at x y f)
-class_law c w at x y (class n) = checked (Tree_in (Becomes x)) y.at NoConversion (is_same_or_base c.classes (class_number (typ_in y.tree)) (Some n)) _ (λ u. checked (Tree_in (Becomes x)) at NoCopy ((traits_at c n).is_assignable && not (is_volatile_typ (typ_in x.tree))) _ (λ v. copy_law c w at x y (as_source y.at n) (typ_in x.tree)))
-class_law c w at x y (tx_ex t) = checked (Tree_in (Becomes x)) y.at NoConversion (form_eq (form_in (typ_in y.tree)) (tx_ex t)) _ (λ u. copy_law c w at x y same_object t)
+class_law c w at x y (class n) = checked (Tree_in (Becomes x)) y.at NoConversion (is_same_or_base c.classes (class_number (typ_in y.tree)) (Some n)) _
+    (λ u. checked (Tree_in (Becomes x)) at NoCopy ((traits_at c n).is_assignable && not (is_volatile_typ (typ_in x.tree))) _
+    (λ v. copy_law c w at x y (as_source y.at n) (typ_in x.tree)))
+class_law c w at x y (tx_ex t) = checked (Tree_in (Becomes x)) y.at NoConversion (form_eq (form_in (typ_in y.tree)) (tx_ex t)) _
+    (λ u. copy_law c w at x y same_object t)
 class_law c w at x y f = tt
 
 class_from_typ : (t : Typ) → is_class_typ t ≡ true → is_object_form (form_in t) ≡ true
 class_from_typ (typ f c v) h = h
 
-converts_in : (at : At) (x : Option Conversion) (f : Conversion → Result Made ElabFault) (m : Made) → and_then (expect at NoConversion x) f ≡ Ok m → is_some x ≡ true
+converts_in : (at : At) (x : Option Conversion) (f : Conversion → Result Made ElabFault) (m : Made) → and_then (expect at NoConversion x) f ≡ Ok m
+    → is_some x ≡ true
 converts_in at (Some v) f m h = refl
 converts_in at None f m h = absurd cc
 
@@ -72,21 +80,39 @@ no_object A t h g = let e : is_object_form (form_in t) ≡ true = class_from_typ
 
 simple_law : (c : Ctx) (w : Work) (at : At) (x y : Operand) → On (Tree_in (Simple c x y)) (assignment c w at x y)
 simple_law c w at x y = target_law (Tree_in (Simple c x y)) at x _ (λ m. either (Tree_in (Simple c x y)) (is_class_typ (typ_in x.tree)) _ _
-    (λ z. weaken (Tree_in (Becomes x)) (Tree_in (Simple c x y)) (class_assigned_in c w at x y (form_in (typ_in x.tree))) (λ e g. record { assigned = record { typ = typ_in x.tree; target = m; result = g }; converts = λ n. no_object _ (typ_in x.tree) z n }) (class_law c w at x y (form_in (typ_in x.tree))))
-    (λ z. checked (Tree_in (Simple c x y)) at BadOperand (is_some (kind_in (form_in (typ_in x.tree)))) _ (λ u. after (Tree_in (Simple c x y)) (initial c w (unqualified (typ_in x.tree)) y) _ (λ v i.
-    bind (Becomes x) (Tree_in (Simple c x y)) (assigned at (kind_in (form_in (typ_in x.tree))) x v.tree) _ (assigned_law at (kind_in (form_in (typ_in x.tree))) x v.tree) (λ e g.
+    (λ z. weaken (Tree_in (Becomes x)) (Tree_in (Simple c x y)) (class_assigned_in c w at x y (form_in (typ_in x.tree)))
+    (λ e g. record { assigned = record { typ = typ_in x.tree; target = m; result = g }; converts = λ n. no_object _ (typ_in x.tree) z n })
+    (class_law c w at x y (form_in (typ_in x.tree))))
+    (λ z. checked (Tree_in (Simple c x y)) at BadOperand (is_some (kind_in (form_in (typ_in x.tree)))) _
+    (λ u. after (Tree_in (Simple c x y)) (initial c w (unqualified (typ_in x.tree)) y) _ (λ v i.
+    bind (Becomes x) (Tree_in (Simple c x y)) (assigned at (kind_in (form_in (typ_in x.tree))) x v.tree) _
+    (assigned_law at (kind_in (form_in (typ_in x.tree))) x v.tree) (λ e g.
     record { assigned = record { typ = typ_in x.tree; target = m; result = g }; converts = λ n. initial_converts c w (unqualified (typ_in x.tree)) y v i })))))
 
 numbers_law : (op : BinOp) (at : At) (i j : IntKind) (x y : Operand) (b : Bool) → is_shift op ≡ b → Becomes x (compound_numbers op at i j x y)
 numbers_law op at i j x y true h = rw h (record { has_type = refl; category = refl })
 numbers_law op at i j x y false h = rw h (record { has_type = refl; category = refl })
 
-compound_in_law : (c : Ctx) (op : BinOp) (at : At) (f : Form) (x y : Operand) → IsModifiable (typ_in x.tree) x.tree → form_in (typ_in x.tree) ≡ f → On (Compound c x y) (compound_in c op at f x y)
-compound_in_law c op at (ptr t) x y m h = checked (Compound c x y) at BadOperand (is_sum op && is_some (arithmetic (value_form y))) _ (λ z. skip (Compound c x y) (movable c at x.at t) _ (λ u.
-    some_number (Compound c x y (updated op ULong ULong false at x (scaled c at t y))) y (arithmetic (value_form y)) refl (and_parts (is_sum op) (is_some (arithmetic (value_form y))) z).1 (λ j n.
-    record { assigned = record { typ = typ_in x.tree; target = m; result = record { has_type = refl; category = refl } }; left = pointer t h; kind = j; number = n })))
+compound_in_law : (c : Ctx) (op : BinOp) (at : At) (f : Form) (x y : Operand) → IsModifiable (typ_in x.tree) x.tree → form_in (typ_in x.tree) ≡ f
+    → On (Compound c x y) (compound_in c op at f x y)
+compound_in_law c op at (ptr t) x y m h = checked (Compound c x y) at BadOperand (is_sum op && is_some (arithmetic (value_form y))) _
+    (λ z. skip (Compound c x y) (movable c at x.at t) _ (λ u.
+    some_number (Compound c x y (updated op ULong ULong false at x (scaled c at t y))) y (arithmetic (value_form y)) refl
+    (and_parts (is_sum op) (is_some (arithmetic (value_form y))) z).1 (λ j n.
+    record {
+      assigned = record { typ = typ_in x.tree; target = m; result = record { has_type = refl; category = refl } };
+      left = pointer t h;
+      kind = j;
+      number =
+          n;
+    })))
 compound_in_law c op at (int i) x y m h = expected (Compound c x y) at BadOperand (arithmetic (value_form y)) _ (λ j e.
-    record { assigned = record { typ = typ_in x.tree; target = m; result = numbers_law op at i j x y (is_shift op) refl }; left = integer i h; kind = j; number = number_from y j e })
+    record {
+      assigned = record { typ = typ_in x.tree; target = m; result = numbers_law op at i j x y (is_shift op) refl };
+      left = integer i h;
+      kind = j;
+      number = number_from y j e;
+    })
 compound_in_law c op at f x y m h = tt
 
 compound_law : (c : Ctx) (op : BinOp) (at : At) (x y : Operand) → On (Compound c x y) (compound c op at x y)
@@ -103,13 +129,31 @@ compound_word : (op : BinOp) (c : Ctx) (w : Work) (at : At) (x y : Operand) → 
 compound_word op c w at x y = with_work (Compound c x y) w (compound c op at x y) (compound_law c op at x y)
 
 each_compound : ForAll (ForAssignment Compound) compound_words
-each_compound = (compound_word Add, (compound_word Sub, (compound_word Mul, (compound_word Div, (compound_word Rem, (compound_word Shl, (compound_word Shr, (compound_word And, (compound_word Xor, (compound_word Or, tt))))))))))
+each_compound = (
+  compound_word Add,
+  (
+    compound_word Sub,
+    (
+      compound_word Mul,
+      (
+        compound_word Div,
+        (
+          compound_word Rem,
+          (compound_word Shl, (compound_word Shr, (compound_word And, (compound_word Xor, (compound_word Or, tt))))),
+        ),
+      ),
+    ),
+  ),
+)
 
 each_simple : ForAll (ForAssignment Simple) simple_words
 each_simple = ((λ c w at x y. simple_law c w at x y), tt)
 
-assignment_law : (words : List (List ℕ)) (rule : Ctx → Operand → Operand → Tree → Type 0) → ForAll (ForAssignment rule) words → EachTwo k.AssignmentExpression words rule
-assignment_law words rule h s c w p t a b i = of_two s c w a b (rule c) (λ (xs : TypedAll). row_of s c xs.work k.AssignmentExpression (at_of p) t xs.operands) (λ x y. made_in (rule c x.operand y.operand) (at_of p) (assignment_of c y.work (at_of p) (spelling s t) x.operand y.operand) (each_word (ForAssignment rule) words (spelling s t) h i c y.work (at_of p) x.operand y.operand))
+assignment_law : (words : List (List ℕ)) (rule : Ctx → Operand → Operand → Tree → Type 0) → ForAll (ForAssignment rule) words
+    → EachTwo k.AssignmentExpression words rule
+assignment_law words rule h s c w p t a b i = of_two s c w a b (rule c) (λ (xs : TypedAll). row_of s c xs.work k.AssignmentExpression (at_of p) t xs.operands)
+    (λ x y. made_in (rule c x.operand y.operand) (at_of p) (assignment_of c y.work (at_of p) (spelling s t) x.operand y.operand)
+    (each_word (ForAssignment rule) words (spelling s t) h i c y.work (at_of p) x.operand y.operand))
 
 pub assignments_law : Assignments
 assignments_law = assignment_law simple_words Simple each_simple
@@ -120,7 +164,8 @@ compounds_law = assignment_law compound_words Compound each_compound
 -- `a, b`
 
 pub commas_law : Commas
-commas_law s c w p t a b = of_two s c w a b Second (λ (xs : TypedAll). row_of s c xs.work k.CommaExpression (at_of p) t xs.operands) (λ x y. record { same_type = refl; same_category = refl })
+commas_law s c w p t a b = of_two s c w a b Second (λ (xs : TypedAll). row_of s c xs.work k.CommaExpression (at_of p) t xs.operands)
+    (λ x y. record { same_type = refl; same_category = refl })
 
 -- `? :`
 
@@ -156,30 +201,46 @@ lvalues_from : (x y : Operand) (e : Tree) → same_lvalues x y ≡ true → IsAs
 lvalues_from x y e h i =
     let p = and_parts (is_lvalue (cat_of x.tree) && is_lvalue (cat_of y.tree)) (typ_eq (typ_in x.tree) (typ_in y.tree)) h in
     let q = and_parts (is_lvalue (cat_of x.tree)) (is_lvalue (cat_of y.tree)) p.0 in
-    lvalues (typ_in x.tree) (record { has_type = refl; category = lvalue_is (cat_of x.tree) q.0 }) (record { has_type = sym (typ_same (typ_in x.tree) (typ_in y.tree) p.1); category = lvalue_is (cat_of y.tree) q.1 }) (record { has_type = i.same_type; category = i.same_category ∙ lvalue_is (cat_of x.tree) q.0 })
+    lvalues (typ_in x.tree) (record { has_type = refl; category = lvalue_is (cat_of x.tree) q.0 })
+    (record { has_type = sym (typ_same (typ_in x.tree) (typ_in y.tree) p.1); category = lvalue_is (cat_of y.tree) q.1 })
+    (record { has_type = i.same_type; category = i.same_category ∙ lvalue_is (cat_of x.tree) q.0 })
 
 voids_from : (x y : Operand) (e : Tree) → (is_void (typ_in x.tree) && is_void (typ_in y.tree)) ≡ true → IsAs x.tree e → Either x y e
-voids_from x y e h i = let p = and_parts (is_void (typ_in x.tree)) (is_void (typ_in y.tree)) h in both_void (void_from (typ_in x.tree) p.0) (void_from (typ_in y.tree) p.1) i
+voids_from x y e h i = let p = and_parts (is_void (typ_in x.tree)) (is_void (typ_in y.tree)) h in
+    both_void (void_from (typ_in x.tree) p.0) (void_from (typ_in y.tree) p.1) i
 
-numbers_in : (at : At) (test : Tree) (x y : Operand) (i j : Option IntKind) → arithmetic (value_form x) ≡ i → arithmetic (value_form y) ≡ j → On (Either x y) (two_numbers at test i j x y)
+numbers_in : (at : At) (test : Tree) (x y : Operand) (i j : Option IntKind) → arithmetic (value_form x) ≡ i → arithmetic (value_form y) ≡ j
+    → On (Either x y) (two_numbers at test i j x y)
 numbers_in at test x y (Some i) (Some j) e f = numbers_of i j (number_from x i e) (number_from y j f) (record { has_type = refl; category = refl })
 numbers_in at test x y (Some i) None e f = tt
 numbers_in at test x y None j e f = tt
 
-same_pointers : (at : At) (test : Tree) (x y : Operand) (t u : Typ) → value_form x ≡ ptr t → value_form y ≡ ptr u → On (Either x y) (two_values at test (ptr t) (ptr u) x y)
-same_pointers at test x y t u e f = checked (Either x y) at BadOperand (typ_eq t u) _ (λ z. values (ptr t) (sym (form_is x) ∙ e) (sym (form_is y) ∙ f ∙ ap ptr (sym (typ_same t u z))) (record { has_type = refl; category = refl }))
+same_pointers : (at : At) (test : Tree) (x y : Operand) (t u : Typ) → value_form x ≡ ptr t → value_form y ≡ ptr u
+    → On (Either x y) (two_values at test (ptr t) (ptr u) x y)
+same_pointers at test x y t u e f = checked (Either x y) at BadOperand (typ_eq t u) _
+    (λ z. values (ptr t) (sym (form_is x) ∙ e) (sym (form_is y) ∙ f ∙ ap ptr (sym (typ_same t u z))) (record { has_type = refl; category = refl }))
 
-pointer_or_null : (at : At) (test : Tree) (x y : Operand) (t : Typ) → value_form x ≡ ptr t → On (Either x y) (and_then (check at BadOperand (is_null y)) (λ z. Ok (conditional_node at (plain (ptr t)) Prvalue test (value x) (as_pointer t y))))
-pointer_or_null at test x y t e = checked (Either x y) at BadOperand (is_null y) _ (λ z. or_null t (points_from x t e) (null_from y z) (record { has_type = refl; category = refl }))
+pointer_or_null : (at : At) (test : Tree) (x y : Operand) (t : Typ) → value_form x ≡ ptr t
+    → On (Either x y) (and_then (check at BadOperand (is_null y)) (λ z. Ok (conditional_node at (plain (ptr t)) Prvalue test (value x) (as_pointer t y))))
+pointer_or_null at test x y t e = checked (Either x y) at BadOperand (is_null y) _
+    (λ z. or_null t (points_from x t e) (null_from y z) (record { has_type = refl; category = refl }))
 
-null_or_pointer : (at : At) (test : Tree) (x y : Operand) (t : Typ) → value_form y ≡ ptr t → On (Either x y) (and_then (check at BadOperand (is_null x)) (λ z. Ok (conditional_node at (plain (ptr t)) Prvalue test (as_pointer t x) (value y))))
-null_or_pointer at test x y t e = checked (Either x y) at BadOperand (is_null x) _ (λ z. null_or t (null_from x z) (points_from y t e) (record { has_type = refl; category = refl }))
+null_or_pointer : (at : At) (test : Tree) (x y : Operand) (t : Typ) → value_form y ≡ ptr t
+    → On (Either x y) (and_then (check at BadOperand (is_null x)) (λ z. Ok (conditional_node at (plain (ptr t)) Prvalue test (as_pointer t x) (value y))))
+null_or_pointer at test x y t e = checked (Either x y) at BadOperand (is_null x) _
+    (λ z. null_or t (null_from x z) (points_from y t e) (record { has_type = refl; category = refl }))
 
-same_values : (x y : Operand) (e : Tree) (f g : Form) → value_form x ≡ f → value_form y ≡ g → (form_eq f g && is_some (kind_in f)) ≡ true → IsPrvalue (plain f) e → Either x y e
-same_values x y e f g i j h r = let p = and_parts (form_eq f g) (is_some (kind_in f)) h in values f (sym (form_is x) ∙ i) (sym (form_is y) ∙ j ∙ sym (form_same f g p.0)) r
+same_values : (x y : Operand) (e : Tree) (f g : Form) → value_form x ≡ f → value_form y ≡ g → (form_eq f g && is_some (kind_in f)) ≡ true
+    → IsPrvalue (plain f) e → Either x y e
+same_values x y e f g i j h r = let p = and_parts (form_eq f g) (is_some (kind_in f)) h in
+    values f (sym (form_is x) ∙ i) (sym (form_is y) ∙ j ∙ sym (form_same f g p.0)) r
 
-values_case : (at : At) (test : Tree) (x y : Operand) (f g : Form) → value_form x ≡ f → value_form y ≡ g → On (Either x y) (if form_eq f g && is_some (kind_in f) then Ok (conditional_node at (plain f) Prvalue test (value x) (value y)) else two_numbers at test (arithmetic f) (arithmetic g) x y)
-values_case at test x y f g i j = either (Either x y) (form_eq f g && is_some (kind_in f)) _ _ (λ h. same_values x y (conditional_node at (plain f) Prvalue test (value x) (value y)) f g i j h (record { has_type = refl; category = refl })) (λ h. numbers_in at test x y (arithmetic f) (arithmetic g) (ap arithmetic i) (ap arithmetic j))
+values_case : (at : At) (test : Tree) (x y : Operand) (f g : Form) → value_form x ≡ f → value_form y ≡ g
+    → On (Either x y) (if form_eq f g && is_some (kind_in f) then Ok (conditional_node at (plain f) Prvalue test (value x) (value y)) else two_numbers at test
+    (arithmetic f) (arithmetic g) x y)
+values_case at test x y f g i j = either (Either x y) (form_eq f g && is_some (kind_in f)) _ _
+    (λ h. same_values x y (conditional_node at (plain f) Prvalue test (value x) (value y)) f g i j h (record { has_type = refl; category = refl }))
+    (λ h. numbers_in at test x y (arithmetic f) (arithmetic g) (ap arithmetic i) (ap arithmetic j))
 
 values_law : (at : At) (test : Tree) (x y : Operand) (f g : Form) → value_form x ≡ f → value_form y ≡ g → On (Either x y) (two_values at test f g x y)
 values_law at test x y (ptr t) (ptr u) i j = same_pointers at test x y t u i j
@@ -188,23 +249,35 @@ values_law at test x y f (ptr t) i j = null_or_pointer at test x y t j
 values_law at test x y f g i j = values_case at test x y f g i j
 
 objects_law : (c : Ctx) (w : Work) (at : At) (test : Tree) (x y : Operand) → both_of_class x y ≡ true → On (Tree_in (Either x y)) (two_objects c w at test x y)
-objects_law c w at test x y h = skip (Tree_in (Either x y)) (class_from c w (unqualified (typ_in x.tree)) x.at x) _ (λ u. skip (Tree_in (Either x y)) (class_from c u.work (unqualified (typ_in x.tree)) y.at y) _ (λ v.
+objects_law c w at test x y h = skip (Tree_in (Either x y)) (class_from c w (unqualified (typ_in x.tree)) x.at x) _
+    (λ u. skip (Tree_in (Either x y)) (class_from c u.work (unqualified (typ_in x.tree)) y.at y) _ (λ v.
     let p = and_parts (is_class_typ (typ_in x.tree)) (form_eq (form_in (typ_in x.tree)) (form_in (typ_in y.tree))) h in
-    objects (class_from_typ (typ_in x.tree) p.0) (sym (form_same (form_in (typ_in x.tree)) (form_in (typ_in y.tree)) p.1)) (record { has_type = refl; category = refl })))
+    objects (class_from_typ (typ_in x.tree) p.0) (sym (form_same (form_in (typ_in x.tree)) (form_in (typ_in y.tree)) p.1))
+    (record { has_type = refl; category = refl })))
 
 branches_law : (c : Ctx) (w : Work) (at : At) (test : Tree) (x y : Operand) → On (Tree_in (Either x y)) (branches c w at test x y)
 branches_law c w at test x y = either (Tree_in (Either x y)) (is_throw (kind_of x.tree) && is_throw (kind_of y.tree)) _ _
-    (λ h. let p = and_parts (is_throw (kind_of x.tree)) (is_throw (kind_of y.tree)) h in both_throw (throws_from x p.0) (throws_from y p.1) (record { has_type = refl; category = refl }))
-    (λ h. either (Tree_in (Either x y)) (is_throw (kind_of y.tree)) _ _ (λ i. second_throws (throws_from y i) (record { same_type = refl; same_category = refl }))
-    (λ i. either (Tree_in (Either x y)) (is_throw (kind_of x.tree)) _ _ (λ j. first_throws (throws_from x j) (record { same_type = refl; same_category = refl }))
+    (λ h. let p = and_parts (is_throw (kind_of x.tree)) (is_throw (kind_of y.tree)) h in
+    both_throw (throws_from x p.0) (throws_from y p.1) (record { has_type = refl; category = refl }))
+    (λ h. either (Tree_in (Either x y)) (is_throw (kind_of y.tree)) _ _
+    (λ i. second_throws (throws_from y i) (record { same_type = refl; same_category = refl }))
+    (λ i. either (Tree_in (Either x y)) (is_throw (kind_of x.tree)) _ _
+    (λ j. first_throws (throws_from x j) (record { same_type = refl; same_category = refl }))
     (λ j. either (Tree_in (Either x y)) (same_lvalues x y || (is_void (typ_in x.tree) && is_void (typ_in y.tree))) _ _
-    (λ l. one_of_two (same_lvalues x y) (is_void (typ_in x.tree) && is_void (typ_in y.tree)) (Either x y (conditional_node at (typ_in x.tree) (cat_of x.tree) test x.tree y.tree)) l
+    (λ l. one_of_two (same_lvalues x y) (is_void (typ_in x.tree) && is_void (typ_in y.tree))
+    (Either x y (conditional_node at (typ_in x.tree) (cat_of x.tree) test x.tree y.tree)) l
     (λ m. lvalues_from x y (conditional_node at (typ_in x.tree) (cat_of x.tree) test x.tree y.tree) m (record { same_type = refl; same_category = refl }))
     (λ m. voids_from x y (conditional_node at (typ_in x.tree) (cat_of x.tree) test x.tree y.tree) m (record { same_type = refl; same_category = refl })))
-    (λ l. either (Tree_in (Either x y)) (both_of_class x y) _ _ (λ m. objects_law c w at test x y m) (λ m. with_work (Either x y) w (two_values at test (value_form x) (value_form y) x y) (values_law at test x y (value_form x) (value_form y) refl refl))))))
+    (λ l. either (Tree_in (Either x y)) (both_of_class x y) _ _ (λ m. objects_law c w at test x y m)
+    (λ m. with_work (Either x y) w (two_values at test (value_form x) (value_form y) x y)
+    (values_law at test x y (value_form x) (value_form y) refl refl))))))
 
 conditional_law : (c : Ctx) (w : Work) (at : At) (test x y : Operand) → On (Tree_in (Chosen c test x y)) (conditional c w at test x y)
-conditional_law c w at test x y = after (Tree_in (Chosen c test x y)) (truth c w test) _ (λ u i. weaken (Tree_in (Either x y)) (Tree_in (Chosen c test x y)) (branches c w at u x y) (λ m g. record { truth = truth_is c w test u i; result = g }) (branches_law c w at u x y))
+conditional_law c w at test x y = after (Tree_in (Chosen c test x y)) (truth c w test) _
+    (λ u i. weaken (Tree_in (Either x y)) (Tree_in (Chosen c test x y)) (branches c w at u x y) (λ m g. record { truth = truth_is c w test u i; result = g })
+    (branches_law c w at u x y))
 
 pub conditionals_law : Conditionals
-conditionals_law s c w p t a b d = of_three s c w a b d (Chosen c) (λ (xs : TypedAll). row_of s c xs.work k.ConditionalExpression (at_of p) t xs.operands) (λ x y z. made_in (Chosen c x.operand y.operand z.operand) (at_of p) (conditional c z.work (at_of p) x.operand y.operand z.operand) (conditional_law c z.work (at_of p) x.operand y.operand z.operand))
+conditionals_law s c w p t a b d = of_three s c w a b d (Chosen c) (λ (xs : TypedAll). row_of s c xs.work k.ConditionalExpression (at_of p) t xs.operands)
+    (λ x y z. made_in (Chosen c x.operand y.operand z.operand) (at_of p) (conditional c z.work (at_of p) x.operand y.operand z.operand)
+    (conditional_law c z.work (at_of p) x.operand y.operand z.operand))

@@ -1,5 +1,6 @@
 -- Casts, `sizeof` and `throw`.
-use Rattle.std.proofs.Common.{◌≡◌, refl, sym, ap, ◌∙◌, subst, ℕ, zero, suc, Bool, true, false, ◌&&◌, ◌||◌, List, [], ◌∷◌, length, cond, Option, Some, None, is_some, Result, Ok, Err, eqb-true}
+use Rattle.std.proofs.Common.{◌≡◌, refl, sym, ap, ◌∙◌, subst, ℕ, zero, suc, Bool, true, false, ◌&&◌, ◌||◌, List, [], ◌∷◌, length, cond, Option, Some, None}
+use Rattle.std.proofs.Common.{is_some, Result, Ok, Err, eqb-true}
 use Rattle.std.proofs.lemmas.Bool.{and_parts}
 use Rattle.std.specs.Prelude.{not, if◌then◌else◌}
 use Rattle.elab_rules.specs.tx_ints.declared.kinds.IntKind.{IntKind}
@@ -27,12 +28,15 @@ use Rattle.elab_rules.specs.cpp_tree.Notation.{plain}
 use Rattle.elab_rules.specs.elab_ctx.Ctx.{Ctx, Work, Special, absent, trivial, function}
 use Rattle.elab_rules.specs.elab_ctx.Steps.{and_then, expect, check, Operand, Made, Typed, TypedAll, at_of}
 use Rattle.elab_rules.specs.Values.{number, valued, converted, stepped}
-use Rattle.elab_rules.specs.Initialising.{initial, bound_by, is_prvalue_of_class, same_number, class_number, rebuilt, constructed_copy, reference_word, parameters_at, copied_object, has_copy, meant, makers, argument, arguments, constructor_at, constructed_by, words, constructed, from_nothing, makeable, default_by, is_prvalue_itself, class_from, from_values, with_tree}
+use Rattle.elab_rules.specs.Initialising.{initial, bound_by, is_prvalue_of_class, same_number, class_number, rebuilt, constructed_copy, reference_word}
+use Rattle.elab_rules.specs.Initialising.{parameters_at, copied_object, has_copy, meant, makers, argument, arguments, constructor_at, constructed_by, words}
+use Rattle.elab_rules.specs.Initialising.{constructed, from_nothing, makeable, default_by, is_prvalue_itself, class_from, from_values, with_tree}
 use Rattle.elab_rules.specs.Names.{is_tx_exception}
 use Rattle.elab_rules.specs.Objects.{Leaf, class_whole, zero_leaf, traits_at, size_of}
 use Rattle.elab_rules.specs.cpp_overload.Choosing.{chosen}
 use Rattle.elab_rules.specs.Operators.{value, is_sized, is_function}
-use Rattle.elab_rules.specs.Casts.{is_numeric, scalar_cast, reference_cast, cast, functional, is_exception_form, as_expression, stored_at, size_literal, throw_object, throw_in, throw_node, within_exception, is_thrown_scalar}
+use Rattle.elab_rules.specs.Casts.{is_numeric, scalar_cast, reference_cast, cast, functional, is_exception_form, as_expression, stored_at, size_literal}
+use Rattle.elab_rules.specs.Casts.{throw_object, throw_in, throw_node, within_exception, is_thrown_scalar}
 use Rattle.elab_rules.specs.Expressions.{an_operand, a_tree, row_of, expression_with, chosen_operand, type_id_of, type_id_with, operands_of, specified_with}
 use Rattle.elab_rules.specs.Types.{no_specifiers, specified_type}
 use Rattle.elab_laws.specs.Reading.{On, IsPrvalue, IsLvalue, operand_of}
@@ -41,7 +45,9 @@ use Rattle.elab_rules.specs.cpp_overload.Choosing.{choice_of}
 use Rattle.elab_rules.specs.cpp_overload.declared.calls.NoBest.{NoBest}
 use Rattle.elab_rules.specs.cpp_overload.declared.calls.NoBest.TheVariants.{NoViable as NoneViable, Ambiguous}
 use Rattle.elab_rules.proofs.cpp_overload.Choosing.{chosen_is_meant}
-use Rattle.elab_laws.specs.Casting.{Makes, MadeBy, by_constructor, by_copy, Built, CastTo, to_void, to_reference, to_scalar, to_class, to_exception, OfCast, OfFunctional, FunctionalCasts, SizeOf, OfSizeType, OfSizeExpression, Thrown, StaticCasts, Casts, SizesOfTypes, SizesOfExpressions, Throws, Rethrows}
+use Rattle.elab_laws.specs.Casting.{Makes, MadeBy, by_constructor, by_copy, Built, CastTo, to_void, to_reference, to_scalar, to_class, to_exception, OfCast}
+use Rattle.elab_laws.specs.Casting.{OfFunctional, FunctionalCasts, SizeOf, OfSizeType, OfSizeExpression, Thrown, StaticCasts, Casts, SizesOfTypes}
+use Rattle.elab_laws.specs.Casting.{SizesOfExpressions, Throws, Rethrows}
 use Rattle.elab_laws.proofs.Reading.{bind, skip, after, checked, weaken, either, of_one, made_in}
 use Rattle.elab_laws.proofs.Equal.{form_same}
 use Rattle.elab_laws.proofs.Arithmetic.{tree_value}
@@ -50,18 +56,21 @@ use Rattle.elab_laws.proofs.Parts.{InMade}
 
 -- Scalars
 
-converted_is : (at : At) (t : Typ) (v : Tree) (i j : IntKind) → kind_in (form_in (typ_in v)) ≡ Some i → kind_in (form_in t) ≡ Some j → cat_of v ≡ Prvalue → IsPrvalue (unqualified t) (converted at t v)
+converted_is : (at : At) (t : Typ) (v : Tree) (i j : IntKind) → kind_in (form_in (typ_in v)) ≡ Some i → kind_in (form_in t) ≡ Some j → cat_of v ≡ Prvalue
+    → IsPrvalue (unqualified t) (converted at t v)
 converted_is at t v i j h g p = record {
   has_type = between_is at (kind_in (form_in (typ_in v))) (kind_in (form_in t)) (unqualified t) v i j h g;
   category = between_prvalue at (kind_in (form_in (typ_in v))) (kind_in (form_in t)) (unqualified t) v p;
 }
 
-stepped_is : (at : At) (step : Step) (t : Typ) (v : Tree) (i j : IntKind) → kind_in (form_in (typ_in v)) ≡ Some i → kind_in (form_in t) ≡ Some j → cat_of v ≡ Prvalue → IsPrvalue (unqualified t) (stepped at step t v)
+stepped_is : (at : At) (step : Step) (t : Typ) (v : Tree) (i j : IntKind) → kind_in (form_in (typ_in v)) ≡ Some i → kind_in (form_in t) ≡ Some j
+    → cat_of v ≡ Prvalue → IsPrvalue (unqualified t) (stepped at step t v)
 stepped_is at NullPointer t v i j h g p = record { has_type = refl; category = refl }
 stepped_is at step t v i j h g p = converted_is at t v i j h g p
 
 -- a scalar is converted from a scalar alone
-by_other : (classes : List Class) (literal : Bool) (g f : Form) (j : IntKind) → kind_in f ≡ Some j → is_some (other_step classes literal g f) ≡ true → is_some (kind_in g) ≡ true
+by_other : (classes : List Class) (literal : Bool) (g f : Form) (j : IntKind) → kind_in f ≡ Some j → is_some (other_step classes literal g f) ≡ true
+    → is_some (kind_in g) ≡ true
 by_other classes literal (int i) f j h s = refl
 by_other classes literal (enum n b) f j h s = refl
 by_other classes literal null f j h s = refl
@@ -84,11 +93,13 @@ by_other classes literal (func t) f j h s = absurd cc
 by_other classes literal (closure n) f j h s = absurd cc
 by_other classes literal (tx_ex t) f j h s = absurd cc
 
-by_value : (classes : List Class) (literal : Bool) (g f : Form) (j : IntKind) (b : Bool) → form_eq g f ≡ b → kind_in f ≡ Some j → is_some (cond b (Some Identity) (other_step classes literal g f)) ≡ true → is_some (kind_in g) ≡ true
+by_value : (classes : List Class) (literal : Bool) (g f : Form) (j : IntKind) (b : Bool) → form_eq g f ≡ b → kind_in f ≡ Some j
+    → is_some (cond b (Some Identity) (other_step classes literal g f)) ≡ true → is_some (kind_in g) ≡ true
 by_value classes literal g f j true e h s = ap (λ (z : Form). is_some (kind_in z)) (form_same g f e) ∙ ap is_some h
 by_value classes literal g f j false e h s = by_other classes literal g f j h s
 
-from_scalar : (classes : List Class) (literal : Bool) (g f : Form) (j : IntKind) → kind_in f ≡ Some j → is_some (step_of classes literal g f) ≡ true → is_some (kind_in g) ≡ true
+from_scalar : (classes : List Class) (literal : Bool) (g f : Form) (j : IntKind) → kind_in f ≡ Some j → is_some (step_of classes literal g f) ≡ true
+    → is_some (kind_in g) ≡ true
 from_scalar classes literal (ptr t) f j h s = refl
 from_scalar classes literal g f j h s = by_value classes literal g f j (form_eq g f) refl h s
 
@@ -99,13 +110,19 @@ some_kind A None h k = absurd cc
 abbrev Scalar : Form → Tree → Type 0
 Scalar f e = IsPrvalue (typ f false false) e
 
-step_law : (c : Ctx) (w : Work) (f : Form) (o : Operand) (j : IntKind) (x : Option Step) → kind_in f ≡ Some j → step_of c.classes o.zero (decayed (typ_in o.tree)) f ≡ x → On (InMade (Scalar f)) (and_then (expect o.at NoConversion (bound Value x)) (λ (v : Conversion). Ok (bound_by c w v.binding v.step (typ f false false) o.at o.tree)))
+step_law : (c : Ctx) (w : Work) (f : Form) (o : Operand) (j : IntKind) (x : Option Step) → kind_in f ≡ Some j
+    → step_of c.classes o.zero (decayed (typ_in o.tree)) f ≡ x
+    → On (InMade (Scalar f)) (and_then (expect o.at NoConversion (bound Value x))
+    (λ (v : Conversion). Ok (bound_by c w v.binding v.step (typ f false false) o.at o.tree)))
 step_law c w f o j None h s = tt
-step_law c w f o j (Some step) h s = some_kind (Scalar f (stepped o.at step (typ f false false) (valued o.at o.tree))) (kind_in (form_in (typ_in (valued o.at o.tree))))
+step_law c w f o j (Some step) h s = some_kind (Scalar f (stepped o.at step (typ f false false) (valued o.at o.tree)))
+    (kind_in (form_in (typ_in (valued o.at o.tree))))
     (ap (λ (z : Form). is_some (kind_in z)) (tree_value o.at o.tree) ∙ from_scalar c.classes o.zero (decayed (typ_in o.tree)) f j h (ap is_some s))
     (λ i e. stepped_is o.at step (typ f false false) (valued o.at o.tree) i j e h (tree_cat o.at o.tree i e))
 
-value_law : (c : Ctx) (w : Work) (f : Form) (o : Operand) (j : IntKind) (b : Bool) → kind_in f ≡ Some j → On (InMade (Scalar f)) (and_then (expect o.at NoConversion (cond b (bound Value (step_of c.classes o.zero (decayed (typ_in o.tree)) f)) None)) (λ (v : Conversion). Ok (bound_by c w v.binding v.step (typ f false false) o.at o.tree)))
+value_law : (c : Ctx) (w : Work) (f : Form) (o : Operand) (j : IntKind) (b : Bool) → kind_in f ≡ Some j
+    → On (InMade (Scalar f)) (and_then (expect o.at NoConversion (cond b (bound Value (step_of c.classes o.zero (decayed (typ_in o.tree)) f)) None))
+    (λ (v : Conversion). Ok (bound_by c w v.binding v.step (typ f false false) o.at o.tree)))
 value_law c w f o j true h = step_law c w f o j (step_of c.classes o.zero (decayed (typ_in o.tree)) f) h refl
 value_law c w f o j false h = tt
 
@@ -114,7 +131,8 @@ abbrev is_referring : Form → Bool
 is_referring (ref t) = true
 is_referring f = false
 
-initial_law : (c : Ctx) (w : Work) (f : Form) (o : Operand) (j : IntKind) → kind_in f ≡ Some j → is_referring f ≡ false → On (InMade (Scalar f)) (initial c w (typ f false false) o)
+initial_law : (c : Ctx) (w : Work) (f : Form) (o : Operand) (j : IntKind) → kind_in f ≡ Some j → is_referring f ≡ false
+    → On (InMade (Scalar f)) (initial c w (typ f false false) o)
 initial_law c w (int i) o j h n = value_law c w (int i) o j (has_value (typ_in o.tree)) h
 initial_law c w (enum m s) o j h n = value_law c w (enum m s) o j (has_value (typ_in o.tree)) h
 initial_law c w null o j h n = value_law c w null o j (has_value (typ_in o.tree)) h
@@ -140,10 +158,12 @@ numeric_is (class n) h = absurd cc
 numeric_is (closure n) h = absurd cc
 numeric_is (tx_ex t) h = absurd cc
 
-scalar_law : (c : Ctx) (w : Work) (at : At) (f : Form) (d v : Bool) (o : Operand) (j : IntKind) → kind_in f ≡ Some j → is_referring f ≡ false → On (InMade (Scalar f)) (scalar_cast c w at (typ f d v) o)
+scalar_law : (c : Ctx) (w : Work) (at : At) (f : Form) (d v : Bool) (o : Operand) (j : IntKind) → kind_in f ≡ Some j → is_referring f ≡ false
+    → On (InMade (Scalar f)) (scalar_cast c w at (typ f d v) o)
 scalar_law c w at f d v o j h n = either (InMade (Scalar f)) (is_numeric (form_in (typ_in (value o))) && is_numeric f) _ _
     (λ b. let p = and_parts (is_numeric (form_in (typ_in (value o)))) (is_numeric f) b in
-    some_kind (Scalar f (converted at (typ f d v) (value o))) (kind_in (form_in (typ_in (value o)))) (numeric_is (form_in (typ_in (value o))) p.0) (λ i e. converted_is at (typ f d v) (value o) i j e h (tree_cat o.at o.tree i e)))
+    some_kind (Scalar f (converted at (typ f d v) (value o))) (kind_in (form_in (typ_in (value o)))) (numeric_is (form_in (typ_in (value o))) p.0)
+    (λ i e. converted_is at (typ f d v) (value o) i j e h (tree_cat o.at o.tree i e)))
     (λ b. initial_law c w f (record { tree = value o; at = at; zero = o.zero }) j h n)
 
 -- Objects of classes
@@ -173,26 +193,36 @@ default_law c n q v at absent = tt
 default_law c n q v at trivial = zero_is (length c.classes) zero_leaf c.classes at n (false || q) (false || v)
 default_law c n q v at (function k) = refl
 
-reference_copy : (c : Ctx) (w : Work) (n : ℕ) (t : Typ) (at : At) (o : Operand) (k : Option ℕ) → class_number t ≡ Some n → On (InMade (IsOf n)) (constructed_copy c w n t at o k)
+reference_copy : (c : Ctx) (w : Work) (n : ℕ) (t : Typ) (at : At) (o : Operand) (k : Option ℕ) → class_number t ≡ Some n
+    → On (InMade (IsOf n)) (constructed_copy c w n t at o k)
 reference_copy c w n t at o None h = h
 reference_copy c w n t at o (Some k) h = skip (InMade (IsOf n)) (reference_word c w (parameters_at c.funcs k) o) _ (λ m. h)
 
 copied_law : (c : Ctx) (w : Work) (n : ℕ) (t : Typ) (at : At) (o : Operand) → class_number t ≡ Some n → On (InMade (IsOf n)) (copied_object c w n t at o)
-copied_law c w n t at o h = skip (InMade (IsOf n)) (check o.at NoCopy (not (is_volatile_typ (typ_in o.tree)) && has_copy (traits_at c n).copy)) _ (λ y. skip (InMade (IsOf n)) (meant at (chosen c.classes (makers c n) (argument o ∷ []))) _ (λ i. reference_copy c w n t at o (constructor_at c n i) h))
+copied_law c w n t at o h = skip (InMade (IsOf n)) (check o.at NoCopy (not (is_volatile_typ (typ_in o.tree)) && has_copy (traits_at c n).copy)) _
+    (λ y. skip (InMade (IsOf n)) (meant at (chosen c.classes (makers c n) (argument o ∷ []))) _ (λ i. reference_copy c w n t at o (constructor_at c n i) h))
 
-by_law : (c : Ctx) (w : Work) (n : ℕ) (t : Typ) (at : At) (os : List Operand) (k : Option ℕ) → class_number t ≡ Some n → On (InMade (IsOf n)) (constructed_by c w n t at os k)
+by_law : (c : Ctx) (w : Work) (n : ℕ) (t : Typ) (at : At) (os : List Operand) (k : Option ℕ) → class_number t ≡ Some n
+    → On (InMade (IsOf n)) (constructed_by c w n t at os k)
 by_law c w n t at os (Some k) h = skip (InMade (IsOf n)) (words c w (parameters_at c.funcs k) os) _ (λ m. h)
 by_law c w n t at (o ∷ []) None h = skip (InMade (IsOf n)) (check o.at NoCopy (not (is_volatile_typ (typ_in o.tree)))) _ (λ y. h)
 by_law c w n t at os None h = tt
 
 constructed_law : (c : Ctx) (w : Work) (n : ℕ) (q v : Bool) (at : At) (os : List Operand) → On (InMade (IsOf n)) (constructed c w n (typ (class n) q v) at os)
-constructed_law c w n q v at [] = bind (IsOf n) (InMade (IsOf n)) (from_nothing c (typ (class n) q v) at) _ (skip (IsOf n) (makeable c at n) _ (λ k. default_law c n q v at (traits_at c n).default)) (λ e g. g)
-constructed_law c w n q v at (o ∷ []) = skip (InMade (IsOf n)) (makeable c at n) _ (λ k. either (InMade (IsOf n)) (is_prvalue_itself n (o ∷ [])) _ _ (λ b. rebuilt_is n (kind_of o.tree) (typ (class n) q v) o.tree refl (itself_is n o.tree b))
-    (λ b. skip (InMade (IsOf n)) (meant at (chosen c.classes (makers c n) (arguments (o ∷ [])))) _ (λ i. by_law c w n (typ (class n) q v) at (o ∷ []) (constructor_at c n i) refl)))
-constructed_law c w n q v at (o ∷ p ∷ os) = skip (InMade (IsOf n)) (makeable c at n) _ (λ k. skip (InMade (IsOf n)) (meant at (chosen c.classes (makers c n) (arguments (o ∷ p ∷ os)))) _ (λ i. by_law c w n (typ (class n) q v) at (o ∷ p ∷ os) (constructor_at c n i) refl))
+constructed_law c w n q v at [] = bind (IsOf n) (InMade (IsOf n)) (from_nothing c (typ (class n) q v) at) _
+    (skip (IsOf n) (makeable c at n) _ (λ k. default_law c n q v at (traits_at c n).default)) (λ e g. g)
+constructed_law c w n q v at (o ∷ []) = skip (InMade (IsOf n)) (makeable c at n) _
+    (λ k. either (InMade (IsOf n)) (is_prvalue_itself n (o ∷ [])) _ _
+    (λ b. rebuilt_is n (kind_of o.tree) (typ (class n) q v) o.tree refl (itself_is n o.tree b))
+    (λ b. skip (InMade (IsOf n)) (meant at (chosen c.classes (makers c n) (arguments (o ∷ [])))) _
+    (λ i. by_law c w n (typ (class n) q v) at (o ∷ []) (constructor_at c n i) refl)))
+constructed_law c w n q v at (o ∷ p ∷ os) = skip (InMade (IsOf n)) (makeable c at n) _
+    (λ k. skip (InMade (IsOf n)) (meant at (chosen c.classes (makers c n) (arguments (o ∷ p ∷ os)))) _
+    (λ i. by_law c w n (typ (class n) q v) at (o ∷ p ∷ os) (constructor_at c n i) refl))
 
 closure_made : (c : Ctx) (w : Work) (n : ℕ) (q v : Bool) (at : At) (o : Operand) → On (InMade (IsOf n)) (class_from c w (typ (closure n) q v) at o)
-closure_made c w n q v at o = either (InMade (IsOf n)) (is_prvalue_of_class n o.tree) _ _ (λ b. itself_is n o.tree b) (λ b. skip (InMade (IsOf n)) (check o.at NoConversion (same_number n (class_number (typ_in o.tree)))) _ (λ y. refl))
+closure_made c w n q v at o = either (InMade (IsOf n)) (is_prvalue_of_class n o.tree) _ _ (λ b. itself_is n o.tree b)
+    (λ b. skip (InMade (IsOf n)) (check o.at NoConversion (same_number n (class_number (typ_in o.tree)))) _ (λ y. refl))
 
 -- Exceptions
 
@@ -212,7 +242,8 @@ exception_same (typ (func s) d v) = refl
 exception_same (typ (class n) d v) = refl
 exception_same (typ (closure n) d v) = refl
 
-made_exception : (at : At) (t : Typ) (e : Tree) (b : Bool) → is_exception_form (form_in (typ_in e)) ≡ b → is_tx_exception t ≡ true → IsException (if not b then node Retype t Prvalue at (one (stored_at at e)) else e)
+made_exception : (at : At) (t : Typ) (e : Tree) (b : Bool) → is_exception_form (form_in (typ_in e)) ≡ b → is_tx_exception t ≡ true
+    → IsException (if not b then node Retype t Prvalue at (one (stored_at at e)) else e)
 made_exception at t e true h i = sym (exception_same (typ_in e)) ∙ h
 made_exception at t e false h i = i
 
@@ -228,14 +259,20 @@ reference_is at u e = record { has_type = refl; category = refl }
 abbrev Casts_to : Typ → Made → Type 0
 Casts_to t m = CastTo t m.tree
 
-scalar_case : (c : Ctx) (w : Work) (at : At) (f : Form) (d v : Bool) (o : Operand) (j : IntKind) → kind_in f ≡ Some j → is_referring f ≡ false → On (Casts_to (typ f d v)) (scalar_cast c w at (typ f d v) o)
-scalar_case c w at f d v o j h n = weaken (InMade (Scalar f)) (Casts_to (typ f d v)) (scalar_cast c w at (typ f d v) o) (λ m g. to_scalar (ap is_some h) g) (scalar_law c w at f d v o j h n)
+scalar_case : (c : Ctx) (w : Work) (at : At) (f : Form) (d v : Bool) (o : Operand) (j : IntKind) → kind_in f ≡ Some j → is_referring f ≡ false
+    → On (Casts_to (typ f d v)) (scalar_cast c w at (typ f d v) o)
+scalar_case c w at f d v o j h n = weaken (InMade (Scalar f)) (Casts_to (typ f d v)) (scalar_cast c w at (typ f d v) o) (λ m g. to_scalar (ap is_some h) g)
+    (scalar_law c w at f d v o j h n)
 
-objects_case : (c : Ctx) (w : Work) (at : At) (f : Form) (d v : Bool) (os : List Operand) → is_object_form f ≡ true → On (Casts_to (typ f d v)) (and_then (from_values c w (typ f false false) at os) (λ (m : Made). Ok (with_tree (as_expression at (typ f false false)) m)))
-objects_case c w at (class n) d v os h = bind (InMade (IsOf n)) (Casts_to (typ (class n) d v)) (constructed c w n (typ (class n) false false) at os) _ (constructed_law c w n false false at os) (λ m g. to_class n refl g)
+objects_case : (c : Ctx) (w : Work) (at : At) (f : Form) (d v : Bool) (os : List Operand) → is_object_form f ≡ true
+    → On (Casts_to (typ f d v)) (and_then (from_values c w (typ f false false) at os) (λ (m : Made). Ok (with_tree (as_expression at (typ f false false)) m)))
+objects_case c w at (class n) d v os h = bind (InMade (IsOf n)) (Casts_to (typ (class n) d v)) (constructed c w n (typ (class n) false false) at os) _
+    (constructed_law c w n false false at os) (λ m g. to_class n refl g)
 objects_case c w at (closure n) d v [] h = tt
-objects_case c w at (closure n) d v (o ∷ os) h = bind (InMade (IsOf n)) (Casts_to (typ (closure n) d v)) (class_from c w (typ (closure n) false false) at o) _ (closure_made c w n false false at o) (λ m g. to_class n refl g)
-objects_case c w at (tx_ex u) d v os h = skip (Casts_to (typ (tx_ex u) d v)) (from_values c w (typ (tx_ex u) false false) at os) _ (λ m. to_exception refl (exception_is at u m.tree))
+objects_case c w at (closure n) d v (o ∷ os) h = bind (InMade (IsOf n)) (Casts_to (typ (closure n) d v)) (class_from c w (typ (closure n) false false) at o) _
+    (closure_made c w n false false at o) (λ m g. to_class n refl g)
+objects_case c w at (tx_ex u) d v os h = skip (Casts_to (typ (tx_ex u) d v)) (from_values c w (typ (tx_ex u) false false) at os) _
+    (λ m. to_exception refl (exception_is at u m.tree))
 objects_case c w at void d v os h = absurd cc
 objects_case c w at (int j) d v os h = absurd cc
 objects_case c w at (enum n s) d v os h = absurd cc
@@ -247,7 +284,8 @@ objects_case c w at (func s) d v os h = absurd cc
 
 cast_law : (c : Ctx) (w : Work) (at : At) (t : Typ) (o : Operand) → On (Casts_to t) (cast c w at t o)
 cast_law c w at (typ void d v) o = to_void refl (record { has_type = refl; category = refl })
-cast_law c w at (typ (ref u) d v) o = skip (Casts_to (typ (ref u) d v)) (initial c w (typ (ref u) d v) o) _ (λ m. to_reference u refl (reference_is at u m.tree))
+cast_law c w at (typ (ref u) d v) o = skip (Casts_to (typ (ref u) d v)) (initial c w (typ (ref u) d v) o) _
+    (λ m. to_reference u refl (reference_is at u m.tree))
 cast_law c w at (typ (func s) d v) o = tt
 cast_law c w at (typ (array u n) d v) o = tt
 cast_law c w at (typ (class n) d v) o = objects_case c w at (class n) d v (o ∷ []) refl
@@ -258,8 +296,14 @@ cast_law c w at (typ (enum n s) d v) o = scalar_case c w at (enum n s) d v o Int
 cast_law c w at (typ null d v) o = scalar_case c w at null d v o ULong refl refl
 cast_law c w at (typ (ptr t) d v) o = scalar_case c w at (ptr t) d v o ULong refl refl
 
-cast_in_form : (s : List Lexeme) (c : Ctx) (w : Work) (at : At) (a b : syntax.Tree) → On (OfCast s c w a b) (and_then (type_id_of s c w a) (λ (u : Typ). and_then (operand_of s c w b) (λ (x : Typed). an_operand at (cast c x.work at u x.operand))))
-cast_in_form s c w at a b = after (OfCast s c w a b) (type_id_of s c w a) _ (λ u h. after (OfCast s c w a b) (operand_of s c w b) _ (λ x g. weaken (λ (r : Typed). CastTo u r.operand.tree) (OfCast s c w a b) (an_operand at (cast c x.work at u x.operand)) (λ r m. record { typ = u; typ_is = h; operand = x; operand_is = g; holds = m }) (made_in (CastTo u) at (cast c x.work at u x.operand) (cast_law c x.work at u x.operand))))
+cast_in_form : (s : List Lexeme) (c : Ctx) (w : Work) (at : At) (a b : syntax.Tree)
+    → On (OfCast s c w a b) (and_then (type_id_of s c w a)
+    (λ (u : Typ). and_then (operand_of s c w b) (λ (x : Typed). an_operand at (cast c x.work at u x.operand))))
+cast_in_form s c w at a b = after (OfCast s c w a b) (type_id_of s c w a) _
+    (λ u h. after (OfCast s c w a b) (operand_of s c w b) _
+    (λ x g. weaken (λ (r : Typed). CastTo u r.operand.tree) (OfCast s c w a b) (an_operand at (cast c x.work at u x.operand))
+    (λ r m. record { typ = u; typ_is = h; operand = x; operand_is = g; holds = m })
+    (made_in (CastTo u) at (cast c x.work at u x.operand) (cast_law c x.work at u x.operand))))
 
 pub static_casts_law : StaticCasts
 static_casts_law s c w p t a b = cast_in_form s c w (at_of p) a b
@@ -269,7 +313,8 @@ casts_law s c w p t a b = cast_in_form s c w (at_of p) a b
 
 -- `T(a, ..)`
 
-none_law : (c : Ctx) (w : Work) (at : At) (f : Form) (d v : Bool) → is_reference (typ f d v) ≡ false → On (Casts_to (typ f d v)) (functional c w at (typ f d v) [])
+none_law : (c : Ctx) (w : Work) (at : At) (f : Form) (d v : Bool) → is_reference (typ f d v) ≡ false
+    → On (Casts_to (typ f d v)) (functional c w at (typ f d v) [])
 none_law c w at (class n) d v h = objects_case c w at (class n) d v [] refl
 none_law c w at (closure n) d v h = objects_case c w at (closure n) d v [] refl
 none_law c w at (tx_ex u) d v h = objects_case c w at (tx_ex u) d v [] refl
@@ -282,7 +327,8 @@ none_law c w at (array t n) d v h = tt
 none_law c w at (func s) d v h = tt
 none_law c w at (ref t) d v h = absurd cc
 
-many_law : (c : Ctx) (w : Work) (at : At) (f : Form) (d v : Bool) (o p : Operand) (os : List Operand) → On (Casts_to (typ f d v)) (functional c w at (typ f d v) (o ∷ p ∷ os))
+many_law : (c : Ctx) (w : Work) (at : At) (f : Form) (d v : Bool) (o p : Operand) (os : List Operand)
+    → On (Casts_to (typ f d v)) (functional c w at (typ f d v) (o ∷ p ∷ os))
 many_law c w at f d v o p os = either (Casts_to (typ f d v)) (is_object_form f) _ _ (λ h. objects_case c w at f d v (o ∷ p ∷ os) h) (λ h. tt)
 
 functional_law : (c : Ctx) (w : Work) (at : At) (t : Typ) (os : List Operand) → is_reference t ≡ false → On (Casts_to t) (functional c w at t os)
@@ -305,12 +351,14 @@ both_on P Q (Err e) h g = tt
 abbrev FromOne : Typ → TypedAll → Typed → Type 0
 FromOne t xs r = (x : Operand) → xs.operands ≡ x ∷ [] → CastTo t r.operand.tree
 
-ones : (c : Ctx) (at : At) (t : Typ) (xs : TypedAll) (r : Result Made ElabFault) → ((x : Operand) → xs.operands ≡ x ∷ [] → On (Casts_to t) r) → On (FromOne t xs) (an_operand at r)
+ones : (c : Ctx) (at : At) (t : Typ) (xs : TypedAll) (r : Result Made ElabFault) → ((x : Operand) → xs.operands ≡ x ∷ [] → On (Casts_to t) r)
+    → On (FromOne t xs) (an_operand at r)
 ones c at t xs (Ok m) h = h
 ones c at t xs (Err e) h = tt
 
 -- two steps that give a type
-nested : {A B D : Type 0} (Q : D → Type 0) (x : Result A ElabFault) (f : A → Result B ElabFault) (g : B → Result D ElabFault) → ((b : B) → and_then x f ≡ Ok b → On Q (g b)) → On Q (and_then x (λ (a : A). and_then (f a) g))
+nested : {A B D : Type 0} (Q : D → Type 0) (x : Result A ElabFault) (f : A → Result B ElabFault) (g : B → Result D ElabFault)
+    → ((b : B) → and_then x f ≡ Ok b → On Q (g b)) → On Q (and_then x (λ (a : A). and_then (f a) g))
 nested Q (Ok a) f g h = after Q (f a) g h
 nested Q (Err e) f g h = tt
 
@@ -332,24 +380,38 @@ made_law c w n t at os (Some k) = skip (IsMade (Some k)) (words c w (parameters_
 made_law c w n t at (o ∷ []) None = skip (IsMade None) (check o.at NoCopy (not (is_volatile_typ (typ_in o.tree)))) _ (λ y. by_copy refl)
 made_law c w n t at os None = tt
 
-built_law : (c : Ctx) (w : Work) (n : ℕ) (at : At) (o : Operand) (os : List Operand) → is_prvalue_itself n (o ∷ os) ≡ false → On (InMade (Built c n (arguments (o ∷ os)))) (constructed c w n (typ (class n) false false) at (o ∷ os))
-built_law c w n at o os h = skip (InMade (Built c n (arguments (o ∷ os)))) (makeable c at n) _ (λ k. either (InMade (Built c n (arguments (o ∷ os)))) (is_prvalue_itself n (o ∷ os)) _ _ (λ b. absurd cc)
-    (λ b. after (InMade (Built c n (arguments (o ∷ os)))) (meant at (chosen c.classes (makers c n) (arguments (o ∷ os)))) _ (λ i e. weaken (IsMade (constructor_at c n i)) (InMade (Built c n (arguments (o ∷ os)))) (constructed_by c w n (typ (class n) false false) at (o ∷ os) (constructor_at c n i)) (λ m g. record { index = i; means = makes_law c at n (arguments (o ∷ os)) i e; made = g }) (made_law c w n (typ (class n) false false) at (o ∷ os) (constructor_at c n i)))))
+built_law : (c : Ctx) (w : Work) (n : ℕ) (at : At) (o : Operand) (os : List Operand) → is_prvalue_itself n (o ∷ os) ≡ false
+    → On (InMade (Built c n (arguments (o ∷ os)))) (constructed c w n (typ (class n) false false) at (o ∷ os))
+built_law c w n at o os h = skip (InMade (Built c n (arguments (o ∷ os)))) (makeable c at n) _
+    (λ k. either (InMade (Built c n (arguments (o ∷ os)))) (is_prvalue_itself n (o ∷ os)) _ _ (λ b. absurd cc)
+    (λ b. after (InMade (Built c n (arguments (o ∷ os)))) (meant at (chosen c.classes (makers c n) (arguments (o ∷ os)))) _
+    (λ i e. weaken (IsMade (constructor_at c n i)) (InMade (Built c n (arguments (o ∷ os))))
+    (constructed_by c w n (typ (class n) false false) at (o ∷ os) (constructor_at c n i))
+    (λ m g. record { index = i; means = makes_law c at n (arguments (o ∷ os)) i e; made = g })
+    (made_law c w n (typ (class n) false false) at (o ∷ os) (constructor_at c n i)))))
 
-class_case : (c : Ctx) (w : Work) (at : At) (n : ℕ) (d v : Bool) (o : Operand) (os : List Operand) → is_prvalue_itself n (o ∷ os) ≡ false → On (InMade (Built c n (arguments (o ∷ os)))) (functional c w at (typ (class n) d v) (o ∷ os))
-class_case c w at n d v o [] h = bind (InMade (Built c n (arguments (o ∷ [])))) (InMade (Built c n (arguments (o ∷ [])))) (constructed c w n (typ (class n) false false) at (o ∷ [])) _ (built_law c w n at o [] h) (λ m g. g)
-class_case c w at n d v o (p ∷ os) h = bind (InMade (Built c n (arguments (o ∷ p ∷ os)))) (InMade (Built c n (arguments (o ∷ p ∷ os)))) (constructed c w n (typ (class n) false false) at (o ∷ p ∷ os)) _ (built_law c w n at o (p ∷ os) h) (λ m g. g)
+class_case : (c : Ctx) (w : Work) (at : At) (n : ℕ) (d v : Bool) (o : Operand) (os : List Operand) → is_prvalue_itself n (o ∷ os) ≡ false
+    → On (InMade (Built c n (arguments (o ∷ os)))) (functional c w at (typ (class n) d v) (o ∷ os))
+class_case c w at n d v o [] h = bind (InMade (Built c n (arguments (o ∷ [])))) (InMade (Built c n (arguments (o ∷ []))))
+    (constructed c w n (typ (class n) false false) at (o ∷ [])) _ (built_law c w n at o [] h) (λ m g. g)
+class_case c w at n d v o (p ∷ os) h = bind (InMade (Built c n (arguments (o ∷ p ∷ os)))) (InMade (Built c n (arguments (o ∷ p ∷ os))))
+    (constructed c w n (typ (class n) false false) at (o ∷ p ∷ os)) _ (built_law c w n at o (p ∷ os) h) (λ m g. g)
 
-class_of_form : (c : Ctx) (w : Work) (at : At) (f : Form) (d v : Bool) (n : ℕ) (ps : List Operand) (o : Operand) (os : List Operand) → f ≡ class n → ps ≡ o ∷ os → is_prvalue_itself n (o ∷ os) ≡ false → On (InMade (Built c n (arguments (o ∷ os)))) (functional c w at (typ f d v) ps)
+class_of_form : (c : Ctx) (w : Work) (at : At) (f : Form) (d v : Bool) (n : ℕ) (ps : List Operand) (o : Operand) (os : List Operand) → f ≡ class n → ps ≡ o ∷ os
+    → is_prvalue_itself n (o ∷ os) ≡ false → On (InMade (Built c n (arguments (o ∷ os)))) (functional c w at (typ f d v) ps)
 class_of_form c w at f d v n ps o os h g i = rw (h, g) (class_case c w at n d v o os i)
 
-class_law : (c : Ctx) (w : Work) (at : At) (t : Typ) (n : ℕ) (ps : List Operand) (o : Operand) (os : List Operand) → form_in t ≡ class n → ps ≡ o ∷ os → is_prvalue_itself n (o ∷ os) ≡ false → On (InMade (Built c n (arguments (o ∷ os)))) (functional c w at t ps)
+class_law : (c : Ctx) (w : Work) (at : At) (t : Typ) (n : ℕ) (ps : List Operand) (o : Operand) (os : List Operand) → form_in t ≡ class n → ps ≡ o ∷ os
+    → is_prvalue_itself n (o ∷ os) ≡ false → On (InMade (Built c n (arguments (o ∷ os)))) (functional c w at t ps)
 class_law c w at (typ f d v) n ps o os h g i = class_of_form c w at f d v n ps o os h g i
 
 abbrev FromClass : Ctx → Typ → TypedAll → Typed → Type 0
-FromClass c t xs r = (n : ℕ) (x : Operand) (ys : List Operand) → form_in t ≡ class n → xs.operands ≡ x ∷ ys → is_prvalue_itself n (x ∷ ys) ≡ false → Built c n (arguments (x ∷ ys)) r.operand.tree
+FromClass c t xs r = (n : ℕ) (x : Operand) (ys : List Operand) → form_in t ≡ class n → xs.operands ≡ x ∷ ys → is_prvalue_itself n (x ∷ ys) ≡ false
+    → Built c n (arguments (x ∷ ys)) r.operand.tree
 
-class_in : (c : Ctx) (at : At) (t : Typ) (xs : TypedAll) (r : Result Made ElabFault) → ((n : ℕ) (x : Operand) (ys : List Operand) → form_in t ≡ class n → xs.operands ≡ x ∷ ys → is_prvalue_itself n (x ∷ ys) ≡ false → On (InMade (Built c n (arguments (x ∷ ys)))) r) → On (FromClass c t xs) (an_operand at r)
+class_in : (c : Ctx) (at : At) (t : Typ) (xs : TypedAll) (r : Result Made ElabFault)
+    → ((n : ℕ) (x : Operand) (ys : List Operand) → form_in t ≡ class n → xs.operands ≡ x ∷ ys → is_prvalue_itself n (x ∷ ys) ≡ false
+    → On (InMade (Built c n (arguments (x ∷ ys)))) r) → On (FromClass c t xs) (an_operand at r)
 class_in c at t xs (Ok m) h = h
 class_in c at t xs (Err e) h = tt
 
@@ -363,19 +425,27 @@ abbrev FromAny : Typ → Typed → Type 0
 FromAny t r = is_reference t ≡ false → CastTo t r.operand.tree
 
 any_on : (c : Ctx) (at : At) (t : Typ) (xs : TypedAll) → On (FromAny t) (an_operand at (functional c xs.work at t xs.operands))
-any_on c at t xs = under (is_reference t ≡ false) (λ (r : Typed). CastTo t r.operand.tree) (an_operand at (functional c xs.work at t xs.operands)) (λ i. made_in (CastTo t) at (functional c xs.work at t xs.operands) (functional_law c xs.work at t xs.operands i))
+any_on c at t xs = under (is_reference t ≡ false) (λ (r : Typed). CastTo t r.operand.tree) (an_operand at (functional c xs.work at t xs.operands))
+    (λ i. made_in (CastTo t) at (functional c xs.work at t xs.operands) (functional_law c xs.work at t xs.operands i))
 
 abbrev FromOneOrAny : Typ → TypedAll → Typed → Type 0
 FromOneOrAny t xs r = FromOne t xs r × FromAny t r
 
 pub functional_casts_law : FunctionalCasts
-functional_casts_law s c w p t base es = nested (OfFunctional s c w p base es) (specified_with s c c.closures w no_specifiers base) (specified_type (at_of p)) _ (λ u h. after (OfFunctional s c w p base es) (operands_of s c w es) _ (λ xs g.
-    weaken (λ (r : Typed). FromOneOrAny u xs r × FromClass c u xs r) (OfFunctional s c w p base es) (an_operand (at_of p) (functional c xs.work (at_of p) u xs.operands)) (λ r m. record { typ = u; typ_is = h; args = xs; args_are = g; of_one = m.0.0; of_class = m.1; of_any = m.0.1 })
-    (both_on (FromOneOrAny u xs) (FromClass c u xs) (an_operand (at_of p) (functional c xs.work (at_of p) u xs.operands)) (both_on (FromOne u xs) (FromAny u) (an_operand (at_of p) (functional c xs.work (at_of p) u xs.operands)) (one_on c (at_of p) u xs) (any_on c (at_of p) u xs)) (class_on c (at_of p) u xs))))
+functional_casts_law s c w p t base es = nested (OfFunctional s c w p base es) (specified_with s c c.closures w no_specifiers base) (specified_type (at_of p)) _
+    (λ u h. after (OfFunctional s c w p base es) (operands_of s c w es) _ (λ xs g.
+    weaken (λ (r : Typed). FromOneOrAny u xs r × FromClass c u xs r) (OfFunctional s c w p base es)
+    (an_operand (at_of p) (functional c xs.work (at_of p) u xs.operands))
+    (λ r m. record { typ = u; typ_is = h; args = xs; args_are = g; of_one = m.0.0; of_class = m.1; of_any = m.0.1 })
+    (both_on (FromOneOrAny u xs) (FromClass c u xs) (an_operand (at_of p) (functional c xs.work (at_of p) u xs.operands))
+    (both_on (FromOne u xs) (FromAny u) (an_operand (at_of p) (functional c xs.work (at_of p) u xs.operands)) (one_on c (at_of p) u xs)
+    (any_on c (at_of p) u xs)) (class_on c (at_of p) u xs))))
 
 -- `sizeof`
 
-size_in : (c : Ctx) (w : Work) (at : At) (t : Typ) (b d : Bool) → On (SizeOf c w t) (a_tree at w (and_then (check at BadOperand b) (λ y. and_then (check at Incomplete d) (λ z. Ok (number ULong (size_of c.classes (referred t)) at)))))
+size_in : (c : Ctx) (w : Work) (at : At) (t : Typ) (b d : Bool)
+    → On (SizeOf c w t) (a_tree at w (and_then (check at BadOperand b)
+    (λ y. and_then (check at Incomplete d) (λ z. Ok (number ULong (size_of c.classes (referred t)) at)))))
 size_in c w at t true true = record { value = refl; result = record { has_type = refl; category = refl }; nothing_made = refl }
 size_in c w at t true false = tt
 size_in c w at t false d = tt
@@ -384,10 +454,15 @@ size_law : (c : Ctx) (w : Work) (at place : At) (t : Typ) → On (SizeOf c w t) 
 size_law c w at place t = size_in c w at t (not (is_function (referred t)) && not (is_void (referred t))) (is_sized c (referred t))
 
 pub sizes_of_types_law : SizesOfTypes
-sizes_of_types_law s c w p t a = after (OfSizeType s c w a) (type_id_with s c [] w a) _ (λ u h. weaken (SizeOf c w u) (OfSizeType s c w a) (a_tree (at_of p) w (size_literal c (at_of p) (at_of p) u)) (λ r g. record { typ = u; typ_is = h; size = g }) (size_law c w (at_of p) (at_of p) u))
+sizes_of_types_law s c w p t a = after (OfSizeType s c w a) (type_id_with s c [] w a) _
+    (λ u h. weaken (SizeOf c w u) (OfSizeType s c w a) (a_tree (at_of p) w (size_literal c (at_of p) (at_of p) u))
+    (λ r g. record { typ = u; typ_is = h; size = g }) (size_law c w (at_of p) (at_of p) u))
 
 pub sizes_of_expressions_law : SizesOfExpressions
-sizes_of_expressions_law s c w p t a = after (OfSizeExpression s c w a) (and_then (expression_with s c [] w a) (chosen_operand c)) _ (λ x h. weaken (SizeOf c w (typ_in x.operand.tree)) (OfSizeExpression s c w a) (a_tree (at_of p) w (size_literal c (at_of p) x.operand.at (typ_in x.operand.tree))) (λ r g. record { operand = x; operand_is = h; size = g }) (size_law c w (at_of p) x.operand.at (typ_in x.operand.tree)))
+sizes_of_expressions_law s c w p t a = after (OfSizeExpression s c w a) (and_then (expression_with s c [] w a) (chosen_operand c)) _
+    (λ x h. weaken (SizeOf c w (typ_in x.operand.tree)) (OfSizeExpression s c w a)
+    (a_tree (at_of p) w (size_literal c (at_of p) x.operand.at (typ_in x.operand.tree))) (λ r g. record { operand = x; operand_is = h; size = g })
+    (size_law c w (at_of p) x.operand.at (typ_in x.operand.tree)))
 
 -- `throw`
 
@@ -407,19 +482,35 @@ object_plain (typ (func s) d v) h = absurd cc
 plain_form : (t : Typ) (f : Form) → form_in t ≡ f → unqualified t ≡ plain f
 plain_form (typ g d v) f h = ap plain h
 
-thrown_scalar : (c : Ctx) (w : Work) (at : At) (o : Operand) → On (InMade (Thrown c o)) (and_then (check at BadThrow (is_thrown_scalar (form_in (typ_in (value o))))) (λ y. Ok (record { tree = throw_node c at (typ_in (value o)) (value o); work = w })))
-thrown_scalar c w at o = checked (InMade (Thrown c o)) at BadThrow (is_thrown_scalar (form_in (typ_in (value o)))) _ (λ y. record { is = refl; result = record { has_type = plain_form (typ_in (value o)) (decayed (typ_in o.tree)) (tree_value o.at o.tree); category = refl } })
+thrown_scalar : (c : Ctx) (w : Work) (at : At) (o : Operand)
+    → On (InMade (Thrown c o)) (and_then (check at BadThrow (is_thrown_scalar (form_in (typ_in (value o)))))
+    (λ y. Ok (record { tree = throw_node c at (typ_in (value o)) (value o); work = w })))
+thrown_scalar c w at o = checked (InMade (Thrown c o)) at BadThrow (is_thrown_scalar (form_in (typ_in (value o)))) _
+    (λ y. record {
+      is = refl;
+      result = record {
+        has_type = plain_form (typ_in (value o)) (decayed (typ_in o.tree)) (tree_value o.at o.tree);
+        category =
+            refl;
+      };
+    })
 
-thrown_object : (c : Ctx) (w : Work) (at : At) (o : Operand) → is_object_form (form_in (typ_in o.tree)) ≡ true → On (InMade (Thrown c o)) (throw_object c w at o)
-thrown_object c w at o h = skip (InMade (Thrown c o)) (check o.at NoCopy (not (is_volatile_typ (typ_in o.tree)))) _ (λ y. skip (InMade (Thrown c o)) (within_exception c at (typ_in o.tree)) _ (λ z. record { is = refl; result = record { has_type = object_plain (typ_in o.tree) h; category = refl } }))
+thrown_object : (c : Ctx) (w : Work) (at : At) (o : Operand) → is_object_form (form_in (typ_in o.tree)) ≡ true
+    → On (InMade (Thrown c o)) (throw_object c w at o)
+thrown_object c w at o h = skip (InMade (Thrown c o)) (check o.at NoCopy (not (is_volatile_typ (typ_in o.tree)))) _
+    (λ y. skip (InMade (Thrown c o)) (within_exception c at (typ_in o.tree)) _
+    (λ z. record { is = refl; result = record { has_type = object_plain (typ_in o.tree) h; category = refl } }))
 
 throw_law : (c : Ctx) (w : Work) (at : At) (f : Form) (o : Operand) → form_in (typ_in o.tree) ≡ f → On (InMade (Thrown c o)) (throw_in c w at f o)
-throw_law c w at (class n) o h = skip (InMade (Thrown c o)) (check at NotTriviallyCopyable (traits_at c n).is_trivially_copyable) _ (λ y. thrown_object c w at o (ap is_object_form h))
+throw_law c w at (class n) o h = skip (InMade (Thrown c o)) (check at NotTriviallyCopyable (traits_at c n).is_trivially_copyable) _
+    (λ y. thrown_object c w at o (ap is_object_form h))
 throw_law c w at (tx_ex t) o h = thrown_object c w at o (ap is_object_form h)
 throw_law c w at f o h = thrown_scalar c w at o
 
 pub throws_law : Throws
-throws_law s c w p t a = of_one s c w a (Thrown c) (λ (xs : TypedAll). row_of s c xs.work k.ThrowExpression (at_of p) t xs.operands) (λ x. made_in (Thrown c x.operand) (at_of p) (throw_in c x.work (at_of p) (form_in (typ_in x.operand.tree)) x.operand) (throw_law c x.work (at_of p) (form_in (typ_in x.operand.tree)) x.operand refl))
+throws_law s c w p t a = of_one s c w a (Thrown c) (λ (xs : TypedAll). row_of s c xs.work k.ThrowExpression (at_of p) t xs.operands)
+    (λ x. made_in (Thrown c x.operand) (at_of p) (throw_in c x.work (at_of p) (form_in (typ_in x.operand.tree)) x.operand)
+    (throw_law c x.work (at_of p) (form_in (typ_in x.operand.tree)) x.operand refl))
 
 pub rethrows_law : Rethrows
 rethrows_law s c w p t = record { is = refl; result = record { has_type = refl; category = refl } }

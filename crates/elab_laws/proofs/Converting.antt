@@ -32,7 +32,8 @@ retyped_prvalue : (at : At) (b : Bool) (t : Typ) (v : Tree) → cat_of v ≡ Prv
 retyped_prvalue at true t v h = h
 retyped_prvalue at false t v h = refl
 
-between_cat : (at : At) (i j : IntKind) (b : Bool) (t : Typ) (v : Tree) → kind_eq i j ≡ b → cat_of v ≡ Prvalue → cat_of (between at (Some i) (Some j) t v) ≡ Prvalue
+between_cat : (at : At) (i j : IntKind) (b : Bool) (t : Typ) (v : Tree) → kind_eq i j ≡ b → cat_of v ≡ Prvalue
+    → cat_of (between at (Some i) (Some j) t v) ≡ Prvalue
 between_cat at i j true t v e h = rw e (retyped_prvalue at (typ_eq t (typ_in v)) t v h)
 between_cat at i j false t v e h = rw e refl
 
@@ -42,7 +43,8 @@ between_prvalue at (Some i) None t v h = h
 between_prvalue at None j t v h = h
 
 -- the value of an operand that is a scalar is a prvalue
-value_cat_is : (at : At) (kind : TKind) (f : Form) (d v : Bool) (cat : Cat) (p : At) (kids : Trees) (j : IntKind) → kind_in (form_in (typ_in (valued at (node kind (typ f d v) cat p kids)))) ≡ Some j → cat_of (valued at (node kind (typ f d v) cat p kids)) ≡ Prvalue
+value_cat_is : (at : At) (kind : TKind) (f : Form) (d v : Bool) (cat : Cat) (p : At) (kids : Trees) (j : IntKind)
+    → kind_in (form_in (typ_in (valued at (node kind (typ f d v) cat p kids)))) ≡ Some j → cat_of (valued at (node kind (typ f d v) cat p kids)) ≡ Prvalue
 value_cat_is at kind (func s) d v cat p kids j h = refl
 value_cat_is at kind (array t n) d v cat p kids j h = refl
 value_cat_is at kind (int i) d v Lvalue p kids j h = refl

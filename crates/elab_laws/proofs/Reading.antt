@@ -17,7 +17,8 @@ use Rattle.elab_laws.specs.Reading.{On, is_among, operand_of, OfOne, OfTwo, OfTh
 -- Steps
 
 -- behind a step of which something is known
-pub bind : {A B : Type 0} (P : A → Type 0) (Q : B → Type 0) (x : Result A ElabFault) (f : A → Result B ElabFault) → On P x → ((a : A) → P a → On Q (f a)) → On Q (and_then x f)
+pub bind : {A B : Type 0} (P : A → Type 0) (Q : B → Type 0) (x : Result A ElabFault) (f : A → Result B ElabFault) → On P x → ((a : A) → P a → On Q (f a))
+    → On Q (and_then x f)
 bind P Q (Ok a) f h g = g a h
 bind P Q (Err e) f h g = tt
 
@@ -31,11 +32,13 @@ pub after : {A B : Type 0} (Q : B → Type 0) (x : Result A ElabFault) (f : A �
 after Q (Ok a) f g = g a refl
 after Q (Err e) f g = tt
 
-pub checked : {B : Type 0} (Q : B → Type 0) (at : At) (rule : IllRule) (b : Bool) (f : Bool → Result B ElabFault) → (b ≡ true → On Q (f true)) → On Q (and_then (check at rule b) f)
+pub checked : {B : Type 0} (Q : B → Type 0) (at : At) (rule : IllRule) (b : Bool) (f : Bool → Result B ElabFault) → (b ≡ true → On Q (f true))
+    → On Q (and_then (check at rule b) f)
 checked Q at rule true f g = g refl
 checked Q at rule false f g = tt
 
-pub expected : {A B : Type 0} (Q : B → Type 0) (at : At) (rule : IllRule) (x : Option A) (f : A → Result B ElabFault) → ((a : A) → x ≡ Some a → On Q (f a)) → On Q (and_then (expect at rule x) f)
+pub expected : {A B : Type 0} (Q : B → Type 0) (at : At) (rule : IllRule) (x : Option A) (f : A → Result B ElabFault) → ((a : A) → x ≡ Some a → On Q (f a))
+    → On Q (and_then (expect at rule x) f)
 expected Q at rule (Some a) f g = g a refl
 expected Q at rule None f g = tt
 
@@ -63,7 +66,8 @@ one_from : (s : List Lexeme) (c : Ctx) (w : Work) (a : syntax.Tree) (rule : Oper
     → (r : Result Typed ElabFault) → operand_of s c w a ≡ r
     → On (OfOne s c w a rule) (and_then (and_then r (λ (x : Typed). Ok (record { operands = x.operand ∷ []; work = x.work }))) row)
 one_from s c w a rule row h (Err e) i = tt
-one_from s c w a rule row h (Ok x) i = weaken (λ (y : Typed). rule x.operand y.operand.tree) (OfOne s c w a rule) (row (record { operands = x.operand ∷ []; work = x.work })) (λ y g. record { operand = x; operand_is = i; holds = g }) (h x)
+one_from s c w a rule row h (Ok x) i = weaken (λ (y : Typed). rule x.operand y.operand.tree) (OfOne s c w a rule)
+    (row (record { operands = x.operand ∷ []; work = x.work })) (λ y g. record { operand = x; operand_is = i; holds = g }) (h x)
 
 pub of_one : (s : List Lexeme) (c : Ctx) (w : Work) (a : syntax.Tree) (rule : Operand → Tree → Type 0) (row : TypedAll → Result Typed ElabFault)
     → ((x : Typed) → On (λ (y : Typed). rule x.operand y.operand.tree) (row (record { operands = x.operand ∷ []; work = x.work })))
@@ -73,17 +77,22 @@ of_one s c w a rule row h = one_from s c w a rule row h (operand_of s c w a) ref
 abbrev pub pair : Typed → Typed → TypedAll
 pair x y = record { operands = x.operand ∷ y.operand ∷ []; work = y.work }
 
-two_behind : (s : List Lexeme) (c : Ctx) (w : Work) (a b : syntax.Tree) (rule : Operand → Operand → Tree → Type 0) (row : TypedAll → Result Typed ElabFault) (x : Typed) → operand_of s c w a ≡ Ok x
+two_behind : (s : List Lexeme) (c : Ctx) (w : Work) (a b : syntax.Tree) (rule : Operand → Operand → Tree → Type 0) (row : TypedAll → Result Typed ElabFault)
+    (x : Typed) → operand_of s c w a ≡ Ok x
     → ((y : Typed) → On (λ (z : Typed). rule x.operand y.operand z.operand.tree) (row (pair x y)))
     → (r : Result Typed ElabFault) → operand_of s c x.work b ≡ r
-    → On (OfTwo s c w a b rule) (and_then (and_then (and_then r (λ (y : Typed). Ok (record { operands = y.operand ∷ []; work = y.work }))) (λ (ys : TypedAll). Ok (record { operands = x.operand ∷ ys.operands; work = ys.work }))) row)
+    → On (OfTwo s c w a b rule) (and_then (and_then (and_then r (λ (y : Typed). Ok (record { operands = y.operand ∷ []; work = y.work })))
+    (λ (ys : TypedAll). Ok (record { operands = x.operand ∷ ys.operands; work = ys.work }))) row)
 two_behind s c w a b rule row x i h (Err e) j = tt
-two_behind s c w a b rule row x i h (Ok y) j = weaken (λ (z : Typed). rule x.operand y.operand z.operand.tree) (OfTwo s c w a b rule) (row (pair x y)) (λ z g. record { left = x; left_is = i; right = y; right_is = j; holds = g }) (h y)
+two_behind s c w a b rule row x i h (Ok y) j = weaken (λ (z : Typed). rule x.operand y.operand z.operand.tree) (OfTwo s c w a b rule) (row (pair x y))
+    (λ z g. record { left = x; left_is = i; right = y; right_is = j; holds = g }) (h y)
 
 two_from : (s : List Lexeme) (c : Ctx) (w : Work) (a b : syntax.Tree) (rule : Operand → Operand → Tree → Type 0) (row : TypedAll → Result Typed ElabFault)
     → ((x y : Typed) → On (λ (z : Typed). rule x.operand y.operand z.operand.tree) (row (pair x y)))
     → (r : Result Typed ElabFault) → operand_of s c w a ≡ r
-    → On (OfTwo s c w a b rule) (and_then (and_then r (λ (x : Typed). and_then (operands_of s c x.work (syntax.more b syntax.none)) (λ (ys : TypedAll). Ok (record { operands = x.operand ∷ ys.operands; work = ys.work })))) row)
+    → On (OfTwo s c w a b rule) (and_then (and_then r
+    (λ (x : Typed). and_then (operands_of s c x.work (syntax.more b syntax.none))
+    (λ (ys : TypedAll). Ok (record { operands = x.operand ∷ ys.operands; work = ys.work })))) row)
 two_from s c w a b rule row h (Err e) i = tt
 two_from s c w a b rule row h (Ok x) i = two_behind s c w a b rule row x i (h x) (operand_of s c x.work b) refl
 
@@ -98,28 +107,38 @@ triple x y z = record { operands = x.operand ∷ y.operand ∷ z.operand ∷ [];
 abbrev put : Typed → TypedAll → Result TypedAll ElabFault
 put x xs = Ok (record { operands = x.operand ∷ xs.operands; work = xs.work })
 
-three_last : (s : List Lexeme) (c : Ctx) (w : Work) (a b d : syntax.Tree) (rule : Operand → Operand → Operand → Tree → Type 0) (row : TypedAll → Result Typed ElabFault) (x y : Typed) → operand_of s c w a ≡ Ok x → operand_of s c x.work b ≡ Ok y
+three_last : (s : List Lexeme) (c : Ctx) (w : Work) (a b d : syntax.Tree) (rule : Operand → Operand → Operand → Tree → Type 0)
+    (row : TypedAll → Result Typed ElabFault) (x y : Typed) → operand_of s c w a ≡ Ok x → operand_of s c x.work b ≡ Ok y
     → ((z : Typed) → On (λ (v : Typed). rule x.operand y.operand z.operand v.operand.tree) (row (triple x y z)))
     → (r : Result Typed ElabFault) → operand_of s c y.work d ≡ r
-    → On (OfThree s c w a b d rule) (and_then (and_then (and_then (and_then r (λ (z : Typed). Ok (record { operands = z.operand ∷ []; work = z.work }))) (λ (zs : TypedAll). put y zs)) (λ (ys : TypedAll). put x ys)) row)
+    → On (OfThree s c w a b d rule) (and_then (and_then
+    (and_then (and_then r (λ (z : Typed). Ok (record { operands = z.operand ∷ []; work = z.work }))) (λ (zs : TypedAll). put y zs))
+    (λ (ys : TypedAll). put x ys)) row)
 three_last s c w a b d rule row x y i j h (Err e) l = tt
-three_last s c w a b d rule row x y i j h (Ok z) l = weaken (λ (v : Typed). rule x.operand y.operand z.operand v.operand.tree) (OfThree s c w a b d rule) (row (triple x y z)) (λ v g. record { first = x; first_is = i; second = y; second_is = j; third = z; third_is = l; holds = g }) (h z)
+three_last s c w a b d rule row x y i j h (Ok z) l = weaken (λ (v : Typed). rule x.operand y.operand z.operand v.operand.tree) (OfThree s c w a b d rule)
+    (row (triple x y z)) (λ v g. record { first = x; first_is = i; second = y; second_is = j; third = z; third_is = l; holds = g }) (h z)
 
-three_behind : (s : List Lexeme) (c : Ctx) (w : Work) (a b d : syntax.Tree) (rule : Operand → Operand → Operand → Tree → Type 0) (row : TypedAll → Result Typed ElabFault) (x : Typed) → operand_of s c w a ≡ Ok x
+three_behind : (s : List Lexeme) (c : Ctx) (w : Work) (a b d : syntax.Tree) (rule : Operand → Operand → Operand → Tree → Type 0)
+    (row : TypedAll → Result Typed ElabFault) (x : Typed) → operand_of s c w a ≡ Ok x
     → ((y z : Typed) → On (λ (v : Typed). rule x.operand y.operand z.operand v.operand.tree) (row (triple x y z)))
     → (r : Result Typed ElabFault) → operand_of s c x.work b ≡ r
-    → On (OfThree s c w a b d rule) (and_then (and_then (and_then r (λ (y : Typed). and_then (operands_of s c y.work (syntax.more d syntax.none)) (λ (zs : TypedAll). put y zs))) (λ (ys : TypedAll). put x ys)) row)
+    → On (OfThree s c w a b d rule) (and_then (and_then
+    (and_then r (λ (y : Typed). and_then (operands_of s c y.work (syntax.more d syntax.none)) (λ (zs : TypedAll). put y zs)))
+    (λ (ys : TypedAll). put x ys)) row)
 three_behind s c w a b d rule row x i h (Err e) j = tt
 three_behind s c w a b d rule row x i h (Ok y) j = three_last s c w a b d rule row x y i j (h y) (operand_of s c y.work d) refl
 
-three_from : (s : List Lexeme) (c : Ctx) (w : Work) (a b d : syntax.Tree) (rule : Operand → Operand → Operand → Tree → Type 0) (row : TypedAll → Result Typed ElabFault)
+three_from : (s : List Lexeme) (c : Ctx) (w : Work) (a b d : syntax.Tree) (rule : Operand → Operand → Operand → Tree → Type 0)
+    (row : TypedAll → Result Typed ElabFault)
     → ((x y z : Typed) → On (λ (v : Typed). rule x.operand y.operand z.operand v.operand.tree) (row (triple x y z)))
     → (r : Result Typed ElabFault) → operand_of s c w a ≡ r
-    → On (OfThree s c w a b d rule) (and_then (and_then r (λ (x : Typed). and_then (operands_of s c x.work (syntax.more b (syntax.more d syntax.none))) (λ (ys : TypedAll). put x ys))) row)
+    → On (OfThree s c w a b d rule) (and_then (and_then r
+    (λ (x : Typed). and_then (operands_of s c x.work (syntax.more b (syntax.more d syntax.none))) (λ (ys : TypedAll). put x ys))) row)
 three_from s c w a b d rule row h (Err e) i = tt
 three_from s c w a b d rule row h (Ok x) i = three_behind s c w a b d rule row x i (h x) (operand_of s c x.work b) refl
 
-pub of_three : (s : List Lexeme) (c : Ctx) (w : Work) (a b d : syntax.Tree) (rule : Operand → Operand → Operand → Tree → Type 0) (row : TypedAll → Result Typed ElabFault)
+pub of_three : (s : List Lexeme) (c : Ctx) (w : Work) (a b d : syntax.Tree) (rule : Operand → Operand → Operand → Tree → Type 0)
+    (row : TypedAll → Result Typed ElabFault)
     → ((x y z : Typed) → On (λ (v : Typed). rule x.operand y.operand z.operand v.operand.tree) (row (triple x y z)))
     → On (OfThree s c w a b d rule) (and_then (operands_of s c w (syntax.more a (syntax.more b (syntax.more d syntax.none)))) row)
 of_three s c w a b d rule row h = three_from s c w a b d rule row h (operand_of s c w a) refl

@@ -25,7 +25,8 @@ pub record Assigned (x y : Operand) (e : Tree) : Type 0 where
 -- `=`: but for an object of a class, the right operand converts to the type of the left one without its qualifiers (5.17 p3)
 pub record Simple (c : Ctx) (x y : Operand) (e : Tree) : Type 0 where
   pub assigned : Assigned x y e
-  pub converts : is_object_form (form_in (typ_in x.tree)) ≡ false → is_some (conversion_of c.classes (typ_in y.tree) (cat_of y.tree) y.zero (unqualified (typ_in x.tree))) ≡ true
+  pub converts : is_object_form (form_in (typ_in x.tree)) ≡ false
+      → is_some (conversion_of c.classes (typ_in y.tree) (cat_of y.tree) y.zero (unqualified (typ_in x.tree))) ≡ true
 
 -- `+=` and the like: an integer or a pointer, and a number (5.17 p7)
 pub data MayCount (t : Typ) : Type 0 where
@@ -61,7 +62,8 @@ pub data Either (x y : Operand) (e : Tree) : Type 0 where
   -- p4: lvalues of one type
   lvalues : (t : Typ) → IsLvalue t x.tree → IsLvalue t y.tree → IsLvalue t e → Either x y e
   -- p3, p6: objects of one class, or values of one type
-  objects : is_object_form (form_in (typ_in x.tree)) ≡ true → form_in (typ_in y.tree) ≡ form_in (typ_in x.tree) → IsPrvalue (unqualified (typ_in x.tree)) e → Either x y e
+  objects : is_object_form (form_in (typ_in x.tree)) ≡ true → form_in (typ_in y.tree) ≡ form_in (typ_in x.tree) → IsPrvalue (unqualified (typ_in x.tree)) e
+      → Either x y e
   values : (f : Form) → value_type x ≡ f → value_type y ≡ f → IsPrvalue (plain f) e → Either x y e
   -- p6: numbers as the usual arithmetic conversions say, a pointer with a null pointer constant as the pointer
   numbers_of : (i j : IntKind) → IsNumber x i → IsNumber y j → IsPrvalue (plain (int (usual_of i j))) e → Either x y e

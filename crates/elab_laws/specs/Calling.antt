@@ -21,7 +21,8 @@ use Rattle.elab_rules.specs.Calls.{is_closure_call}
 use Rattle.elab_rules.specs.Expressions.{expression_of, operands_of}
 use Rattle.elab_laws.specs.Reading.{On, IsPrvalue, IsLvalue, value_type}
 
--- What a call gives, by the result of the function (5.2.2 p10; 5 p5, p6): an lvalue for a reference, an object of a class as it is, another value without qualifiers
+-- What a call gives, by the result of the function (5.2.2 p10; 5 p5, p6): an lvalue for a reference, an object of a class as it is, another value without
+-- qualifiers
 pub data Returns (r : Typ) (e : Tree) : Type 0 where
   a_reference : (t : Typ) → form_in r ≡ ref t → IsLvalue t e → Returns r e
   an_object : is_object_form (form_in r) ≡ true → IsPrvalue r e → Returns r e
@@ -32,7 +33,8 @@ abbrev pub IsThis : List ℕ → ℕ → Result ℕ NoBest → Type 0
 IsThis places i (Ok j) = slice_get places j ≡ Some i
 IsThis places i (Err why) = ⊥
 
--- of the functions in these places, a call with these arguments means the one in place `i`: whatever is the answer of overload resolution (13.3.3), it is that one
+-- of the functions in these places, a call with these arguments means the one in place `i`: whatever is the answer of overload resolution (13.3.3), it is that
+-- one
 pub record Means (c : Ctx) (places : List ℕ) (args : List Argument) (i : ℕ) : Type 0 where
   pub each : (r : Result ℕ NoBest) → IsChosen c.classes (candidates_at candidate c.funcs places) args r → IsThis places i r
 
@@ -48,10 +50,12 @@ name_at c k = (func_at c.funcs k).declared.name
 
 pub data OfCall (c : Ctx) (callee : Operand) (args : List Operand) (e : Tree) : Type 0 where
   -- by name: one of the functions at file scope of that name
-  of_function : (k i : ℕ) → kind_of callee.tree ≡ Function k → kids_of callee.tree ≡ none → Means c (places_from (is_free (name_at c k)) 0 c.funcs) (arguments args) i → Returns (result_at c i) e → OfCall c callee args e
+  of_function : (k i : ℕ) → kind_of callee.tree ≡ Function k → kids_of callee.tree ≡ none
+      → Means c (places_from (is_free (name_at c k)) 0 c.funcs) (arguments args) i → Returns (result_at c i) e → OfCall c callee args e
   -- of a member: one of the functions of that name in its class
   of_member : (k n i : ℕ) (object : Tree) → kind_of callee.tree ≡ Function k → kids_of callee.tree ≡ one object → (func_at c.funcs k).class ≡ Some n →
-      Means c (places_from (is_method n (name_at c k)) 0 c.funcs) (object_argument object ∷ arguments args) i → Returns (result_at c i) e → OfCall c callee args e
+      Means c (places_from (is_method n (name_at c k)) 0 c.funcs) (object_argument object ∷ arguments args) i → Returns (result_at c i) e
+      → OfCall c callee args e
   -- of a lambda: its call operator
   of_closure : (n i : ℕ) (object : Tree) → form_in (typ_in callee.tree) ≡ closure n → typ_in object ≡ typ_in callee.tree →
       Means c (places_from (is_closure_call n) 0 c.funcs) (object_argument object ∷ arguments args) i → Returns (result_at c i) e → OfCall c callee args e
@@ -73,4 +77,5 @@ pub record Called (s : List Lexeme) (c : Ctx) (w : Work) (f : syntax.Tree) (es :
 -- The law
 
 abbrev pub Calls : Type 0
-Calls = (s : List Lexeme) (c : Ctx) (w : Work) (p : SyntaxAt) (t : Option ℕ) (f : syntax.Tree) (es : syntax.Trees) → On (Called s c w f es) (expression_of s c w (syntax.node k.FunctionCall p t (syntax.more f es)))
+Calls = (s : List Lexeme) (c : Ctx) (w : Work) (p : SyntaxAt) (t : Option ℕ) (f : syntax.Tree) (es : syntax.Trees)
+    → On (Called s c w f es) (expression_of s c w (syntax.node k.FunctionCall p t (syntax.more f es)))

@@ -40,7 +40,8 @@ pub record OfCast (s : List Lexeme) (c : Ctx) (w : Work) (a b : syntax.Tree) (r 
   pub operand_is : operand_of s c w b ≡ Ok operand
   pub holds : CastTo typ r.operand.tree
 
--- of the constructors of a class, and its trivial copy behind them, these arguments mean the one with this index: whatever is the answer of overload resolution (13.3.1.3)
+-- of the constructors of a class, and its trivial copy behind them, these arguments mean the one with this index: whatever is the answer of overload resolution
+-- (13.3.1.3)
 pub record Makes (c : Ctx) (n : ℕ) (args : List Argument) (i : ℕ) : Type 0 where
   pub each : (r : Result ℕ NoBest) → IsChosen c.classes (makers c n) args r → r ≡ Ok i
 
@@ -54,14 +55,16 @@ pub record Built (c : Ctx) (n : ℕ) (args : List Argument) (e : Tree) : Type 0 
   pub means : Makes c n args index
   pub made : MadeBy e (constructor_at c n index)
 
--- `T(a, ..)`: the type of a specifier (5.2.3). With one operand it is a cast; an object of a class is made by a constructor, but for a prvalue of that class. `T()` of a reference is left open: C++14 refuses it (8.5 p9)
+-- `T(a, ..)`: the type of a specifier (5.2.3). With one operand it is a cast; an object of a class is made by a constructor, but for a prvalue of that class.
+-- `T()` of a reference is left open: C++14 refuses it (8.5 p9)
 pub record OfFunctional (s : List Lexeme) (c : Ctx) (w : Work) (p : SyntaxAt) (base : syntax.Tree) (es : syntax.Trees) (r : Typed) : Type 0 where
   pub typ : Typ
   pub typ_is : and_then (specified_with s c c.closures w no_specifiers base) (specified_type (at_of p)) ≡ Ok typ
   pub args : TypedAll
   pub args_are : operands_of s c w es ≡ Ok args
   pub of_one : (x : Operand) → args.operands ≡ x ∷ [] → CastTo typ r.operand.tree
-  pub of_class : (n : ℕ) (x : Operand) (xs : List Operand) → form_in typ ≡ class n → args.operands ≡ x ∷ xs → is_prvalue_itself n (x ∷ xs) ≡ false → Built c n (arguments (x ∷ xs)) r.operand.tree
+  pub of_class : (n : ℕ) (x : Operand) (xs : List Operand) → form_in typ ≡ class n → args.operands ≡ x ∷ xs → is_prvalue_itself n (x ∷ xs) ≡ false
+      → Built c n (arguments (x ∷ xs)) r.operand.tree
   pub of_any : is_reference typ ≡ false → CastTo typ r.operand.tree
 
 -- the size of objects of a type, or of the type to which it refers (p2), a prvalue of type `std::size_t`, which is `unsigned long` (p6)
@@ -93,7 +96,8 @@ pub record IsAgain (e : Tree) : Type 0 where
 -- The laws
 
 abbrev pub EachCast : NodeKind → Type 0
-EachCast kind = (s : List Lexeme) (c : Ctx) (w : Work) (p : SyntaxAt) (t : Option ℕ) (a b : syntax.Tree) → On (OfCast s c w a b) (expression_of s c w (syntax.node kind p t (syntax.more a (syntax.more b syntax.none))))
+EachCast kind = (s : List Lexeme) (c : Ctx) (w : Work) (p : SyntaxAt) (t : Option ℕ) (a b : syntax.Tree)
+    → On (OfCast s c w a b) (expression_of s c w (syntax.node kind p t (syntax.more a (syntax.more b syntax.none))))
 
 abbrev pub StaticCasts : Type 0
 StaticCasts = EachCast k.StaticCast
@@ -102,17 +106,21 @@ abbrev pub Casts : Type 0
 Casts = EachCast k.CastExpression
 
 abbrev pub FunctionalCasts : Type 0
-FunctionalCasts = (s : List Lexeme) (c : Ctx) (w : Work) (p : SyntaxAt) (t : Option ℕ) (base : syntax.Tree) (es : syntax.Trees) → On (OfFunctional s c w p base es) (expression_of s c w (syntax.node k.FunctionalCast p t (syntax.more base es)))
+FunctionalCasts = (s : List Lexeme) (c : Ctx) (w : Work) (p : SyntaxAt) (t : Option ℕ) (base : syntax.Tree) (es : syntax.Trees)
+    → On (OfFunctional s c w p base es) (expression_of s c w (syntax.node k.FunctionalCast p t (syntax.more base es)))
 
 abbrev pub SizesOfTypes : Type 0
-SizesOfTypes = (s : List Lexeme) (c : Ctx) (w : Work) (p : SyntaxAt) (t : Option ℕ) (a : syntax.Tree) → On (OfSizeType s c w a) (expression_of s c w (syntax.node k.SizeofType p t (syntax.more a syntax.none)))
+SizesOfTypes = (s : List Lexeme) (c : Ctx) (w : Work) (p : SyntaxAt) (t : Option ℕ) (a : syntax.Tree)
+    → On (OfSizeType s c w a) (expression_of s c w (syntax.node k.SizeofType p t (syntax.more a syntax.none)))
 
 abbrev pub SizesOfExpressions : Type 0
-SizesOfExpressions = (s : List Lexeme) (c : Ctx) (w : Work) (p : SyntaxAt) (t : Option ℕ) (a : syntax.Tree) → On (OfSizeExpression s c w a) (expression_of s c w (syntax.node k.SizeofExpression p t (syntax.more a syntax.none)))
+SizesOfExpressions = (s : List Lexeme) (c : Ctx) (w : Work) (p : SyntaxAt) (t : Option ℕ) (a : syntax.Tree)
+    → On (OfSizeExpression s c w a) (expression_of s c w (syntax.node k.SizeofExpression p t (syntax.more a syntax.none)))
 
 abbrev pub Throws : Type 0
 Throws = AnyOne k.ThrowExpression Thrown
 
 -- `throw;`
 abbrev pub Rethrows : Type 0
-Rethrows = (s : List Lexeme) (c : Ctx) (w : Work) (p : SyntaxAt) (t : ℕ) → On (λ (r : Typed). IsAgain r.operand.tree) (expression_of s c w (syntax.node k.ThrowExpression p (Some t) syntax.none))
+Rethrows = (s : List Lexeme) (c : Ctx) (w : Work) (p : SyntaxAt) (t : ℕ)
+    → On (λ (r : Typed). IsAgain r.operand.tree) (expression_of s c w (syntax.node k.ThrowExpression p (Some t) syntax.none))

@@ -20,7 +20,8 @@ use Rattle.elab_rules.specs.cpp_tree.Notation.{plain}
 use Rattle.elab_rules.specs.elab_ctx.Ctx.{Ctx, Work, Variable, Enumerator, This, Lambda}
 use Rattle.elab_rules.specs.elab_ctx.Steps.{Typed, at_of, spelling}
 use Rattle.elab_rules.specs.Initialising.{func_at, places_from}
-use Rattle.elab_rules.specs.Names.{Captured, captured_from, is_outer, is_free, is_local_entity, member_here, this_tree, Found, field, methods, is_const_typ, is_volatile_object}
+use Rattle.elab_rules.specs.Names.{Captured, captured_from, is_outer, is_free, is_local_entity, member_here, this_tree, Found, field, methods, is_const_typ}
+use Rattle.elab_rules.specs.Names.{is_volatile_object}
 use Rattle.elab_rules.specs.Types.{type_named}
 use Rattle.elab_rules.specs.Expressions.{expression_of, scope_name}
 use Rattle.elab_laws.specs.Reading.{On, IsPrvalue, IsLvalue, operand_of}
@@ -103,7 +104,8 @@ abbrev pub Hides : Type 0
 Hides = (scopes : List Names) (name : List ℕ) (e : Entity) → found_in (declared scopes name e) name ≡ Some e
 
 abbrev pub OthersStay : Type 0
-OthersStay = (scopes : List Names) (name other : List ℕ) (e : Entity) → bytes_eq other name ≡ false → found_in (declared scopes name e) other ≡ found_in scopes other
+OthersStay = (scopes : List Names) (name other : List ℕ) (e : Entity) → bytes_eq other name ≡ false
+    → found_in (declared scopes name e) other ≡ found_in scopes other
 
 abbrev pub GivesBack : Type 0
 GivesBack = (scopes : List Names) (name : List ℕ) (e : Entity) → drop 1 (declared scopes name e) ≡ scopes
@@ -113,34 +115,43 @@ named p t = syntax.node k.UnqualifiedId p (Some t) syntax.none
 
 -- a variable of the function at hand; with a lambda around, one of its own
 abbrev pub Variables : Type 0
-Variables = (s : List Lexeme) (c : Ctx) (w : Work) (p : SyntaxAt) (t : ℕ) (e : Entity) → StandsFor c.scopes (spelling s t) e → e.kind ≡ entities.Local → is_outer e.id c.lambda ≡ None →
+Variables = (s : List Lexeme) (c : Ctx) (w : Work) (p : SyntaxAt) (t : ℕ) (e : Entity) → StandsFor c.scopes (spelling s t) e → e.kind ≡ entities.Local
+    → is_outer e.id c.lambda ≡ None →
     On (λ (r : Typed). OfVariable c e.id r.operand.tree) (expression_of s c w (named p t))
 
 -- a variable of a function around a lambda, which has to capture it (5.1.2 p12)
 abbrev pub Captures : Type 0
-Captures = (s : List Lexeme) (c : Ctx) (w : Work) (p : SyntaxAt) (t : ℕ) (e : Entity) (l : Lambda) → StandsFor c.scopes (spelling s t) e → e.kind ≡ entities.Local → is_outer e.id c.lambda ≡ Some l →
+Captures = (s : List Lexeme) (c : Ctx) (w : Work) (p : SyntaxAt) (t : ℕ) (e : Entity) (l : Lambda) → StandsFor c.scopes (spelling s t) e
+    → e.kind ≡ entities.Local → is_outer e.id c.lambda ≡ Some l →
     On (λ (r : Typed). OfCapture c l e.id r.operand.tree) (expression_of s c w (named p t))
 
 -- a member of the class at hand, where no variable of the function has the name
 abbrev pub OwnMembers : Type 0
-OwnMembers = (s : List Lexeme) (c : Ctx) (w : Work) (p : SyntaxAt) (t : ℕ) (f : Found) → is_local_entity (found_in c.scopes (spelling s t)) ≡ false → member_here c (spelling s t) c.class ≡ Some f →
+OwnMembers = (s : List Lexeme) (c : Ctx) (w : Work) (p : SyntaxAt) (t : ℕ) (f : Found) → is_local_entity (found_in c.scopes (spelling s t)) ≡ false
+    → member_here c (spelling s t) c.class ≡ Some f →
     On (λ (r : Typed). ThroughThis c (at_of p) f r.operand.tree) (expression_of s c w (named p t))
 
 -- these where no member of the class at hand has the name
 abbrev pub Globals : Type 0
-Globals = (s : List Lexeme) (c : Ctx) (w : Work) (p : SyntaxAt) (t : ℕ) (e : Entity) → StandsFor c.scopes (spelling s t) e → e.kind ≡ entities.Global → member_here c (spelling s t) c.class ≡ None →
+Globals = (s : List Lexeme) (c : Ctx) (w : Work) (p : SyntaxAt) (t : ℕ) (e : Entity) → StandsFor c.scopes (spelling s t) e → e.kind ≡ entities.Global
+    → member_here c (spelling s t) c.class ≡ None →
     On (λ (r : Typed). OfGlobal w e.id r.operand.tree) (expression_of s c w (named p t))
 
 abbrev pub Enumerators : Type 0
-Enumerators = (s : List Lexeme) (c : Ctx) (w : Work) (p : SyntaxAt) (t : ℕ) (e : Entity) → StandsFor c.scopes (spelling s t) e → e.kind ≡ entities.Enumerator → member_here c (spelling s t) c.class ≡ None →
+Enumerators = (s : List Lexeme) (c : Ctx) (w : Work) (p : SyntaxAt) (t : ℕ) (e : Entity) → StandsFor c.scopes (spelling s t) e → e.kind ≡ entities.Enumerator
+    → member_here c (spelling s t) c.class ≡ None →
     On (λ (r : Typed). OfEnumerator c e.id r.operand.tree) (expression_of s c w (named p t))
 
 abbrev pub Functions : Type 0
-Functions = (s : List Lexeme) (c : Ctx) (w : Work) (p : SyntaxAt) (t : ℕ) (e : Entity) → StandsFor c.scopes (spelling s t) e → e.kind ≡ entities.Funcs → member_here c (spelling s t) c.class ≡ None →
+Functions = (s : List Lexeme) (c : Ctx) (w : Work) (p : SyntaxAt) (t : ℕ) (e : Entity) → StandsFor c.scopes (spelling s t) e → e.kind ≡ entities.Funcs
+    → member_here c (spelling s t) c.class ≡ None →
     On (λ (r : Typed). OfFunction c e.id r.operand.tree) (operand_of s c w (named p t))
 
 -- `E::N`, where the scope of the file has the enumerator by this name (5.1.1 p11)
 abbrev pub QualifiedEnumerators : Type 0
-QualifiedEnumerators = (s : List Lexeme) (c : Ctx) (w : Work) (p q : SyntaxAt) (n t : ℕ) (kind : NodeKind) (kids : syntax.Trees) (name : List ℕ) (scoped d v : Bool) (e : Entity) →
-    type_named (spelling s t) c.types ≡ Some (typ (enum name scoped) d v) → StandsFor c.scopes (scope_name name (spelling s n)) e → e.kind ≡ entities.Enumerator →
-    On (λ (r : Typed). OfEnumerator c e.id r.operand.tree) (expression_of s c w (syntax.node k.QualifiedId p (Some n) (syntax.more (syntax.node kind q (Some t) kids) syntax.none)))
+QualifiedEnumerators = (s : List Lexeme) (c : Ctx) (w : Work) (p q : SyntaxAt) (n t : ℕ) (kind : NodeKind) (kids : syntax.Trees) (name : List ℕ)
+    (scoped d v : Bool) (e : Entity) →
+    type_named (spelling s t) c.types ≡ Some (typ (enum name scoped) d v) → StandsFor c.scopes (scope_name name (spelling s n)) e → e.kind ≡ entities.Enumerator
+    →
+    On (λ (r : Typed). OfEnumerator c e.id r.operand.tree)
+    (expression_of s c w (syntax.node k.QualifiedId p (Some n) (syntax.more (syntax.node kind q (Some t) kids) syntax.none)))

@@ -25,7 +25,8 @@ Nearest c name n f = IsFirst (λ (m : ℕ). own_member c name m) (n ∷ bases c.
 -- a member of an object of a type
 pub data OfMember (c : Ctx) (name : List ℕ) (object : Typ) (e : Tree) : Type 0 where
   -- an lvalue of the type of the member, with the qualifiers of the object (5.2.5 p4)
-  is_field : (n m i : ℕ) (t : Typ) → class_number object ≡ Some n → Nearest c name n (field m i t) → IsLvalue (qualified (is_const_typ object) (is_volatile_object object) t) e → OfMember c name object e
+  is_field : (n m i : ℕ) (t : Typ) → class_number object ≡ Some n → Nearest c name n (field m i t)
+      → IsLvalue (qualified (is_const_typ object) (is_volatile_object object) t) e → OfMember c name object e
   -- functions of the name, of which a call chooses one
   are_functions : (n k : ℕ) → class_number object ≡ Some n → Nearest c name n (methods k) → kind_of e ≡ Function k → OfMember c name object e
   -- `get` of a `std::tx_exception`
@@ -41,7 +42,8 @@ pub record ThroughPointer (c : Ctx) (name : List ℕ) (x : Operand) (e : Tree) :
 
 abbrev pub Members : Type 0
 Members = (s : List Lexeme) (c : Ctx) (w : Work) (p : SyntaxAt) (t : ℕ) (a : syntax.Tree) →
-    On (OfOne s c w a (λ (x : Operand). OfMember c (spelling s t) (typ_in x.tree))) (expression_of s c w (syntax.node k.MemberAccess p (Some t) (syntax.more a syntax.none)))
+    On (OfOne s c w a (λ (x : Operand). OfMember c (spelling s t) (typ_in x.tree)))
+    (expression_of s c w (syntax.node k.MemberAccess p (Some t) (syntax.more a syntax.none)))
 
 abbrev pub PointerMembers : Type 0
 PointerMembers = (s : List Lexeme) (c : Ctx) (w : Work) (p : SyntaxAt) (t : ℕ) (a : syntax.Tree) →

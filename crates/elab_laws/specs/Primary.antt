@@ -22,7 +22,8 @@ use Rattle.elab_laws.specs.Reading.{On, IsPrvalue, IsLvalue}
 
 -- a rule holds of each form of a kind that is one token and elaborates
 abbrev pub EachLeaf : NodeKind → (List Lexeme → Ctx → ℕ → Tree → Type 0) → Type 0
-EachLeaf kind rule = (s : List Lexeme) (c : Ctx) (w : Work) (p : SyntaxAt) (t : ℕ) → On (λ (r : Typed). rule s c t r.operand.tree) (expression_of s c w (syntax.node kind p (Some t) syntax.none))
+EachLeaf kind rule = (s : List Lexeme) (c : Ctx) (w : Work) (p : SyntaxAt) (t : ℕ)
+    → On (λ (r : Typed). rule s c t r.operand.tree) (expression_of s c w (syntax.node kind p (Some t) syntax.none))
 
 -- an integer has the first type of its row that holds its value (2.14.2), and is that value
 pub record Integer (s : List Lexeme) (c : Ctx) (t : ℕ) (e : Tree) : Type 0 where
@@ -87,15 +88,19 @@ abbrev pub Texts : Type 0
 Texts = EachLeaf k.StringLiteral Text
 
 abbrev pub Parentheses : Type 0
-Parentheses = (s : List Lexeme) (c : Ctx) (w : Work) (p : SyntaxAt) (t : Option ℕ) (e : syntax.Tree) → On (Parenthesized s c w e) (expression_of s c w (syntax.node k.ParenthesizedExpression p t (syntax.more e syntax.none)))
+Parentheses = (s : List Lexeme) (c : Ctx) (w : Work) (p : SyntaxAt) (t : Option ℕ) (e : syntax.Tree)
+    → On (Parenthesized s c w e) (expression_of s c w (syntax.node k.ParenthesizedExpression p t (syntax.more e syntax.none)))
 
 -- where no lambda is around
 abbrev pub Thises : Type 0
-Thises = (s : List Lexeme) (c : Ctx) (w : Work) (p : SyntaxAt) (t : ℕ) → c.lambda ≡ None → On (λ (r : Typed). ThisPointer c r.operand.tree) (expression_of s c w (syntax.node k.This p (Some t) syntax.none))
+Thises = (s : List Lexeme) (c : Ctx) (w : Work) (p : SyntaxAt) (t : ℕ) → c.lambda ≡ None
+    → On (λ (r : Typed). ThisPointer c r.operand.tree) (expression_of s c w (syntax.node k.This p (Some t) syntax.none))
 
 -- in the body of one
 abbrev pub CapturedThises : Type 0
-CapturedThises = (s : List Lexeme) (c : Ctx) (w : Work) (p : SyntaxAt) (t : ℕ) (l : Lambda) → c.lambda ≡ Some l → On (λ (r : Typed). CapturedPointer l r.operand.tree) (expression_of s c w (syntax.node k.This p (Some t) syntax.none))
+CapturedThises = (s : List Lexeme) (c : Ctx) (w : Work) (p : SyntaxAt) (t : ℕ) (l : Lambda) → c.lambda ≡ Some l
+    → On (λ (r : Typed). CapturedPointer l r.operand.tree) (expression_of s c w (syntax.node k.This p (Some t) syntax.none))
 
 abbrev pub Lambdas : Type 0
-Lambdas = (s : List Lexeme) (c : Ctx) (w : Work) (p : SyntaxAt) (t : Option ℕ) (kids : syntax.Trees) → On (λ (r : Typed). OfClosure c (at_of p) r.operand.tree) (expression_of s c w (syntax.node k.Lambda p t kids))
+Lambdas = (s : List Lexeme) (c : Ctx) (w : Work) (p : SyntaxAt) (t : Option ℕ) (kids : syntax.Trees)
+    → On (λ (r : Typed). OfClosure c (at_of p) r.operand.tree) (expression_of s c w (syntax.node k.Lambda p t kids))

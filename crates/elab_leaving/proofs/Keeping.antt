@@ -31,7 +31,8 @@ begins_set xs ys y h = record { is = take-set ys (length xs) y ∙ h.is }
 
 -- Answers
 
-pub bind : {A B : Type 0} (P : A → Type 0) (Q : B → Type 0) (x : Result A ElabFault) (f : A → Result B ElabFault) → On P x → ((a : A) → P a → On Q (f a)) → On Q (and_then x f)
+pub bind : {A B : Type 0} (P : A → Type 0) (Q : B → Type 0) (x : Result A ElabFault) (f : A → Result B ElabFault) → On P x → ((a : A) → P a → On Q (f a))
+    → On Q (and_then x f)
 bind P Q (Ok a) f h g = g a h
 bind P Q (Err e) f h g = tt
 
@@ -198,7 +199,8 @@ pub behind : {A : Type 0} (a b : State) (p : A → State) (r : Result A ElabFaul
 behind a b p (Ok x) h k = after a b (p x) h k
 behind a b p (Err e) h k = tt
 
-pub follow : {A B : Type 0} (p : A → State) (q : B → State) (a : State) (x : Result A ElabFault) (f : A → Result B ElabFault) → On (λ y. Leaves a (p y)) x → ((y : A) → On (λ z. Leaves (p y) (q z)) (f y)) → On (λ z. Leaves a (q z)) (and_then x f)
+pub follow : {A B : Type 0} (p : A → State) (q : B → State) (a : State) (x : Result A ElabFault) (f : A → Result B ElabFault) → On (λ y. Leaves a (p y)) x
+    → ((y : A) → On (λ z. Leaves (p y) (q z)) (f y)) → On (λ z. Leaves a (q z)) (and_then x f)
 follow p q a (Ok y) f h k = behind a (p y) q (f y) h (k y)
 follow p q a (Err e) f h k = tt
 
@@ -206,6 +208,7 @@ pub further : {A : Type 0} (w v : Work) (p : A → Work) (r : Result A ElabFault
 further w v p (Ok x) h k = begins_trans w.globals v.globals (p x).globals h k
 further w v p (Err e) h k = tt
 
-pub follow_work : {A B : Type 0} (p : A → Work) (q : B → Work) (w : Work) (x : Result A ElabFault) (f : A → Result B ElabFault) → On (λ y. Grows w (p y)) x → ((y : A) → On (λ z. Grows (p y) (q z)) (f y)) → On (λ z. Grows w (q z)) (and_then x f)
+pub follow_work : {A B : Type 0} (p : A → Work) (q : B → Work) (w : Work) (x : Result A ElabFault) (f : A → Result B ElabFault) → On (λ y. Grows w (p y)) x
+    → ((y : A) → On (λ z. Grows (p y) (q z)) (f y)) → On (λ z. Grows w (q z)) (and_then x f)
 follow_work p q w (Ok y) f h k = further w (p y) q (f y) h (k y)
 follow_work p q w (Err e) f h k = tt

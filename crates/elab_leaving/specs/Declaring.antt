@@ -1,4 +1,5 @@
--- The declarations of a unit in the order of the text, as the code makes them: bodies and lambdas with what stands round a function put back as elab_entry does it.
+-- The declarations of a unit in the order of the text, as the code makes them: bodies and lambdas with what stands round a function put back as elab_entry does
+-- it.
 use Rattle.std.specs.Prelude.{ℕ, Bool, true, false, Some, None, List, Result, Ok, Err}
 use Rattle.elab_rules.specs.cpp_types.Typ.{Typ, Form, func}
 use Rattle.elab_rules.specs.cpp_types.declared.classes.At.{At}
@@ -19,7 +20,8 @@ use Rattle.elab_rules.specs.Functions.{Storage, Header, Placed, function_declare
 use Rattle.elab_rules.specs.Classes.{Started, started_from}
 use Rattle.elab_rules.specs.Members.{declared_only}
 use Rattle.elab_rules.specs.Globals.{enum_declared}
-use Rattle.elab_rules.specs.Units.{header_of, declared_of_type, file_declarators, file_declaration, definition_text, closing_offset, is_qualified, alias_of, is_c}
+use Rattle.elab_rules.specs.Units.{header_of, declared_of_type, file_declarators, file_declaration, definition_text, closing_offset, is_qualified, alias_of}
+use Rattle.elab_rules.specs.Units.{is_c}
 use Rattle.elab_entry.specs.Bodies.{function_body}
 use Rattle.elab_lambdas.specs.Whole.{lambdas_of}
 use Rattle.elab_members.specs.Outside.{member_defined}
@@ -42,12 +44,14 @@ only_declared st h = and_then (function_declared st.ctx h false) (λ (p : Placed
 
 -- what a declarator with its initialiser declares
 abbrev pub declarator_by : List Lexeme → Storage → Typ → State → At → syntax.Trees → Result State ElabFault
-declarator_by s x t st at (syntax.more d init) = and_then (declared_by s st.ctx st.work at t d) (λ (r : Declared). and_then (check at BadDeclaration (is_own_name r)) (λ z. declared_of_type s st x at r init (form_in r.typ)))
+declarator_by s x t st at (syntax.more d init) = and_then (declared_by s st.ctx st.work at t d)
+    (λ (r : Declared). and_then (check at BadDeclaration (is_own_name r)) (λ z. declared_of_type s st x at r init (form_in r.typ)))
 declarator_by s x t st at syntax.none = Err (Ill at OutOfProfile)
 
 -- the declarators behind a type
 abbrev pub file_typed : List Lexeme → State → Storage → At → syntax.Trees → Result State ElabFault
-file_typed s st x at (syntax.more (syntax.node k.TypeSpecifierSeq p token kids) ts) = and_then (type_of_specifiers s st.ctx st.work (syntax.node k.TypeSpecifierSeq p token kids)) (λ (t : Typ). file_declarators s x t st ts)
+file_typed s st x at (syntax.more (syntax.node k.TypeSpecifierSeq p token kids) ts) =
+    and_then (type_of_specifiers s st.ctx st.work (syntax.node k.TypeSpecifierSeq p token kids)) (λ (t : Typ). file_declarators s x t st ts)
 file_typed s st x at ts = Err (Ill at OutOfProfile)
 
 abbrev pub file_started : List Lexeme → State → At → Started → Result State ElabFault
@@ -65,19 +69,25 @@ c_words x false = record x { is_c = true; is_extern = true }
 -- A function with its body
 
 abbrev pub defined_with : List Lexeme → State → Storage → At → ℕ → Declared → syntax.Tree → Form → Result State ElabFault
-defined_with s st x at first d body (func sig) = and_then (text_sized at (definition_text s x first body)) (λ y. and_then (function_declared st.ctx (header_of s at x d sig) true) (λ (p : Placed).
-    function_body lambdas_of s (record st { ctx = with_definition p.ctx p.place (header_of s at x d sig) (definition_text s x first body) (closing_offset s body) }) (header_of s at x d sig) None p.place body))
+defined_with s st x at first d body (func sig) = and_then (text_sized at (definition_text s x first body))
+    (λ y. and_then (function_declared st.ctx (header_of s at x d sig) true) (λ (p : Placed).
+    function_body lambdas_of s (record st {
+      ctx = with_definition p.ctx p.place (header_of s at x d sig) (definition_text s x first body)
+          (closing_offset s body);
+    }) (header_of s at x d sig) None p.place body))
 defined_with s st x at first d body f = Err (Ill at BadDeclaration)
 
 -- the same as steps
 abbrev pub body_with : List Lexeme → State → ℕ → syntax.Tree → Header → Placed → Result State ElabFault
-body_with s st first body h p = function_body lambdas_of s (record st { ctx = with_definition p.ctx p.place h (definition_text s h.storage first body) (closing_offset s body) }) h None p.place body
+body_with s st first body h p = function_body lambdas_of s
+    (record st { ctx = with_definition p.ctx p.place h (definition_text s h.storage first body) (closing_offset s body) }) h None p.place body
 
 abbrev pub defined_header : List Lexeme → State → ℕ → syntax.Tree → Header → Result State ElabFault
 defined_header s st first body h = and_then (function_declared st.ctx h true) (λ (p : Placed). body_with s st first body h p)
 
 abbrev pub defined_steps : List Lexeme → State → Storage → At → ℕ → Declared → syntax.Tree → Form → Result State ElabFault
-defined_steps s st x at first d body f = and_then (text_sized at (definition_text s x first body)) (λ y. and_then (file_header s at x d f) (λ (h : Header). defined_header s st first body h))
+defined_steps s st x at first d body f = and_then (text_sized at (definition_text s x first body))
+    (λ y. and_then (file_header s at x d f) (λ (h : Header). defined_header s st first body h))
 
 -- three trees
 abbrev pub are_three : syntax.Trees → Bool
@@ -91,7 +101,9 @@ defined_by s st known whole x at first r body false = defined_with s st x at fir
 
 -- the same behind its type and its declarator
 abbrev pub defined_typed : List Lexeme → State → Storage → syntax.Trees → Storage → At → ℕ → syntax.Trees → Result State ElabFault
-defined_typed s st known whole x at first (syntax.more base (syntax.more d (syntax.more body syntax.none))) = and_then (type_of_specifiers s st.ctx st.work base) (λ (t : Typ). and_then (declared_by s st.ctx st.work at t d) (λ (r : Declared). defined_by s st known whole x at first r body (is_qualified r)))
+defined_typed s st known whole x at first (syntax.more base (syntax.more d (syntax.more body syntax.none))) =
+    and_then (type_of_specifiers s st.ctx st.work base)
+    (λ (t : Typ). and_then (declared_by s st.ctx st.work at t d) (λ (r : Declared). defined_by s st known whole x at first r body (is_qualified r)))
 defined_typed s st known whole x at first ts = Err (Ill at OutOfProfile)
 
 abbrev pub defined_started : List Lexeme → State → Storage → syntax.Trees → At → ℕ → Started → Result State ElabFault
@@ -113,7 +125,8 @@ abbrev mutual
   declaration_of s x st (syntax.node k.EnumSpecifier p (Some t) kids) = enum_declared s st (at_of p) (spelling s t) kids
   declaration_of s x st (syntax.node k.SimpleDeclaration p token kids) = file_declaration s st x (at_of p) kids
   declaration_of s x st (syntax.node k.FunctionDefinition p (Some t) kids) = function_defined s st x (at_of p) t kids
-  declaration_of s x st (syntax.node k.LinkageSpecification p (Some t) kids) = and_then (c_checked s (at_of p) t) (λ y. declarations_of s (c_words x false) st kids)
+  declaration_of s x st (syntax.node k.LinkageSpecification p (Some t) kids) =
+      and_then (c_checked s (at_of p) t) (λ y. declarations_of s (c_words x false) st kids)
   declaration_of s x st (syntax.node k.LinkageBlock p (Some t) kids) = and_then (c_checked s (at_of p) t) (λ y. declarations_of s (c_words x true) st kids)
   declaration_of s x st (syntax.node k.ClassDeclaration p (Some t) kids) = declared_only st (at_of p) (spelling s t)
   declaration_of s x st (syntax.node k.ClassSpecifier p (Some t) kids) = class_defined lambdas_of s st (at_of p) (spelling s t) kids

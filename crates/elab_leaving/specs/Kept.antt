@@ -31,7 +31,20 @@ pub record Kept : Type 0 where
   pub bodies : List Body
 
 abbrev pub kept_in : State → Kept
-kept_in st = record { source = st.ctx.source; round = drop 1 st.ctx.scopes; types = st.ctx.types; defaults = st.ctx.defaults; enumerators = st.ctx.enumerators; variables = st.ctx.variables; classes = st.ctx.classes; traits = st.ctx.traits; slots = st.ctx.slots; funcs = st.ctx.funcs; globals = st.work.globals; bodies = st.bodies }
+kept_in st = record {
+  source = st.ctx.source;
+  round = drop 1 st.ctx.scopes;
+  types = st.ctx.types;
+  defaults = st.ctx.defaults;
+  enumerators = st.ctx.enumerators;
+  variables = st.ctx.variables;
+  classes = st.ctx.classes;
+  traits = st.ctx.traits;
+  slots = st.ctx.slots;
+  funcs = st.ctx.funcs;
+  globals = st.work.globals;
+  bodies = st.bodies;
+}
 
 -- types, initialisers, enumerators and outer scopes are the same; the rest grows at the end
 pub record Keeps (old new : Kept) : Type 0 where

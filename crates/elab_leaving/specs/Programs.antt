@@ -1,4 +1,5 @@
--- The typed program of some units as the code makes it, and what `elaborate` says of it. Declarations are those of `Declaring`; the rest is `Programs` of elab_rules.
+-- The typed program of some units as the code makes it, and what `elaborate` says of it. Declarations are those of `Declaring`; the rest is `Programs` of
+-- elab_rules.
 use Rattle.std.specs.Prelude.{ℕ, suc, List, [], ◌∷◌, Result, Ok}
 use Rattle.elab_rules.specs.cpp_lex.Tokens.{Lexeme}
 use Rattle.elab_rules.specs.cpp_ast.Trees as syntax
@@ -20,7 +21,8 @@ unit_from s st decls = and_then (declarations_of s no_storage st decls) with_imp
 
 abbrev pub program_from : ℕ → TypedProgram → List Traits → List Source → Result TypedProgram ElabFault
 program_from i p traits [] = Ok p
-program_from i p traits (x ∷ xs) = and_then (unit_from x.tokens (start_behind i p traits) x.decls) (λ (st : State). program_from (suc i) (with_unit p x st) st.ctx.traits xs)
+program_from i p traits (x ∷ xs) = and_then (unit_from x.tokens (start_behind i p traits) x.decls)
+    (λ (st : State). program_from (suc i) (with_unit p x st) st.ctx.traits xs)
 
 abbrev pub no_units : TypedProgram
 no_units = record { units = []; classes = []; slots = [] }

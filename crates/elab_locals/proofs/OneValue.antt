@@ -35,14 +35,16 @@ value_is none = refl
 value_is (more x none) = in_is x
 value_is (more x (more y us)) = two_are x y us
 
-pub equal_in : (x : Tree) (kind : NodeKind) (p : SyntaxAt) (token : Option ℕ) (us es : Trees) (r : Option Tree) → x ≡ node kind p token us → kind ≡ k.EqualInitializer → es ≡ us → r ≡ equal_value es → r ≡ expression_in x
+pub equal_in : (x : Tree) (kind : NodeKind) (p : SyntaxAt) (token : Option ℕ) (us es : Trees) (r : Option Tree) → x ≡ node kind p token us
+    → kind ≡ k.EqualInitializer → es ≡ us → r ≡ equal_value es → r ≡ expression_in x
 equal_in x kind p token us es r e h f m = m ∙ ap equal_value f ∙ sym (ap expression_in (e ∙ ap (λ (z : NodeKind). node z p token us) h))
 
 other_in : (kind : NodeKind) (p : SyntaxAt) (token : Option ℕ) (us : Trees) → kind ≢ k.EqualInitializer → expression_in (node kind p token us) ≡ only_value us
 other_in k.EqualInitializer p token us h = absurd (h refl)
 other_in kind p token us h = refl
 
-pub value_in : (x : Tree) (kind : NodeKind) (p : SyntaxAt) (token : Option ℕ) (us es : Trees) (r : Option Tree) → x ≡ node kind p token us → kind ≢ k.EqualInitializer → es ≡ us → r ≡ only_value es → r ≡ expression_in x
+pub value_in : (x : Tree) (kind : NodeKind) (p : SyntaxAt) (token : Option ℕ) (us es : Trees) (r : Option Tree) → x ≡ node kind p token us
+    → kind ≢ k.EqualInitializer → es ≡ us → r ≡ only_value es → r ≡ expression_in x
 value_in x kind p token us es r e h f m = m ∙ ap only_value f ∙ sym (ap expression_in e ∙ other_in kind p token us h)
 
 pub none_of_it : {A : Type 0} (r : Option A) → ((x : A) → r ≢ Some x) → r ≡ None

@@ -15,7 +15,8 @@ use Rattle.elab_scopes.specs.elab_rules.Objects.{destroys}
 use Rattle.elab_scopes.specs.elab_rules.Strings.{string_bytes}
 use Rattle.elab_scopes.specs.elab_rules.Expressions.{operands_of}
 use Rattle.elab_scopes.specs.elab_rules.Braces.{item_of, string_token, string_object, is_char_array, syntax_place}
-use Rattle.elab_scopes.specs.elab_rules.Statements.{Lambdas, State, Done, Full, done, statement, full, full_operand, with_work, init_node, all_lambdas, default_object, copy_initialised, directly_initialised, values_place, initialised}
+use Rattle.elab_scopes.specs.elab_rules.Statements.{Lambdas, State, Done, Full, done, statement, full, full_operand, with_work, init_node, all_lambdas}
+use Rattle.elab_scopes.specs.elab_rules.Statements.{default_object, copy_initialised, directly_initialised, values_place, initialised}
 use Rattle.elab_braces.specs.Forms.{Form, nothing, values, braces, expression, other}
 
 abbrev pub init_in : Ctx → Typ → At → At → Tree → Tree → Tree
@@ -29,7 +30,8 @@ abbrev pub by_value_in : Lambdas → List Lexeme → Tree → State → Typ → 
 by_value_in lams s variable v t at e = and_then (full_operand lams s v e) (λ (f : Full). expression_made t at variable f)
 
 abbrev pub by_string_in : List Lexeme → Tree → State → Typ → At → At → ℕ → Result Done ElabFault
-by_string_in s variable v t at p n = and_then (string_object v.ctx t p (string_bytes (spelling s n))) (λ (e : Tree). done (one (init_node v t at p variable e)) v)
+by_string_in s variable v t at p n = and_then (string_object v.ctx t p (string_bytes (spelling s n)))
+    (λ (e : Tree). done (one (init_node v t at p variable e)) v)
 
 abbrev pub by_expression_in : Lambdas → List Lexeme → Tree → State → Typ → At → syntax.Tree → Bool → Option ℕ → Result Done ElabFault
 by_expression_in lams s variable v t at e true (Some n) = by_string_in s variable v t at (syntax_place e) n
@@ -37,7 +39,8 @@ by_expression_in lams s variable v t at e b o = by_value_in lams s variable v t 
 
 -- values that were read
 abbrev pub values_made : State → Typ → At → Tree → At → TypedAll → Result Done ElabFault
-values_made x t at variable p xs = and_then (directly_initialised x.ctx xs.work t at xs.operands) (λ (m : Made). done (one (init_node x t at (values_place t at xs.operands) variable m.tree)) (with_work x m.work))
+values_made x t at variable p xs = and_then (directly_initialised x.ctx xs.work t at xs.operands)
+    (λ (m : Made). done (one (init_node x t at (values_place t at xs.operands) variable m.tree)) (with_work x m.work))
 
 abbrev pub values_read : List Lexeme → Tree → State → Typ → At → At → syntax.Trees → Result Done ElabFault
 values_read s variable x t at p es = and_then (operands_of s x.ctx x.work es) (λ (xs : TypedAll). values_made x t at variable p xs)
@@ -46,13 +49,16 @@ abbrev pub kids_read : List Lexeme → Tree → State → Typ → At → syntax.
 kids_read s variable x t at (syntax.node kind p token es) = values_read s variable x t at (at_of p) es
 
 abbrev pub by_values_in : Lambdas → List Lexeme → Tree → State → Typ → At → syntax.Tree → Result Done ElabFault
-by_values_in lams s variable v t at (syntax.node kind p token es) = and_then (all_lambdas lams s v es) (λ (x : State). values_read s variable x t at (at_of p) es)
+by_values_in lams s variable v t at (syntax.node kind p token es) =
+    and_then (all_lambdas lams s v es) (λ (x : State). values_read s variable x t at (at_of p) es)
 
 abbrev pub braces_made : List Lexeme → Tree → State → Typ → At → syntax.Tree → Result Done ElabFault
-braces_made s variable x t at b = and_then (item_of s x.ctx x.work variable t b) (λ (m : Made). done (one (init_node x t at (syntax_place b) variable m.tree)) (with_work x m.work))
+braces_made s variable x t at b = and_then (item_of s x.ctx x.work variable t b)
+    (λ (m : Made). done (one (init_node x t at (syntax_place b) variable m.tree)) (with_work x m.work))
 
 abbrev pub by_braces_in : Lambdas → List Lexeme → Tree → State → Typ → At → syntax.Tree → Result Done ElabFault
-by_braces_in lams s variable v t at (syntax.node kind q brace items) = and_then (all_lambdas lams s v items) (λ (x : State). braces_made s variable x t at (syntax.node kind q brace items))
+by_braces_in lams s variable v t at (syntax.node kind q brace items) =
+    and_then (all_lambdas lams s v items) (λ (x : State). braces_made s variable x t at (syntax.node kind q brace items))
 
 abbrev pub nothing_made : Tree → State → Typ → At → Result Done ElabFault
 nothing_made variable v t at = and_then (default_object v.ctx t at) (λ (e : Tree). done (one (init_node v t at at variable e)) v)

@@ -1,5 +1,6 @@
 -- Words of calls, and the values of constructors.
-use Rattle.std.proofs.Common.{◌≡◌, ◌≢◌, ◌≤◌, ℕ, zero, suc, true, List, [], ◌∷◌, length, Option, Some, Ok, Err, Result, slice_get, get_or, refl, sym, subst, arith, Vec, Global}
+use Rattle.std.proofs.Common.{◌≡◌, ◌≢◌, ◌≤◌, ℕ, zero, suc, true, List, [], ◌∷◌, length, Option, Some, Ok, Err, Result, slice_get, get_or, refl, sym, subst}
+use Rattle.std.proofs.Common.{arith, Vec, Global}
 use Rattle.elab_init.specs.cpp_types.declared.types.Ty.{Ty}
 use Rattle.elab_init.specs.cpp_types.Typ.{Typ, typ_of, typs_of}
 use Rattle.elab_init.specs.cpp_tree.declared.faults.ElabFault.{ElabFault}
@@ -19,13 +20,15 @@ other_count c w [] o n = refl
 other_count c w (p ∷ []) o n = absurd (n refl)
 other_count c w (p ∷ (q ∷ ps)) o n = refl
 
-pub refused_word : (c : Ctx) (w : Work) (ps : List Ty) (o : Operand) (f : ElabFault) → length ps ≢ 1 → f ≡ Ill o.at OutOfProfile → Faults f (reference_word c w (typs_of ps) o)
+pub refused_word : (c : Ctx) (w : Work) (ps : List Ty) (o : Operand) (f : ElabFault) → length ps ≢ 1 → f ≡ Ill o.at OutOfProfile
+    → Faults f (reference_word c w (typs_of ps) o)
 refused_word c w ps o f n g = subst (λ (z : ElabFault). Faults z (reference_word c w (typs_of ps) o)) (sym g) (other_count c w ps o n)
 
 passed_is : (c : Ctx) (w : Work) (p t : Typ) (o : Operand) → is_class_typ p ≡ true → t ≡ unqualified p → passed c w p o ≡ passed_object c w t o
 passed_is c w p t o h e = rw (h, e) refl
 
-pub passed_makes : (old new : List Tree) (v : Work) (r : Result TNodeId ElabFault) (c : Ctx) (w : Work) (p t : Typ) (o : Operand) → is_class_typ p ≡ true → t ≡ unqualified p → Makes old new v r (passed_object c w t o) → Makes old new v r (passed c w p o)
+pub passed_makes : (old new : List Tree) (v : Work) (r : Result TNodeId ElabFault) (c : Ctx) (w : Work) (p t : Typ) (o : Operand) → is_class_typ p ≡ true
+    → t ≡ unqualified p → Makes old new v r (passed_object c w t o) → Makes old new v r (passed c w p o)
 passed_makes old new v r c w p t o h e m = subst (λ (z : Result Made ElabFault). Makes old new v r z) (sym (passed_is c w p t o h e)) m
 
 pub no_element : {A : Type 0} (xs : List A) (i : ℕ) (r : Option A) → r ≡ slice_get xs i → ((x : A) → r ≢ Some x) → length xs ≤ i
@@ -38,16 +41,22 @@ element_at [] i x h = absurd cc
 element_at (y ∷ ys) zero x h = let is : y ≡ x = cc in sym is
 element_at (y ∷ ys) (suc i) x h = element_at ys i x h
 
-pub refused_made : (old new : List Tree) (v : Work) (r : Result TNodeId ElabFault) (e : ElabFault) (x : Result Made ElabFault) → r ≡ Err e → Faults e x → Makes old new v r x
+pub refused_made : (old new : List Tree) (v : Work) (r : Result TNodeId ElabFault) (e : ElabFault) (x : Result Made ElabFault) → r ≡ Err e → Faults e x
+    → Makes old new v r x
 refused_made old new v r e x h f = subst (λ (z : Result TNodeId ElabFault). Makes old new v z x) (sym h) f
 
-pub refused_all : (old new : List Tree) (v : Work) (r : Result (Vec TNodeId Global) ElabFault) (e : ElabFault) (x : Result MadeAll ElabFault) → r ≡ Err e → Faults e x → MakesAll old new v r x
+pub refused_all : (old new : List Tree) (v : Work) (r : Result (Vec TNodeId Global) ElabFault) (e : ElabFault) (x : Result MadeAll ElabFault) → r ≡ Err e
+    → Faults e x → MakesAll old new v r x
 refused_all old new v r e x h f = subst (λ (z : Result (Vec TNodeId Global) ElabFault). MakesAll old new v z x) (sym h) f
 
-word_is : (c : Ctx) (w : Work) (ps : List Ty) (p d : Ty) (o : Operand) → length ps ≡ 1 → p ≡ get_or ps 0 d → reference_word c w (typs_of ps) o ≡ and_then (initial c w (typ_of p) o) (λ (m : Made). Ok (record { trees = one m.tree; work = m.work }))
+word_is : (c : Ctx) (w : Work) (ps : List Ty) (p d : Ty) (o : Operand) → length ps ≡ 1 → p ≡ get_or ps 0 d
+    → reference_word c w (typs_of ps) o ≡ and_then (initial c w (typ_of p) o) (λ (m : Made). Ok (record { trees = one m.tree; work = m.work }))
 word_is c w [] p d o n h = absurd cc
 word_is c w (q ∷ []) p d o n h = rw h refl
 word_is c w (q ∷ (s ∷ ps)) p d o n h = absurd (omega arith)
 
-pub word_makes : (old new : List Tree) (v : Work) (r : Result (Vec TNodeId Global) ElabFault) (c : Ctx) (w : Work) (ps : List Ty) (p d : Ty) (o : Operand) → length ps ≡ 1 → p ≡ get_or ps 0 d → MakesAll old new v r (and_then (initial c w (typ_of p) o) (λ (m : Made). Ok (record { trees = one m.tree; work = m.work }))) → MakesAll old new v r (reference_word c w (typs_of ps) o)
+pub word_makes : (old new : List Tree) (v : Work) (r : Result (Vec TNodeId Global) ElabFault) (c : Ctx) (w : Work) (ps : List Ty) (p d : Ty) (o : Operand)
+    → length ps ≡ 1 → p ≡ get_or ps 0 d → MakesAll old new v r
+    (and_then (initial c w (typ_of p) o) (λ (m : Made). Ok (record { trees = one m.tree; work = m.work })))
+    → MakesAll old new v r (reference_word c w (typs_of ps) o)
 word_makes old new v r c w ps p d o n h m = subst (λ (z : Result MadeAll ElabFault). MakesAll old new v r z) (sym (word_is c w ps p d o n h)) m

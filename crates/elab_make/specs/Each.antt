@@ -11,4 +11,5 @@ use Rattle.elab_init.specs.elab_rules.Objects.{is_array, count_in, element_of, s
 
 -- an object, or each one of an array, by a function
 abbrev pub each_by : Ctx → TKind → Typ → At → Tree
-each_by c kind t at = if is_array t then node (Elements (count_in t) (size_of c.classes (element_of t))) t Prvalue at (more (node kind (element_of t) Prvalue at none) (destroys c at (element_of t))) else node kind t Prvalue at none
+each_by c kind t at = if is_array t then node (Elements (count_in t) (size_of c.classes (element_of t))) t Prvalue at
+    (more (node kind (element_of t) Prvalue at none) (destroys c at (element_of t))) else node kind t Prvalue at none

@@ -13,4 +13,5 @@ use Rattle.elab_init.specs.elab_rules.Initialising.{class_from, scalar_from, onl
 -- an object of a type that is no class with a name, no exception and no array
 abbrev pub other_values : Ctx → Work → Typ → At → List Operand → Result Made ElabFault
 other_values c w t at [] = Err (Ill at BadInit)
-other_values c w t at (o ∷ os) = if is_class_typ t then class_from c w t at o else and_then (expect at BadInit (only (o ∷ os))) (λ (p : Operand). scalar_from c w t p)
+other_values c w t at (o ∷ os) = if is_class_typ t then class_from c w t at o else and_then (expect at BadInit (only (o ∷ os)))
+    (λ (p : Operand). scalar_from c w t p)

@@ -30,7 +30,9 @@ use Rattle.elab_members.proofs.DeclarationSteps.{changed_so, changes_so}
 
 -- A class that is only declared
 
-pub declared_stands : (a : StateRec) (b : StateRec) (at : At) (name : List ℕ) (i : ℕ) → begun (state_of a).ctx at name false ≡ Ok (record { ctx = (state_of b).ctx; number = i }) → record (state_of a) { ctx = (state_of b).ctx } ≡ state_of b → made b ≡ made a → Stood a b (declared_only (state_of a) at name)
+pub declared_stands : (a : StateRec) (b : StateRec) (at : At) (name : List ℕ) (i : ℕ)
+    → begun (state_of a).ctx at name false ≡ Ok (record { ctx = (state_of b).ctx; number = i }) → record (state_of a) { ctx = (state_of b).ctx } ≡ state_of b
+    → made b ≡ made a → Stood a b (declared_only (state_of a) at name)
 declared_stands a b at name i m e t = record {
   trees = same_trees (made a) (made b) t;
   is = ap (λ (z : Result Begun ElabFault). and_then z (λ (x : Begun). Ok (record (state_of a) { ctx = x.ctx }))) m ∙ ap (λ (z : State). Ok z) e;
@@ -44,60 +46,98 @@ undeclared_fault st at name e f = state_fails e (begun st.ctx at name false) (λ
 
 -- A function behind the brace
 
-pub with_place : (lams : Lambdas) (s : List Lexeme) (a c : StateRec) (n : ℕ) (kind : FuncKind) (m : Method) (body : syntax.Tree) (place : ℕ) (rest : syntax.Trees) (r : Result (Unit {0}) ElabFault) → place_of_header (state_of a).ctx m.header ≡ Ok place → rest ≡ m.rest → Changes a c r (method_body lams s (state_of a) n place kind m.header rest body) → Changes a c r (late_with lams s (state_of a) n kind m body)
-with_place lams s a c n kind m body place rest r e f h = changes_so a c r _ _ (ap (λ (z : Result ℕ ElabFault). and_then z (λ (p : ℕ). method_body lams s (state_of a) n p kind m.header m.rest body)) e ∙ ap (λ (z : syntax.Trees). method_body lams s (state_of a) n place kind m.header z body) (sym f)) h
+pub with_place : (lams : Lambdas) (s : List Lexeme) (a c : StateRec) (n : ℕ) (kind : FuncKind) (m : Method) (body : syntax.Tree) (place : ℕ)
+    (rest : syntax.Trees) (r : Result (Unit {0}) ElabFault) → place_of_header (state_of a).ctx m.header ≡ Ok place → rest ≡ m.rest
+    → Changes a c r (method_body lams s (state_of a) n place kind m.header rest body) → Changes a c r (late_with lams s (state_of a) n kind m body)
+with_place lams s a c n kind m body place rest r e f h =
+    changes_so a c r _ _ (ap (λ (z : Result ℕ ElabFault). and_then z (λ (p : ℕ). method_body lams s (state_of a) n p kind m.header m.rest body)) e ∙ ap
+    (λ (z : syntax.Trees). method_body lams s (state_of a) n place kind m.header z body) (sym f)) h
 
-pub no_place : (lams : Lambdas) (s : List Lexeme) (st : State) (n : ℕ) (kind : FuncKind) (m : Method) (body : syntax.Tree) (e : ElabFault) → Faults e (place_of_header st.ctx m.header) → Faults e (late_with lams s st n kind m body)
+pub no_place : (lams : Lambdas) (s : List Lexeme) (st : State) (n : ℕ) (kind : FuncKind) (m : Method) (body : syntax.Tree) (e : ElabFault)
+    → Faults e (place_of_header st.ctx m.header) → Faults e (late_with lams s st n kind m body)
 no_place lams s st n kind m body e f = state_fails e (place_of_header st.ctx m.header) (λ (p : ℕ). method_body lams s st n p kind m.header m.rest body) f
 
-pub late_body : (lams : Lambdas) (s : List Lexeme) (a c : StateRec) (n : ℕ) (name those : List ℕ) (at : At) (kind : FuncKind) (kids : syntax.Trees) (m : Method) (body : syntax.Tree) (r : Result (Unit {0}) ElabFault) → those ≡ name → method_of s (state_of a) n those at kind kids ≡ Ok m → body_in kids ≡ Some body → Changes a c r (late_with lams s (state_of a) n kind m body) → Changes a c r (late_function lams s (state_of a) n name at kind kids)
-late_body lams s a c n name those at kind kids m body r q e f h = changes_so a c r _ _ (ap (λ (z : Result Method ElabFault). and_then z (λ (y : Method). late_method lams s (state_of a) n kind y (body_in kids))) (ap (λ (z : List ℕ). method_of s (state_of a) n z at kind kids) (sym q) ∙ e) ∙ ap (late_method lams s (state_of a) n kind m) f) h
+pub late_body : (lams : Lambdas) (s : List Lexeme) (a c : StateRec) (n : ℕ) (name those : List ℕ) (at : At) (kind : FuncKind) (kids : syntax.Trees) (m : Method)
+    (body : syntax.Tree) (r : Result (Unit {0}) ElabFault) → those ≡ name → method_of s (state_of a) n those at kind kids ≡ Ok m → body_in kids ≡ Some body
+    → Changes a c r (late_with lams s (state_of a) n kind m body) → Changes a c r (late_function lams s (state_of a) n name at kind kids)
+late_body lams s a c n name those at kind kids m body r q e f h =
+    changes_so a c r _ _ (ap (λ (z : Result Method ElabFault). and_then z (λ (y : Method). late_method lams s (state_of a) n kind y (body_in kids)))
+    (ap (λ (z : List ℕ). method_of s (state_of a) n z at kind kids) (sym q) ∙ e) ∙ ap (late_method lams s (state_of a) n kind m) f) h
 
-pub late_bodiless : (lams : Lambdas) (s : List Lexeme) (a : StateRec) (n : ℕ) (name those : List ℕ) (at : At) (kind : FuncKind) (kids : syntax.Trees) (m : Method) → those ≡ name → method_of s (state_of a) n those at kind kids ≡ Ok m → body_in kids ≡ None → Changed a a (late_function lams s (state_of a) n name at kind kids)
-late_bodiless lams s a n name those at kind kids m q e f = record { grown = grown_refl a; is = ap (λ (z : Result Method ElabFault). and_then z (λ (y : Method). late_method lams s (state_of a) n kind y (body_in kids))) (ap (λ (z : List ℕ). method_of s (state_of a) n z at kind kids) (sym q) ∙ e) ∙ ap (late_method lams s (state_of a) n kind m) f }
+pub late_bodiless : (lams : Lambdas) (s : List Lexeme) (a : StateRec) (n : ℕ) (name those : List ℕ) (at : At) (kind : FuncKind) (kids : syntax.Trees)
+    (m : Method) → those ≡ name → method_of s (state_of a) n those at kind kids ≡ Ok m → body_in kids ≡ None
+    → Changed a a (late_function lams s (state_of a) n name at kind kids)
+late_bodiless lams s a n name those at kind kids m q e f =
+    record {
+      grown = grown_refl a;
+      is = ap (λ (z : Result Method ElabFault). and_then z
+          (λ (y : Method). late_method lams s (state_of a) n kind y (body_in kids))) (ap (λ (z : List ℕ). method_of s (state_of a) n z at kind kids) (sym q) ∙ e)
+          ∙ ap (late_method lams s (state_of a) n kind m) f;
+    }
 
-pub late_unknown : (lams : Lambdas) (s : List Lexeme) (st : State) (n : ℕ) (name those : List ℕ) (at : At) (kind : FuncKind) (kids : syntax.Trees) (e : ElabFault) → those ≡ name → Faults e (method_of s st n those at kind kids) → Faults e (late_function lams s st n name at kind kids)
-late_unknown lams s st n name those at kind kids e q f = state_fails e (method_of s st n name at kind kids) (λ (y : Method). late_method lams s st n kind y (body_in kids)) (subst (λ (z : List ℕ). Faults e (method_of s st n z at kind kids)) q f)
+pub late_unknown : (lams : Lambdas) (s : List Lexeme) (st : State) (n : ℕ) (name those : List ℕ) (at : At) (kind : FuncKind) (kids : syntax.Trees)
+    (e : ElabFault) → those ≡ name → Faults e (method_of s st n those at kind kids) → Faults e (late_function lams s st n name at kind kids)
+late_unknown lams s st n name those at kind kids e q f =
+    state_fails e (method_of s st n name at kind kids) (λ (y : Method). late_method lams s st n kind y (body_in kids))
+    (subst (λ (z : List ℕ). Faults e (method_of s st n z at kind kids)) q f)
 
 abbrev late_by : Lambdas → List Lexeme → ℕ → List ℕ → State → SyntaxAt → syntax.Trees → Option FuncKind → Result State ElabFault
 late_by lams s n name st p kids (Some kind) = late_function lams s st n name (at_of p) kind kids
 late_by lams s n name st p kids None = Ok st
 
-late_is : (lams : Lambdas) (s : List Lexeme) (n : ℕ) (name : List ℕ) (st : State) (kind : NodeKind) (p : SyntaxAt) (token : Option ℕ) (kids : syntax.Trees) → late_of lams s n name st (syntax.node kind p token kids) ≡ late_by lams s n name st p kids (late_kind kind)
+late_is : (lams : Lambdas) (s : List Lexeme) (n : ℕ) (name : List ℕ) (st : State) (kind : NodeKind) (p : SyntaxAt) (token : Option ℕ) (kids : syntax.Trees)
+    → late_of lams s n name st (syntax.node kind p token kids) ≡ late_by lams s n name st p kids (late_kind kind)
 late_is lams s n name st k.FunctionDefinition p token kids = refl
 late_is lams s n name st k.ConstructorDefinition p token kids = refl
 late_is lams s n name st k.DestructorDefinition p token kids = refl
 late_is lams s n name st kind p token kids = refl
 
-pub late_some : (lams : Lambdas) (s : List Lexeme) (a c : StateRec) (n : ℕ) (name : List ℕ) (tree : syntax.Tree) (kind : NodeKind) (p : SyntaxAt) (token : Option ℕ) (kids those : syntax.Trees) (o : Option FuncKind) (f : FuncKind) (at : At) (r : Result (Unit {0}) ElabFault) → tree ≡ syntax.node kind p token kids → o ≡ late_kind kind → o ≡ Some f → at ≡ at_of p → those ≡ kids_of tree → Changes a c r (late_function lams s (state_of a) n name at f those) → Changes a c r (late_of lams s n name (state_of a) tree)
+pub late_some : (lams : Lambdas) (s : List Lexeme) (a c : StateRec) (n : ℕ) (name : List ℕ) (tree : syntax.Tree) (kind : NodeKind) (p : SyntaxAt)
+    (token : Option ℕ) (kids those : syntax.Trees) (o : Option FuncKind) (f : FuncKind) (at : At) (r : Result (Unit {0}) ElabFault)
+    → tree ≡ syntax.node kind p token kids → o ≡ late_kind kind → o ≡ Some f → at ≡ at_of p → those ≡ kids_of tree
+    → Changes a c r (late_function lams s (state_of a) n name at f those) → Changes a c r (late_of lams s n name (state_of a) tree)
 late_some lams s a c n name tree kind p token kids those o f at r e g h q t m =
     let same : those ≡ kids = t ∙ ap kids_of e in
-    changes_so a c r _ _ (ap (late_of lams s n name (state_of a)) e ∙ late_is lams s n name (state_of a) kind p token kids ∙ ap (late_by lams s n name (state_of a) p kids) (sym g ∙ h) ∙ ap (λ (z : At). late_function lams s (state_of a) n name z f kids) (sym q) ∙ ap (late_function lams s (state_of a) n name at f) (sym same)) m
+    changes_so a c r _ _ (ap (late_of lams s n name (state_of a)) e ∙ late_is lams s n name (state_of a) kind p token kids ∙ ap
+    (late_by lams s n name (state_of a) p kids) (sym g ∙ h) ∙ ap (λ (z : At). late_function lams s (state_of a) n name z f kids) (sym q)
+    ∙ ap (late_function lams s (state_of a) n name at f) (sym same)) m
 
-pub late_other : (lams : Lambdas) (s : List Lexeme) (a : StateRec) (n : ℕ) (name : List ℕ) (tree : syntax.Tree) (kind : NodeKind) (p : SyntaxAt) (token : Option ℕ) (kids : syntax.Trees) (o : Option FuncKind) → tree ≡ syntax.node kind p token kids → o ≡ late_kind kind → o ≡ None → Changed a a (late_of lams s n name (state_of a) tree)
-late_other lams s a n name tree kind p token kids o e g h = changed_so a _ (ap (late_of lams s n name (state_of a)) e ∙ late_is lams s n name (state_of a) kind p token kids ∙ ap (late_by lams s n name (state_of a) p kids) (sym g ∙ h))
+pub late_other : (lams : Lambdas) (s : List Lexeme) (a : StateRec) (n : ℕ) (name : List ℕ) (tree : syntax.Tree) (kind : NodeKind) (p : SyntaxAt)
+    (token : Option ℕ) (kids : syntax.Trees) (o : Option FuncKind) → tree ≡ syntax.node kind p token kids → o ≡ late_kind kind → o ≡ None
+    → Changed a a (late_of lams s n name (state_of a) tree)
+late_other lams s a n name tree kind p token kids o e g h =
+    changed_so a _ (ap (late_of lams s n name (state_of a)) e ∙ late_is lams s n name (state_of a) kind p token kids ∙ ap
+    (late_by lams s n name (state_of a) p kids) (sym g ∙ h))
 
 -- The class
 
-module _ (lams : Lambdas) (s : List Lexeme) (a b : StateRec) (at : At) (name : List ℕ) (kids members : syntax.Trees) (h : HomeRec) (read : class_read s (state_of a) at name kids ≡ Ok (class_stood (state_of b) (home_of h))) (same : members ≡ members_among kids) where
-  defined_is : class_defined lams s (state_of a) at name kids ≡ and_then (all_defaults lams s h.number (state_of b) members) (λ (st : State). all_late lams s h.number h.name.items st members)
-  defined_is = ap (λ (z : Result ClassRead ElabFault). and_then z (behind_brace lams s (members_among kids))) read ∙ ap (λ (z : syntax.Trees). behind_brace lams s z (class_stood (state_of b) (home_of h))) (sym same)
+module _ (lams : Lambdas) (s : List Lexeme) (a b : StateRec) (at : At) (name : List ℕ) (kids members : syntax.Trees) (h : HomeRec)
+    (read : class_read s (state_of a) at name kids ≡ Ok (class_stood (state_of b) (home_of h))) (same : members ≡ members_among kids) where
+  defined_is : class_defined lams s (state_of a) at name kids
+      ≡ and_then (all_defaults lams s h.number (state_of b) members) (λ (st : State). all_late lams s h.number h.name.items st members)
+  defined_is = ap (λ (z : Result ClassRead ElabFault). and_then z (behind_brace lams s (members_among kids))) read
+      ∙ ap (λ (z : syntax.Trees). behind_brace lams s z (class_stood (state_of b) (home_of h))) (sym same)
 
   -- where the initialisers are well, what the bodies say
-  bodies_are : (c : StateRec) → Changed b c (all_defaults lams s h.number (state_of b) members) → class_defined lams s (state_of a) at name kids ≡ all_late lams s h.number h.name.items (state_of c) members
+  bodies_are : (c : StateRec) → Changed b c (all_defaults lams s h.number (state_of b) members)
+      → class_defined lams s (state_of a) at name kids ≡ all_late lams s h.number h.name.items (state_of c) members
   bodies_are c m = defined_is ∙ ap (λ (z : Result State ElabFault). and_then z (λ (st : State). all_late lams s h.number h.name.items st members)) m.is
 
-  pub class_done : (c d : StateRec) → made b ≡ made a → Changed b c (all_defaults lams s h.number (state_of b) members) → Changed c d (all_late lams s h.number h.name.items (state_of c) members) → Stood a d (class_defined lams s (state_of a) at name kids)
+  pub class_done : (c d : StateRec) → made b ≡ made a → Changed b c (all_defaults lams s h.number (state_of b) members)
+      → Changed c d (all_late lams s h.number h.name.items (state_of c) members) → Stood a d (class_defined lams s (state_of a) at name kids)
   class_done c d t m n = record {
     trees = grows_trans (same_trees (made a) (made b) t) (grows_trans m.grown.trees n.grown.trees);
     is = bodies_are c m ∙ n.is;
   }
 
   pub class_unmade : (e : ElabFault) → Faults e (all_defaults lams s h.number (state_of b) members) → Faults e (class_defined lams s (state_of a) at name kids)
-  class_unmade e f = subst (Faults e) (sym defined_is) (state_fails e (all_defaults lams s h.number (state_of b) members) (λ (st : State). all_late lams s h.number h.name.items st members) f)
+  class_unmade e f = subst (Faults e) (sym defined_is)
+      (state_fails e (all_defaults lams s h.number (state_of b) members) (λ (st : State). all_late lams s h.number h.name.items st members) f)
 
-  pub class_refused : (c : StateRec) (e : ElabFault) → Changed b c (all_defaults lams s h.number (state_of b) members) → Faults e (all_late lams s h.number h.name.items (state_of c) members) → Faults e (class_defined lams s (state_of a) at name kids)
+  pub class_refused : (c : StateRec) (e : ElabFault) → Changed b c (all_defaults lams s h.number (state_of b) members)
+      → Faults e (all_late lams s h.number h.name.items (state_of c) members) → Faults e (class_defined lams s (state_of a) at name kids)
   class_refused c e m f = subst (Faults e) (sym (bodies_are c m)) f
 
-pub class_unread : (lams : Lambdas) (s : List Lexeme) (st : State) (at : At) (name : List ℕ) (kids : syntax.Trees) (e : ElabFault) → Faults e (class_read s st at name kids) → Faults e (class_defined lams s st at name kids)
+pub class_unread : (lams : Lambdas) (s : List Lexeme) (st : State) (at : At) (name : List ℕ) (kids : syntax.Trees) (e : ElabFault)
+    → Faults e (class_read s st at name kids) → Faults e (class_defined lams s st at name kids)
 class_unread lams s st at name kids e f = state_fails e (class_read s st at name kids) (behind_brace lams s (members_among kids)) f

@@ -15,15 +15,21 @@ use Rattle.elab_entry.specs.elab_scopes.Says.{Changed, Changes}
 use Rattle.elab_entry.proofs.elab_scopes.Standing.{grown_refl}
 use Rattle.elab_members.specs.Initialisers.{default_of, defaults_of, declares_members}
 
-pub declaring : (lams : Lambdas) (s : List Lexeme) (n : ℕ) (st : State) (kind : NodeKind) (p : SyntaxAt) (token : Option ℕ) (kids : syntax.Trees) → defaults_of lams s n st (syntax.node kind p token kids) ≡ (if declares_members kind then each_of (default_of lams s n) st kids else Ok st)
+pub declaring : (lams : Lambdas) (s : List Lexeme) (n : ℕ) (st : State) (kind : NodeKind) (p : SyntaxAt) (token : Option ℕ) (kids : syntax.Trees)
+    → defaults_of lams s n st (syntax.node kind p token kids) ≡ (if declares_members kind then each_of (default_of lams s n) st kids else Ok st)
 declaring lams s n st k.MemberDeclaration p token kids = refl
 declaring lams s n st kind p token kids = refl
 
-pub not_declaring : (lams : Lambdas) (s : List Lexeme) (n : ℕ) (st : State) (tree : syntax.Tree) (kind : NodeKind) (p : SyntaxAt) (token : Option ℕ) (kids : syntax.Trees) (b : Bool) → tree ≡ syntax.node kind p token kids → b ≡ declares_members kind → b ≡ false → defaults_of lams s n st tree ≡ Ok st
-not_declaring lams s n st tree kind p token kids b e f g = ap (defaults_of lams s n st) e ∙ declaring lams s n st kind p token kids ∙ ap (λ (z : Bool). if z then each_of (default_of lams s n) st kids else Ok st) (sym f ∙ g)
+pub not_declaring : (lams : Lambdas) (s : List Lexeme) (n : ℕ) (st : State) (tree : syntax.Tree) (kind : NodeKind) (p : SyntaxAt) (token : Option ℕ)
+    (kids : syntax.Trees) (b : Bool) → tree ≡ syntax.node kind p token kids → b ≡ declares_members kind → b ≡ false → defaults_of lams s n st tree ≡ Ok st
+not_declaring lams s n st tree kind p token kids b e f g = ap (defaults_of lams s n st) e ∙ declaring lams s n st kind p token kids
+    ∙ ap (λ (z : Bool). if z then each_of (default_of lams s n) st kids else Ok st) (sym f ∙ g)
 
-pub is_declaring : (lams : Lambdas) (s : List Lexeme) (n : ℕ) (st : State) (tree : syntax.Tree) (kind : NodeKind) (p : SyntaxAt) (token : Option ℕ) (kids those : syntax.Trees) (b : Bool) → tree ≡ syntax.node kind p token kids → b ≡ declares_members kind → b ≡ true → those ≡ kids_of tree → defaults_of lams s n st tree ≡ each_of (default_of lams s n) st those
-is_declaring lams s n st tree kind p token kids those b e f g h = ap (defaults_of lams s n st) e ∙ declaring lams s n st kind p token kids ∙ ap (λ (z : Bool). if z then each_of (default_of lams s n) st kids else Ok st) (sym f ∙ g) ∙ ap (each_of (default_of lams s n) st) (sym (h ∙ ap kids_of e))
+pub is_declaring : (lams : Lambdas) (s : List Lexeme) (n : ℕ) (st : State) (tree : syntax.Tree) (kind : NodeKind) (p : SyntaxAt) (token : Option ℕ)
+    (kids those : syntax.Trees) (b : Bool) → tree ≡ syntax.node kind p token kids → b ≡ declares_members kind → b ≡ true → those ≡ kids_of tree
+    → defaults_of lams s n st tree ≡ each_of (default_of lams s n) st those
+is_declaring lams s n st tree kind p token kids those b e f g h = ap (defaults_of lams s n st) e ∙ declaring lams s n st kind p token kids
+    ∙ ap (λ (z : Bool). if z then each_of (default_of lams s n) st kids else Ok st) (sym f ∙ g) ∙ ap (each_of (default_of lams s n) st) (sym (h ∙ ap kids_of e))
 
 pub changed_so : (a : StateRec) (x : Result State ElabFault) → x ≡ Ok (state_of a) → Changed a a x
 changed_so a x e = record { grown = grown_refl a; is = e }

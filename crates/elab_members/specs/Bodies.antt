@@ -21,11 +21,13 @@ kept st h place d = body_made (round_function st) h.at place (the_tree h.at d.tr
 
 -- the parts of the object, then the block
 abbrev pub constructor_block : Lambdas → List Lexeme → Done → syntax.Tree → Result Done ElabFault
-constructor_block lams s parts body = and_then (statements_in lams s parts.state body) (λ (d : Done). done (one (constructor_tree (syntax_place body) parts.trees d.trees)) d.state)
+constructor_block lams s parts body = and_then (statements_in lams s parts.state body)
+    (λ (d : Done). done (one (constructor_tree (syntax_place body) parts.trees d.trees)) d.state)
 
 -- what is written for the parts, the parts, and the block
 abbrev pub constructor_given : Lambdas → List Lexeme → State → Header → ℕ → syntax.Trees → syntax.Tree → Result Done ElabFault
-constructor_given lams s st h n inits body = and_then (all_given lams s n (record { state = st; given = [] }) inits) (λ (g : Giving). and_then (parts_built g.state h.at n g.given) (λ (parts : Done). constructor_block lams s parts body))
+constructor_given lams s st h n inits body = and_then (all_given lams s n (record { state = st; given = [] }) inits)
+    (λ (g : Giving). and_then (parts_built g.state h.at n g.given) (λ (parts : Done). constructor_block lams s parts body))
 
 -- what a constructor does, in its own scope
 abbrev pub constructor_inside : Lambdas → List Lexeme → State → Header → ℕ → syntax.Trees → syntax.Tree → Result Done ElabFault
@@ -36,7 +38,8 @@ constructor_body lams s st h n place inits body = and_then (constructor_inside l
 
 -- what a destructor does, in its own scope
 abbrev pub destructor_inside : Lambdas → List Lexeme → State → Header → ℕ → syntax.Tree → Result Done ElabFault
-destructor_inside lams s st h n body = and_then (statements_in lams s st body) (λ (d : Done). done (one (destructor_tree d.state.ctx h.at (syntax_place body) n d.trees)) d.state)
+destructor_inside lams s st h n body = and_then (statements_in lams s st body)
+    (λ (d : Done). done (one (destructor_tree d.state.ctx h.at (syntax_place body) n d.trees)) d.state)
 
 abbrev pub destructor_body : Lambdas → List Lexeme → State → Header → ℕ → ℕ → syntax.Tree → Result State ElabFault
 destructor_body lams s st h n place body = and_then (destructor_inside lams s (in_object st n) h n body) (kept st h place)

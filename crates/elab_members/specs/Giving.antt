@@ -32,7 +32,8 @@ made_base c n None = base_of_class (slice_get c.classes n)
 
 -- by values that were read
 abbrev pub part_made : State → ℕ → Option ℕ → Typ → At → List Operand → Result Done ElabFault
-part_made st n i t at os = and_then (directly_initialised (for_part st.ctx n i) st.work t at os) (λ (m : Made). done (one (full (values_place t at os) m.tree)) (with_work st m.work))
+part_made st n i t at os = and_then (directly_initialised (for_part st.ctx n i) st.work t at os)
+    (λ (m : Made). done (one (full (values_place t at os) m.tree)) (with_work st m.work))
 
 -- by values
 abbrev pub part_values : List Lexeme → State → ℕ → Option ℕ → Typ → At → syntax.Trees → Result Done ElabFault
@@ -48,7 +49,8 @@ given_with g i at d = record { state = d.state; given = g.given ++ record { memb
 
 -- `given_part` of elab_rules, in these steps
 abbrev pub part_more : Lambdas → List Lexeme → ℕ → Giving → Option ℕ → At → Typ → syntax.Trees → Result Giving ElabFault
-part_more lams s n g i at t es = and_then (check at Redeclared (is_none (given_for i g.given))) (λ y. and_then (part_given lams s g.state n i t at es) (λ (d : Done). Ok (given_with g i at d)))
+part_more lams s n g i at t es = and_then (check at Redeclared (is_none (given_for i g.given)))
+    (λ y. and_then (part_given lams s g.state n i t at es) (λ (d : Done). Ok (given_with g i at d)))
 
 -- the index of the member of a name
 abbrev pub member_found : Ctx → ℕ → At → List ℕ → Result ℕ ElabFault
@@ -56,11 +58,13 @@ member_found c n at name = expect at NoMember (member_index 0 name (members_in (
 
 -- a member that a token names
 abbrev pub member_by : Lambdas → List Lexeme → ℕ → Giving → At → ℕ → syntax.Trees → Result Giving ElabFault
-member_by lams s n g at t es = and_then (member_found g.state.ctx n at (spelling s t)) (λ i. part_more lams s n g (Some i) at (member_type (slice_get (members_in (slice_get g.state.ctx.classes n)) i)) es)
+member_by lams s n g at t es = and_then (member_found g.state.ctx n at (spelling s t))
+    (λ i. part_more lams s n g (Some i) at (member_type (slice_get (members_in (slice_get g.state.ctx.classes n)) i)) es)
 
 -- the type of the direct base of a name (profile: not the class itself)
 abbrev pub base_type : Ctx → ℕ → At → Typ → Result Typ ElabFault
-base_type c n at t = and_then (check at OutOfProfile (not (is_named_class n t))) (λ x. and_then (check at NoMember (is_base_type (base_of_class (slice_get c.classes n)) t)) (λ y. Ok (unqualified t)))
+base_type c n at t = and_then (check at OutOfProfile (not (is_named_class n t)))
+    (λ x. and_then (check at NoMember (is_base_type (base_of_class (slice_get c.classes n)) t)) (λ y. Ok (unqualified t)))
 
 abbrev pub base_found : Ctx → ℕ → At → List ℕ → Result Typ ElabFault
 base_found c n at name = and_then (expect at UnknownName (type_named name c.types)) (base_type c n at)

@@ -51,7 +51,8 @@ member_declared s c n t = None
 
 -- by a value that was read
 abbrev pub value_made : Typ → Full → Result Done ElabFault
-value_made t f = and_then (copy_initialised f.state.ctx f.state.work t f.operand) (λ (m : Made). done (one (full f.operand.at m.tree)) (with_work f.state m.work))
+value_made t f = and_then (copy_initialised f.state.ctx f.state.work t f.operand)
+    (λ (m : Made). done (one (full f.operand.at m.tree)) (with_work f.state m.work))
 
 -- by an expression
 abbrev pub value_by : Lambdas → List Lexeme → State → Typ → syntax.Tree → Result Done ElabFault
@@ -67,10 +68,14 @@ default_added c n i e frame = record c { defaults = c.defaults ++ record { class
 
 -- the same behind the function that it is made in
 abbrev pub default_kept : State → ℕ → ℕ → Tree → State → State
-default_kept before n i e st = record (left_by (round_function before) st) { ctx = default_added (left_by (round_function before) st).ctx n i e (drop 1 st.work.frame) }
+default_kept before n i e st = record (left_by (round_function before) st) {
+  ctx = default_added (left_by (round_function before) st).ctx n i e
+      (drop 1 st.work.frame);
+}
 
 abbrev pub default_made : Lambdas → List Lexeme → State → ℕ → ℕ → Typ → syntax.Tree → Result State ElabFault
-default_made lams s st n i t e = and_then (default_from lams s (in_object st n) t e) (λ (d : Done). Ok (default_kept st n i (first_tree (syntax_place e) d.trees) d.state))
+default_made lams s st n i t e = and_then (default_from lams s (in_object st n) t e)
+    (λ (d : Done). Ok (default_kept st n i (first_tree (syntax_place e) d.trees) d.state))
 
 abbrev pub default_for : Lambdas → List Lexeme → State → ℕ → Option ℕ → Option syntax.Tree → Result State ElabFault
 default_for lams s st n (Some i) (Some e) = default_made lams s st n i (member_type (slice_get (members_in (slice_get st.ctx.classes n)) i)) e

@@ -27,11 +27,14 @@ use Rattle.elab_members.specs.Bodies.{method_body}
 
 -- of a function that is no constructor and no destructor
 abbrev pub outside_plain : List Lexeme → Ctx → Work → At → Storage → syntax.Tree → syntax.Tree → Result Header ElabFault
-outside_plain s c w at x base d = and_then (type_of_specifiers s c w base) (λ (t : Typ). and_then (declared_by s c w at t d) (λ (r : Declared). and_then (owner_named s c at r.owner) (λ n. header_in n x Plain at (name_of s r.name) r (form_in r.typ))))
+outside_plain s c w at x base d = and_then (type_of_specifiers s c w base)
+    (λ (t : Typ). and_then (declared_by s c w at t d)
+    (λ (r : Declared). and_then (owner_named s c at r.owner) (λ n. header_in n x Plain at (name_of s r.name) r (form_in r.typ))))
 
 -- of a constructor or a destructor
 abbrev pub outside_special : List Lexeme → Ctx → Work → At → Storage → FuncKind → syntax.Tree → Result Header ElabFault
-outside_special s c w at x kind d = and_then (declared_by s c w at (plain void) d) (λ (r : Declared). and_then (owner_named s c at r.owner) (λ n. special_header n (name_of_class (slice_get c.classes n)) at x kind r (name_of s r.name)))
+outside_special s c w at x kind d = and_then (declared_by s c w at (plain void) d)
+    (λ (r : Declared). and_then (owner_named s c at r.owner) (λ n. special_header n (name_of_class (slice_get c.classes n)) at x kind r (name_of s r.name)))
 
 -- The function of the class that is defined; its declaration agrees
 
@@ -39,7 +42,8 @@ abbrev pub outside_found : Ctx → Header → ℕ → Result ℕ ElabFault
 outside_found c h place = and_then (outside_agrees h (func_at c.funcs place)) (λ y. Ok place)
 
 abbrev pub outside_place : Ctx → ℕ → Header → Result ℕ ElabFault
-outside_place c n h = and_then (outside_words h) (λ w. and_then (check h.at NoMember (has_function n h.name c.funcs)) (λ x. and_then (expect h.at TypeDiffers (first_from (is_same_function h) 0 c.funcs)) (λ place. outside_found c h place)))
+outside_place c n h = and_then (outside_words h) (λ w. and_then (check h.at NoMember (has_function n h.name c.funcs))
+    (λ x. and_then (expect h.at TypeDiffers (first_from (is_same_function h) 0 c.funcs)) (λ place. outside_found c h place)))
 
 -- a function that is inline
 abbrev pub inline_at : List Func → ℕ → Func
@@ -47,18 +51,22 @@ inline_at fs i = record (func_at fs i) { linkage = Inline }
 
 -- it is defined, with its text where it is inline
 abbrev pub outside_declared : List Lexeme → Ctx → ℕ → ℕ → ℕ → Header → Result Placed ElabFault
-outside_declared s c n first last h = and_then (text_sized h.at (outside_text s h.storage first last)) (λ v. and_then (outside_place c n h) (λ place. Ok (record { ctx = outside_defined s c place h first last; place = place })))
+outside_declared s c n first last h = and_then (text_sized h.at (outside_text s h.storage first last))
+    (λ v. and_then (outside_place c n h) (λ place. Ok (record { ctx = outside_defined s c place h first last; place = place })))
 
 -- a member with its body
 abbrev pub outside_body : Lambdas → List Lexeme → State → ℕ → FuncKind → ℕ → ℕ → Header → syntax.Trees → syntax.Tree → Result State ElabFault
-outside_body lams s st n kind first last h rest body = and_then (outside_declared s st.ctx n first last h) (λ (p : Placed). method_body lams s (record st { ctx = p.ctx }) n p.place kind h rest body)
+outside_body lams s st n kind first last h rest body =
+    and_then (outside_declared s st.ctx n first last h) (λ (p : Placed). method_body lams s (record st { ctx = p.ctx }) n p.place kind h rest body)
 
 abbrev pub outside_with : Lambdas → List Lexeme → State → At → FuncKind → ℕ → Method → Option syntax.Tree → Result State ElabFault
-outside_with lams s st at kind first m (Some body) = and_then (expect at BadDeclaration m.header.class) (λ n. outside_body lams s st n kind first (last_token (Some body)) m.header m.rest body)
+outside_with lams s st at kind first m (Some body) = and_then (expect at BadDeclaration m.header.class)
+    (λ n. outside_body lams s st n kind first (last_token (Some body)) m.header m.rest body)
 outside_with lams s st at kind first m None = Err (Ill at BadDeclaration)
 
 abbrev pub outside_started : Lambdas → List Lexeme → State → At → FuncKind → ℕ → Option syntax.Tree → Started → Result State ElabFault
-outside_started lams s st at kind first body x = and_then (outside_method s st at x.storage kind x.rest) (λ (m : Method). outside_with lams s st at kind first m body)
+outside_started lams s st at kind first body x = and_then (outside_method s st at x.storage kind x.rest)
+    (λ (m : Method). outside_with lams s st at kind first m body)
 
 -- a member that is defined outside its class
 abbrev pub member_defined : Lambdas → List Lexeme → Storage → State → At → FuncKind → ℕ → syntax.Trees → Result State ElabFault

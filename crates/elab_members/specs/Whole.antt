@@ -54,7 +54,8 @@ all_late lams s n name = each_of (late_of lams s n name)
 
 -- all initialisers of its members, then their bodies
 abbrev pub behind_brace : Lambdas → List Lexeme → syntax.Trees → ClassRead → Result State ElabFault
-behind_brace lams s members x = and_then (all_defaults lams s x.home.number x.state members) (λ (st : State). all_late lams s x.home.number x.home.name st members)
+behind_brace lams s members x = and_then (all_defaults lams s x.home.number x.state members)
+    (λ (st : State). all_late lams s x.home.number x.home.name st members)
 
 abbrev pub class_defined : Lambdas → List Lexeme → State → At → List ℕ → syntax.Trees → Result State ElabFault
 class_defined lams s st at name kids = and_then (class_read s st at name kids) (behind_brace lams s (members_among kids))

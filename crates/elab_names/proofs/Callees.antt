@@ -28,17 +28,23 @@ resolved_is c (node kind t cat at kids) = refl
 -- As the code finds them: by the parts of a node
 
 pub named_by : (t : Tree) (kind : TKind) (ty : Typ) (cat : Cat) → kind_of t ≡ kind → typ_in t ≡ ty → cat_of t ≡ cat → callee_at t ≡ callee_in kind ty cat
-named_by t kind ty cat a b d = ap (λ (z : TKind). callee_in z (typ_in t) (cat_of t)) a ∙ ap (λ (z : Typ). callee_in kind z (cat_of t)) b ∙ ap (λ (z : Cat). callee_in kind ty z) d
+named_by t kind ty cat a b d = ap (λ (z : TKind). callee_in z (typ_in t) (cat_of t)) a ∙ ap (λ (z : Typ). callee_in kind z (cat_of t)) b
+    ∙ ap (λ (z : Cat). callee_in kind ty z) d
 
-pub resolved_found : (c : Ctx) (t : Tree) (kind : TKind) (ty : Typ) (cat : Cat) (k : Callee) → kind_of t ≡ kind → typ_in t ≡ ty → cat_of t ≡ cat → k ≡ callee_in kind ty cat → resolved c t ≡ resolved_by c k t
+pub resolved_found : (c : Ctx) (t : Tree) (kind : TKind) (ty : Typ) (cat : Cat) (k : Callee) → kind_of t ≡ kind → typ_in t ≡ ty → cat_of t ≡ cat
+    → k ≡ callee_in kind ty cat → resolved c t ≡ resolved_by c k t
 resolved_found c t kind ty cat k a b d e = resolved_is c t ∙ ap (λ (z : Callee). resolved_by c z t) (named_by t kind ty cat a b d ∙ sym e)
 
 -- functions that have an object are no value
-with_kids : (c : Ctx) (at : At) (k : ℕ) (trees : List Tree) (ids : List TNodeId) → (length ids == 0) ≡ false → resolved_function c at k (trees_at trees ids) ≡ Err (Ill at BadOperand)
+with_kids : (c : Ctx) (at : At) (k : ℕ) (trees : List Tree) (ids : List TNodeId) → (length ids == 0) ≡ false
+    → resolved_function c at k (trees_at trees ids) ≡ Err (Ill at BadOperand)
 with_kids c at k trees [] h = absurd cc
 with_kids c at k trees (id ∷ ids) h = refl
 
-pub refused : (c : Ctx) (t : Tree) (trees : List Tree) (ids : List TNodeId) (kind : TKind) (ty : Typ) (cat : Cat) (at : At) (k : ℕ) (f : ElabFault) → kind_of t ≡ kind → typ_in t ≡ ty → cat_of t ≡ cat → place_in t ≡ at → Functions k ≡ callee_in kind ty cat → kids_of t ≡ trees_at trees ids → (length ids == 0) ≡ false → f ≡ Ill at BadOperand → Faults f (resolved c t)
+pub refused : (c : Ctx) (t : Tree) (trees : List Tree) (ids : List TNodeId) (kind : TKind) (ty : Typ) (cat : Cat) (at : At) (k : ℕ) (f : ElabFault)
+    → kind_of t ≡ kind → typ_in t ≡ ty → cat_of t ≡ cat → place_in t ≡ at → Functions k ≡ callee_in kind ty cat → kids_of t ≡ trees_at trees ids
+    → (length ids == 0) ≡ false → f ≡ Ill at BadOperand → Faults f (resolved c t)
 refused c t trees ids kind ty cat at k f a b d p e l h g =
-    let x : resolved c t ≡ Err (Ill at BadOperand) = resolved_found c t kind ty cat (Functions k) a b d e ∙ ap (λ (z : Trees). resolved_function c (place_in t) k z) l ∙ with_kids c (place_in t) k trees ids h ∙ ap (λ (z : At). Err (Ill z BadOperand)) p in
+    let x : resolved c t ≡ Err (Ill at BadOperand) = resolved_found c t kind ty cat (Functions k) a b d e
+    ∙ ap (λ (z : Trees). resolved_function c (place_in t) k z) l ∙ with_kids c (place_in t) k trees ids h ∙ ap (λ (z : At). Err (Ill z BadOperand)) p in
     subst (λ (z : ElabFault). Faults z (resolved c t)) (sym g) x

@@ -23,17 +23,21 @@ past (m ∷ ms) (suc i) h = past ms i (omega arith)
 pub has_member : (classes : List Class) (n i : ℕ) (c : ClassRec) → slice_get classes n ≡ Some (class_of c) → i < length c.members.items → HasMember classes n i
 has_member classes n i c h l = let e = length_members c.members.items in record { owner = class_of c; found = h; member = omega arith }
 
-pub offset_is : (classes : List Class) (n i r : ℕ) (c : ClassRec) → slice_get classes n ≡ Some (class_of c) → i < length c.members.items → ((d : Class) (m : Member) → slice_get classes n ≡ Some d → slice_get d.members i ≡ Some m → r ≡ member_offset classes n d i m) → r ≡ offset_at classes n i
+pub offset_is : (classes : List Class) (n i r : ℕ) (c : ClassRec) → slice_get classes n ≡ Some (class_of c) → i < length c.members.items
+    → ((d : Class) (m : Member) → slice_get classes n ≡ Some d → slice_get d.members i ≡ Some m → r ≡ member_offset classes n d i m) → r ≡ offset_at classes n i
 offset_is classes n i r c h l f =
     let e : length (map member_of c.members.items) ≡ length c.members.items = length_members c.members.items in
     let t = there (map member_of c.members.items) i (omega arith) in
     let g : r ≡ member_offset classes n (class_of c) i t.0 = f (class_of c) t.0 h t.1 in
-    g ∙ sym (ap (λ (z : Option Class). offset_of_member classes n z i (slice_get (members_in z) i)) h ∙ ap (λ (z : Option Member). offset_of_member classes n (Some (class_of c)) i z) t.1)
+    g ∙ sym (ap (λ (z : Option Class). offset_of_member classes n z i (slice_get (members_in z) i)) h ∙ ap
+    (λ (z : Option Member). offset_of_member classes n (Some (class_of c)) i z) t.1)
 
 pub offset_none : (classes : List Class) (n i : ℕ) → slice_get classes n ≡ None → offset_at classes n i ≡ 0
 offset_none classes n i h = ap (λ (z : Option Class). offset_of_member classes n z i (slice_get (members_in z) i)) h
 
-pub offset_past : (classes : List Class) (n i : ℕ) (c : ClassRec) → slice_get classes n ≡ Some (class_of c) → length c.members.items ≤ i → offset_at classes n i ≡ 0
+pub offset_past : (classes : List Class) (n i : ℕ) (c : ClassRec) → slice_get classes n ≡ Some (class_of c) → length c.members.items ≤ i
+    → offset_at classes n i ≡ 0
 offset_past classes n i c h l =
     let e : length (map member_of c.members.items) ≡ length c.members.items = length_members c.members.items in
-    ap (λ (z : Option Class). offset_of_member classes n z i (slice_get (members_in z) i)) h ∙ ap (λ (z : Option Member). offset_of_member classes n (Some (class_of c)) i z) (past (map member_of c.members.items) i (omega arith))
+    ap (λ (z : Option Class). offset_of_member classes n z i (slice_get (members_in z) i)) h
+    ∙ ap (λ (z : Option Member). offset_of_member classes n (Some (class_of c)) i z) (past (map member_of c.members.items) i (omega arith))

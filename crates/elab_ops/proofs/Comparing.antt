@@ -15,14 +15,16 @@ pub null_with_is : (op : BinOp) (at : At) (t : Typ) (f : Form) (a b : Operand) �
 null_with_is op at t (ptr u) a b h = absurd cc
 null_with_is op at t f a b h = refl
 
-pub scalars_are : (op : BinOp) (at : At) (f g : Form) (a b : Operand) → pointed f ≡ None → pointed g ≡ None → comparison_in op at f g a b ≡ scalars_compared op at f g a b
+pub scalars_are : (op : BinOp) (at : At) (f g : Form) (a b : Operand) → pointed f ≡ None → pointed g ≡ None
+    → comparison_in op at f g a b ≡ scalars_compared op at f g a b
 scalars_are op at (ptr t) g a b h k = absurd cc
 scalars_are op at f (ptr u) a b h k = absurd cc
 scalars_are op at (enum m true) g a b h k = refl
 scalars_are op at (enum m false) g a b h k = refl
 scalars_are op at f g a b h k = refl
 
-pub null_with_form : (op : BinOp) (at : At) (t : Typ) (f g : Form) (a b : Operand) → pointed f ≡ None → pointed g ≡ Some t → comparison_in op at f g a b ≡ null_with op at t a b
+pub null_with_form : (op : BinOp) (at : At) (t : Typ) (f g : Form) (a b : Operand) → pointed f ≡ None → pointed g ≡ Some t
+    → comparison_in op at f g a b ≡ null_with op at t a b
 null_with_form op at t (ptr u) g a b h k = absurd cc
 null_with_form op at t f (ptr u) a b h k = let e : u ≡ t = cc in rw e refl
 null_with_form op at t f g a b h k = absurd cc

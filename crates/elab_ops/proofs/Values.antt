@@ -43,7 +43,9 @@ null_is b z at e h k = k ∙ sym (rw (h, form_is at e) refl)
 
 -- Truth: the conversion to `bool` gives a value
 
-only_value : (c : Ctx) (w : Work) (at : At) (t : Typ) (e : Tree) (h : Bool) (s : Option Step) → and_then (and_then (expect at NoConversion (cond h (bound Value s) None)) (λ (v : Conversion). Ok (bound_by c w v.binding v.step t at e))) (λ (m : Made). Ok m.tree) ≡ and_then (expect at NoConversion (cond h (bound Value s) None)) (λ (v : Conversion). Ok (stepped at v.step t (valued at e)))
+only_value : (c : Ctx) (w : Work) (at : At) (t : Typ) (e : Tree) (h : Bool) (s : Option Step)
+    → and_then (and_then (expect at NoConversion (cond h (bound Value s) None)) (λ (v : Conversion). Ok (bound_by c w v.binding v.step t at e)))
+    (λ (m : Made). Ok m.tree) ≡ and_then (expect at NoConversion (cond h (bound Value s) None)) (λ (v : Conversion). Ok (stepped at v.step t (valued at e)))
 only_value c w at t e true (Some s) = refl
 only_value c w at t e true None = refl
 only_value c w at t e false s = refl
@@ -53,8 +55,12 @@ truth_is c w o = only_value c w o.at bool_type o.tree (has_value (typ_in o.tree)
 
 pub logical_is : (c : Ctx) (w : Work) (is_and : Bool) (at : At) (a b : Operand) → logical c w is_and at a b ≡ logical_in c is_and at a b
 logical_is c w is_and at a b =
-    ap (λ (z : Result Tree ElabFault). and_then z (λ (x : Tree). and_then (truth c w b) (λ (y : Tree). Ok (node Conditional bool_type Prvalue at (cond is_and (three x y (false_at at)) (three x (true_at at) y)))))) (truth_is c w a)
-    ∙ ap (λ (z : Result Tree ElabFault). and_then (value_initial c bool_type a) (λ (x : Tree). and_then z (λ (y : Tree). Ok (node Conditional bool_type Prvalue at (cond is_and (three x y (false_at at)) (three x (true_at at) y)))))) (truth_is c w b)
+    ap (λ (z : Result Tree ElabFault). and_then z (λ (x : Tree). and_then (truth c w b)
+    (λ (y : Tree). Ok (node Conditional bool_type Prvalue at (cond is_and (three x y (false_at at)) (three x (true_at at) y)))))) (truth_is c w a)
+    ∙ ap (λ (z : Result Tree ElabFault). and_then (value_initial c bool_type a)
+    (λ (x : Tree). and_then z (λ (y : Tree). Ok (node Conditional bool_type Prvalue at (cond is_and (three x y (false_at at)) (three x (true_at at) y))))))
+    (truth_is c w b)
 
 pub negation_is : (c : Ctx) (w : Work) (at : At) (a : Operand) → negation c w at a ≡ negation_in c at a
-negation_is c w at a = ap (λ (z : Result Tree ElabFault). and_then z (λ (x : Tree). Ok (compared Eq Int at (in_kind a.at Int x) (number Int 0 at)))) (truth_is c w a)
+negation_is c w at a = ap (λ (z : Result Tree ElabFault). and_then z (λ (x : Tree). Ok (compared Eq Int at (in_kind a.at Int x) (number Int 0 at))))
+    (truth_is c w a)

@@ -1,5 +1,6 @@
 -- Braces: aggregates, arrays and strings (C++14 8.5.1, 8.5.2, 8.5.4).
-use Rattle.std.specs.Prelude.{ℕ, zero, suc, ◌+◌, ◌-◌, ◌*◌, ◌==◌, nat_le, nat_lt, Bool, true, false, not, ◌&&◌, ◌||◌, List, [], ◌∷◌, ◌++◌, length, Option, Some, None, is_some, is_none, Result, Ok, Err, if◌then◌else◌, slice_get, drop, option_map}
+use Rattle.std.specs.Prelude.{ℕ, zero, suc, ◌+◌, ◌-◌, ◌*◌, ◌==◌, nat_le, nat_lt, Bool, true, false, not, ◌&&◌, ◌||◌, List, [], ◌∷◌, ◌++◌, length, Option, Some}
+use Rattle.std.specs.Prelude.{None, is_some, is_none, Result, Ok, Err, if◌then◌else◌, slice_get, drop, option_map}
 use Rattle.std.specs.Ordering.{int_eq}
 use Rattle.elab_ctx.specs.tx_ints.declared.kinds.IntKind.{IntKind}
 use Rattle.elab_ctx.specs.tx_ints.declared.kinds.IntKind.TheVariants.{Char, Bool as BoolKind, SChar, UChar}
@@ -25,7 +26,8 @@ use Rattle.elab_ctx.specs.Ctx.{Ctx, Work, Func, Default}
 use Rattle.elab_ctx.specs.Steps.{and_then, expect, check, Operand, Made, MadeAll, Typed, at_of, spelling}
 use Rattle.elab_rules.specs.Values.{stored, part_at, retyped}
 use Rattle.elab_rules.specs.Objects.{Part, size_of, destroys, zeros}
-use Rattle.elab_rules.specs.Initialising.{class_from, from_nothing, from_values, scalar_from, is_constructor, places_from, same_number, class_number, is_same_or_base}
+use Rattle.elab_rules.specs.Initialising.{class_from, from_nothing, from_values, scalar_from, is_constructor, places_from, same_number, class_number}
+use Rattle.elab_rules.specs.Initialising.{is_same_or_base}
 use Rattle.elab_rules.specs.Constants.{constant, word_in}
 use Rattle.elab_rules.specs.Operators.{arithmetic, value}
 use Rattle.elab_rules.specs.Names.{members_in, offset_at, is_const_typ, is_volatile_object}
@@ -72,7 +74,8 @@ byte_word None b = b
 
 abbrev pub byte_pieces : Typ → At → ℕ → List ℕ → Trees
 byte_pieces t at i [] = none
-byte_pieces t at i (b ∷ bs) = more (node (Piece i) t Prvalue at (one (stored at t (node (Literal (byte_word (kind_in (form_in t)) b)) (unqualified t) Prvalue at none)))) (byte_pieces t at (suc i) bs)
+byte_pieces t at i (b ∷ bs) = more (node (Piece i) t Prvalue at
+    (one (stored at t (node (Literal (byte_word (kind_in (form_in t)) b)) (unqualified t) Prvalue at none)))) (byte_pieces t at (suc i) bs)
 
 abbrev pub zero_rest : Ctx → Typ → At → ℕ → ℕ → Trees
 zero_rest c t at i zero = none
@@ -83,7 +86,8 @@ followed none us = us
 followed (more t ts) us = more t (followed ts us)
 
 abbrev pub string_object : Ctx → Typ → At → List ℕ → Result Tree ElabFault
-string_object c (typ (array e n) d v) at bytes = and_then (check at BadInit (nat_lt (length bytes) n)) (λ y. Ok (node Pieces (typ (array e n) d v) Prvalue at (followed (byte_pieces e at 0 bytes) (zero_rest c e at (length bytes) (n - length bytes)))))
+string_object c (typ (array e n) d v) at bytes = and_then (check at BadInit (nat_lt (length bytes) n))
+    (λ y. Ok (node Pieces (typ (array e n) d v) Prvalue at (followed (byte_pieces e at 0 bytes) (zero_rest c e at (length bytes) (n - length bytes)))))
 string_object c t at bytes = Err (Ill at BadInit)
 
 -- Default member initialisers, whose temporaries get places of the frame at hand, and whose `this` is the object that is built
@@ -137,7 +141,8 @@ has_no_base (Some k) = is_none k.base
 has_no_base None = false
 
 abbrev pub is_aggregate_class : Ctx → ℕ → Bool
-is_aggregate_class c n = has_no_base (slice_get c.classes n) && is_empty (places_from (is_virtual_member n) 0 c.funcs) && is_empty (places_from (is_written_constructor n) 0 c.funcs)
+is_aggregate_class c n = has_no_base (slice_get c.classes n) && is_empty (places_from (is_virtual_member n) 0 c.funcs)
+    && is_empty (places_from (is_written_constructor n) 0 c.funcs)
 
 -- the object that the braces initialise: where `this` points in default member initialisers
 abbrev pub this_of : Typ → Tree → ThisAt
@@ -152,7 +157,8 @@ with_piece c offset t at m rest = and_then rest (λ (r : MadeAll). Ok (record { 
 
 abbrev pub rest_piece : Ctx → Work → Typ → ℕ → ℕ → At → Result MadeAll ElabFault
 rest_piece c w e i zero at = Ok (record { trees = none; work = w })
-rest_piece c w e i (suc n) at = and_then (from_nothing c (plain (array e (suc n))) at) (λ (t : Tree). Ok (record { trees = one (piece c (i * size_of c.classes e) (plain (array e (suc n))) at t); work = w }))
+rest_piece c w e i (suc n) at = and_then (from_nothing c (plain (array e (suc n))) at)
+    (λ (t : Tree). Ok (record { trees = one (piece c (i * size_of c.classes e) (plain (array e (suc n))) at t); work = w }))
 
 abbrev pub is_object_of : Ctx → ℕ → Operand → Bool
 is_object_of c n o = is_same_or_base c.classes (class_number (typ_in o.tree)) (Some n)
@@ -173,17 +179,26 @@ tree_place (node kind t cat at kids) = at
 -- members behind the last item: by their default member initialisers, or from nothing
 abbrev pub rest_members : Ctx → Work → At → Tree → Typ → ℕ → ℕ → List Member → Result MadeAll ElabFault
 rest_members c w at object t n i [] = Ok (record { trees = none; work = w })
-rest_members c w at object t n i (m ∷ ms) = and_then (default_member c w (this_of t object) (qualified (is_const_typ t) (is_volatile_object t) m.typ) at (default_at n i c.defaults)) (λ (x : Made).
-    with_piece c (offset_at c.classes n i) (qualified (is_const_typ t) (is_volatile_object t) m.typ) (if is_some (default_at n i c.defaults) then tree_place x.tree else at) x (rest_members c x.work at object t n (suc i) ms))
+rest_members c w at object t n i (m ∷ ms) = and_then (default_member c w (this_of t object) (qualified (is_const_typ t) (is_volatile_object t) m.typ) at
+    (default_at n i c.defaults)) (λ (x : Made).
+    with_piece c (offset_at c.classes n i) (qualified (is_const_typ t) (is_volatile_object t) m.typ)
+    (if is_some (default_at n i c.defaults) then tree_place x.tree else at) x (rest_members c x.work at object t n (suc i) ms))
 
 abbrev pub item_expression : List Lexeme → Ctx → Work → Typ → Option ℕ → At → Result Typed ElabFault → Result Made ElabFault
-item_expression s c w t (Some n) at r = if is_char_array t then and_then (string_object c t at (string_bytes (spelling s n))) (λ (x : Tree). Ok (record { tree = x; work = w })) else and_then r (λ (o : Typed). item_in c o.work t (form_in t) o.operand)
+item_expression s c w t (Some n) at r = if is_char_array t then and_then (string_object c t at (string_bytes (spelling s n)))
+    (λ (x : Tree). Ok (record { tree = x; work = w })) else and_then r (λ (o : Typed). item_in c o.work t (form_in t) o.operand)
 item_expression s c w t None at r = and_then r (λ (o : Typed). item_in c o.work t (form_in t) o.operand)
 
 -- the part of an object that the item of an index initialises
 abbrev pub part_in : Ctx → Typ → Form → ℕ → Option Part
-part_in c t (array e n) i = if nat_lt i n then Some (record { offset = i * size_of c.classes e; typ = qualified (is_const_typ t) (is_volatile_object t) e }) else None
-part_in c t (class n) i = option_map (λ (m : Member). record { offset = offset_at c.classes n i; typ = qualified (is_const_typ t) (is_volatile_object t) m.typ }) (slice_get (members_in (slice_get c.classes n)) i)
+part_in c t (array e n) i = if nat_lt i n then Some (record {
+  offset = i * size_of c.classes e;
+  typ = qualified (is_const_typ t)
+      (is_volatile_object t) e;
+}) else None
+part_in c t (class n) i = option_map (λ (m : Member).
+    record { offset = offset_at c.classes n i; typ = qualified (is_const_typ t) (is_volatile_object t) m.typ })
+    (slice_get (members_in (slice_get c.classes n)) i)
 part_in c t f i = None
 
 -- the parts behind the last item
@@ -207,10 +222,14 @@ syntax_place (syntax.node kind p token kids) = at_of p
 abbrev mutual
   -- what an item, in braces or not, makes of an object of a type, which stands where the expression says
   pub item_of : List Lexeme → Ctx → Work → Tree → Typ → syntax.Tree → Result Made ElabFault
-  item_of s c w object t (syntax.node k.BracedInitList p token items) = and_then (braceable c (at_of p) (form_in t)) (λ y. and_then (items_of s c w object t 0 (at_of p) items) (λ (r : MadeAll). Ok (pieces_made t (at_of p) r)))
-  item_of s c w object t (syntax.node kind p token kids) = item_expression s c w t (string_token (syntax.node kind p token kids)) (at_of p) (and_then (expression_of s c w (syntax.node kind p token kids)) (chosen_operand c))
+  item_of s c w object t (syntax.node k.BracedInitList p token items) =
+      and_then (braceable c (at_of p) (form_in t)) (λ y. and_then (items_of s c w object t 0 (at_of p) items) (λ (r : MadeAll). Ok (pieces_made t (at_of p) r)))
+  item_of s c w object t (syntax.node kind p token kids) =
+      item_expression s c w t (string_token (syntax.node kind p token kids)) (at_of p)
+      (and_then (expression_of s c w (syntax.node kind p token kids)) (chosen_operand c))
 
   pub items_of : List Lexeme → Ctx → Work → Tree → Typ → ℕ → At → syntax.Trees → Result MadeAll ElabFault
   items_of s c w object t i at syntax.none = rest_in c w at object t (form_in t) i
-  items_of s c w object t i at (syntax.more x ts) = and_then (expect (syntax_place x) BadInit (part_in c t (form_in t) i)) (λ (p : Part). and_then (item_of s c w (part_at p.offset p.typ at object) p.typ x) (λ (m : Made).
+  items_of s c w object t i at (syntax.more x ts) = and_then (expect (syntax_place x) BadInit (part_in c t (form_in t) i))
+      (λ (p : Part). and_then (item_of s c w (part_at p.offset p.typ at object) p.typ x) (λ (m : Made).
       with_piece c p.offset p.typ (tree_place m.tree) m (items_of s c m.work object t (suc i) at ts)))

@@ -1,5 +1,6 @@
 -- Calls (C++14 5.2.2, 13.3): by name, of member functions, through pointers, of lambdas.
-use Rattle.std.specs.Prelude.{ℕ, zero, suc, ◌==◌, ◌+◌, Bool, true, false, not, ◌&&◌, ◌||◌, List, [], ◌∷◌, ◌++◌, length, Option, Some, None, is_some, is_none, Result, Ok, Err, if◌then◌else◌, slice_get, unwrap_or, codes}
+use Rattle.std.specs.Prelude.{ℕ, zero, suc, ◌==◌, ◌+◌, Bool, true, false, not, ◌&&◌, ◌||◌, List, [], ◌∷◌, ◌++◌, length, Option, Some, None, is_some, is_none}
+use Rattle.std.specs.Prelude.{Result, Ok, Err, if◌then◌else◌, slice_get, unwrap_or, codes}
 use Rattle.std.specs.Str.{bytes_eq}
 use Rattle.elab_ctx.specs.cpp_types.Typ.{Typ, typ, Form, void, ptr, ref, func, class, closure, tx_ex, Signature, signature, Typs}
 use Rattle.elab_ctx.specs.cpp_types.Class.{Class, completion_of}
@@ -11,7 +12,8 @@ use Rattle.cpp_overload.specs.Overload.{Candidate}
 use Rattle.cpp_overload.specs.Choosing.{chosen}
 use Rattle.elab_ctx.specs.cpp_layout.Layout.{has_class_pointer, base_items, class_extent, next_multiple, Extent, end_from}
 use Rattle.elab_ctx.specs.cpp_tree.declared.kinds.TKind.{TKind}
-use Rattle.elab_ctx.specs.cpp_tree.declared.kinds.TKind.TheVariants.{Call, VirtualCall, PointerCall, Builtin as BuiltinNode, Function, Default, Retype, CopyFrom, Load}
+use Rattle.elab_ctx.specs.cpp_tree.declared.kinds.TKind.TheVariants.{Call, VirtualCall, PointerCall, Builtin as BuiltinNode, Function, Default, Retype}
+use Rattle.elab_ctx.specs.cpp_tree.declared.kinds.TKind.TheVariants.{CopyFrom, Load}
 use Rattle.elab_ctx.specs.cpp_tree.declared.kinds.Builtin.{Builtin}
 use Rattle.elab_ctx.specs.cpp_tree.declared.kinds.Builtin.TheVariants.{Abort}
 use Rattle.elab_ctx.specs.cpp_tree.declared.faults.ElabFault.{ElabFault}
@@ -25,7 +27,8 @@ use Rattle.elab_ctx.specs.Ctx.{Ctx, Work, Func}
 use Rattle.elab_ctx.specs.Steps.{and_then, expect, check, Operand, Made, MadeAll}
 use Rattle.elab_rules.specs.Values.{place_of, retyped, valued}
 use Rattle.elab_rules.specs.Objects.{copies, followed_by}
-use Rattle.elab_rules.specs.Initialising.{candidate, candidates_at, func_at, arguments, meant, words, places_from, same_number, class_number, as_base, signature_parameters, signature_result, object_of}
+use Rattle.elab_rules.specs.Initialising.{candidate, candidates_at, func_at, arguments, meant, words, places_from, same_number, class_number, as_base}
+use Rattle.elab_rules.specs.Initialising.{signature_parameters, signature_result, object_of}
 use Rattle.elab_rules.specs.Names.{is_free, is_method, is_plain_kind}
 use Rattle.elab_ctx.specs.tx_ints.declared.kinds.IntKind.{IntKind}
 
@@ -88,7 +91,8 @@ pointer_offset classes n = pointer_along classes (n ∷ bases classes n)
 
 -- the words of a call of the function in this place
 abbrev pub called : Ctx → Work → At → TKind → Signature → Trees → List Operand → Result Made ElabFault
-called c w at kind sig object os = and_then (complete_result c at (signature_result sig)) (λ y. and_then (words c w (signature_parameters sig) os) (λ (m : MadeAll).
+called c w at kind sig object os = and_then (complete_result c at (signature_result sig))
+    (λ y. and_then (words c w (signature_parameters sig) os) (λ (m : MadeAll).
     Ok (record { tree = call_node at kind (signature_result sig) (followed_by object m.trees); work = m.work })))
 
 abbrev pub call_kind : Option Builtin → ℕ → TKind
@@ -96,13 +100,15 @@ call_kind (Some b) k = BuiltinNode b
 call_kind None k = Call k
 
 abbrev pub best_of : Ctx → At → List ℕ → List Operand → Result ℕ ElabFault
-best_of c at places os = and_then (meant at (chosen c.classes (candidates_at candidate c.funcs places) (arguments os))) (λ i. expect at NoViable (slice_get places i))
+best_of c at places os = and_then (meant at (chosen c.classes (candidates_at candidate c.funcs places) (arguments os)))
+    (λ i. expect at NoViable (slice_get places i))
 
 abbrev pub is_main : Func → Bool
 is_main f = bytes_eq f.declared.name (codes "main") && not (is_some f.class)
 
 abbrev pub call_free : Ctx → Work → At → ℕ → List Operand → Result Made ElabFault
-call_free c w at k os = and_then (check at BadMain (not (is_main (func_at c.funcs k)))) (λ y. and_then (best_of c at (places_from (is_free (func_at c.funcs k).declared.name) 0 c.funcs) os) (λ i.
+call_free c w at k os = and_then (check at BadMain (not (is_main (func_at c.funcs k))))
+    (λ y. and_then (best_of c at (places_from (is_free (func_at c.funcs k).declared.name) 0 c.funcs) os) (λ i.
     called c w at (call_kind (func_at c.funcs i).builtin i) (func_at c.funcs i).declared.signature none os))
 
 -- Member functions
@@ -112,10 +118,12 @@ abbrev pub as_object : At → ℕ → Tree → Tree
 as_object at n e = if same_number n (class_number (typ_in e)) then e else as_base at n (typ_in e) e
 
 abbrev pub member_kind : Ctx → ℕ → ℕ → TKind
-member_kind c n k = if (func_at c.funcs k).declared.is_virtual then VirtualCall k n (slot_of_function c n k) (unwrap_or (pointer_offset c.classes n) 0) else Call k
+member_kind c n k = if (func_at c.funcs k).declared.is_virtual then VirtualCall k n (slot_of_function c n k)
+    (unwrap_or (pointer_offset c.classes n) 0) else Call k
 
 abbrev pub call_method_of : Ctx → Work → At → ℕ → ℕ → Tree → List Operand → Result Made ElabFault
-call_method_of c w at n k object os = and_then (best_of c at (places_from (is_method n (func_at c.funcs k).declared.name) 0 c.funcs) (record { tree = object; at = at; zero = false } ∷ os)) (λ i.
+call_method_of c w at n k object os = and_then (best_of c at (places_from (is_method n (func_at c.funcs k).declared.name) 0 c.funcs)
+    (record { tree = object; at = at; zero = false } ∷ os)) (λ i.
     called c w at (member_kind c n i) (func_at c.funcs i).declared.signature (one (as_object at n object)) os)
 
 abbrev pub call_method : Ctx → Work → At → ℕ → Tree → List Operand → Result Made ElabFault
@@ -127,14 +135,16 @@ loaded_value at (Some kind) t e = node (Load kind false) t Prvalue at (one e)
 loaded_value at None t e = retyped at t Prvalue e
 
 abbrev pub exception_value : Ctx → At → Tree → Typ → Tree
-exception_value c at e (typ f d v) = if is_class_typ (typ f d v) then node CopyFrom (typ f false false) Prvalue at (two e (copies c.classes at (typ f false false))) else loaded_value at (kind_in f) (typ f false false) e
+exception_value c at e (typ f d v) = if is_class_typ (typ f d v) then node CopyFrom (typ f false false) Prvalue at
+    (two e (copies c.classes at (typ f false false))) else loaded_value at (kind_in f) (typ f false false) e
 
 abbrev pub value_type : Form → Option Typ
 value_type (tx_ex t) = Some t
 value_type f = None
 
 abbrev pub call_get : Ctx → Work → At → Tree → List Operand → Result Made ElabFault
-call_get c w at e [] = and_then (expect at NotCallable (value_type (form_in (typ_in e)))) (λ (t : Typ). Ok (record { tree = exception_value c at e t; work = w }))
+call_get c w at e [] = and_then (expect at NotCallable (value_type (form_in (typ_in e))))
+    (λ (t : Typ). Ok (record { tree = exception_value c at e t; work = w }))
 call_get c w at e os = Err (Ill at NoViable)
 
 -- Values that are called
@@ -143,11 +153,13 @@ abbrev pub is_closure_call : ℕ → Func → Bool
 is_closure_call n f = same_number n f.class
 
 abbrev pub call_closure : Ctx → Work → At → ℕ → Operand → List Operand → Result Made ElabFault
-call_closure c w at n callee os = and_then (best_of c at (places_from (is_closure_call n) 0 c.funcs) (record { tree = (object_of c w callee.at callee.tree).tree; at = callee.at; zero = false } ∷ os)) (λ i.
+call_closure c w at n callee os = and_then (best_of c at (places_from (is_closure_call n) 0 c.funcs)
+    (record { tree = (object_of c w callee.at callee.tree).tree; at = callee.at; zero = false } ∷ os)) (λ i.
     called c (object_of c w callee.at callee.tree).work at (Call i) (func_at c.funcs i).declared.signature (one (object_of c w callee.at callee.tree).tree) os)
 
 abbrev pub call_pointer : Ctx → Work → At → Form → Tree → List Operand → Result Made ElabFault
-call_pointer c w at (ptr (typ (func sig) d v)) p os = and_then (meant at (chosen c.classes (record { signature = sig; this = None } ∷ []) (arguments os))) (λ i. called c w at PointerCall sig (one p) os)
+call_pointer c w at (ptr (typ (func sig) d v)) p os =
+    and_then (meant at (chosen c.classes (record { signature = sig; this = None } ∷ []) (arguments os))) (λ i. called c w at PointerCall sig (one p) os)
 call_pointer c w at f p os = Err (Ill at NotCallable)
 
 abbrev pub call_value : Ctx → Work → At → Form → Operand → List Operand → Result Made ElabFault

@@ -1,5 +1,6 @@
 -- Casts, `sizeof`, `throw` and literals (C++14 2.14, 5.2.3, 5.2.9, 5.3.3, 5.4, 15.1).
-use Rattle.std.specs.Prelude.{ℕ, suc, ◌==◌, nat_le, Bool, true, false, not, ◌&&◌, ◌||◌, List, [], ◌∷◌, ◌++◌, length, map, Option, Some, None, is_some, Result, Ok, Err, if◌then◌else◌, slice_get, unwrap_or, codes, decimal}
+use Rattle.std.specs.Prelude.{ℕ, suc, ◌==◌, nat_le, Bool, true, false, not, ◌&&◌, ◌||◌, List, [], ◌∷◌, ◌++◌, length, map, Option, Some, None, is_some, Result}
+use Rattle.std.specs.Prelude.{Ok, Err, if◌then◌else◌, slice_get, unwrap_or, codes, decimal}
 use Rattle.elab_ctx.specs.tx_ints.declared.kinds.IntKind.{IntKind}
 use Rattle.elab_ctx.specs.tx_ints.declared.kinds.IntKind.TheVariants.{Bool as BoolKind, Char, ULong}
 use Rattle.elab_ctx.specs.cpp_types.Typ.{Typ, typ, Form, void, int, enum, null, ptr, ref, array, func, class, closure, tx_ex}
@@ -47,7 +48,8 @@ stored_at at (node (Store kind v) t cat p kids) = node (Store kind v) t cat at k
 stored_at at e = e
 
 abbrev pub as_expression : At → Typ → Tree → Tree
-as_expression at t e = if is_exception_form (form_in t) && not (is_exception_form (form_in (typ_in e))) then node Retype t Prvalue at (one (stored_at at e)) else e
+as_expression at t e = if is_exception_form (form_in t)
+    && not (is_exception_form (form_in (typ_in e))) then node Retype t Prvalue at (one (stored_at at e)) else e
 
 -- the object that a cast to a reference refers to; another type is that of the node
 abbrev pub reference_cast : At → Typ → Tree → Tree
@@ -64,7 +66,8 @@ cast_in c w at t void o = Ok (with_tree (λ (e : Tree). retyped at (plain void) 
 cast_in c w at t (ref u) o = and_then (initial c w t o) (λ (m : Made). Ok (with_tree (reference_cast at u) m))
 cast_in c w at t (func s) o = Err (Ill at BadOperand)
 cast_in c w at t (array u n) o = Err (Ill at BadOperand)
-cast_in c w at t f o = if is_class_typ t then and_then (from_values c w (unqualified t) at (o ∷ [])) (λ (m : Made). Ok (with_tree (as_expression at (unqualified t)) m)) else scalar_cast c w at t o
+cast_in c w at t f o = if is_class_typ t then and_then (from_values c w (unqualified t) at (o ∷ []))
+    (λ (m : Made). Ok (with_tree (as_expression at (unqualified t)) m)) else scalar_cast c w at t o
 
 abbrev pub cast : Ctx → Work → At → Typ → Operand → Result Made ElabFault
 cast c w at t o = cast_in c w at t (form_in t) o
@@ -72,13 +75,17 @@ cast c w at t o = cast_in c w at t (form_in t) o
 -- `T(a, ..)` (C++14 5.2.3)
 abbrev pub functional : Ctx → Work → At → Typ → List Operand → Result Made ElabFault
 functional c w at t (o ∷ []) = cast c w at t o
-functional c w at t [] = if is_class_typ t then and_then (from_values c w (unqualified t) at []) (λ (m : Made). Ok (with_tree (as_expression at (unqualified t)) m)) else (
-    if is_void t then Ok (record { tree = node Retype (plain void) Prvalue at (one (number ULong 0 at)); work = w }) else and_then (check at BadInit (is_some (kind_in (form_in t)))) (λ y. Ok (record { tree = node (Literal 0) (unqualified t) Prvalue at none; work = w })))
-functional c w at t os = if is_class_typ t then and_then (from_values c w (unqualified t) at os) (λ (m : Made). Ok (with_tree (as_expression at (unqualified t)) m)) else Err (Ill at BadInit)
+functional c w at t [] = if is_class_typ t then and_then (from_values c w (unqualified t) at [])
+    (λ (m : Made). Ok (with_tree (as_expression at (unqualified t)) m)) else (
+    if is_void t then Ok (record { tree = node Retype (plain void) Prvalue at (one (number ULong 0 at)); work = w }) else and_then
+    (check at BadInit (is_some (kind_in (form_in t)))) (λ y. Ok (record { tree = node (Literal 0) (unqualified t) Prvalue at none; work = w })))
+functional c w at t os = if is_class_typ t then and_then (from_values c w (unqualified t) at os)
+    (λ (m : Made). Ok (with_tree (as_expression at (unqualified t)) m)) else Err (Ill at BadInit)
 
 -- `sizeof` (C++14 5.3.3)
 abbrev pub size_literal : Ctx → At → At → Typ → Result Tree ElabFault
-size_literal c at operand t = and_then (check at BadOperand (not (is_function (referred t)) && not (is_void (referred t)))) (λ y. and_then (check at Incomplete (is_sized c (referred t))) (λ z. Ok (number ULong (size_of c.classes (referred t)) at)))
+size_literal c at operand t = and_then (check at BadOperand (not (is_function (referred t)) && not (is_void (referred t))))
+    (λ y. and_then (check at Incomplete (is_sized c (referred t))) (λ z. Ok (number ULong (size_of c.classes (referred t)) at)))
 
 -- `throw` (C++14 15.1, profile: integers, enums and what is copied byte by byte)
 
@@ -94,12 +101,14 @@ abbrev pub throw_node : Ctx → At → Typ → Tree → Tree
 throw_node c at t e = node Throw (unqualified t) Prvalue at (more e (fields c.classes at t))
 
 abbrev pub throw_object : Ctx → Work → At → Operand → Result Made ElabFault
-throw_object c w at o = and_then (check o.at NoCopy (not (is_volatile_typ (typ_in o.tree)))) (λ y. and_then (within_exception c at (typ_in o.tree)) (λ z. Ok (with_tree (throw_node c at (typ_in o.tree)) (object_of c w o.at o.tree))))
+throw_object c w at o = and_then (check o.at NoCopy (not (is_volatile_typ (typ_in o.tree))))
+    (λ y. and_then (within_exception c at (typ_in o.tree)) (λ z. Ok (with_tree (throw_node c at (typ_in o.tree)) (object_of c w o.at o.tree))))
 
 abbrev pub throw_in : Ctx → Work → At → Form → Operand → Result Made ElabFault
 throw_in c w at (class n) o = and_then (check at NotTriviallyCopyable (traits_at c n).is_trivially_copyable) (λ y. throw_object c w at o)
 throw_in c w at (tx_ex t) o = throw_object c w at o
-throw_in c w at f o = and_then (check at BadThrow (is_thrown_scalar (form_in (typ_in (value o))))) (λ y. Ok (record { tree = throw_node c at (typ_in (value o)) (value o); work = w }))
+throw_in c w at f o = and_then (check at BadThrow (is_thrown_scalar (form_in (typ_in (value o)))))
+    (λ y. Ok (record { tree = throw_node c at (typ_in (value o)) (value o); work = w }))
 
 abbrev pub throw : Ctx → Work → At → List Operand → Result Made ElabFault
 throw c w at [] = Ok (record { tree = node Rethrow (plain void) Prvalue at none; work = w })
@@ -122,4 +131,8 @@ abbrev pub string_global : At → List ℕ → Global
 string_global at bytes = record { symbol = string_symbol at; typ = string_type bytes; linkage = Internal; init = byte_cells 0 bytes; defined = true }
 
 abbrev pub string_made : Work → At → List ℕ → Made
-string_made w at bytes = record { tree = node (GlobalNode (length w.globals)) (string_type bytes) Lvalue at none; work = record w { globals = w.globals ++ string_global at bytes ∷ [] } }
+string_made w at bytes = record {
+  tree = node (GlobalNode (length w.globals)) (string_type bytes) Lvalue at none;
+  work =
+      record w { globals = w.globals ++ string_global at bytes ∷ [] };
+}

@@ -1,5 +1,6 @@
 -- Classes up to the closing brace: members in order, overriding, special members, slots (C++14 clauses 9, 10, 12; the TS, [class.virtual]).
-use Rattle.std.specs.Prelude.{ℕ, suc, ◌==◌, nat_le, Bool, true, false, not, ◌&&◌, ◌||◌, List, [], ◌∷◌, ◌++◌, length, map, Option, Some, None, is_some, is_none, Result, Ok, Err, if◌then◌else◌, slice_get, slice_set, codes, unwrap_or, count_by, filter}
+use Rattle.std.specs.Prelude.{ℕ, suc, ◌==◌, nat_le, Bool, true, false, not, ◌&&◌, ◌||◌, List, [], ◌∷◌, ◌++◌, length, map, Option, Some, None, is_some, is_none}
+use Rattle.std.specs.Prelude.{Result, Ok, Err, if◌then◌else◌, slice_get, slice_set, codes, unwrap_or, count_by, filter}
 use Rattle.std.specs.List.{list_all, list_any}
 use Rattle.std.specs.Str.{bytes_eq}
 use Rattle.elab_ctx.specs.cpp_types.Typ.{Typ, typ, Form, void, ref, func, class, tx_ex, signature, Typs, none as no_typs, more as and_typ}
@@ -22,7 +23,8 @@ use Rattle.elab_ctx.specs.cpp_tree.declared.faults.ElabFault.{ElabFault}
 use Rattle.elab_ctx.specs.cpp_tree.declared.faults.ElabFault.TheVariants.{Ill, Override, Limit}
 use Rattle.elab_ctx.specs.cpp_tree.declared.faults.LimitKind.TheVariants.{Size}
 use Rattle.elab_ctx.specs.cpp_tree.declared.faults.OverrideRule.{OverrideRule}
-use Rattle.elab_ctx.specs.cpp_tree.declared.faults.OverrideRule.TheVariants.{OverrideNothing, OverridesFinal, BaseFinal, ReturnDiffers, LooserNoexcept, DynamicOverSafe, DynamicNotVirtual}
+use Rattle.elab_ctx.specs.cpp_tree.declared.faults.OverrideRule.TheVariants.{OverrideNothing, OverridesFinal, BaseFinal, ReturnDiffers, LooserNoexcept}
+use Rattle.elab_ctx.specs.cpp_tree.declared.faults.OverrideRule.TheVariants.{DynamicOverSafe, DynamicNotVirtual}
 use Rattle.elab_ctx.specs.cpp_tree.declared.faults.IllRule.TheVariants.{UnknownName, Redeclared, BadDeclaration, Incomplete, AbstractObject, OutOfProfile}
 use Rattle.elab_ctx.specs.cpp_tree.Units.{SlotFunc, Param}
 use Rattle.elab_ctx.specs.cpp_tree.Notation.{plain}
@@ -37,23 +39,31 @@ use Rattle.elab_rules.specs.Types.{Declared, has_auto, type_named, is_abstract_t
 use Rattle.elab_rules.specs.Sizes.{typ_sized}
 use Rattle.elab_rules.specs.Expressions.{type_of_specifiers, declared_by}
 use Rattle.elab_rules.specs.Statements.{State, is_bounded, is_own_name, name_of, is_const_element, has_written_default, is_trivial}
-use Rattle.elab_rules.specs.Functions.{Storage, no_storage, with_specifier, Header, new_function, is_same_function, first_from, text_between, header_sized, text_sized}
+use Rattle.elab_rules.specs.Functions.{Storage, no_storage, with_specifier, Header, new_function, is_same_function, first_from, text_between, header_sized}
+use Rattle.elab_rules.specs.Functions.{text_sized}
 use Rattle.elab_rules.specs.Globals.{with_type}
 
 -- The name (9.1): a new class, or one that is only declared
 
 abbrev pub class_named : List ℕ → Option ℕ → Bool → List Member → List Function → Option ℕ → Class
-class_named name base is_final members functions complete = record { name = name; base = base; members = members; functions = functions; is_final = is_final; complete = complete }
+class_named name base is_final members functions complete =
+    record { name = name; base = base; members = members; functions = functions; is_final = is_final; complete = complete }
 
 pub record Begun : Type 0 where
   pub ctx : Ctx
   pub number : ℕ
 
 abbrev pub with_class : Ctx → List ℕ → Ctx
-with_class c name = record (with_type c name (plain (class (length c.classes)))) { classes = c.classes ++ class_named name None false [] [] None ∷ []; traits = c.traits ++ no_traits ∷ []; slots = c.slots ++ [] ∷ [] }
+with_class c name = record (with_type c name (plain (class (length c.classes)))) {
+  classes = c.classes ++ class_named name None false [] [] None ∷ [];
+  traits =
+      c.traits ++ no_traits ∷ [];
+  slots = c.slots ++ [] ∷ [];
+}
 
 abbrev pub begun_by : Ctx → At → Bool → Typ → Result Begun ElabFault
-begun_by c at defines (typ (class n) false false) = and_then (check at Redeclared (not defines || is_none (completion_of c.classes n))) (λ y. Ok (record { ctx = c; number = n }))
+begun_by c at defines (typ (class n) false false) = and_then (check at Redeclared (not defines || is_none (completion_of c.classes n)))
+    (λ y. Ok (record { ctx = c; number = n }))
 begun_by c at defines t = Err (Ill at Redeclared)
 
 abbrev pub begun_in : Ctx → At → List ℕ → Bool → Option Typ → Result Begun ElabFault
@@ -78,7 +88,9 @@ keeps at rule true = Ok true
 keeps at rule false = Err (Override at rule)
 
 abbrev pub based_on : Ctx → At → List ℕ → Result ℕ ElabFault
-based_on c at name = and_then (expect at UnknownName (type_named name c.types)) (λ (t : Typ). and_then (base_class at t) (λ n. and_then (check at Incomplete (is_some (completion_of c.classes n))) (λ y. and_then (keeps at BaseFinal (not (is_final_class (slice_get c.classes n)))) (λ z. Ok n))))
+based_on c at name = and_then (expect at UnknownName (type_named name c.types))
+    (λ (t : Typ). and_then (base_class at t) (λ n. and_then (check at Incomplete (is_some (completion_of c.classes n)))
+    (λ y. and_then (keeps at BaseFinal (not (is_final_class (slice_get c.classes n)))) (λ z. Ok n))))
 
 -- The class that is being read
 pub record Home : Type 0 where
@@ -111,16 +123,26 @@ index_if true i = i ∷ []
 index_if false i = []
 
 abbrev pub with_member : Members → List ℕ → Typ → Bool → Members
-with_member r name t has_initialiser = record r { members = r.members ++ record { name = name; typ = t } ∷ []; initialised = r.initialised ++ index_if has_initialiser (length r.members) }
+with_member r name t has_initialiser = record r {
+  members = r.members ++ record { name = name; typ = t } ∷ [];
+  initialised = r.initialised
+      ++ index_if has_initialiser (length r.members);
+}
 
 abbrev pub data_member : ℕ → Members → At → List ℕ → Typ → Bool → Result Members ElabFault
-data_member n r at name t has_initialiser = and_then (member_form at (form_in t)) (λ a. and_then (check at OutOfProfile (not (has_auto t))) (λ b. and_then (check at BadDeclaration (is_bounded t)) (λ d. and_then (check at Incomplete (is_complete r.state.ctx (held t))) (λ e.
-    and_then (check at AbstractObject (not (is_abstract_type r.state.ctx (element_of t)))) (λ f. and_then (typ_sized r.state.ctx.classes at t) (λ h. and_then (check at Redeclared (not (has_member name r.members) && not (has_function n name r.state.ctx.funcs))) (λ g. Ok (with_member r name t has_initialiser))))))))
+data_member n r at name t has_initialiser = and_then (member_form at (form_in t))
+    (λ a. and_then (check at OutOfProfile (not (has_auto t)))
+    (λ b. and_then (check at BadDeclaration (is_bounded t)) (λ d. and_then (check at Incomplete (is_complete r.state.ctx (held t))) (λ e.
+    and_then (check at AbstractObject (not (is_abstract_type r.state.ctx (element_of t))))
+    (λ f. and_then (typ_sized r.state.ctx.classes at t)
+    (λ h. and_then (check at Redeclared (not (has_member name r.members) && not (has_function n name r.state.ctx.funcs)))
+    (λ g. Ok (with_member r name t has_initialiser))))))))
 
 -- Overriding (10.3): a function with the name, the parameters and `const` of one in a slot of the base; destructors override each other
 
 abbrev pub same_virtual : Function → Function → Bool
-same_virtual g f = (is_destructor_name g.name && is_destructor_name f.name) || (bytes_eq g.name f.name && typs_eq (signature_parameters g.signature) (signature_parameters f.signature) && flag_eq g.is_const f.is_const)
+same_virtual g f = (is_destructor_name g.name && is_destructor_name f.name)
+    || (bytes_eq g.name f.name && typs_eq (signature_parameters g.signature) (signature_parameters f.signature) && flag_eq g.is_const f.is_const)
 
 abbrev pub functions_in : Option Class → List Function
 functions_in (Some c) = c.functions
@@ -159,7 +181,8 @@ abbrev pub no_marks : Marks
 no_marks = record { is_override = false; is_final = false; is_pure = false }
 
 abbrev pub with_mark : List Lexeme → Marks → syntax.Tree → Marks
-with_mark s m (syntax.node k.VirtSpecifier p (Some t) kids) = if bytes_eq (spelling s t) (codes "override") then record m { is_override = true } else record m { is_final = true }
+with_mark s m (syntax.node k.VirtSpecifier p (Some t) kids) =
+    if bytes_eq (spelling s t) (codes "override") then record m { is_override = true } else record m { is_final = true }
 with_mark s m (syntax.node k.PureSpecifier p token kids) = record m { is_pure = true }
 with_mark s m t = m
 
@@ -181,12 +204,16 @@ stops_exceptions h = h.qualifiers.no_except || is_destructor_name h.name
 
 -- what it overrides is not final, has its result, and is looser neither in exceptions nor in safety
 abbrev pub overrides_well : Header → Option Function → Result Bool ElabFault
-overrides_well h (Some f) = and_then (keeps h.at OverridesFinal (not f.is_final)) (λ a. and_then (keeps h.at ReturnDiffers (typ_eq (signature_result h.signature) (signature_result f.signature))) (λ b.
-    and_then (keeps h.at LooserNoexcept (not f.no_except || stops_exceptions h)) (λ d. keeps h.at DynamicOverSafe (not (h.qualifiers.is_dynamic && (is_safe f.safety || f.considered))))))
+overrides_well h (Some f) = and_then (keeps h.at OverridesFinal (not f.is_final))
+    (λ a. and_then (keeps h.at ReturnDiffers (typ_eq (signature_result h.signature) (signature_result f.signature))) (λ b.
+    and_then (keeps h.at LooserNoexcept (not f.no_except || stops_exceptions h))
+    (λ d. keeps h.at DynamicOverSafe (not (h.qualifiers.is_dynamic && (is_safe f.safety || f.considered))))))
 overrides_well h None = Ok true
 
 abbrev pub marks_fit : Header → Marks → Bool → Bool → Result Bool ElabFault
-marks_fit h m overrides is_virtual = and_then (keeps h.at OverrideNothing (overrides || not m.is_override)) (λ a. and_then (keeps h.at OverrideNothing (is_virtual || not m.is_final)) (λ b. and_then (keeps h.at DynamicNotVirtual (is_virtual || not h.qualifiers.is_dynamic)) (λ d. check h.at BadDeclaration (is_virtual || not m.is_pure))))
+marks_fit h m overrides is_virtual = and_then (keeps h.at OverrideNothing (overrides || not m.is_override))
+    (λ a. and_then (keeps h.at OverrideNothing (is_virtual || not m.is_final))
+    (λ b. and_then (keeps h.at DynamicNotVirtual (is_virtual || not h.qualifiers.is_dynamic)) (λ d. check h.at BadDeclaration (is_virtual || not m.is_pure))))
 
 -- considered safe: it overrides a function that is declared transaction_safe or is itself so considered
 abbrev pub is_considered : Option Function → Bool
@@ -194,7 +221,14 @@ is_considered (Some f) = is_safe f.safety || f.considered
 is_considered None = false
 
 abbrev pub member_record : Function → Marks → Option Function → Bool → Function
-member_record g m o is_virtual = record g { is_virtual = is_virtual || is_some o; is_override = m.is_override; is_final = m.is_final; pure_virtual = m.is_pure; considered = is_considered o; no_except = g.no_except || is_destructor_name g.name }
+member_record g m o is_virtual = record g {
+  is_virtual = is_virtual || is_some o;
+  is_override = m.is_override;
+  is_final = m.is_final;
+  pure_virtual = m.is_pure;
+  considered = is_considered o;
+  no_except = g.no_except || is_destructor_name g.name;
+}
 
 -- where its body stands in the class, it is inline, with its text (7.1.2, 9.3)
 pub record Definition : Type 0 where
@@ -244,9 +278,13 @@ within_bounds None = Ok true
 
 -- a member function, a constructor or a destructor
 abbrev pub member_function : Home → Members → Header → Marks → Option Definition → Result Members ElabFault
-member_function home r h m d = and_then (check h.at Redeclared (is_none (first_from (is_same_function h) 0 r.state.ctx.funcs) && not (has_member h.name r.members))) (λ y. and_then (overrides_well h (overridden r.state.ctx home.base (new_function h).declared)) (λ z.
-    and_then (marks_fit h m (is_some (overridden r.state.ctx home.base (new_function h).declared)) (h.storage.is_virtual || is_some (overridden r.state.ctx home.base (new_function h).declared))) (λ x.
-    and_then (header_sized r.state.ctx h) (λ w. and_then (definition_sized h.at d) (λ v. Ok (with_function r (as_defined d (member_func h m (overridden r.state.ctx home.base (new_function h).declared)))))))))
+member_function home r h m d = and_then (check h.at Redeclared
+    (is_none (first_from (is_same_function h) 0 r.state.ctx.funcs) && not (has_member h.name r.members)))
+    (λ y. and_then (overrides_well h (overridden r.state.ctx home.base (new_function h).declared)) (λ z.
+    and_then (marks_fit h m (is_some (overridden r.state.ctx home.base (new_function h).declared))
+    (h.storage.is_virtual || is_some (overridden r.state.ctx home.base (new_function h).declared))) (λ x.
+    and_then (header_sized r.state.ctx h) (λ w. and_then (definition_sized h.at d)
+    (λ v. Ok (with_function r (as_defined d (member_func h m (overridden r.state.ctx home.base (new_function h).declared)))))))))
 
 -- Declarations of members
 
@@ -266,11 +304,22 @@ pub record Method : Type 0 where
   pub rest : syntax.Trees
 
 abbrev pub header_in : ℕ → Storage → FuncKind → At → List ℕ → Declared → Form → Result Header ElabFault
-header_in n x kind at name r (func sig) = Ok (record { name = name; at = at; signature = sig; params = r.params; qualifiers = r.qualifiers; storage = x; kind = kind; class = Some n })
+header_in n x kind at name r (func sig) = Ok (record {
+  name = name;
+  at = at;
+  signature = sig;
+  params = r.params;
+  qualifiers = r.qualifiers;
+  storage = x;
+  kind =
+      kind;
+  class = Some n;
+})
 header_in n x kind at name r f = Err (Ill at BadDeclaration)
 
 abbrev pub plain_method : List Lexeme → State → ℕ → At → Storage → syntax.Trees → Result Method ElabFault
-plain_method s st n at x (syntax.more base (syntax.more d rest)) = and_then (type_of_specifiers s st.ctx st.work base) (λ (t : Typ). and_then (declared_by s st.ctx st.work at t d) (λ (r : Declared).
+plain_method s st n at x (syntax.more base (syntax.more d rest)) =
+    and_then (type_of_specifiers s st.ctx st.work base) (λ (t : Typ). and_then (declared_by s st.ctx st.work at t d) (λ (r : Declared).
     and_then (header_in n x Plain at (name_of s r.name) r (form_in r.typ)) (λ (h : Header). Ok (record { header = h; rest = rest }))))
 plain_method s st n at x ts = Err (Ill at OutOfProfile)
 
@@ -286,11 +335,14 @@ takes_own_value n ps = false
 
 -- a constructor or a destructor has the name of its class, no result and no `const` (12.1, 12.4)
 abbrev pub special_header : ℕ → List ℕ → At → Storage → FuncKind → Declared → List ℕ → Result Header ElabFault
-special_header n class_name at x kind r name = and_then (check at BadDeclaration (bytes_eq name class_name && not r.qualifiers.is_const)) (λ y. and_then (header_in n x kind at (special_name kind class_name) r (form_in r.typ)) (λ (h : Header).
+special_header n class_name at x kind r name = and_then (check at BadDeclaration (bytes_eq name class_name && not r.qualifiers.is_const))
+    (λ y. and_then (header_in n x kind at (special_name kind class_name) r (form_in r.typ)) (λ (h : Header).
     and_then (check at BadDeclaration (not (makes kind && takes_own_value n (signature_parameters h.signature)))) (λ z. Ok h)))
 
 abbrev pub special_method : List Lexeme → State → ℕ → List ℕ → At → Storage → FuncKind → syntax.Trees → Result Method ElabFault
-special_method s st n class_name at x kind (syntax.more d rest) = and_then (declared_by s st.ctx st.work at (plain void) d) (λ (r : Declared). and_then (special_header n class_name at x kind r (name_of s r.name)) (λ (h : Header). Ok (record { header = h; rest = rest })))
+special_method s st n class_name at x kind (syntax.more d rest) =
+    and_then (declared_by s st.ctx st.work at (plain void) d)
+    (λ (r : Declared). and_then (special_header n class_name at x kind r (name_of s r.name)) (λ (h : Header). Ok (record { header = h; rest = rest })))
 special_method s st n class_name at x kind ts = Err (Ill at OutOfProfile)
 
 -- the function that a member with a body defines, or a constructor or destructor without one declares
@@ -327,7 +379,8 @@ declarator_among s n r (syntax.more (syntax.node k.ReferenceDeclarator p token k
 declarator_among s n r (syntax.more t ts) = declarator_among s n r ts
 
 abbrev pub declared_method : List Lexeme → Home → Members → FuncKind → At → Option Definition → syntax.Trees → Result Members ElabFault
-declared_method s home r kind at d kids = and_then (within_bounds (declarator_among s home.number r kids)) (λ w. and_then (method_of s r.state home.number home.name at kind kids) (λ (m : Method). member_function home r m.header (marks_from s no_marks m.rest) d))
+declared_method s home r kind at d kids = and_then (within_bounds (declarator_among s home.number r kids))
+    (λ w. and_then (method_of s r.state home.number home.name at kind kids) (λ (m : Method). member_function home r m.header (marks_from s no_marks m.rest) d))
 
 abbrev pub is_initialiser : syntax.Tree → Bool
 is_initialiser (syntax.node k.EqualInitializer p token kids) = true
@@ -348,16 +401,22 @@ abbrev pub no_function_words : Storage → Marks → Bool
 no_function_words x m = not x.is_virtual && not m.is_override && not m.is_final
 
 abbrev pub declared_member : Home → Members → At → Storage → Marks → syntax.Trees → List ℕ → Declared → Form → Result Members ElabFault
-declared_member home r at x m rest name d (func sig) = and_then (check at BadDeclaration (not (has_equal rest))) (λ y. and_then (header_in home.number x Plain at name d (func sig)) (λ (h : Header). member_function home r h m None))
-declared_member home r at x m rest name d f = and_then (check at BadDeclaration (no_function_words x m)) (λ y. data_member home.number r at name d.typ (has_initialiser rest))
+declared_member home r at x m rest name d (func sig) =
+    and_then (check at BadDeclaration (not (has_equal rest)))
+    (λ y. and_then (header_in home.number x Plain at name d (func sig)) (λ (h : Header). member_function home r h m None))
+declared_member home r at x m rest name d f = and_then (check at BadDeclaration (no_function_words x m))
+    (λ y. data_member home.number r at name d.typ (has_initialiser rest))
 
 abbrev pub member_declarator : List Lexeme → Home → Storage → Typ → Members → syntax.Tree → Result Members ElabFault
-member_declarator s home x t r (syntax.node kind p token (syntax.more d rest)) = and_then (within_bounds (member_named s home.number r d)) (λ w. and_then (declared_by s r.state.ctx r.state.work (at_of p) t d) (λ (y : Declared). and_then (check (at_of p) BadDeclaration (is_own_name y)) (λ z.
+member_declarator s home x t r (syntax.node kind p token (syntax.more d rest)) =
+    and_then (within_bounds (member_named s home.number r d))
+    (λ w. and_then (declared_by s r.state.ctx r.state.work (at_of p) t d) (λ (y : Declared). and_then (check (at_of p) BadDeclaration (is_own_name y)) (λ z.
     declared_member home r (at_of p) x (marks_from s no_marks rest) rest (name_of s y.name) y (form_in y.typ))))
 member_declarator s home x t r (syntax.node kind p token syntax.none) = Err (Ill (at_of p) OutOfProfile)
 
 abbrev pub member_declarators : List Lexeme → Home → Members → At → Started → syntax.Trees → Result Members ElabFault
-member_declarators s home r at x (syntax.more base ds) = and_then (type_of_specifiers s r.state.ctx r.state.work base) (λ (t : Typ). each_of (member_declarator s home x.storage t) r ds)
+member_declarators s home r at x (syntax.more base ds) =
+    and_then (type_of_specifiers s r.state.ctx r.state.work base) (λ (t : Typ). each_of (member_declarator s home x.storage t) r ds)
 member_declarators s home r at x syntax.none = Err (Ill at OutOfProfile)
 
 abbrev pub member_declaration : List Lexeme → Home → Members → At → Started → Result Members ElabFault
@@ -367,11 +426,14 @@ member_declaration s home r at x = member_declarators s home r at x x.rest
 abbrev pub member_of : List Lexeme → Home → Members → syntax.Tree → Result Members ElabFault
 member_of s home r (syntax.node k.AccessLabel p token kids) = Ok r
 member_of s home r (syntax.node k.MemberDeclaration p token kids) = member_declaration s home r (at_of p) (started_from s no_storage kids)
-member_of s home r (syntax.node k.FunctionDefinition p (Some t) kids) = declared_method s home r Plain (at_of p) (Some (definition_between s t (last_token (body_in kids)))) kids
+member_of s home r (syntax.node k.FunctionDefinition p (Some t) kids) =
+    declared_method s home r Plain (at_of p) (Some (definition_between s t (last_token (body_in kids)))) kids
 member_of s home r (syntax.node k.ConstructorDeclaration p token kids) = declared_method s home r Constructor (at_of p) None kids
-member_of s home r (syntax.node k.ConstructorDefinition p (Some t) kids) = declared_method s home r Constructor (at_of p) (Some (definition_between s t (last_token (body_in kids)))) kids
+member_of s home r (syntax.node k.ConstructorDefinition p (Some t) kids) =
+    declared_method s home r Constructor (at_of p) (Some (definition_between s t (last_token (body_in kids)))) kids
 member_of s home r (syntax.node k.DestructorDeclaration p token kids) = declared_method s home r Destructor (at_of p) None kids
-member_of s home r (syntax.node k.DestructorDefinition p (Some t) kids) = declared_method s home r Destructor (at_of p) (Some (definition_between s t (last_token (body_in kids)))) kids
+member_of s home r (syntax.node k.DestructorDefinition p (Some t) kids) =
+    declared_method s home r Destructor (at_of p) (Some (definition_between s t (last_token (body_in kids)))) kids
 member_of s home r (syntax.node kind p token kids) = Err (Ill (at_of p) OutOfProfile)
 
 abbrev pub members_of : List Lexeme → Home → Members → syntax.Trees → Result Members ElabFault
@@ -455,11 +517,26 @@ pub record Specials : Type 0 where
   pub special : Special
 
 abbrev pub implicit_record : List ℕ → At → Typs → Function
-implicit_record name at ps = record no_function.declared { name = name; signature = signature ps (plain void) false; at = at; no_except = is_destructor_name name }
+implicit_record name at ps = record no_function.declared {
+  name = name;
+  signature = signature ps (plain void) false;
+  at = at;
+  no_except =
+      is_destructor_name name;
+}
 
 -- a member that no text declares (inline, at the name of its class)
 abbrev pub implicit_function : ℕ → FuncKind → List Param → Function → Func
-implicit_function n kind ps g = record no_function { declared = g; kind = kind; class = Some n; linkage = Inline; implicit = true; is_defined = true; params = ps }
+implicit_function n kind ps g = record no_function {
+  declared = g;
+  kind = kind;
+  class = Some n;
+  linkage = Inline;
+  implicit = true;
+  is_defined = true;
+  params =
+      ps;
+}
 
 abbrev pub with_implicit : Ctx → Func → Specials
 with_implicit c f = record { ctx = record c { funcs = c.funcs ++ f ∷ [] }; special = function (length c.funcs) }
@@ -474,7 +551,8 @@ is_destructor_of n f = same_number n f.class && is_destructor_name f.declared.na
 abbrev pub with_destructor : Ctx → Home → At → List Member → Option ℕ → Specials
 with_destructor c home at ms (Some i) = kept_special c (function i)
 with_destructor c home at ms None = if all_held (λ n. is_trivial (traits_at c n).destructor) home.base ms then kept_special c trivial else
-    with_implicit c (implicit_function home.number Destructor [] (member_record (implicit_record (126 ∷ home.name) at no_typs) no_marks (overridden c home.base (implicit_record (126 ∷ home.name) at no_typs)) false))
+    with_implicit c (implicit_function home.number Destructor []
+    (member_record (implicit_record (126 ∷ home.name) at no_typs) no_marks (overridden c home.base (implicit_record (126 ∷ home.name) at no_typs)) false))
 
 abbrev pub own_reference : ℕ → Bool → Typ
 own_reference n is_const = plain (ref (typ (class n) is_const false))
@@ -499,8 +577,10 @@ copies_const_parts c base ms = all_held (λ n. (traits_at c n).copies_const) bas
 -- the copy (12.8): written, not there, trivial, or that of each part
 abbrev pub with_copy : Ctx → Home → At → List Member → Option ℕ → Specials
 with_copy c home at ms (Some i) = kept_special c (function i)
-with_copy c home at ms None = if not (may_copy c home.base ms) then kept_special c absent else (if has_no_pointer c home && all_held (λ n. is_trivial (traits_at c n).copy) home.base ms then kept_special c trivial else
-    with_implicit c (implicit_function home.number Constructor (record { typ = own_reference home.number (copies_const_parts c home.base ms); at = at } ∷ []) (implicit_record home.name at (and_typ (own_reference home.number (copies_const_parts c home.base ms)) no_typs))))
+with_copy c home at ms None = if not (may_copy c home.base ms) then kept_special c absent else
+    (if has_no_pointer c home && all_held (λ n. is_trivial (traits_at c n).copy) home.base ms then kept_special c trivial else
+    with_implicit c (implicit_function home.number Constructor (record { typ = own_reference home.number (copies_const_parts c home.base ms); at = at } ∷ [])
+    (implicit_record home.name at (and_typ (own_reference home.number (copies_const_parts c home.base ms)) no_typs))))
 
 abbrev pub is_default_constructor : ℕ → Func → Bool
 is_default_constructor n f = is_constructor n f && typs_eq (signature_parameters f.declared.signature) no_typs
@@ -520,7 +600,8 @@ is_trivial_default c home ms initialised = is_no_place initialised && has_no_poi
 -- the constructor without arguments (12.1): where no constructor is written, there is one if each part has one
 abbrev pub with_default : Ctx → Home → At → List Member → List ℕ → Bool → Specials
 with_default c home at ms initialised false = kept_special c (written_default (first_from (is_default_constructor home.number) 0 c.funcs))
-with_default c home at ms initialised true = if not (base_default c home.base && members_default c initialised 0 ms) then kept_special c absent else (if is_trivial_default c home ms initialised then kept_special c trivial else
+with_default c home at ms initialised true = if not (base_default c home.base && members_default c initialised 0 ms) then kept_special c absent else
+    (if is_trivial_default c home ms initialised then kept_special c trivial else
     with_implicit c (implicit_function home.number Constructor [] (implicit_record home.name at no_typs)))
 
 -- Slots: those of the base in order, each with its final overrider, then new virtual functions in the order of the text (10.3)
@@ -529,7 +610,15 @@ abbrev pub own_functions : ℕ → List Func → List Function
 own_functions n fs = map (λ (f : Func). f.declared) (filter (is_of_class n) fs)
 
 abbrev pub slot_of : ℕ → ℕ → Function → SlotFunc
-slot_of n i f = record { name = f.name; signature = f.signature; class = n; func = i; safe = is_safe f.safety || is_dynamic f.safety || f.considered; dynamic = is_dynamic f.safety }
+slot_of n i f = record {
+  name = f.name;
+  signature = f.signature;
+  class = n;
+  func = i;
+  safe = is_safe f.safety || is_dynamic f.safety || f.considered;
+  dynamic =
+      is_dynamic f.safety;
+}
 
 -- the slot with the function of the class that overrides it, if one does
 abbrev pub overrider_from : ℕ → ℕ → Option Function → SlotFunc → List Function → SlotFunc
@@ -560,7 +649,12 @@ is_pure (Some f) = f.pure_virtual
 is_pure None = false
 
 abbrev pub with_record : Ctx → Home → List Member → Ctx
-with_record c home ms = record c { classes = slice_set c.classes home.number (class_named home.name home.base home.is_final ms (own_functions home.number c.funcs) (Some (count_by is_completed c.classes))); slots = slice_set c.slots home.number (slots_of c home (own_functions home.number c.funcs)) }
+with_record c home ms = record c {
+  classes = slice_set c.classes home.number
+      (class_named home.name home.base home.is_final ms (own_functions home.number c.funcs) (Some (count_by is_completed c.classes)));
+  slots =
+      slice_set c.slots home.number (slots_of c home (own_functions home.number c.funcs));
+}
 
 -- it is copied byte by byte: by its own members and functions, and so is each part (3.9)
 abbrev pub is_copied_by_bytes : Ctx → Home → List Member → Bool
@@ -586,17 +680,21 @@ abbrev pub with_traits : Ctx → Home → Traits → Ctx
 with_traits c home t = record c { traits = slice_set c.traits home.number t }
 
 abbrev pub with_specials : Home → List Member → Bool → Special → Special → Specials → Ctx
-with_specials home ms const copy destructor d = with_traits (with_record d.ctx home ms) home (traits_of (with_record d.ctx home ms) home ms const d.special copy destructor)
+with_specials home ms const copy destructor d = with_traits (with_record d.ctx home ms) home
+    (traits_of (with_record d.ctx home ms) home ms const d.special copy destructor)
 
 abbrev pub default_completed : Home → At → List Member → List ℕ → Bool → Bool → Special → Specials → Ctx
-default_completed home at ms initialised none_written const destructor k = with_specials home ms const k.special destructor (with_default k.ctx home at ms initialised none_written)
+default_completed home at ms initialised none_written const destructor k =
+    with_specials home ms const k.special destructor (with_default k.ctx home at ms initialised none_written)
 
 abbrev pub copy_completed : Home → At → List Member → List ℕ → Bool → Bool → Specials → Ctx
-copy_completed home at ms initialised none_written const d = default_completed home at ms initialised none_written const d.special (with_copy d.ctx home at ms (written_copy d.ctx home))
+copy_completed home at ms initialised none_written const d =
+    default_completed home at ms initialised none_written const d.special (with_copy d.ctx home at ms (written_copy d.ctx home))
 
 -- implicit members stand behind the written ones: the destructor, the copy, the constructor without arguments, each of which may name those before it
 abbrev pub completed : Ctx → Home → At → List Member → List ℕ → Ctx
-completed c home at ms initialised = copy_completed home at ms initialised (is_no_place (places_from (is_constructor home.number) 0 c.funcs)) (takes_const c home ms (written_copy c home)) (with_destructor c home at ms (first_from (is_destructor_of home.number) 0 c.funcs))
+completed c home at ms initialised = copy_completed home at ms initialised (is_no_place (places_from (is_constructor home.number) 0 c.funcs))
+    (takes_const c home ms (written_copy c home)) (with_destructor c home at ms (first_from (is_destructor_of home.number) 0 c.funcs))
 
 -- complete, unless it is too large
 abbrev pub closed_class : At → ℕ → Ctx → Result Ctx ElabFault

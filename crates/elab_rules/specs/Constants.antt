@@ -1,5 +1,6 @@
 -- Constant expressions (C++14 5.19, cut to integers and addresses of functions and globals).
-use Rattle.std.specs.Prelude.{ℕ, ◌==◌, Bool, true, false, not, ◌&&◌, List, [], ◌∷◌, ◌^◌, Option, Some, None, Result, Ok, Err, if◌then◌else◌, slice_get, option_map, option_and_then, ℤ}
+use Rattle.std.specs.Prelude.{ℕ, ◌==◌, Bool, true, false, not, ◌&&◌, List, [], ◌∷◌, ◌^◌, Option, Some, None, Result, Ok, Err, if◌then◌else◌, slice_get}
+use Rattle.std.specs.Prelude.{option_map, option_and_then, ℤ}
 use Rattle.elab_ctx.specs.tx_ints.declared.kinds.IntKind.{IntKind}
 use Rattle.elab_ctx.specs.tx_ints.declared.kinds.IntKind.TheVariants.{ULong}
 use Rattle.elab_ctx.specs.tx_ints.declared.kinds.BinOp.{BinOp}

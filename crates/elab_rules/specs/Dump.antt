@@ -1,10 +1,12 @@
 -- Typed trees as text: a line for each node, deeper ones indented, with the offset of its place, and its category and type where it has one.
-use Rattle.std.specs.Prelude.{ℕ, zero, suc, Bool, true, false, List, [], ◌∷◌, ◌++◌, ◌+◌, ◌/◌, ◌%◌, nat_lt, length, map, Option, Some, None, Result, Ok, Err, if◌then◌else◌, slice_get, codes}
+use Rattle.std.specs.Prelude.{ℕ, zero, suc, Bool, true, false, List, [], ◌∷◌, ◌++◌, ◌+◌, ◌/◌, ◌%◌, nat_lt, length, map, Option, Some, None, Result, Ok, Err}
+use Rattle.std.specs.Prelude.{if◌then◌else◌, slice_get, codes}
 use Rattle.std.specs.Str.{bytes_eq}
 use Rattle.elab_ctx.specs.tx_events.declared.BlockKind.{BlockKind}
 use Rattle.elab_ctx.specs.tx_events.declared.BlockKind.TheVariants.{NoExcept, Cancel, Commit}
 use Rattle.elab_ctx.specs.tx_ints.declared.kinds.IntKind.{IntKind}
-use Rattle.elab_ctx.specs.tx_ints.declared.kinds.IntKind.TheVariants.{Bool as BoolKind, Char, SChar, UChar, Short, UShort, Int, UInt, Long, ULong, LLong, ULLong}
+use Rattle.elab_ctx.specs.tx_ints.declared.kinds.IntKind.TheVariants.{Bool as BoolKind, Char, SChar, UChar, Short, UShort, Int, UInt, Long, ULong, LLong}
+use Rattle.elab_ctx.specs.tx_ints.declared.kinds.IntKind.TheVariants.{ULLong}
 use Rattle.elab_ctx.specs.tx_ints.declared.kinds.BinOp.{BinOp}
 use Rattle.elab_ctx.specs.tx_ints.declared.kinds.BinOp.TheVariants.{Add, Sub, Mul, Div, Rem, Shl, Shr, And, Xor, Or, Lt, Gt, Le, Ge, Eq, Ne}
 use Rattle.elab_ctx.specs.cpp_types.Typ.{Typ, typ, void, null, class, int, ptr, array, closure}
@@ -133,7 +135,8 @@ kind_text st (forms.Binary op kind) = codes "Binary" ++ word (operator_name op) 
 kind_text st forms.Conditional = codes "Conditional"
 kind_text st forms.Comma = codes "Comma"
 kind_text st (forms.Assign kind v) = codes "Assign" ++ word (kind_name kind) ++ flag v (codes "volatile")
-kind_text st (forms.Update op j kind v old) = codes "Update" ++ word (operator_name op) ++ word (kind_name j) ++ word (kind_name kind) ++ flag v (codes "volatile") ++ flag old (codes "old")
+kind_text st (forms.Update op j kind v old) = codes "Update" ++ word (operator_name op) ++ word (kind_name j) ++ word (kind_name kind)
+    ++ flag v (codes "volatile") ++ flag old (codes "old")
 kind_text st forms.CopyAssign = codes "CopyAssign"
 kind_text st (forms.Materialize p argument) = codes "Materialize" ++ number p ++ flag argument (codes "argument")
 kind_text st forms.FullExpression = codes "FullExpression"
@@ -193,7 +196,8 @@ typed_text st cat t false = category_name cat ++ type_name st t
 
 abbrev mutual
   pub tree_text : State → ℕ → Tree → List ℕ
-  tree_text st depth (node kind t cat at kids) = indent depth ++ (kind_text st kind ++ (codes " @" ++ (decimal at.offset ++ (typed_text st cat t (is_untyped cat t) ++ (10 ∷ trees_text st (suc depth) kids)))))
+  tree_text st depth (node kind t cat at kids) = indent depth
+      ++ (kind_text st kind ++ (codes " @" ++ (decimal at.offset ++ (typed_text st cat t (is_untyped cat t) ++ (10 ∷ trees_text st (suc depth) kids)))))
 
   pub trees_text : State → ℕ → Trees → List ℕ
   trees_text st depth none = []

@@ -1,5 +1,6 @@
 -- The typed form of an expression, a type-id and a declarator: what stands in it first, from left to right, then the form itself.
-use Rattle.std.specs.Prelude.{ℕ, suc, ◌==◌, Bool, true, false, not, ◌&&◌, ◌||◌, List, [], ◌∷◌, ◌++◌, length, Option, Some, None, is_some, Result, Ok, Err, if◌then◌else◌, slice_get, codes}
+use Rattle.std.specs.Prelude.{ℕ, suc, ◌==◌, Bool, true, false, not, ◌&&◌, ◌||◌, List, [], ◌∷◌, ◌++◌, length, Option, Some, None, is_some, Result, Ok, Err}
+use Rattle.std.specs.Prelude.{if◌then◌else◌, slice_get, codes}
 use Rattle.std.specs.Str.{bytes_eq}
 use Rattle.elab_ctx.specs.tx_ints.declared.kinds.IntKind.{IntKind}
 use Rattle.elab_ctx.specs.tx_ints.declared.kinds.IntKind.TheVariants.{Char, Int, Bool as BoolKind, ULong}
@@ -20,7 +21,8 @@ use Rattle.elab_ctx.specs.cpp_tree.declared.kinds.TKind.TheVariants.{Literal, Bu
 use Rattle.elab_ctx.specs.cpp_tree.declared.kinds.Builtin.TheVariants.{Abort}
 use Rattle.elab_ctx.specs.cpp_tree.declared.faults.ElabFault.{ElabFault}
 use Rattle.elab_ctx.specs.cpp_tree.declared.faults.ElabFault.TheVariants.{Ill}
-use Rattle.elab_ctx.specs.cpp_tree.declared.faults.IllRule.TheVariants.{UnknownName, BadDeclaration, BadOperand, NotConstant, NotTriviallyCopyable, NoMember, OutOfProfile}
+use Rattle.elab_ctx.specs.cpp_tree.declared.faults.IllRule.TheVariants.{UnknownName, BadDeclaration, BadOperand, NotConstant, NotTriviallyCopyable, NoMember}
+use Rattle.elab_ctx.specs.cpp_tree.declared.faults.IllRule.TheVariants.{OutOfProfile}
 use Rattle.elab_ctx.specs.cpp_tree.Trees.{Tree, node, Trees, none, more, one, typ_in, cat_of, two}
 use Rattle.elab_ctx.specs.cpp_tree.Notation.{plain}
 use Rattle.elab_ctx.specs.cpp_tree.Typing.{form_in}
@@ -30,12 +32,15 @@ use Rattle.elab_rules.specs.Values.{retyped, valued, stored, part_at}
 use Rattle.elab_rules.specs.Objects.{Part, parts_of, destroys}
 use Rattle.elab_rules.specs.Initialising.{class_from, same_number, class_number, closure_part}
 use Rattle.elab_rules.specs.Constants.{word_in, constant}
-use Rattle.elab_rules.specs.Operators.{value, arithmetic, binary_operator, compound_operator, binary, logical, negation, minus, complement, plus, indirection, address_of, subscript, assignment, compound, step, comma, conditional, same_work}
+use Rattle.elab_rules.specs.Operators.{value, arithmetic, binary_operator, compound_operator, binary, logical, negation, minus, complement, plus, indirection}
+use Rattle.elab_rules.specs.Operators.{address_of, subscript, assignment, compound, step, comma, conditional, same_work}
 use Rattle.elab_rules.specs.Names.{named, this_tree, resolved, member_access, variable_in, of_entity}
 use Rattle.elab_rules.specs.Calls.{call}
 use Rattle.elab_rules.specs.Casts.{cast, functional, size_literal, throw, string_made}
 use Rattle.elab_rules.specs.Strings.{string_bytes}
-use Rattle.elab_rules.specs.Types.{Specifiers, no_specifiers, type_named, specified_type, may_be_thrown, Parameter, Qualifiers, Declared, declared_name, pointer_to, reference_to, array_of, open_array, parameter_type, function_of, is_name, qualifiers_of, is_declared_safe, with_function, with_qualifiers, owner_token}
+use Rattle.elab_rules.specs.Types.{Specifiers, no_specifiers, type_named, specified_type, may_be_thrown, Parameter, Qualifiers, Declared, declared_name}
+use Rattle.elab_rules.specs.Types.{pointer_to, reference_to, array_of, open_array, parameter_type, function_of, is_name, qualifiers_of, is_declared_safe}
+use Rattle.elab_rules.specs.Types.{with_function, with_qualifiers, owner_token}
 
 -- Answers
 
@@ -50,12 +55,14 @@ a_tree at w r = and_then r (λ (t : Tree). Ok (operand_at at (record { tree = t;
 
 -- an operand whose functions, if it names any, are one function
 abbrev pub chosen_operand : Ctx → Typed → Result Typed ElabFault
-chosen_operand c x = and_then (resolved c x.operand.tree) (λ (t : Tree). Ok (record x { operand = record { tree = t; at = x.operand.at; zero = x.operand.zero } }))
+chosen_operand c x = and_then (resolved c x.operand.tree)
+    (λ (t : Tree). Ok (record x { operand = record { tree = t; at = x.operand.at; zero = x.operand.zero } }))
 
 -- Literals and names
 
 abbrev pub integer_literal : At → List ℕ → ℕ → Work → Result Typed ElabFault
-integer_literal at bytes n w = and_then (expect at OutOfProfile (int_type_of bytes n)) (λ (kind : IntKind). Ok (record { operand = record { tree = node (Literal n) (plain (int kind)) Prvalue at none; at = at; zero = n == 0 }; work = w }))
+integer_literal at bytes n w = and_then (expect at OutOfProfile (int_type_of bytes n))
+    (λ (kind : IntKind). Ok (record { operand = record { tree = node (Literal n) (plain (int kind)) Prvalue at none; at = at; zero = n == 0 }; work = w }))
 
 abbrev pub literal_of : At → IntKind → ℕ → Work → Result Typed ElabFault
 literal_of at kind n w = Ok (operand_at at (record { tree = node (Literal (word_in kind n)) (plain (int kind)) Prvalue at none; work = w }))
@@ -82,11 +89,13 @@ operator_of c w at name a b = if bytes_eq name (codes "&&") then logical c w tru
 
 abbrev pub unary_of : Ctx → Work → At → List ℕ → Operand → Result Tree ElabFault
 unary_of c w at name a = if bytes_eq name (codes "++") then step c Add false at a else (if bytes_eq name (codes "--") then step c Sub false at a else (
-    if bytes_eq name (codes "+") then plus at a else (if bytes_eq name (codes "-") then minus at a else (if bytes_eq name (codes "!") then negation c w at a else (
+    if bytes_eq name (codes "+") then plus at a else (if bytes_eq name (codes "-") then minus at a else
+    (if bytes_eq name (codes "!") then negation c w at a else (
     if bytes_eq name (codes "~") then complement at a else (if bytes_eq name (codes "*") then indirection at a else address_of at a))))))
 
 abbrev pub assignment_of : Ctx → Work → At → List ℕ → Operand → Operand → Result Made ElabFault
-assignment_of c w at name a b = if bytes_eq name (codes "=") then assignment c w at a b else same_work w (and_then (expect at OutOfProfile (compound_operator name)) (λ (op : BinOp). compound c op at a b))
+assignment_of c w at name a b = if bytes_eq name (codes "=") then assignment c w at a b else same_work w
+    (and_then (expect at OutOfProfile (compound_operator name)) (λ (op : BinOp). compound c op at a b))
 
 abbrev pub postfix_operator : List ℕ → BinOp
 postfix_operator name = if bytes_eq name (codes "++") then Add else Sub
@@ -106,7 +115,8 @@ row_of s c w k.AssignmentExpression at t (a ∷ b ∷ []) = an_operand at (assig
 row_of s c w k.CommaExpression at t (a ∷ b ∷ []) = Ok (operand_at at (comma c w at a b))
 row_of s c w k.ThrowExpression at t os = an_operand at (throw c w at os)
 row_of s c w k.MemberAccess at t (a ∷ []) = an_operand at (member_access c w at (token_place s at.source t) (spelling s t) a)
-row_of s c w k.PointerMemberAccess at t (a ∷ []) = and_then (pointed_operand at a) (λ (o : Operand). an_operand at (member_access c w at (token_place s at.source t) (spelling s t) o))
+row_of s c w k.PointerMemberAccess at t (a ∷ []) = and_then (pointed_operand at a)
+    (λ (o : Operand). an_operand at (member_access c w at (token_place s at.source t) (spelling s t) o))
 row_of s c w kind at t os = Err (Ill at OutOfProfile)
 
 -- Enumerators by the name of their enum
@@ -144,7 +154,11 @@ abbrev pub captured_value : Ctx → Work → Capture → Typ → Operand → Res
 captured_value c w x (typ (ref u) d v) o = Ok (record { tree = stored x.at (typ (ref u) d v) o.tree; work = w })
 captured_value c w x (typ (class n) d v) o = class_from c w (typ (class n) d v) x.at o
 captured_value c w x (typ (closure n) d v) o = class_from c w (typ (closure n) d v) x.at o
-captured_value c w x (typ (array e n) d v) o = Ok (record { tree = node CopyFrom (typ (array e n) d v) Prvalue x.at (two o.tree (closure_part c x.at (record { offset = 0; typ = typ (array e n) d v }))); work = w })
+captured_value c w x (typ (array e n) d v) o = Ok (record {
+  tree = node CopyFrom (typ (array e n) d v) Prvalue x.at
+      (two o.tree (closure_part c x.at (record { offset = 0; typ = typ (array e n) d v })));
+  work = w;
+})
 captured_value c w x (typ (tx_ex e) d v) o = class_from c w (typ (tx_ex e) d v) x.at o
 captured_value c w x t o = Ok (record { tree = stored x.at t (valued x.at o.tree); work = w })
 
@@ -161,7 +175,8 @@ captured_pieces c w (p ∷ ps) (x ∷ xs) = and_then (captured c w x) (λ (m : M
 captured_pieces c w ps xs = Ok (record { trees = none; work = w })
 
 abbrev pub closure_object : Ctx → List Closure → Work → At → Result Made ElabFault
-closure_object c l w at = and_then (expect at OutOfProfile (closure_at at l)) (λ (x : Closure). and_then (captured_pieces c w (parts_of c.classes x.class) x.captures) (λ (m : MadeAll).
+closure_object c l w at = and_then (expect at OutOfProfile (closure_at at l))
+    (λ (x : Closure). and_then (captured_pieces c w (parts_of c.classes x.class) x.captures) (λ (m : MadeAll).
     Ok (record { tree = node Pieces (plain (closure x.class)) Prvalue at m.trees; work = m.work })))
 
 -- Array bounds
@@ -170,35 +185,57 @@ abbrev pub bound_kind : At → Option IntKind → Result IntKind ElabFault
 bound_kind at x = expect at BadOperand x
 
 abbrev pub bounded : Ctx → Work → At → Typ → Operand → Result Typ ElabFault
-bounded c w at t o = and_then (bound_kind o.at (arithmetic (form_in (typ_in (value o))))) (λ (kind : IntKind). and_then (expect o.at NotConstant (constant w.globals (value o))) (λ n. array_of c at o.at t kind n))
+bounded c w at t o = and_then (bound_kind o.at (arithmetic (form_in (typ_in (value o)))))
+    (λ (kind : IntKind). and_then (expect o.at NotConstant (constant w.globals (value o))) (λ n. array_of c at o.at t kind n))
 
--- Everything that holds expressions. The lambdas that may stand in a form are given beside the context: there are none in an operand that is not evaluated (C++14 5.1.2 p2).
+-- Everything that holds expressions. The lambdas that may stand in a form are given beside the context: there are none in an operand that is not evaluated
+-- (C++14 5.1.2 p2).
 
 abbrev mutual
   pub expression_with : List Lexeme → Ctx → List Closure → Work → syntax.Tree → Result Typed ElabFault
-  expression_with s c l w (syntax.node k.ParenthesizedExpression p token (syntax.more e syntax.none)) = and_then (expression_with s c l w e) (λ (x : Typed). Ok (record x { operand = record { tree = x.operand.tree; at = at_of p; zero = x.operand.zero } }))
-  expression_with s c l w (syntax.node k.FunctionCall p token (syntax.more f es)) = and_then (expression_with s c l w f) (λ (x : Typed). and_then (operands_with s c l x.work es) (λ (xs : TypedAll). an_operand (at_of p) (call c xs.work (at_of p) x.operand xs.operands)))
-  expression_with s c l w (syntax.node k.FunctionalCast p token (syntax.more base es)) = and_then (specified_with s c l w no_specifiers base) (λ (d : Specifiers). and_then (specified_type (at_of p) d) (λ (t : Typ). and_then (operands_with s c l w es) (λ (xs : TypedAll). an_operand (at_of p) (functional c xs.work (at_of p) t xs.operands))))
-  expression_with s c l w (syntax.node k.StaticCast p token (syntax.more t (syntax.more e syntax.none))) = and_then (type_id_with s c l w t) (λ (u : Typ). and_then (and_then (expression_with s c l w e) (chosen_operand c)) (λ (x : Typed). an_operand (at_of p) (cast c x.work (at_of p) u x.operand)))
-  expression_with s c l w (syntax.node k.CastExpression p token (syntax.more t (syntax.more e syntax.none))) = and_then (type_id_with s c l w t) (λ (u : Typ). and_then (and_then (expression_with s c l w e) (chosen_operand c)) (λ (x : Typed). an_operand (at_of p) (cast c x.work (at_of p) u x.operand)))
-  expression_with s c l w (syntax.node k.SizeofExpression p token (syntax.more e syntax.none)) = and_then (and_then (expression_with s c [] w e) (chosen_operand c)) (λ (x : Typed). a_tree (at_of p) w (size_literal c (at_of p) x.operand.at (typ_in x.operand.tree)))
-  expression_with s c l w (syntax.node k.SizeofType p token (syntax.more t syntax.none)) = and_then (type_id_with s c [] w t) (λ (u : Typ). a_tree (at_of p) w (size_literal c (at_of p) (at_of p) u))
+  expression_with s c l w (syntax.node k.ParenthesizedExpression p token (syntax.more e syntax.none)) =
+      and_then (expression_with s c l w e) (λ (x : Typed). Ok (record x { operand = record { tree = x.operand.tree; at = at_of p; zero = x.operand.zero } }))
+  expression_with s c l w (syntax.node k.FunctionCall p token (syntax.more f es)) =
+      and_then (expression_with s c l w f) (λ (x : Typed). and_then (operands_with s c l x.work es)
+      (λ (xs : TypedAll). an_operand (at_of p) (call c xs.work (at_of p) x.operand xs.operands)))
+  expression_with s c l w (syntax.node k.FunctionalCast p token (syntax.more base es)) =
+      and_then (specified_with s c l w no_specifiers base)
+      (λ (d : Specifiers). and_then (specified_type (at_of p) d)
+      (λ (t : Typ). and_then (operands_with s c l w es) (λ (xs : TypedAll). an_operand (at_of p) (functional c xs.work (at_of p) t xs.operands))))
+  expression_with s c l w (syntax.node k.StaticCast p token (syntax.more t (syntax.more e syntax.none))) =
+      and_then (type_id_with s c l w t) (λ (u : Typ). and_then (and_then (expression_with s c l w e) (chosen_operand c))
+      (λ (x : Typed). an_operand (at_of p) (cast c x.work (at_of p) u x.operand)))
+  expression_with s c l w (syntax.node k.CastExpression p token (syntax.more t (syntax.more e syntax.none))) =
+      and_then (type_id_with s c l w t) (λ (u : Typ). and_then (and_then (expression_with s c l w e) (chosen_operand c))
+      (λ (x : Typed). an_operand (at_of p) (cast c x.work (at_of p) u x.operand)))
+  expression_with s c l w (syntax.node k.SizeofExpression p token (syntax.more e syntax.none)) =
+      and_then (and_then (expression_with s c [] w e) (chosen_operand c))
+      (λ (x : Typed). a_tree (at_of p) w (size_literal c (at_of p) x.operand.at (typ_in x.operand.tree)))
+  expression_with s c l w (syntax.node k.SizeofType p token (syntax.more t syntax.none)) =
+      and_then (type_id_with s c [] w t) (λ (u : Typ). a_tree (at_of p) w (size_literal c (at_of p) (at_of p) u))
   expression_with s c l w (syntax.node k.Lambda p token kids) = an_operand (at_of p) (closure_object c l w (at_of p))
-  expression_with s c l w (syntax.node k.QualifiedId p (Some n) (syntax.more (syntax.node kind q (Some t) kids) syntax.none)) = a_tree (at_of p) w (qualified_name c w (at_of p) (spelling s t) (spelling s n))
+  expression_with s c l w (syntax.node k.QualifiedId p (Some n) (syntax.more (syntax.node kind q (Some t) kids) syntax.none)) =
+      a_tree (at_of p) w (qualified_name c w (at_of p) (spelling s t) (spelling s n))
   expression_with s c l w (syntax.node kind p (Some t) syntax.none) = leaf_or_row s c w kind (at_of p) t
-  expression_with s c l w (syntax.node kind p (Some t) kids) = and_then (operands_with s c l w kids) (λ (xs : TypedAll). row_of s c xs.work kind (at_of p) t xs.operands)
+  expression_with s c l w (syntax.node kind p (Some t) kids) =
+      and_then (operands_with s c l w kids) (λ (xs : TypedAll). row_of s c xs.work kind (at_of p) t xs.operands)
   expression_with s c l w (syntax.node kind p None kids) = Err (Ill (at_of p) OutOfProfile)
 
   pub operands_with : List Lexeme → Ctx → List Closure → Work → syntax.Trees → Result TypedAll ElabFault
   operands_with s c l w syntax.none = Ok (record { operands = []; work = w })
-  operands_with s c l w (syntax.more t ts) = and_then (and_then (expression_with s c l w t) (chosen_operand c)) (λ (x : Typed). and_then (operands_with s c l x.work ts) (λ (xs : TypedAll). Ok (record { operands = x.operand ∷ xs.operands; work = xs.work })))
+  operands_with s c l w (syntax.more t ts) = and_then (and_then (expression_with s c l w t) (chosen_operand c))
+      (λ (x : Typed). and_then (operands_with s c l x.work ts) (λ (xs : TypedAll). Ok (record { operands = x.operand ∷ xs.operands; work = xs.work })))
 
   -- one specifier of a type
   pub specified_with : List Lexeme → Ctx → List Closure → Work → Specifiers → syntax.Tree → Result Specifiers ElabFault
-  specified_with s c l w d (syntax.node k.CvQualifier p (Some t) kids) = Ok (if bytes_eq (spelling s t) (codes "const") then record d { is_const = true } else record d { is_volatile = true })
+  specified_with s c l w d (syntax.node k.CvQualifier p (Some t) kids) =
+      Ok (if bytes_eq (spelling s t) (codes "const") then record d { is_const = true } else record d { is_volatile = true })
   specified_with s c l w d (syntax.node k.SimpleTypeSpecifier p (Some t) kids) = Ok (record d { words = d.words ++ spelling s t ∷ [] })
-  specified_with s c l w d (syntax.node k.TypeName p (Some t) kids) = and_then (expect (at_of p) UnknownName (type_named (spelling s t) c.types)) (λ (u : Typ). Ok (record d { named = Some u }))
-  specified_with s c l w d (syntax.node k.TxException p token (syntax.more t syntax.none)) = and_then (type_id_with s c l w t) (λ (u : Typ). and_then (check (at_of p) NotTriviallyCopyable (may_be_thrown c u)) (λ y. Ok (record d { named = Some (plain (tx_ex u)) })))
+  specified_with s c l w d (syntax.node k.TypeName p (Some t) kids) =
+      and_then (expect (at_of p) UnknownName (type_named (spelling s t) c.types)) (λ (u : Typ). Ok (record d { named = Some u }))
+  specified_with s c l w d (syntax.node k.TxException p token (syntax.more t syntax.none)) =
+      and_then (type_id_with s c l w t) (λ (u : Typ). and_then (check (at_of p) NotTriviallyCopyable (may_be_thrown c u))
+      (λ y. Ok (record d { named = Some (plain (tx_ex u)) })))
   specified_with s c l w d (syntax.node kind p token kids) = Err (Ill (at_of p) OutOfProfile)
 
   pub all_specified_with : List Lexeme → Ctx → List Closure → Work → Specifiers → syntax.Trees → Result Specifiers ElabFault
@@ -207,10 +244,12 @@ abbrev mutual
 
   -- the type that a list of specifiers gives
   pub specifiers_with : List Lexeme → Ctx → List Closure → Work → syntax.Tree → Result Typ ElabFault
-  specifiers_with s c l w (syntax.node kind p token kids) = and_then (all_specified_with s c l w no_specifiers kids) (λ (d : Specifiers). specified_type (at_of p) d)
+  specifiers_with s c l w (syntax.node kind p token kids) =
+      and_then (all_specified_with s c l w no_specifiers kids) (λ (d : Specifiers). specified_type (at_of p) d)
 
   pub type_id_with : List Lexeme → Ctx → List Closure → Work → syntax.Tree → Result Typ ElabFault
-  type_id_with s c l w (syntax.node kind p token (syntax.more base (syntax.more d syntax.none))) = and_then (specifiers_with s c l w base) (λ (t : Typ). and_then (declared_with s c l w (at_of p) t d) (λ (r : Declared). Ok r.typ))
+  type_id_with s c l w (syntax.node kind p token (syntax.more base (syntax.more d syntax.none))) =
+      and_then (specifiers_with s c l w base) (λ (t : Typ). and_then (declared_with s c l w (at_of p) t d) (λ (r : Declared). Ok r.typ))
   type_id_with s c l w (syntax.node kind p token kids) = Err (Ill (at_of p) OutOfProfile)
 
   -- what a declarator declares of a type; the place is that of the declared name
@@ -222,16 +261,22 @@ abbrev mutual
   declared_with s c l w at t (syntax.node k.OmittedId p token kids) = Ok (declared_name None None false t)
   declared_with s c l w at t (syntax.node k.ParenthesizedDeclarator p token (syntax.more d syntax.none)) = declared_with s c l w at t d
   declared_with s c l w at t (syntax.node k.PointerDeclarator p token kids) = and_then (pointer_to at t) (λ (u : Typ). pointed_with s c l w at u kids)
-  declared_with s c l w at t (syntax.node k.ReferenceDeclarator p token (syntax.more d syntax.none)) = and_then (reference_to at t) (λ (u : Typ). declared_with s c l w at u d)
-  declared_with s c l w at t (syntax.node k.ArrayDeclarator p token (syntax.more d syntax.none)) = and_then (open_array at t) (λ (u : Typ). declared_with s c l w at u d)
-  declared_with s c l w at t (syntax.node k.ArrayDeclarator p token (syntax.more d (syntax.more e syntax.none))) = and_then (and_then (expression_with s c l w e) (chosen_operand c)) (λ (x : Typed). and_then (bounded c w at t x.operand) (λ (u : Typ). declared_with s c l w at u d))
-  declared_with s c l w at t (syntax.node k.FunctionDeclarator p token (syntax.more d (syntax.more ps (syntax.more q syntax.none)))) = and_then (parameters_in_with s c l w ps) (λ (xs : List Parameter). and_then (function_of c at t xs (is_declared_safe (qualifiers_of s q))) (λ (u : Typ).
+  declared_with s c l w at t (syntax.node k.ReferenceDeclarator p token (syntax.more d syntax.none)) =
+      and_then (reference_to at t) (λ (u : Typ). declared_with s c l w at u d)
+  declared_with s c l w at t (syntax.node k.ArrayDeclarator p token (syntax.more d syntax.none)) =
+      and_then (open_array at t) (λ (u : Typ). declared_with s c l w at u d)
+  declared_with s c l w at t (syntax.node k.ArrayDeclarator p token (syntax.more d (syntax.more e syntax.none))) =
+      and_then (and_then (expression_with s c l w e) (chosen_operand c))
+      (λ (x : Typed). and_then (bounded c w at t x.operand) (λ (u : Typ). declared_with s c l w at u d))
+  declared_with s c l w at t (syntax.node k.FunctionDeclarator p token (syntax.more d (syntax.more ps (syntax.more q syntax.none)))) =
+      and_then (parameters_in_with s c l w ps) (λ (xs : List Parameter). and_then (function_of c at t xs (is_declared_safe (qualifiers_of s q))) (λ (u : Typ).
       and_then (declared_with s c l w at u d) (λ (r : Declared). with_function at (is_name d) xs (qualifiers_of s q) r)))
   declared_with s c l w at t (syntax.node kind p token kids) = Err (Ill at OutOfProfile)
 
   -- behind a star: the qualifiers of the pointer, then what is declared of it
   pub pointed_with : List Lexeme → Ctx → List Closure → Work → At → Typ → syntax.Trees → Result Declared ElabFault
-  pointed_with s c l w at t (syntax.more (syntax.node k.CvQualifier p (Some n) kids) ts) = pointed_with s c l w at (if bytes_eq (spelling s n) (codes "const") then with_qualifiers true false t else with_qualifiers false true t) ts
+  pointed_with s c l w at t (syntax.more (syntax.node k.CvQualifier p (Some n) kids) ts) =
+      pointed_with s c l w at (if bytes_eq (spelling s n) (codes "const") then with_qualifiers true false t else with_qualifiers false true t) ts
   pointed_with s c l w at t (syntax.more d syntax.none) = declared_with s c l w at t d
   pointed_with s c l w at t ts = Err (Ill at OutOfProfile)
 
@@ -240,10 +285,13 @@ abbrev mutual
 
   pub parameters_with : List Lexeme → Ctx → List Closure → Work → syntax.Trees → Result (List Parameter) ElabFault
   parameters_with s c l w syntax.none = Ok []
-  parameters_with s c l w (syntax.more t ts) = and_then (parameter_with s c l w t) (λ (x : Parameter). and_then (parameters_with s c l w ts) (λ (xs : List Parameter). Ok (x ∷ xs)))
+  parameters_with s c l w (syntax.more t ts) = and_then (parameter_with s c l w t)
+      (λ (x : Parameter). and_then (parameters_with s c l w ts) (λ (xs : List Parameter). Ok (x ∷ xs)))
 
   pub parameter_with : List Lexeme → Ctx → List Closure → Work → syntax.Tree → Result Parameter ElabFault
-  parameter_with s c l w (syntax.node kind p token (syntax.more base (syntax.more d syntax.none))) = and_then (specifiers_with s c l w base) (λ (t : Typ). and_then (declared_with s c l w (at_of p) t d) (λ (r : Declared). and_then (parameter_type c (at_of p) r.typ) (λ (u : Typ).
+  parameter_with s c l w (syntax.node kind p token (syntax.more base (syntax.more d syntax.none))) =
+      and_then (specifiers_with s c l w base) (λ (t : Typ). and_then (declared_with s c l w (at_of p) t d)
+      (λ (r : Declared). and_then (parameter_type c (at_of p) r.typ) (λ (u : Typ).
       Ok (record { name = r.name; at = at_of p; typ = u }))))
   parameter_with s c l w (syntax.node kind p token kids) = Err (Ill (at_of p) OutOfProfile)
 

@@ -1,5 +1,6 @@
 -- Variables at file scope, with constant initialisers, and enums (C++14 3.5, 3.6.2, 7.1.1, 7.2).
-use Rattle.std.specs.Prelude.{ℕ, zero, suc, pred, ◌+◌, ◌*◌, ◌%◌, ◌^◌, ◌==◌, Bool, true, false, not, ◌&&◌, ◌||◌, List, [], ◌∷◌, ◌++◌, length, map, Option, Some, None, is_some, is_none, Result, Ok, Err, if◌then◌else◌, slice_get, slice_set, codes, unwrap_or, ℤ, pos, ◌+ℤ◌}
+use Rattle.std.specs.Prelude.{ℕ, zero, suc, pred, ◌+◌, ◌*◌, ◌%◌, ◌^◌, ◌==◌, Bool, true, false, not, ◌&&◌, ◌||◌, List, [], ◌∷◌, ◌++◌, length, map, Option, Some}
+use Rattle.std.specs.Prelude.{None, is_some, is_none, Result, Ok, Err, if◌then◌else◌, slice_get, slice_set, codes, unwrap_or, ℤ, pos, ◌+ℤ◌}
 use Rattle.std.specs.Str.{bytes_eq}
 use Rattle.elab_ctx.specs.tx_ints.declared.kinds.IntKind.{IntKind}
 use Rattle.elab_ctx.specs.tx_ints.declared.kinds.IntKind.TheVariants.{Int, ULong}
@@ -27,7 +28,8 @@ use Rattle.elab_ctx.specs.cpp_tree.declared.program.CellKind.{CellKind}
 use Rattle.elab_ctx.specs.cpp_tree.declared.program.CellKind.TheVariants.{Number, GlobalAddr, FuncAddr}
 use Rattle.elab_ctx.specs.cpp_tree.declared.faults.ElabFault.{ElabFault}
 use Rattle.elab_ctx.specs.cpp_tree.declared.faults.ElabFault.TheVariants.{Ill}
-use Rattle.elab_ctx.specs.cpp_tree.declared.faults.IllRule.TheVariants.{Redeclared, TypeDiffers, BadDeclaration, NotConstant, Narrowing, BadMain, Incomplete, OutOfProfile, BadOperand}
+use Rattle.elab_ctx.specs.cpp_tree.declared.faults.IllRule.TheVariants.{Redeclared, TypeDiffers, BadDeclaration, NotConstant, Narrowing, BadMain, Incomplete}
+use Rattle.elab_ctx.specs.cpp_tree.declared.faults.IllRule.TheVariants.{OutOfProfile, BadOperand}
 use Rattle.elab_ctx.specs.cpp_tree.Trees.{Tree, node, Trees, none, more, one, typ_in}
 use Rattle.elab_ctx.specs.cpp_tree.Units.{Global, Cell}
 use Rattle.elab_ctx.specs.cpp_tree.Notation.{plain}
@@ -79,7 +81,8 @@ symbol_of classes f = symbol_by classes f.kind f.class f.declared
 -- Cells of the first bytes of a global: one for each scalar that is not zero
 
 abbrev pub number_cell : ℕ → IntKind → ℕ → List Cell
-number_cell offset kind w = if w % 2 ^ (8 * kind_size kind) == 0 then [] else record { offset = offset; size = kind_size kind; what = Number; value = w % 2 ^ (8 * kind_size kind); symbol = [] } ∷ []
+number_cell offset kind w = if w % 2 ^ (8 * kind_size kind) == 0 then [] else
+    record { offset = offset; size = kind_size kind; what = Number; value = w % 2 ^ (8 * kind_size kind); symbol = [] } ∷ []
 
 abbrev pub global_symbol : Option Global → List ℕ
 global_symbol (Some g) = g.symbol
@@ -156,13 +159,21 @@ pub record PlacedGlobal : Type 0 where
   pub place : ℕ
 
 abbrev pub added_global : State → List ℕ → Storage → Typ → PlacedGlobal
-added_global st name x t = record { state = record st { ctx = record st.ctx { scopes = with_name st.ctx.scopes name (global_entity (length st.work.globals)) }; work = record st.work { globals = st.work.globals ++ new_global name x t ∷ [] } }; place = length st.work.globals }
+added_global st name x t = record {
+  state = record st {
+    ctx = record st.ctx { scopes = with_name st.ctx.scopes name (global_entity (length st.work.globals)) };
+    work = record st.work { globals = st.work.globals ++ new_global name x t ∷ [] };
+  };
+  place = length st.work.globals;
+}
 
 abbrev pub global_agrees : At → Storage → Typ → Bool → Global → Result Bool ElabFault
-global_agrees at x t defines g = and_then (check at TypeDiffers (typ_eq g.typ t)) (λ a. and_then (check at BadDeclaration (not (x.is_static && not (is_internal_linkage g.linkage)))) (λ b. check at Redeclared (not (defines && g.defined))))
+global_agrees at x t defines g = and_then (check at TypeDiffers (typ_eq g.typ t))
+    (λ a. and_then (check at BadDeclaration (not (x.is_static && not (is_internal_linkage g.linkage)))) (λ b. check at Redeclared (not (defines && g.defined))))
 
 abbrev pub global_again : State → At → Storage → Typ → Bool → EntityKind → ℕ → Result PlacedGlobal ElabFault
-global_again st at x t defines entities.Global g = and_then (expect at Redeclared (slice_get st.work.globals g)) (λ (old : Global). and_then (global_agrees at x t defines old) (λ y. Ok (record { state = st; place = g })))
+global_again st at x t defines entities.Global g = and_then (expect at Redeclared (slice_get st.work.globals g))
+    (λ (old : Global). and_then (global_agrees at x t defines old) (λ y. Ok (record { state = st; place = g })))
 global_again st at x t defines kind g = Err (Ill at Redeclared)
 
 abbrev pub global_named : State → At → List ℕ → Storage → Typ → Bool → Option Entity → Result PlacedGlobal ElabFault
@@ -170,28 +181,44 @@ global_named st at name x t defines (Some e) = global_again st at x t defines e.
 global_named st at name x t defines None = Ok (added_global st name x t)
 
 abbrev pub global_declarable : State → At → List ℕ → Typ → Result Bool ElabFault
-global_declarable st at name t = and_then (check at BadMain (not (bytes_eq name (codes "main")))) (λ a. and_then (check at OutOfProfile (not (has_auto t))) (λ b. and_then (not_void at (form_in t)) (λ d. and_then (check at BadDeclaration (is_bounded t)) (λ e. typ_sized st.ctx.classes at t))))
+global_declarable st at name t = and_then (check at BadMain (not (bytes_eq name (codes "main"))))
+    (λ a. and_then (check at OutOfProfile (not (has_auto t)))
+    (λ b. and_then (not_void at (form_in t)) (λ d. and_then (check at BadDeclaration (is_bounded t)) (λ e. typ_sized st.ctx.classes at t))))
 
 abbrev pub global_object : ℕ → Typ → At → Tree
 global_object g t at = node (forms.Global g) t Lvalue at none
 
 abbrev pub from_expression : List Lexeme → State → Typ → syntax.Tree → Bool → Option ℕ → Result Made ElabFault
-from_expression s st t e true (Some n) = and_then (string_object st.ctx t (syntax_place e) (string_bytes (spelling s n))) (λ (x : Tree). Ok (record { tree = x; work = st.work }))
-from_expression s st t e b n = and_then (and_then (expression_of s st.ctx st.work e) (chosen_operand st.ctx)) (λ (o : Typed). copy_initialised st.ctx o.work t o.operand)
+from_expression s st t e true (Some n) = and_then (string_object st.ctx t (syntax_place e) (string_bytes (spelling s n)))
+    (λ (x : Tree). Ok (record { tree = x; work = st.work }))
+from_expression s st t e b n = and_then (and_then (expression_of s st.ctx st.work e) (chosen_operand st.ctx))
+    (λ (o : Typed). copy_initialised st.ctx o.work t o.operand)
 
 -- what a global is initialised by
 abbrev pub global_from : List Lexeme → State → Typ → At → ℕ → syntax.Trees → Result Made ElabFault
 global_from s st t at g syntax.none = and_then (default_object st.ctx t at) (λ (e : Tree). Ok (record { tree = e; work = st.work }))
-global_from s st t at g (syntax.more (syntax.node k.ParenthesizedInitializer p token es) syntax.none) = and_then (operands_of s st.ctx st.work es) (λ (xs : TypedAll). directly_initialised st.ctx xs.work t at xs.operands)
-global_from s st t at g (syntax.more (syntax.node k.EqualInitializer p token (syntax.more (syntax.node k.BracedInitList q brace items) syntax.none)) syntax.none) = item_of s st.ctx st.work (global_object g t at) t (syntax.node k.BracedInitList q brace items)
-global_from s st t at g (syntax.more (syntax.node k.EqualInitializer p token (syntax.more e syntax.none)) syntax.none) = from_expression s st t e (is_char_array t) (string_token e)
+global_from s st t at g (syntax.more (syntax.node k.ParenthesizedInitializer p token es) syntax.none) =
+    and_then (operands_of s st.ctx st.work es) (λ (xs : TypedAll). directly_initialised st.ctx xs.work t at xs.operands)
+global_from s st t at g (syntax.more (syntax.node k.EqualInitializer p token
+    (syntax.more (syntax.node k.BracedInitList q brace items) syntax.none)) syntax.none) =
+    item_of s st.ctx st.work (global_object g t at) t (syntax.node k.BracedInitList q brace items)
+global_from s st t at g (syntax.more (syntax.node k.EqualInitializer p token (syntax.more e syntax.none)) syntax.none) =
+    from_expression s st t e (is_char_array t) (string_token e)
 global_from s st t at g kids = Err (Ill at OutOfProfile)
 
 abbrev pub defined_global : State → ℕ → Typ → Work → List Cell → State
-defined_global st g t w cells = record st { work = record w { frame = st.work.frame; globals = slice_set w.globals g (record (unwrap_or (slice_get w.globals g) (new_global [] no_global_storage t)) { init = cells; defined = true }) } }
+defined_global st g t w cells = record st {
+  work = record w {
+    frame = st.work.frame;
+    globals = slice_set w.globals g
+        (record (unwrap_or (slice_get w.globals g) (new_global [] no_global_storage t)) { init = cells; defined = true });
+  };
+}
 
 abbrev pub global_defined : List Lexeme → At → Typ → syntax.Trees → PlacedGlobal → Result State ElabFault
-global_defined s at t init p = and_then (check at Incomplete (is_complete p.state.ctx (held t))) (λ x. and_then (check at NotConstant (is_trivial_class p.state.ctx (class_number (element_of t)))) (λ y. and_then (global_from s p.state t at p.place init) (λ (m : Made).
+global_defined s at t init p = and_then (check at Incomplete (is_complete p.state.ctx (held t)))
+    (λ x. and_then (check at NotConstant (is_trivial_class p.state.ctx (class_number (element_of t))))
+    (λ y. and_then (global_from s p.state t at p.place init) (λ (m : Made).
     and_then (cells_of p.state.ctx m.work m.tree) (λ cells. Ok (defined_global p.state p.place t m.work cells)))))
 
 abbrev pub is_definition : Storage → syntax.Trees → Bool
@@ -207,7 +234,9 @@ global_declared_as s false at t init p = only_declared p
 
 -- a variable at file scope
 abbrev pub global_declared : List Lexeme → State → Storage → At → List ℕ → Typ → syntax.Trees → Result State ElabFault
-global_declared s st x at name t init = and_then (global_declarable st at name t) (λ y. and_then (global_named st at name x t (is_definition x init) (innermost_of st.ctx.scopes name)) (λ (p : PlacedGlobal). global_declared_as s (is_definition x init) at t init p))
+global_declared s st x at name t init = and_then (global_declarable st at name t)
+    (λ y. and_then (global_named st at name x t (is_definition x init) (innermost_of st.ctx.scopes name))
+    (λ (p : PlacedGlobal). global_declared_as s (is_definition x init) at t init p))
 
 -- Names of types
 
@@ -220,7 +249,9 @@ with_type c name t = record c { types = named_too c.types name t }
 
 -- an alias (C++14 7.1.3)
 abbrev pub alias_declared : State → At → List ℕ → Typ → Result State ElabFault
-alias_declared st at name t = and_then (check at OutOfProfile (not (has_auto t))) (λ x. and_then (typ_sized st.ctx.classes at t) (λ z. and_then (type_agrees at t (type_named name st.ctx.types)) (λ y. Ok (record st { ctx = with_type st.ctx name t }))))
+alias_declared st at name t = and_then (check at OutOfProfile (not (has_auto t)))
+    (λ x. and_then (typ_sized st.ctx.classes at t) (λ z. and_then (type_agrees at t (type_named name st.ctx.types))
+    (λ y. Ok (record st { ctx = with_type st.ctx name t }))))
 
 -- Enums (C++14 7.2): inside the braces an enumerator has type `int`
 
@@ -229,10 +260,22 @@ pub record Enumerating : Type 0 where
   pub next : ℤ
 
 abbrev pub with_enumerator : State → List ℕ → ℕ → State
-with_enumerator st name w = record st { ctx = record st.ctx { scopes = with_name st.ctx.scopes name (record { kind = entities.Enumerator; id = length st.ctx.enumerators }); enumerators = st.ctx.enumerators ++ record { typ = plain (int Int); word = w } ∷ [] } }
+with_enumerator st name w = record st {
+  ctx = record st.ctx {
+    scopes = with_name st.ctx.scopes name
+        (record { kind = entities.Enumerator; id = length st.ctx.enumerators });
+    enumerators =
+        st.ctx.enumerators ++ record { typ = plain (int Int); word = w } ∷ [];
+  };
+}
 
 abbrev pub second_name : State → List ℕ → State
-second_name st name = record st { ctx = record st.ctx { scopes = with_name st.ctx.scopes name (record { kind = entities.Enumerator; id = pred (length st.ctx.enumerators) }) } }
+second_name st name = record st {
+  ctx = record st.ctx {
+    scopes = with_name st.ctx.scopes name
+        (record { kind = entities.Enumerator; id = pred (length st.ctx.enumerators) });
+  };
+}
 
 -- an enumerator is known by its name, unless the enum is scoped, and by its name in the enum
 abbrev pub named_enumerator : Bool → State → List ℕ → List ℕ → ℕ → State
@@ -240,15 +283,20 @@ named_enumerator true st e name w = with_enumerator st (scope_name e name) w
 named_enumerator false st e name w = second_name (with_enumerator st name w) (scope_name e name)
 
 abbrev pub enumerator_made : Bool → List ℕ → State → At → At → List ℕ → ℤ → Result Enumerating ElabFault
-enumerator_made scoped e st at p name v = and_then (check p Narrowing (is_in_range Int v)) (λ y. and_then (check at Redeclared (is_none (innermost_of st.ctx.scopes (if scoped then scope_name e name else name)))) (λ z.
+enumerator_made scoped e st at p name v = and_then (check p Narrowing (is_in_range Int v))
+    (λ y. and_then (check at Redeclared (is_none (innermost_of st.ctx.scopes (if scoped then scope_name e name else name)))) (λ z.
     Ok (record { state = named_enumerator scoped st e name (word_of v); next = v +ℤ pos 1 })))
 
 abbrev pub enumerator_value : At → Work → Operand → Result ℤ ElabFault
-enumerator_value at w o = and_then (expect o.at BadOperand (arithmetic (form_in (typ_in (value o))))) (λ (kind : IntKind). and_then (expect o.at NotConstant (constant w.globals (value o))) (λ n. Ok (value_of_word kind n)))
+enumerator_value at w o = and_then (expect o.at BadOperand (arithmetic (form_in (typ_in (value o)))))
+    (λ (kind : IntKind). and_then (expect o.at NotConstant (constant w.globals (value o))) (λ n. Ok (value_of_word kind n)))
 
 abbrev pub enumerator_declared : List Lexeme → Bool → List ℕ → Enumerating → syntax.Tree → Result Enumerating ElabFault
 enumerator_declared s scoped e x (syntax.node kind p (Some t) syntax.none) = enumerator_made scoped e x.state (at_of p) (at_of p) (spelling s t) x.next
-enumerator_declared s scoped e x (syntax.node kind p (Some t) (syntax.more v ts)) = and_then (and_then (expression_of s x.state.ctx x.state.work v) (chosen_operand x.state.ctx)) (λ (o : Typed). and_then (enumerator_value (at_of p) x.state.work o.operand) (λ (n : ℤ). enumerator_made scoped e x.state (at_of p) o.operand.at (spelling s t) n))
+enumerator_declared s scoped e x (syntax.node kind p (Some t) (syntax.more v ts)) =
+    and_then (and_then (expression_of s x.state.ctx x.state.work v) (chosen_operand x.state.ctx))
+    (λ (o : Typed). and_then (enumerator_value (at_of p) x.state.work o.operand)
+    (λ (n : ℤ). enumerator_made scoped e x.state (at_of p) o.operand.at (spelling s t) n))
 enumerator_declared s scoped e x (syntax.node kind p None kids) = Err (Ill (at_of p) OutOfProfile)
 
 abbrev pub enumerators_declared : List Lexeme → Bool → List ℕ → Enumerating → syntax.Trees → Result Enumerating ElabFault
@@ -265,7 +313,9 @@ abbrev pub closed_enum : ℕ → Typ → State → State
 closed_enum n t st = record st { ctx = record st.ctx { enumerators = typed_from n t st.ctx.enumerators } }
 
 abbrev pub enum_with : List Lexeme → State → At → List ℕ → Bool → syntax.Trees → Result State ElabFault
-enum_with s st at name scoped ts = and_then (check at Redeclared (is_none (type_named name st.ctx.types))) (λ y. and_then (enumerators_declared s scoped name (record { state = record st { ctx = with_type st.ctx name (plain (enum name scoped)) }; next = pos 0 }) ts) (λ (x : Enumerating).
+enum_with s st at name scoped ts = and_then (check at Redeclared (is_none (type_named name st.ctx.types)))
+    (λ y. and_then (enumerators_declared s scoped name
+    (record { state = record st { ctx = with_type st.ctx name (plain (enum name scoped)) }; next = pos 0 }) ts) (λ (x : Enumerating).
     Ok (closed_enum (length st.ctx.enumerators) (plain (enum name scoped)) x.state)))
 
 abbrev pub enum_declared : List Lexeme → State → At → List ℕ → syntax.Trees → Result State ElabFault

@@ -52,7 +52,8 @@ index_of c k (Some n) = index_in_class n k c.funcs
 index_of c k None = 0
 
 abbrev pub is_referred : State → ℕ → Bool
-is_referred st k = list_any (λ (b : Body). refers k b.tree) st.bodies || is_in_slot (func_at st.ctx.funcs k).class (index_of st.ctx k (func_at st.ctx.funcs k).class) st.ctx.slots
+is_referred st k = list_any (λ (b : Body). refers k b.tree) st.bodies
+    || is_in_slot (func_at st.ctx.funcs k).class (index_of st.ctx k (func_at st.ctx.funcs k).class) st.ctx.slots
 
 -- The copy: each part from that of the object that is copied
 
@@ -71,7 +72,8 @@ abbrev pub made : State → Tree → Made
 made st e = record { tree = e; work = st.work }
 
 abbrev pub part_copied : State → At → Typ → Tree → Result Made ElabFault
-part_copied st at t e = if is_array t then Ok (made st (node forms.CopyFrom t Prvalue at (two e (closure_part st.ctx at (record { offset = 0; typ = t }))))) else (
+part_copied st at t e = if is_array t then Ok (made st
+    (node forms.CopyFrom t Prvalue at (two e (closure_part st.ctx at (record { offset = 0; typ = t }))))) else (
     if is_class_typ t then class_from st.ctx st.work t at (own_operand at e) else Ok (made st (stored at t (valued at e))))
 
 abbrev pub part_of_source : Ctx → ℕ → At → Tree → Bool → ℕ → Typ → Tree
@@ -82,15 +84,22 @@ part_done st at t object m = record { trees = one (part_init st.ctx at at t obje
 
 abbrev pub members_copied : At → ℕ → Tree → Bool → State → ℕ → List Member → Result Done ElabFault
 members_copied at n source is_const st i [] = Ok (record { trees = none; state = st })
-members_copied at n source is_const st i (m ∷ ms) = and_then (part_copied st at m.typ (part_of_source st.ctx n at source is_const i m.typ)) (λ (x : Made). and_then (members_copied at n source is_const (with_work st x.work) (suc i) ms) (λ (d : Done).
-    Ok (record { trees = more (part_init st.ctx at at m.typ (own_part st.ctx.classes n at (offset_at st.ctx.classes n i) m.typ) x.tree) d.trees; state = d.state })))
+members_copied at n source is_const st i (m ∷ ms) = and_then (part_copied st at m.typ (part_of_source st.ctx n at source is_const i m.typ))
+    (λ (x : Made). and_then (members_copied at n source is_const (with_work st x.work) (suc i) ms) (λ (d : Done).
+    Ok (record {
+      trees = more (part_init st.ctx at at m.typ (own_part st.ctx.classes n at (offset_at st.ctx.classes n i) m.typ) x.tree) d.trees;
+      state =
+          d.state;
+    })))
 
 abbrev pub base_copied : State → At → ℕ → Tree → Option ℕ → Result Done ElabFault
 base_copied st at n source None = Ok (record { trees = none; state = st })
-base_copied st at n source (Some b) = and_then (class_from (as_base_of st.ctx b) st.work (plain (class b)) at (own_operand at source)) (λ (m : Made). Ok (part_done st at (plain (class b)) (own_base n at b) m))
+base_copied st at n source (Some b) = and_then (class_from (as_base_of st.ctx b) st.work (plain (class b)) at (own_operand at source))
+    (λ (m : Made). Ok (part_done st at (plain (class b)) (own_base n at b) m))
 
 abbrev pub parts_copied : State → At → ℕ → Tree → Bool → Result Done ElabFault
-parts_copied st at n source is_const = and_then (base_copied st at n source (base_of_class (slice_get st.ctx.classes n))) (λ (b : Done). and_then (members_copied at n source is_const b.state 0 (members_in (slice_get st.ctx.classes n))) (λ (d : Done).
+parts_copied st at n source is_const = and_then (base_copied st at n source (base_of_class (slice_get st.ctx.classes n)))
+    (λ (b : Done). and_then (members_copied at n source is_const b.state 0 (members_in (slice_get st.ctx.classes n))) (λ (d : Done).
     Ok (record { trees = followed_by b.trees (followed_by (pointer_stored at n (pointer_offset st.ctx.classes n)) d.trees); state = d.state })))
 
 abbrev pub with_source : State → Typ → State
@@ -102,7 +111,8 @@ abbrev pub constructor_made : State → At → ℕ → Done → Result State Ela
 constructor_made before at k d = body_made before at k (constructor_tree at d.trees none) d.state
 
 abbrev pub constructor_implied : State → At → ℕ → ℕ → Typs → Result State ElabFault
-constructor_implied st at k n (and_typ t ps) = and_then (parts_copied (with_source (in_object st n) t) at n (source_object n t at) (source_const t)) (λ (d : Done). constructor_made st at k d)
+constructor_implied st at k n (and_typ t ps) = and_then (parts_copied (with_source (in_object st n) t) at n (source_object n t at) (source_const t))
+    (λ (d : Done). constructor_made st at k d)
 constructor_implied st at k n no_typs = and_then (parts_built (in_object st n) at n []) (λ (d : Done). constructor_made st at k d)
 
 abbrev pub body_implied : State → At → ℕ → ℕ → FuncKind → Typs → Result State ElabFault

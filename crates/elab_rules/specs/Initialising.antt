@@ -1,6 +1,8 @@
 -- What initialises an object: conversions, bindings, constructors and copies (C++14 8.5, 12.1, 12.8, 13.3.1).
-use Rattle.std.specs.Prelude.{◌==◌, ◌&&◌, ◌||◌, not, ℕ, suc, Bool, true, false, List, [], ◌∷◌, ◌++◌, length, map, Option, Some, None, is_some, is_none, option_map, Result, Ok, Err, if◌then◌else◌, slice_get, unwrap_or}
-use Rattle.elab_ctx.specs.cpp_types.Typ.{Typ, typ, Form, void, int, enum, null, ptr, ref, array, func, class, closure, tx_ex, Signature, signature, Typs, none as no_typs, more as and_typ}
+use Rattle.std.specs.Prelude.{◌==◌, ◌&&◌, ◌||◌, not, ℕ, suc, Bool, true, false, List, [], ◌∷◌, ◌++◌, length, map, Option, Some, None, is_some, is_none}
+use Rattle.std.specs.Prelude.{option_map, Result, Ok, Err, if◌then◌else◌, slice_get, unwrap_or}
+use Rattle.elab_ctx.specs.cpp_types.Typ.{Typ, typ, Form, void, int, enum, null, ptr, ref, array, func, class, closure, tx_ex, Signature, signature, Typs}
+use Rattle.elab_ctx.specs.cpp_types.Typ.{none as no_typs, more as and_typ}
 use Rattle.elab_ctx.specs.cpp_types.Equal.{kind_eq, typ_eq, form_eq}
 use Rattle.elab_ctx.specs.cpp_types.Class.{Class, completion_of}
 use Rattle.elab_ctx.specs.cpp_types.Conversion.{conversion_of, base_steps, referred, is_object_form}
@@ -15,27 +17,31 @@ use Rattle.elab_ctx.specs.cpp_types.declared.ranks.Conversion.{Conversion}
 use Rattle.cpp_overload.specs.Overload.{Candidate, Argument}
 use Rattle.cpp_overload.specs.Choosing.{Choice, best, none_viable, none_best, chosen}
 use Rattle.elab_ctx.specs.cpp_tree.declared.kinds.TKind.{TKind}
-use Rattle.elab_ctx.specs.cpp_tree.declared.kinds.TKind.TheVariants.{Retype, Materialize, Store, Construct, CopyConstruct, CopyFrom, Pieces, Piece, Elements, Conditional, Comma, FullExpression}
+use Rattle.elab_ctx.specs.cpp_tree.declared.kinds.TKind.TheVariants.{Retype, Materialize, Store, Construct, CopyConstruct, CopyFrom, Pieces, Piece, Elements}
+use Rattle.elab_ctx.specs.cpp_tree.declared.kinds.TKind.TheVariants.{Conditional, Comma, FullExpression}
 use Rattle.elab_ctx.specs.cpp_tree.declared.program.FuncKind.{FuncKind}
 use Rattle.elab_ctx.specs.cpp_tree.declared.program.FuncKind.TheVariants.{Constructor, Plain, ClosureCall}
 use Rattle.elab_ctx.specs.cpp_tree.declared.program.Linkage.TheVariants.{External}
 use Rattle.elab_ctx.specs.cpp_types.declared.classes.Safety.TheVariants.{None as NoSafety}
 use Rattle.elab_ctx.specs.cpp_tree.declared.faults.ElabFault.{ElabFault}
 use Rattle.elab_ctx.specs.cpp_tree.declared.faults.ElabFault.TheVariants.{Ill}
-use Rattle.elab_ctx.specs.cpp_tree.declared.faults.IllRule.TheVariants.{NoConversion, NoViable, Ambiguous, Incomplete, AbstractObject, NoDefault, NoCopy, BadInit, OutOfProfile, BadDeclaration}
+use Rattle.elab_ctx.specs.cpp_tree.declared.faults.IllRule.TheVariants.{NoConversion, NoViable, Ambiguous, Incomplete, AbstractObject, NoDefault, NoCopy}
+use Rattle.elab_ctx.specs.cpp_tree.declared.faults.IllRule.TheVariants.{BadInit, OutOfProfile, BadDeclaration}
 use Rattle.elab_ctx.specs.cpp_tree.Trees.{Tree, node, Trees, none, more, one, two, three, kind_of, typ_in, cat_of, kids_of, nowhere}
 use Rattle.elab_ctx.specs.cpp_tree.Notation.{plain}
 use Rattle.elab_ctx.specs.cpp_tree.Typing.{form_in, is_volatile_typ, unqualified, qualified, is_class_typ, kind_in, is_class_prvalue}
 use Rattle.elab_ctx.specs.Ctx.{Ctx, Work, Func, Traits, Special, absent, trivial, function, with_item, next_place}
 use Rattle.elab_ctx.specs.Steps.{and_then, expect, check, Operand, Made, MadeAll}
 use Rattle.elab_rules.specs.Values.{place_of, retyped, valued, stepped, stored, builder, temporary, converted}
-use Rattle.elab_rules.specs.Objects.{class_in, element_of, count_in, size_of, is_array, zeros, copies, destroys, followed_by, traits_at, no_traits, parts_of, Part, pieces}
+use Rattle.elab_rules.specs.Objects.{class_in, element_of, count_in, size_of, is_array, zeros, copies, destroys, followed_by, traits_at, no_traits, parts_of}
+use Rattle.elab_rules.specs.Objects.{Part, pieces}
 
 -- Temporaries and references
 
 -- the object that a class prvalue stands for, in a temporary; another expression as it is
 abbrev pub object_of : Ctx → Work → At → Tree → Made
-object_of c w at e = if is_class_prvalue (typ_in e) (cat_of e) then temporary w (typ_in e) at (builder e) (destroys c at (typ_in e)) else record { tree = e; work = w }
+object_of c w at e = if is_class_prvalue (typ_in e) (cat_of e) then temporary w (typ_in e) at (builder e) (destroys c at (typ_in e)) else
+    record { tree = e; work = w }
 
 -- an object as one of a type with more qualifiers, or of a base
 abbrev pub seen_as : At → Typ → Tree → Tree
@@ -47,7 +53,8 @@ with_tree f m = record m { tree = f m.tree }
 abbrev pub bound_by : Ctx → Work → Binding → Step → Typ → At → Tree → Made
 bound_by c w Value step t at e = record { tree = stepped at step t (valued at e); work = w }
 bound_by c w Direct step t at e = with_tree (seen_as at (referred t)) (object_of c w at e)
-bound_by c w Temporary step t at e = temporary w (unqualified (referred t)) at (stored at (unqualified (referred t)) (stepped at step (referred t) (valued at e))) none
+bound_by c w Temporary step t at e = temporary w (unqualified (referred t)) at
+    (stored at (unqualified (referred t)) (stepped at step (referred t) (valued at e))) none
 
 -- the conversion of an expression that initialises an object or a reference of a type (C++14 clause 4, 8.5.3)
 abbrev pub conversion : Ctx → Typ → Operand → Option Conversion
@@ -100,7 +107,31 @@ maker f = record { signature = f.declared.signature; this = None }
 
 -- what a place of the functions has; each place that is asked for has one
 abbrev pub no_function : Func
-no_function = record { declared = record { name = []; signature = signature no_typs (plain void) false; is_const = false; is_virtual = false; is_override = false; is_final = false; pure_virtual = false; safety = NoSafety; considered = false; no_except = false; at = nowhere }; kind = Plain; class = None; linkage = External; implicit = false; is_defined = false; builtin = None; params = []; text = []; closed_at = 0 }
+no_function = record {
+  declared = record {
+    name = [];
+    signature = signature no_typs (plain void) false;
+    is_const = false;
+    is_virtual = false;
+    is_override =
+        false;
+    is_final = false;
+    pure_virtual = false;
+    safety = NoSafety;
+    considered = false;
+    no_except = false;
+    at = nowhere;
+  };
+  kind = Plain;
+  class = None;
+  linkage = External;
+  implicit = false;
+  is_defined = false;
+  builtin = None;
+  params = [];
+  text = [];
+  closed_at = 0;
+}
 
 abbrev pub func_at : List Func → ℕ → Func
 func_at fs k = unwrap_or (slice_get fs k) no_function
@@ -125,7 +156,8 @@ is_constructor n f = same_number n f.class && makes f.kind
 
 -- a class of which objects are made: complete, and not abstract
 abbrev pub makeable : Ctx → At → ℕ → Result ℕ ElabFault
-makeable c at n = and_then (expect at Incomplete (completion_of c.classes n)) (λ k. and_then (check at AbstractObject (not (traits_at c n).is_abstract)) (λ y. Ok k))
+makeable c at n = and_then (expect at Incomplete (completion_of c.classes n))
+    (λ k. and_then (check at AbstractObject (not (traits_at c n).is_abstract)) (λ y. Ok k))
 
 abbrev pub class_number : Typ → Option ℕ
 class_number t = class_in (form_in t)
@@ -147,7 +179,8 @@ as_source at n e = if same_number n (class_number (typ_in e)) then e else as_bas
 
 -- a copy in place, part by part, of an object
 abbrev pub copied_in_place : Ctx → Work → ℕ → Typ → At → Operand → Made
-copied_in_place c w n t at o = with_tree (λ (s : Tree). node CopyFrom t Prvalue at (two (as_source o.at n s) (copies c.classes at t))) (object_of c w o.at o.tree)
+copied_in_place c w n t at o = with_tree (λ (s : Tree). node CopyFrom t Prvalue at (two (as_source o.at n s) (copies c.classes at t)))
+    (object_of c w o.at o.tree)
 
 -- the initialiser of an object of this type, which has the qualifiers of that object; what is called has its own type
 abbrev pub rebuilt : TKind → Typ → Tree → Tree
@@ -198,7 +231,8 @@ reference_word c w ps o = Err (Ill (o.at) OutOfProfile)
 
 abbrev pub constructed_copy : Ctx → Work → ℕ → Typ → At → Operand → Option ℕ → Result Made ElabFault
 constructed_copy c w n t at o None = Ok (copied_in_place c w n t at o)
-constructed_copy c w n t at o (Some k) = and_then (reference_word c w (parameters_at c.funcs k) o) (λ (m : MadeAll). Ok (record { tree = node (Construct k) t Prvalue at m.trees; work = m.work }))
+constructed_copy c w n t at o (Some k) = and_then (reference_word c w (parameters_at c.funcs k) o)
+    (λ (m : MadeAll). Ok (record { tree = node (Construct k) t Prvalue at m.trees; work = m.work }))
 
 abbrev pub has_copy : Special → Bool
 has_copy absent = false
@@ -211,7 +245,8 @@ copied_object c w n t at o = and_then (check (o.at) NoCopy (not (is_volatile_typ
 
 -- a part of a lambda's object, copied from the source at hand
 abbrev pub copied_part : Ctx → At → Typ → Special → Tree
-copied_part c at t (function k) = if is_array t then node (Elements (count_in t) (size_of c.classes (element_of t))) t Prvalue at (more (node (CopyConstruct k) (element_of t) Prvalue at none) (destroys c at (element_of t))) else node (CopyConstruct k) t Prvalue at none
+copied_part c at t (function k) = if is_array t then node (Elements (count_in t) (size_of c.classes (element_of t))) t Prvalue at
+    (more (node (CopyConstruct k) (element_of t) Prvalue at none) (destroys c at (element_of t))) else node (CopyConstruct k) t Prvalue at none
 copied_part c at t s = copies c.classes at t
 
 abbrev pub copy_of_held : Ctx → Option ℕ → Special
@@ -228,26 +263,37 @@ closure_pieces c at (p ∷ ps) = more (node (Piece p.offset) p.typ Prvalue at (m
 -- an object of class type from an expression (C++14 8.5 p17): a prvalue of the class is its own initialiser
 abbrev pub class_from : Ctx → Work → Typ → At → Operand → Result Made ElabFault
 class_from c w (typ (closure n) q v) at o = if is_prvalue_of_class n o.tree then Ok (record { tree = o.tree; work = w }) else
-    and_then (check (o.at) NoConversion (same_number n (class_number (typ_in o.tree)))) (λ y. Ok (record { tree = node CopyFrom (typ (closure n) q v) Prvalue at (two o.tree (node Pieces (typ (closure n) false false) Prvalue at (closure_pieces c at (parts_of c.classes n)))); work = w }))
-class_from c w (typ (class n) q v) at o = and_then (makeable c at n) (λ k. if is_prvalue_of_class n o.tree then Ok (record { tree = building (typ (class n) q v) o.tree; work = w }) else
-    and_then (check (o.at) NoConversion (is_same_or_base c.classes (class_number (typ_in o.tree)) (Some n))) (λ y. copied_object c w n (typ (class n) q v) at o))
+    and_then (check (o.at) NoConversion (same_number n (class_number (typ_in o.tree))))
+    (λ y. Ok (record {
+      tree = node CopyFrom (typ (closure n) q v) Prvalue at
+          (two o.tree (node Pieces (typ (closure n) false false) Prvalue at (closure_pieces c at (parts_of c.classes n))));
+      work = w;
+    }))
+class_from c w (typ (class n) q v) at o = and_then (makeable c at n)
+    (λ k. if is_prvalue_of_class n o.tree then Ok (record { tree = building (typ (class n) q v) o.tree; work = w }) else
+    and_then (check (o.at) NoConversion (is_same_or_base c.classes (class_number (typ_in o.tree)) (Some n)))
+    (λ y. copied_object c w n (typ (class n) q v) at o))
 class_from c w (typ (tx_ex t) q v) at o = and_then (check (o.at) NoConversion (form_eq (form_in (typ_in o.tree)) (tx_ex t))) (λ y.
-    if is_class_prvalue (typ_in o.tree) (cat_of o.tree) then Ok (record { tree = builder o.tree; work = w }) else Ok (record { tree = node CopyFrom (typ (tx_ex t) q v) Prvalue at (two o.tree (copies c.classes at t)); work = w }))
+    if is_class_prvalue (typ_in o.tree) (cat_of o.tree) then Ok (record { tree = builder o.tree; work = w }) else Ok
+    (record { tree = node CopyFrom (typ (tx_ex t) q v) Prvalue at (two o.tree (copies c.classes at t)); work = w }))
 class_from c w t at o = Err (Ill (o.at) NoConversion)
 
 abbrev pub passed : Ctx → Work → Typ → Operand → Result Made ElabFault
-passed c w p o = if is_class_typ p then and_then (class_from c (with_item w (unqualified p)) (unqualified p) (o.at) o) (λ (m : Made). Ok (argument_object w (unqualified p) (o.at) (destroys c (o.at) (unqualified p)) m)) else initial c w p o
+passed c w p o = if is_class_typ p then and_then (class_from c (with_item w (unqualified p)) (unqualified p) (o.at) o)
+    (λ (m : Made). Ok (argument_object w (unqualified p) (o.at) (destroys c (o.at) (unqualified p)) m)) else initial c w p o
 
 -- the words of a call, argument by argument
 abbrev pub words : Ctx → Work → Typs → List Operand → Result MadeAll ElabFault
-words c w (and_typ p ps) (o ∷ os) = and_then (passed c w p o) (λ (m : Made). and_then (words c m.work ps os) (λ (r : MadeAll). Ok (record { trees = more m.tree r.trees; work = r.work })))
+words c w (and_typ p ps) (o ∷ os) = and_then (passed c w p o)
+    (λ (m : Made). and_then (words c m.work ps os) (λ (r : MadeAll). Ok (record { trees = more m.tree r.trees; work = r.work })))
 words c w ps os = Ok (record { trees = none; work = w })
 
 -- Nothing (C++14 8.5 p12)
 
 -- so many objects of a class by its constructor without arguments
 abbrev pub each_constructed : Ctx → ℕ → Typ → At → Tree
-each_constructed c k t at = if is_array t then node (Elements (count_in t) (size_of c.classes (element_of t))) t Prvalue at (more (node (Construct k) (element_of t) Prvalue at none) (destroys c at (element_of t))) else node (Construct k) t Prvalue at none
+each_constructed c k t at = if is_array t then node (Elements (count_in t) (size_of c.classes (element_of t))) t Prvalue at
+    (more (node (Construct k) (element_of t) Prvalue at none) (destroys c at (element_of t))) else node (Construct k) t Prvalue at none
 
 abbrev pub default_by : Ctx → Typ → At → Special → Result Tree ElabFault
 default_by c t at absent = Err (Ill at NoDefault)
@@ -270,7 +316,8 @@ from_nothing c t at = default_in c t at (form_in (element_of t))
 -- Values in parentheses (C++14 8.5 p16)
 
 abbrev pub constructed_by : Ctx → Work → ℕ → Typ → At → List Operand → Option ℕ → Result Made ElabFault
-constructed_by c w n t at os (Some k) = and_then (words c w (parameters_at c.funcs k) os) (λ (m : MadeAll). Ok (record { tree = node (Construct k) t Prvalue at m.trees; work = m.work }))
+constructed_by c w n t at os (Some k) = and_then (words c w (parameters_at c.funcs k) os)
+    (λ (m : MadeAll). Ok (record { tree = node (Construct k) t Prvalue at m.trees; work = m.work }))
 constructed_by c w n t at (o ∷ []) None = and_then (check (o.at) NoCopy (not (is_volatile_typ (typ_in o.tree)))) (λ y. Ok (copied_in_place c w n t at o))
 constructed_by c w n t at os None = Err (Ill at NoViable)
 
@@ -297,7 +344,8 @@ scalar_from c w t o = and_then (initial c w t o) (λ (m : Made). Ok (record { tr
 
 -- the value in a `std::tx_exception`, which its constructor takes
 abbrev pub exception_from : Ctx → Work → Typ → At → List Operand → Result Made ElabFault
-exception_from c w t at os = and_then (expect at NoViable (only os)) (λ (o : Operand). if is_class_typ t then and_then (class_from c w t at o) (λ (m : Made). Ok m) else scalar_from c w t o)
+exception_from c w t at os = and_then (expect at NoViable (only os))
+    (λ (o : Operand). if is_class_typ t then and_then (class_from c w t at o) (λ (m : Made). Ok m) else scalar_from c w t o)
 
 abbrev pub is_exception_itself : Typ → List Operand → Bool
 is_exception_itself t (o ∷ []) = form_eq (form_in (typ_in o.tree)) (tx_ex t)
@@ -307,7 +355,9 @@ is_exception_itself t os = false
 abbrev pub from_values : Ctx → Work → Typ → At → List Operand → Result Made ElabFault
 from_values c w (typ (class n) q v) at os = constructed c w n (typ (class n) q v) at os
 from_values c w (typ (tx_ex t) q v) at [] = Err (Ill at NoDefault)
-from_values c w (typ (tx_ex t) q v) at (o ∷ os) = if is_exception_itself t (o ∷ os) then class_from c w (typ (tx_ex t) q v) at o else exception_from c w t at (o ∷ os)
+from_values c w (typ (tx_ex t) q v) at (o ∷ os) = if is_exception_itself t (o ∷ os) then class_from c w (typ (tx_ex t) q v) at o else exception_from c w t at
+    (o ∷ os)
 from_values c w (typ (array e n) q v) at (o ∷ os) = Err (Ill at BadInit)
 from_values c w t at [] = and_then (from_nothing c t at) (λ (e : Tree). Ok (record { tree = e; work = w }))
-from_values c w t at (o ∷ os) = if is_class_typ t then class_from c w t at o else and_then (expect at BadInit (only (o ∷ os))) (λ (p : Operand). scalar_from c w t p)
+from_values c w t at (o ∷ os) = if is_class_typ t then class_from c w t at o else and_then (expect at BadInit (only (o ∷ os)))
+    (λ (p : Operand). scalar_from c w t p)

@@ -1,5 +1,6 @@
 -- Lambdas: their classes, captures and calls, made before the full-expression that holds them (C++14 5.1.2; the TS, [expr.prim.lambda]).
-use Rattle.std.specs.Prelude.{ℕ, Bool, true, false, not, ◌&&◌, ◌||◌, List, [], ◌∷◌, ◌++◌, length, map, Option, Some, None, is_some, Result, Ok, Err, if◌then◌else◌, slice_get, codes, count_by}
+use Rattle.std.specs.Prelude.{ℕ, Bool, true, false, not, ◌&&◌, ◌||◌, List, [], ◌∷◌, ◌++◌, length, map, Option, Some, None, is_some, Result, Ok, Err}
+use Rattle.std.specs.Prelude.{if◌then◌else◌, slice_get, codes, count_by}
 use Rattle.std.specs.List.{list_all, list_any}
 use Rattle.std.specs.Str.{bytes_eq}
 use Rattle.elab_ctx.specs.cpp_types.Typ.{Typ, typ, Form, void, ptr, ref, func, closure, Signature, signature, none as no_typs}
@@ -75,7 +76,8 @@ using x variable at = record x { used = x.used ++ record { variable = variable; 
 
 -- an enclosing variable, or a member of the class around, which stands for `this->N`
 abbrev pub using_name : Ctx → Scan → At → List ℕ → Scan
-using_name c x at name = if list_any (λ (n : List ℕ). bytes_eq n name) x.own then x else (if is_local_entity (found_in c.scopes name) then using x (Some (entity_number (found_in c.scopes name))) at else (
+using_name c x at name = if list_any (λ (n : List ℕ). bytes_eq n name) x.own then x else
+    (if is_local_entity (found_in c.scopes name) then using x (Some (entity_number (found_in c.scopes name))) at else (
     if is_some (member_here c name c.class) then using x None at else x))
 
 abbrev pub declaring : List Lexeme → Scan → Option ℕ → Scan
@@ -142,10 +144,13 @@ copies_closure c (closure n) = is_trivial (traits_at c n).copy
 copies_closure c f = true
 
 abbrev pub capture_variable : Ctx → List Capture → At → ℕ → Bool → Result (List Capture) ElabFault
-capture_variable c xs at i by_ref = and_then (variable_type c at i) (λ (t : Typ). and_then (check at OutOfProfile (by_ref || copies_closure c (form_in (referred t)))) (λ y. Ok (xs ++ record { variable = Some i; by_ref = by_ref; typ = captured_as by_ref t; at = at } ∷ [])))
+capture_variable c xs at i by_ref = and_then (variable_type c at i)
+    (λ (t : Typ). and_then (check at OutOfProfile (by_ref || copies_closure c (form_in (referred t))))
+    (λ y. Ok (xs ++ record { variable = Some i; by_ref = by_ref; typ = captured_as by_ref t; at = at } ∷ [])))
 
 abbrev pub capture_this : Ctx → List Capture → At → Result (List Capture) ElabFault
-capture_this c xs at = and_then (expect at CaptureRule c.this) (λ (t : This). Ok (xs ++ record { variable = None; by_ref = false; typ = plain (ptr t.typ); at = at } ∷ []))
+capture_this c xs at = and_then (expect at CaptureRule c.this)
+    (λ (t : This). Ok (xs ++ record { variable = None; by_ref = false; typ = plain (ptr t.typ); at = at } ∷ []))
 
 -- `=` or `&`, or none
 pub data Otherwise : Type 0 where
@@ -172,12 +177,14 @@ named_variable c at name = if is_local_entity (found_in c.scopes name) then Ok (
     if is_some (found_in c.scopes name) || is_some (member_here c name c.class) then Err (Ill at CaptureRule) else Err (Ill at UnknownName))
 
 abbrev pub explicit_variable : Ctx → Otherwise → List Capture → At → List ℕ → Bool → Result (List Capture) ElabFault
-explicit_variable c d xs at name by_ref = and_then (named_variable c at name) (λ i. and_then (check at CaptureRule (adds d by_ref && not (is_captured (Some i) xs))) (λ y. capture_variable c xs at i by_ref))
+explicit_variable c d xs at name by_ref = and_then (named_variable c at name)
+    (λ i. and_then (check at CaptureRule (adds d by_ref && not (is_captured (Some i) xs))) (λ y. capture_variable c xs at i by_ref))
 
 abbrev pub explicit_capture : List Lexeme → Ctx → Otherwise → List Capture → syntax.Tree → Result (List Capture) ElabFault
 explicit_capture s c d xs (syntax.node k.SimpleCapture p (Some t) kids) = explicit_variable c d xs (at_of p) (spelling s t) false
 explicit_capture s c d xs (syntax.node k.ReferenceCapture p (Some t) kids) = explicit_variable c d xs (at_of p) (spelling s t) true
-explicit_capture s c d xs (syntax.node k.ThisCapture p token kids) = and_then (check (at_of p) CaptureRule (adds d false && not (is_captured None xs))) (λ y. capture_this c xs (at_of p))
+explicit_capture s c d xs (syntax.node k.ThisCapture p token kids) =
+    and_then (check (at_of p) CaptureRule (adds d false && not (is_captured None xs))) (λ y. capture_this c xs (at_of p))
 explicit_capture s c d xs t = Ok xs
 
 abbrev pub explicit_captures : List Lexeme → Ctx → Otherwise → syntax.Trees → Result (List Capture) ElabFault
@@ -190,7 +197,8 @@ capture_used c by_ref xs at None = if is_some c.this then capture_this c xs at e
 -- what is named and not yet captured, in the order of its first use
 abbrev pub captured_uses : Ctx → Bool → List Capture → List Used → Result (List Capture) ElabFault
 captured_uses c by_ref xs [] = Ok xs
-captured_uses c by_ref xs (u ∷ us) = and_then (if is_captured u.variable xs then Ok xs else capture_used c by_ref xs u.at u.variable) (λ (ys : List Capture). captured_uses c by_ref ys us)
+captured_uses c by_ref xs (u ∷ us) = and_then (if is_captured u.variable xs then Ok xs else capture_used c by_ref xs u.at u.variable)
+    (λ (ys : List Capture). captured_uses c by_ref ys us)
 
 abbrev pub default_captures : Ctx → Otherwise → List Capture → List Used → Result (List Capture) ElabFault
 default_captures c nothing xs us = Ok xs
@@ -226,13 +234,27 @@ closure_traits c xs = record {
 }
 
 abbrev pub call_record : At → Signature → Qualifiers → Bool → Function
-call_record at sig q is_mutable = record no_function.declared { signature = sig; is_const = not is_mutable; safety = safety_of q; no_except = q.no_except; at = at }
+call_record at sig q is_mutable = record no_function.declared {
+  signature = sig;
+  is_const = not is_mutable;
+  safety = safety_of q;
+  no_except = q.no_except;
+  at =
+      at;
+}
 
 abbrev pub call_func : ℕ → Function → List Parameter → Func
 call_func n g ps = record no_function { declared = g; kind = ClosureCall; class = Some n; linkage = Internal; is_defined = true; params = map param_of ps }
 
 abbrev pub with_closure : Ctx → List Capture → Function → List Parameter → ℕ → Ctx
-with_closure c xs g ps closed = record c { classes = c.classes ++ class_named [] None false (capture_members xs) (g ∷ []) (Some (count_by is_completed c.classes)) ∷ []; traits = c.traits ++ closure_traits c xs ∷ []; slots = c.slots ++ [] ∷ []; funcs = c.funcs ++ record (call_func (length c.classes) g ps) { closed_at = closed } ∷ [] }
+with_closure c xs g ps closed = record c {
+  classes = c.classes ++ class_named [] None false (capture_members xs) (g ∷ [])
+      (Some (count_by is_completed c.classes)) ∷ [];
+  traits = c.traits ++ closure_traits c xs ∷ [];
+  slots = c.slots ++ [] ∷ [];
+  funcs =
+      c.funcs ++ record (call_func (length c.classes) g ps) { closed_at = closed } ∷ [];
+}
 
 -- What is written of a lambda
 pub record Written : Type 0 where
@@ -250,7 +272,19 @@ pub record Written : Type 0 where
 -- into its body: the names of the enclosing function are known, its variables only as captures (5.1.2 p17)
 abbrev pub lambda_entered : State → Written → Returns → Typ → State
 lambda_entered st x rs r = record {
-  ctx = record st.ctx { scopes = [] ∷ st.ctx.scopes; this = Some (record { typ = typ (closure (length st.ctx.classes)) (not x.is_mutable) false; place = length (result_items r) }); returns = rs; breaks = false; continues = false; label = Outside; labels = no_labels (plain void); lambda = Some (record { class = length st.ctx.classes; outer = length st.ctx.variables; captures = x.captures }); closures = [] };
+  ctx = record st.ctx {
+    scopes = [] ∷ st.ctx.scopes;
+    this = Some
+        (record { typ = typ (closure (length st.ctx.classes)) (not x.is_mutable) false; place = length (result_items r) });
+    returns = rs;
+    breaks = false;
+    continues = false;
+    label = Outside;
+    labels = no_labels (plain void);
+    lambda =
+        Some (record { class = length st.ctx.classes; outer = length st.ctx.variables; captures = x.captures });
+    closures = [];
+  };
   work = record st.work { frame = result_items r ++ plain (ptr (typ (closure (length st.ctx.classes)) (not x.is_mutable) false)) ∷ [] };
   bodies = st.bodies;
 }
@@ -275,8 +309,10 @@ signature_in f = signature no_typs (plain void) false
 
 -- with its result known: the body once
 abbrev pub lambda_with : List Lexeme → State → Written → Typ → Signature → Result State ElabFault
-lambda_with s st x r sig = and_then (check x.at Incomplete (is_complete st.ctx (held r))) (λ y. and_then (body_statements s (inside st (lambda_entered st x (known r) r) (declared_closure st x sig)) x) (λ (d : Done).
-    body_made (record st { ctx = declared_closure st x sig }) x.at (length st.ctx.funcs) (statement (forms.Block false) x.body_at (followed_by d.trees (end_of d.state.ctx r x.body_at))) d.state))
+lambda_with s st x r sig = and_then (check x.at Incomplete (is_complete st.ctx (held r)))
+    (λ y. and_then (body_statements s (inside st (lambda_entered st x (known r) r) (declared_closure st x sig)) x) (λ (d : Done).
+    body_made (record st { ctx = declared_closure st x sig }) x.at (length st.ctx.funcs)
+    (statement (forms.Block false) x.body_at (followed_by d.trees (end_of d.state.ctx r x.body_at))) d.state))
 
 abbrev pub lambda_known : List Lexeme → State → Written → Typ → Result State ElabFault
 lambda_known s st x r = and_then (lambda_type st.ctx x r) (λ (t : Typ). lambda_with s st x r (signature_in (form_in t)))
@@ -287,7 +323,9 @@ result_in (deduced (Some t)) = t
 result_in rs = plain void
 
 abbrev pub result_deduced : List Lexeme → State → Written → Typ → Result Typ ElabFault
-result_deduced s st x t = and_then (body_statements s (inside st (lambda_entered st x (deduced None) (plain void)) (declared_closure st x (signature_in (form_in t)))) x) (λ (d : Done). Ok (result_in d.state.ctx.returns))
+result_deduced s st x t = and_then (body_statements s
+    (inside st (lambda_entered st x (deduced None) (plain void)) (declared_closure st x (signature_in (form_in t)))) x)
+    (λ (d : Done). Ok (result_in d.state.ctx.returns))
 
 abbrev pub result_of : List Lexeme → State → Written → Option Typ → Result Typ ElabFault
 result_of s st x (Some r) = Ok r
@@ -297,7 +335,8 @@ abbrev pub with_written : State → ℕ → Written → State
 with_written st n x = record st { ctx = record st.ctx { closures = st.ctx.closures ++ record { at = x.at; class = n; captures = x.captures } ∷ [] } }
 
 abbrev pub lambda_made : List Lexeme → State → Written → Result State ElabFault
-lambda_made s st x = and_then (result_of s st x x.result) (λ (r : Typ). and_then (lambda_known s st x r) (λ (y : State). Ok (with_written y (length st.ctx.classes) x)))
+lambda_made s st x = and_then (result_of s st x x.result)
+    (λ (r : Typ). and_then (lambda_known s st x r) (λ (y : State). Ok (with_written y (length st.ctx.classes) x)))
 
 -- Its parts
 
@@ -310,7 +349,8 @@ has_mutable syntax.none = false
 has_mutable (syntax.more t ts) = is_mutable_word t || has_mutable ts
 
 abbrev pub parameters_among : List Lexeme → Ctx → Work → syntax.Trees → Result (List Parameter) ElabFault
-parameters_among s c w (syntax.more (syntax.node k.ParameterDeclarationClause p token kids) ts) = parameters_in s c w (syntax.node k.ParameterDeclarationClause p token kids)
+parameters_among s c w (syntax.more (syntax.node k.ParameterDeclarationClause p token kids) ts) =
+    parameters_in s c w (syntax.node k.ParameterDeclarationClause p token kids)
 parameters_among s c w ts = Ok []
 
 abbrev pub an_option : Result Typ ElabFault → Result (Option Typ) ElabFault
@@ -351,9 +391,23 @@ abbrev pub used_in : List Lexeme → Ctx → List Parameter → syntax.Tree → 
 used_in s c ps body = (scanned s c (record { own = parameter_names s ps; used = [] }) body).used
 
 abbrev pub lambda_written : List Lexeme → State → At → syntax.Trees → syntax.Trees → syntax.Tree → Result State ElabFault
-lambda_written s st at intro parts body = and_then (explicit_captures s st.ctx (default_in s intro) intro) (λ (xs : List Capture). and_then (parameters_among s st.ctx st.work parts) (λ (ps : List Parameter). and_then (not_dynamic at (qualifiers_from s no_qualifiers parts)) (λ y.
-    and_then (result_among s st.ctx st.work parts) (λ (r : Option Typ). and_then (default_captures st.ctx (default_in s intro) xs (used_in s st.ctx ps body)) (λ (ys : List Capture).
-    lambda_made s st (record { at = at; captures = ys; params = ps; qualifiers = qualifiers_from s no_qualifiers parts; is_mutable = has_mutable parts; result = r; body = kids_of body; body_at = place_of_tree body; closed = closing s body }))))))
+lambda_written s st at intro parts body = and_then (explicit_captures s st.ctx (default_in s intro) intro)
+    (λ (xs : List Capture). and_then (parameters_among s st.ctx st.work parts)
+    (λ (ps : List Parameter). and_then (not_dynamic at (qualifiers_from s no_qualifiers parts)) (λ y.
+    and_then (result_among s st.ctx st.work parts) (λ (r : Option Typ). and_then (default_captures st.ctx (default_in s intro) xs (used_in s st.ctx ps body))
+    (λ (ys : List Capture).
+    lambda_made s st (record {
+      at = at;
+      captures = ys;
+      params = ps;
+      qualifiers = qualifiers_from s no_qualifiers parts;
+      is_mutable = has_mutable parts;
+      result =
+          r;
+      body = kids_of body;
+      body_at = place_of_tree body;
+      closed = closing s body;
+    }))))))
 
 abbrev pub lambda_of : List Lexeme → State → At → syntax.Trees → Result State ElabFault
 lambda_of s st at (syntax.more intro (syntax.more parts (syntax.more body syntax.none))) = lambda_written s st at (kids_of intro) (kids_of parts) body

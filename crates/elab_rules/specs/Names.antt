@@ -1,5 +1,6 @@
 -- Names, members and `this` (C++14 3.4, 5.1.1, 5.2.5, 10.2).
-use Rattle.std.specs.Prelude.{ℕ, suc, ◌==◌, nat_lt, Bool, true, false, not, ◌&&◌, ◌||◌, List, [], ◌∷◌, ◌++◌, length, Option, Some, None, is_some, Result, Ok, Err, if◌then◌else◌, slice_get, unwrap_or, option_map, codes}
+use Rattle.std.specs.Prelude.{ℕ, suc, ◌==◌, nat_lt, Bool, true, false, not, ◌&&◌, ◌||◌, List, [], ◌∷◌, ◌++◌, length, Option, Some, None, is_some, Result, Ok}
+use Rattle.std.specs.Prelude.{Err, if◌then◌else◌, slice_get, unwrap_or, option_map, codes}
 use Rattle.std.specs.Str.{bytes_eq}
 use Rattle.elab_ctx.specs.tx_ints.declared.kinds.IntKind.TheVariants.{ULong}
 use Rattle.elab_ctx.specs.cpp_types.Typ.{Typ, typ, Form, void, ptr, ref, class, closure, func, tx_ex, enum}
@@ -17,7 +18,8 @@ use Rattle.elab_ctx.specs.cpp_tree.declared.program.FuncKind.{FuncKind}
 use Rattle.elab_ctx.specs.cpp_tree.declared.program.FuncKind.TheVariants.{Plain, ClosureCall}
 use Rattle.elab_ctx.specs.cpp_tree.declared.faults.ElabFault.{ElabFault}
 use Rattle.elab_ctx.specs.cpp_tree.declared.faults.ElabFault.TheVariants.{Ill}
-use Rattle.elab_ctx.specs.cpp_tree.declared.faults.IllRule.TheVariants.{UnknownName, BadInit, Capture as CaptureRule, OutOfProfile, BadOperand, Incomplete, NoMember, Ambiguous}
+use Rattle.elab_ctx.specs.cpp_tree.declared.faults.IllRule.TheVariants.{UnknownName, BadInit, Capture as CaptureRule, OutOfProfile, BadOperand, Incomplete}
+use Rattle.elab_ctx.specs.cpp_tree.declared.faults.IllRule.TheVariants.{NoMember, Ambiguous}
 use Rattle.elab_ctx.specs.cpp_tree.Trees.{Tree, node, Trees, none, more, one, typ_in, cat_of}
 use Rattle.elab_ctx.specs.cpp_tree.Units.{Global}
 use Rattle.elab_ctx.specs.cpp_tree.Notation.{plain}
@@ -29,8 +31,10 @@ use Rattle.elab_rules.specs.Values.{retyped, part_at, valued}
 use Rattle.elab_rules.specs.Objects.{class_in}
 use Rattle.elab_rules.specs.Initialising.{func_at, places_from, same_number, class_number, with_tree, object_of}
 
--- What is looked up and not yet chosen. An expression that names functions is a `Function` of type `void`, with its object where they are members; the functions are those
--- of that name in the class or at file scope. `get` of a `std::tx_exception` is a `Default` with its object, and `std::abort` a `Builtin`. No typed program has these.
+-- What is looked up and not yet chosen. An expression that names functions is a `Function` of type `void`, with its object where they are members; the
+-- functions are those
+-- of that name in the class or at file scope. `get` of a `std::tx_exception` is a `Default` with its object, and `std::abort` a `Builtin`. No typed program has
+-- these.
 
 abbrev pub functions : ℕ → At → Trees → Tree
 functions k at object = node (Function k) (plain void) Lvalue at object
@@ -99,7 +103,8 @@ captured_tree c at t l x = in_capture c at t l x.index x.capture.typ
 
 -- the lambda around, if any, and the object at hand
 abbrev pub captured_variable : Ctx → At → ℕ → Lambda → Result Tree ElabFault
-captured_variable c at i l = and_then (expect at CaptureRule (captured_from 0 (Some i) l.captures)) (λ (x : Captured). and_then (expect at UnknownName c.this) (λ (t : This). Ok (captured_tree c at t l x)))
+captured_variable c at i l = and_then (expect at CaptureRule (captured_from 0 (Some i) l.captures))
+    (λ (x : Captured). and_then (expect at UnknownName c.this) (λ (t : This). Ok (captured_tree c at t l x)))
 
 abbrev pub is_outer : ℕ → Option Lambda → Option Lambda
 is_outer i (Some l) = if nat_lt i l.outer then Some l else None
@@ -115,7 +120,8 @@ variable_in c w at i None = and_then (expect at UnknownName (slice_get c.variabl
 -- the pointer `this` (C++14 9.3.2), captured where a lambda is around
 abbrev pub this_in : Ctx → At → Option Lambda → Result Tree ElabFault
 this_in c at None = and_then (expect at UnknownName c.this) (λ (t : This). Ok (this_pointer at t))
-this_in c at (Some l) = and_then (expect at CaptureRule (captured_from 0 None l.captures)) (λ (x : Captured). and_then (expect at UnknownName c.this) (λ (t : This). Ok (valued at (captured_tree c at t l x))))
+this_in c at (Some l) = and_then (expect at CaptureRule (captured_from 0 None l.captures))
+    (λ (x : Captured). and_then (expect at UnknownName c.this) (λ (t : This). Ok (valued at (captured_tree c at t l x))))
 
 abbrev pub this_tree : Ctx → At → Result Tree ElabFault
 this_tree c at = this_in c at c.lambda
@@ -165,7 +171,8 @@ is_volatile_object (typ f c v) = v
 
 -- the member of an object: the qualifiers of the object are those of the member too
 abbrev pub member_of : Ctx → At → Tree → Found → Tree
-member_of c at object (field n i t) = part_at (offset_at c.classes n i) (qualified (is_const_typ (typ_in object)) (is_volatile_object (typ_in object)) t) at object
+member_of c at object (field n i t) = part_at (offset_at c.classes n i)
+    (qualified (is_const_typ (typ_in object)) (is_volatile_object (typ_in object)) t) at object
 member_of c at object (methods k) = functions k at (one object)
 
 abbrev pub is_tx_exception : Typ → Bool
@@ -177,13 +184,16 @@ abbrev pub exception_member : At → List ℕ → Tree → Result Tree ElabFault
 exception_member at name object = if bytes_eq name (codes "get") then Ok (node Default (plain void) Lvalue at (one object)) else Err (Ill at NoMember)
 
 abbrev pub class_member : Ctx → At → At → List ℕ → Tree → Result Tree ElabFault
-class_member c at dot name object = and_then (expect dot BadOperand (class_number (typ_in object))) (λ n. and_then (check at Incomplete (is_some (completion_of c.classes n))) (λ y.
+class_member c at dot name object = and_then (expect dot BadOperand (class_number (typ_in object)))
+    (λ n. and_then (check at Incomplete (is_some (completion_of c.classes n))) (λ y.
     and_then (expect at NoMember (member_found c name n)) (λ (f : Found). Ok (member_of c at object f))))
 
 -- `object.name`, where `dot` is the place of the name
 abbrev pub member_access : Ctx → Work → At → At → List ℕ → Operand → Result Made ElabFault
-member_access c w at dot name o = if is_tx_exception (typ_in o.tree) then and_then (exception_member at name (object_of c w o.at o.tree).tree) (λ (t : Tree). Ok (record { tree = t; work = (object_of c w o.at o.tree).work }))
-    else and_then (class_member c at dot name (object_of c w o.at o.tree).tree) (λ (t : Tree). Ok (record { tree = t; work = (object_of c w o.at o.tree).work }))
+member_access c w at dot name o = if is_tx_exception (typ_in o.tree) then and_then (exception_member at name (object_of c w o.at o.tree).tree)
+    (λ (t : Tree). Ok (record { tree = t; work = (object_of c w o.at o.tree).work }))
+    else and_then (class_member c at dot name (object_of c w o.at o.tree).tree)
+    (λ (t : Tree). Ok (record { tree = t; work = (object_of c w o.at o.tree).work }))
 
 -- Names (C++14 3.4.1): variables of the function stand inside its class, and that inside the file
 
@@ -217,7 +227,8 @@ target_of (ptr t) = Some t
 target_of f = None
 
 abbrev pub implicit_member : Ctx → At → Found → Result Tree ElabFault
-implicit_member c at f = and_then (this_tree c at) (λ (p : Tree). and_then (expect at UnknownName (target_of (form_in (typ_in p)))) (λ (t : Typ). Ok (member_of c at (retyped at t Lvalue p) f)))
+implicit_member c at f = and_then (this_tree c at) (λ (p : Tree). and_then (expect at UnknownName (target_of (form_in (typ_in p))))
+    (λ (t : Typ). Ok (member_of c at (retyped at t Lvalue p) f)))
 
 abbrev pub class_name : Ctx → Work → At → List ℕ → Option Entity → Option Found → Result Tree ElabFault
 class_name c w at name e (Some f) = implicit_member c at f
@@ -229,12 +240,14 @@ member_here c name None = None
 
 -- what a name means where it stands
 abbrev pub named : Ctx → Work → At → List ℕ → Result Tree ElabFault
-named c w at name = if is_local_entity (found_in c.scopes name) then file_name c w at (found_in c.scopes name) else class_name c w at name (found_in c.scopes name) (member_here c name c.class)
+named c w at name = if is_local_entity (found_in c.scopes name) then file_name c w at (found_in c.scopes name) else class_name c w at name
+    (found_in c.scopes name) (member_here c name c.class)
 
 -- One function for those that an expression names, where it is no call (C++14 13.4, profile)
 
 abbrev pub only_function : Ctx → At → ℕ → List ℕ → Result Tree ElabFault
-only_function c at k (i ∷ []) = and_then (check at OutOfProfile (not (is_some (func_at c.funcs i).builtin))) (λ y. Ok (node (Function i) (plain (func (func_at c.funcs i).declared.signature)) Lvalue at none))
+only_function c at k (i ∷ []) = and_then (check at OutOfProfile (not (is_some (func_at c.funcs i).builtin)))
+    (λ y. Ok (node (Function i) (plain (func (func_at c.funcs i).declared.signature)) Lvalue at none))
 only_function c at k is = Err (Ill at Ambiguous)
 
 abbrev pub resolved_function : Ctx → At → ℕ → Trees → Result Tree ElabFault

@@ -1,5 +1,6 @@
 -- Objects part by part: zeros, copies and destructions (C++14 8.5, 12.4, 12.8).
-use Rattle.std.specs.Prelude.{ℕ, zero, suc, Bool, true, false, ◌||◌, ◌+◌, ◌*◌, List, [], ◌∷◌, ◌++◌, Option, Some, None, slice_get, unwrap_or, option_and_then, option_map, take, map, length, if◌then◌else◌}
+use Rattle.std.specs.Prelude.{ℕ, zero, suc, Bool, true, false, ◌||◌, ◌+◌, ◌*◌, List, [], ◌∷◌, ◌++◌, Option, Some, None, slice_get, unwrap_or, option_and_then}
+use Rattle.std.specs.Prelude.{option_map, take, map, length, if◌then◌else◌}
 use Rattle.elab_ctx.specs.tx_ints.declared.kinds.IntKind.{IntKind}
 use Rattle.elab_ctx.specs.cpp_types.Typ.{Typ, typ, Form, void, int, enum, null, ptr, ref, array, func, class, closure, tx_ex}
 use Rattle.elab_ctx.specs.cpp_types.Class.{Class, Member, completion_of}
@@ -8,7 +9,8 @@ use Rattle.elab_ctx.specs.cpp_types.declared.ranks.Cat.TheVariants.{Lvalue, Prva
 use Rattle.elab_ctx.specs.cpp_layout.Layout.{extent_of, Extent}
 use Rattle.elab_ctx.specs.cpp_layout.Measured.{member_offset}
 use Rattle.elab_ctx.specs.cpp_tree.declared.kinds.TKind.{TKind}
-use Rattle.elab_ctx.specs.cpp_tree.declared.kinds.TKind.TheVariants.{Literal, Store, CopyScalar, CopyConstruct, Construct, Pieces, Piece, Elements, Destroy, Field}
+use Rattle.elab_ctx.specs.cpp_tree.declared.kinds.TKind.TheVariants.{Literal, Store, CopyScalar, CopyConstruct, Construct, Pieces, Piece, Elements, Destroy}
+use Rattle.elab_ctx.specs.cpp_tree.declared.kinds.TKind.TheVariants.{Field}
 use Rattle.elab_ctx.specs.cpp_tree.Trees.{Tree, node, Trees, none, more, one, two}
 use Rattle.elab_ctx.specs.cpp_tree.Notation.{plain}
 use Rattle.elab_ctx.specs.cpp_tree.Typing.{form_in, is_volatile_typ, unqualified, qualified, kind_in}
@@ -65,7 +67,8 @@ abbrev mutual
   whole each leaf classes at c v (typ f d w) = whole_form each leaf classes at (c || d) (v || w) f
 
   pub whole_form : (ℕ → Bool → Bool → Tree) → Leaf → List Class → At → Bool → Bool → Form → Tree
-  whole_form each leaf classes at c v (array t n) = node (Elements n (size_of classes t)) (qualified c v (plain (array t n))) Prvalue at (one (whole each leaf classes at c v t))
+  whole_form each leaf classes at c v (array t n) = node (Elements n (size_of classes t)) (qualified c v (plain (array t n))) Prvalue at
+      (one (whole each leaf classes at c v t))
   whole_form each leaf classes at c v (class n) = each n c v
   whole_form each leaf classes at c v (closure n) = each n c v
   whole_form each leaf classes at c v (tx_ex (typ f d w)) = whole_form each leaf classes at c v f
@@ -106,7 +109,17 @@ copies classes at t = each_scalar copy_leaf classes at t
 -- Special members
 
 abbrev pub no_traits : Traits
-no_traits = record { default = absent; copy = absent; copies_const = false; destructor = trivial; is_assignable = false; is_abstract = false; is_volatile = false; is_trivially_copyable = false }
+no_traits = record {
+  default = absent;
+  copy = absent;
+  copies_const = false;
+  destructor = trivial;
+  is_assignable = false;
+  is_abstract = false;
+  is_volatile =
+      false;
+  is_trivially_copyable = false;
+}
 
 abbrev pub traits_at : Ctx → ℕ → Traits
 traits_at c n = unwrap_or (slice_get c.traits n) no_traits
@@ -193,7 +206,8 @@ abbrev mutual
 
 abbrev pub class_fields : ℕ → List Class → At → ℕ → ℕ → Trees
 class_fields zero classes at n offset = none
-class_fields (suc depth) classes at n offset = fields_of_parts (λ (p : Part). fields_in (class_fields depth classes at) classes at (offset + p.offset) p.typ) (parts_of classes n)
+class_fields (suc depth) classes at n offset = fields_of_parts (λ (p : Part). fields_in (class_fields depth classes at) classes at (offset + p.offset) p.typ)
+    (parts_of classes n)
 
 -- the scalars of a type in order
 abbrev pub fields : List Class → At → Typ → Trees

@@ -1,5 +1,6 @@
 -- Operators on scalars (C++14 5.2.1, 5.2.6, 5.3.1, 5.6 to 5.18), from operands that are typed.
-use Rattle.std.specs.Prelude.{ℕ, ◌==◌, Bool, true, false, not, ◌&&◌, ◌||◌, List, [], ◌∷◌, ◌^◌, ◌-◌, Option, Some, None, is_some, is_none, Result, Ok, Err, if◌then◌else◌, slice_get, option_map, codes}
+use Rattle.std.specs.Prelude.{ℕ, ◌==◌, Bool, true, false, not, ◌&&◌, ◌||◌, List, [], ◌∷◌, ◌^◌, ◌-◌, Option, Some, None, is_some, is_none, Result, Ok, Err}
+use Rattle.std.specs.Prelude.{if◌then◌else◌, slice_get, option_map, codes}
 use Rattle.std.specs.Str.{bytes_eq}
 use Rattle.elab_ctx.specs.tx_ints.declared.kinds.IntKind.{IntKind}
 use Rattle.elab_ctx.specs.tx_ints.declared.kinds.IntKind.TheVariants.{Bool as BoolKind, Int, ULong, Long}
@@ -15,7 +16,8 @@ use Rattle.elab_ctx.specs.cpp_types.declared.ranks.Cat.{Cat}
 use Rattle.elab_ctx.specs.cpp_types.declared.ranks.Cat.TheVariants.{Lvalue, Prvalue}
 use Rattle.elab_ctx.specs.cpp_types.Class.{held}
 use Rattle.elab_ctx.specs.cpp_tree.declared.kinds.TKind.{TKind}
-use Rattle.elab_ctx.specs.cpp_tree.declared.kinds.TKind.TheVariants.{Literal, Local, Global, Load, Retype, Binary, Conditional, Comma, Assign, Update, CopyAssign, Throw, Rethrow}
+use Rattle.elab_ctx.specs.cpp_tree.declared.kinds.TKind.TheVariants.{Literal, Local, Global, Load, Retype, Binary, Conditional, Comma, Assign, Update}
+use Rattle.elab_ctx.specs.cpp_tree.declared.kinds.TKind.TheVariants.{CopyAssign, Throw, Rethrow}
 use Rattle.elab_ctx.specs.cpp_tree.declared.faults.ElabFault.{ElabFault}
 use Rattle.elab_ctx.specs.cpp_tree.declared.faults.ElabFault.TheVariants.{Ill}
 use Rattle.elab_ctx.specs.cpp_tree.declared.faults.IllRule.TheVariants.{NoConversion, BadOperand, NotLvalue, ConstTarget, Incomplete, NoCopy, OutOfProfile}
@@ -130,12 +132,15 @@ abbrev pub movable : Ctx → At → At → Typ → Result Bool ElabFault
 movable c at p t = and_then (check at BadOperand (not (is_function t))) (λ y. check p Incomplete (is_sized c t))
 
 abbrev pub difference : Ctx → At → Typ → Operand → Operand → Tree
-difference c at t p q = operated Div Long (plain (int Long)) at (in_kind at Long (operated Sub ULong size_type at (value p) (value q))) (number Long (size_of c.classes t) at)
+difference c at t p q = operated Div Long (plain (int Long)) at (in_kind at Long (operated Sub ULong size_type at (value p) (value q)))
+    (number Long (size_of c.classes t) at)
 
 abbrev pub sum_of : Ctx → BinOp → At → Option Typ → Option Typ → Operand → Operand → Result Tree ElabFault
 sum_of c Sub at (Some t) (Some u) p q = and_then (check at BadOperand (typ_eq t u)) (λ y. and_then (movable c at p.at t) (λ z. Ok (difference c at t p q)))
-sum_of c op at (Some t) None p n = and_then (check at BadOperand (is_some (arithmetic (value_form n)))) (λ y. and_then (movable c at p.at t) (λ z. Ok (moved c op at t p n)))
-sum_of c Add at None (Some t) n p = and_then (check at BadOperand (is_some (arithmetic (value_form n)))) (λ y. and_then (movable c at p.at t) (λ z. Ok (moved_back c at t n p)))
+sum_of c op at (Some t) None p n = and_then (check at BadOperand (is_some (arithmetic (value_form n))))
+    (λ y. and_then (movable c at p.at t) (λ z. Ok (moved c op at t p n)))
+sum_of c Add at None (Some t) n p = and_then (check at BadOperand (is_some (arithmetic (value_form n))))
+    (λ y. and_then (movable c at p.at t) (λ z. Ok (moved_back c at t n p)))
 sum_of c op at _ _ a b = arithmetic_of op at (arithmetic (value_form a)) (arithmetic (value_form b)) a b
 
 -- Comparisons (C++14 5.9, 5.10)
@@ -164,7 +169,8 @@ is_sum op = false
 
 -- an operator of two operands but `&&` and `||`
 abbrev pub binary : Ctx → BinOp → At → Operand → Operand → Result Tree ElabFault
-binary c op at a b = if is_comparison op then comparison_in op at (value_form a) (value_form b) a b else (if is_sum op then sum_of c op at (pointed (value_form a)) (pointed (value_form b)) a b
+binary c op at a b = if is_comparison op then comparison_in op at (value_form a) (value_form b) a b else
+    (if is_sum op then sum_of c op at (pointed (value_form a)) (pointed (value_form b)) a b
     else arithmetic_of op at (arithmetic (value_form a)) (arithmetic (value_form b)) a b)
 
 -- Truth (C++14 4.12, 5.3.1, 5.14, 5.15)
@@ -179,7 +185,8 @@ abbrev pub true_at : At → Tree
 true_at at = number BoolKind 1 at
 
 abbrev pub logical : Ctx → Work → Bool → At → Operand → Operand → Result Tree ElabFault
-logical c w is_and at a b = and_then (truth c w a) (λ x. and_then (truth c w b) (λ y. Ok (node Conditional bool_type Prvalue at (if is_and then three x y (false_at at) else three x (true_at at) y))))
+logical c w is_and at a b = and_then (truth c w a) (λ x. and_then (truth c w b)
+    (λ y. Ok (node Conditional bool_type Prvalue at (if is_and then three x y (false_at at) else three x (true_at at) y))))
 
 abbrev pub negation : Ctx → Work → At → Operand → Result Tree ElabFault
 negation c w at a = and_then (truth c w a) (λ x. Ok (compared Eq Int at (in_kind a.at Int x) (number Int 0 at)))
@@ -209,7 +216,8 @@ abbrev pub address_of : At → Operand → Result Tree ElabFault
 address_of at a = and_then (check at NotLvalue (is_lvalue (cat_of a.tree))) (λ y. Ok (retyped at (plain (ptr (typ_in a.tree))) Prvalue a.tree))
 
 abbrev pub subscript : Ctx → At → Operand → Operand → Result Tree ElabFault
-subscript c at a b = and_then (sum_of c Add at (pointed (value_form a)) (pointed (value_form b)) a b) (λ (s : Tree). and_then (expect at BadOperand (pointed (form_in (typ_in s)))) (λ t. Ok (retyped at t Lvalue s)))
+subscript c at a b = and_then (sum_of c Add at (pointed (value_form a)) (pointed (value_form b)) a b)
+    (λ (s : Tree). and_then (expect at BadOperand (pointed (form_in (typ_in s)))) (λ t. Ok (retyped at t Lvalue s)))
 
 -- Assignments (C++14 5.17), increments and decrements (5.2.6, 5.3.2)
 
@@ -231,8 +239,10 @@ same_object s = s
 
 abbrev pub class_assigned_in : Ctx → Work → At → Operand → Operand → Form → Result Made ElabFault
 class_assigned_in c w at a b (class n) = and_then (check b.at NoConversion (is_same_or_base c.classes (class_number (typ_in b.tree)) (Some n))) (λ x.
-    and_then (check at NoCopy ((traits_at c n).is_assignable && not (is_volatile_typ (typ_in a.tree)))) (λ y. copy_assigned c w at a b (as_source b.at n) (typ_in a.tree)))
-class_assigned_in c w at a b (tx_ex t) = and_then (check b.at NoConversion (form_eq (form_in (typ_in b.tree)) (tx_ex t))) (λ x. copy_assigned c w at a b same_object t)
+    and_then (check at NoCopy ((traits_at c n).is_assignable && not (is_volatile_typ (typ_in a.tree))))
+    (λ y. copy_assigned c w at a b (as_source b.at n) (typ_in a.tree)))
+class_assigned_in c w at a b (tx_ex t) = and_then (check b.at NoConversion (form_eq (form_in (typ_in b.tree)) (tx_ex t)))
+    (λ x. copy_assigned c w at a b same_object t)
 class_assigned_in c w at a b f = Err (Ill at NoCopy)
 
 abbrev pub class_assigned : Ctx → Work → At → Operand → Operand → Result Made ElabFault
@@ -240,16 +250,21 @@ class_assigned c w at a b = class_assigned_in c w at a b (form_in (typ_in a.tree
 
 abbrev pub assignment : Ctx → Work → At → Operand → Operand → Result Made ElabFault
 assignment c w at a b = and_then (target at a) (λ y. if is_class_typ (typ_in a.tree) then class_assigned c w at a b else
-    and_then (check at BadOperand (is_some (kind_in (form_in (typ_in a.tree))))) (λ x. and_then (initial c w (unqualified (typ_in a.tree)) b) (λ (m : Made). and_then (assigned at (kind_in (form_in (typ_in a.tree))) a m.tree) (λ (t : Tree). Ok (record { tree = t; work = m.work })))))
+    and_then (check at BadOperand (is_some (kind_in (form_in (typ_in a.tree)))))
+    (λ x. and_then (initial c w (unqualified (typ_in a.tree)) b)
+    (λ (m : Made). and_then (assigned at (kind_in (form_in (typ_in a.tree))) a m.tree) (λ (t : Tree). Ok (record { tree = t; work = m.work })))))
 
 abbrev pub updated : BinOp → IntKind → IntKind → Bool → At → Operand → Tree → Tree
-updated op stored operation old at a r = node (Update op stored operation (is_volatile_typ (typ_in a.tree)) old) (if old then unqualified (typ_in a.tree) else typ_in a.tree) (if old then Prvalue else Lvalue) at (two a.tree r)
+updated op stored operation old at a r = node (Update op stored operation (is_volatile_typ (typ_in a.tree)) old)
+    (if old then unqualified (typ_in a.tree) else typ_in a.tree) (if old then Prvalue else Lvalue) at (two a.tree r)
 
 abbrev pub compound_numbers : BinOp → At → IntKind → IntKind → Operand → Operand → Tree
-compound_numbers op at j k a b = if is_shift op then updated op j (promote_of j) false at a (as_kind (promote_of k) b) else updated op j (usual_of j k) false at a (as_kind (usual_of j k) b)
+compound_numbers op at j k a b = if is_shift op then updated op j (promote_of j) false at a (as_kind (promote_of k) b) else updated op j
+    (usual_of j k) false at a (as_kind (usual_of j k) b)
 
 abbrev pub compound_in : Ctx → BinOp → At → Form → Operand → Operand → Result Tree ElabFault
-compound_in c op at (ptr t) a b = and_then (check at BadOperand (is_sum op && is_some (arithmetic (value_form b)))) (λ y. and_then (movable c at a.at t) (λ z. Ok (updated op ULong ULong false at a (scaled c at t b))))
+compound_in c op at (ptr t) a b = and_then (check at BadOperand (is_sum op && is_some (arithmetic (value_form b))))
+    (λ y. and_then (movable c at a.at t) (λ z. Ok (updated op ULong ULong false at a (scaled c at t b))))
 compound_in c op at (int j) a b = and_then (expect at BadOperand (arithmetic (value_form b))) (λ k. Ok (compound_numbers op at j k a b))
 compound_in c op at f a b = Err (Ill at BadOperand)
 
@@ -258,7 +273,8 @@ compound c op at a b = and_then (target at a) (λ y. compound_in c op at (form_i
 
 abbrev pub step_in : Ctx → BinOp → Bool → At → Form → Operand → Result Tree ElabFault
 step_in c op old at (ptr t) a = and_then (movable c at a.at t) (λ z. Ok (updated op ULong ULong old at a (number ULong (size_of c.classes t) at)))
-step_in c op old at (int j) a = and_then (check at BadOperand (not (kind_eq j BoolKind))) (λ y. Ok (updated op j (promote_of j) old at a (number (promote_of j) 1 at)))
+step_in c op old at (int j) a = and_then (check at BadOperand (not (kind_eq j BoolKind)))
+    (λ y. Ok (updated op j (promote_of j) old at a (number (promote_of j) 1 at)))
 step_in c op old at f a = Err (Ill at BadOperand)
 
 -- `++` and `--`
@@ -306,17 +322,24 @@ abbrev pub both_of_class : Operand → Operand → Bool
 both_of_class a b = is_class_typ (typ_in a.tree) && form_eq (form_in (typ_in a.tree)) (form_in (typ_in b.tree))
 
 abbrev pub two_numbers : At → Tree → Option IntKind → Option IntKind → Operand → Operand → Result Tree ElabFault
-two_numbers at test (Some j) (Some k) a b = Ok (conditional_node at (plain (int (usual_of j k))) Prvalue test (as_kind (usual_of j k) a) (as_kind (usual_of j k) b))
+two_numbers at test (Some j) (Some k) a b = Ok (conditional_node at (plain (int (usual_of j k))) Prvalue test (as_kind (usual_of j k) a)
+    (as_kind (usual_of j k) b))
 two_numbers at test _ _ a b = Err (Ill at BadOperand)
 
 abbrev pub two_values : At → Tree → Form → Form → Operand → Operand → Result Tree ElabFault
-two_values at test (ptr t) (ptr u) a b = and_then (check at BadOperand (typ_eq t u)) (λ y. Ok (conditional_node at (plain (ptr t)) Prvalue test (value a) (value b)))
-two_values at test (ptr t) f a b = and_then (check at BadOperand (is_null b)) (λ y. Ok (conditional_node at (plain (ptr t)) Prvalue test (value a) (as_pointer t b)))
-two_values at test f (ptr t) a b = and_then (check at BadOperand (is_null a)) (λ y. Ok (conditional_node at (plain (ptr t)) Prvalue test (as_pointer t a) (value b)))
-two_values at test f g a b = if form_eq f g && is_some (kind_in f) then Ok (conditional_node at (plain f) Prvalue test (value a) (value b)) else two_numbers at test (arithmetic f) (arithmetic g) a b
+two_values at test (ptr t) (ptr u) a b = and_then (check at BadOperand (typ_eq t u))
+    (λ y. Ok (conditional_node at (plain (ptr t)) Prvalue test (value a) (value b)))
+two_values at test (ptr t) f a b = and_then (check at BadOperand (is_null b))
+    (λ y. Ok (conditional_node at (plain (ptr t)) Prvalue test (value a) (as_pointer t b)))
+two_values at test f (ptr t) a b = and_then (check at BadOperand (is_null a))
+    (λ y. Ok (conditional_node at (plain (ptr t)) Prvalue test (as_pointer t a) (value b)))
+two_values at test f g a b = if form_eq f g && is_some (kind_in f) then Ok
+    (conditional_node at (plain f) Prvalue test (value a) (value b)) else two_numbers at test (arithmetic f) (arithmetic g) a b
 
 abbrev pub two_objects : Ctx → Work → At → Tree → Operand → Operand → Result Made ElabFault
-two_objects c w at test a b = and_then (class_from c w (unqualified (typ_in a.tree)) a.at a) (λ (x : Made). and_then (class_from c x.work (unqualified (typ_in a.tree)) b.at b) (λ (y : Made). Ok (record { tree = conditional_node at (unqualified (typ_in a.tree)) Prvalue test x.tree y.tree; work = y.work })))
+two_objects c w at test a b = and_then (class_from c w (unqualified (typ_in a.tree)) a.at a)
+    (λ (x : Made). and_then (class_from c x.work (unqualified (typ_in a.tree)) b.at b)
+    (λ (y : Made). Ok (record { tree = conditional_node at (unqualified (typ_in a.tree)) Prvalue test x.tree y.tree; work = y.work })))
 
 -- an operand beside one that throws: an lvalue, a class prvalue or nothing stays as it is
 abbrev pub kept_value : Operand → Tree
@@ -327,10 +350,12 @@ same_work w r = and_then r (λ (t : Tree). Ok (record { tree = t; work = w }))
 
 abbrev pub branches : Ctx → Work → At → Tree → Operand → Operand → Result Made ElabFault
 branches c w at test a b =
-    if is_throw (kind_of a.tree) && is_throw (kind_of b.tree) then Ok (record { tree = conditional_node at (plain void) Prvalue test a.tree b.tree; work = w }) else (
+    if is_throw (kind_of a.tree) && is_throw (kind_of b.tree) then Ok
+    (record { tree = conditional_node at (plain void) Prvalue test a.tree b.tree; work = w }) else (
     if is_throw (kind_of b.tree) then Ok (record { tree = conditional_node at (typ_in a.tree) (cat_of a.tree) test a.tree b.tree; work = w }) else (
     if is_throw (kind_of a.tree) then Ok (record { tree = conditional_node at (typ_in b.tree) (cat_of b.tree) test a.tree b.tree; work = w }) else (
-    if same_lvalues a b || (is_void (typ_in a.tree) && is_void (typ_in b.tree)) then Ok (record { tree = conditional_node at (typ_in a.tree) (cat_of a.tree) test a.tree b.tree; work = w }) else (
+    if same_lvalues a b || (is_void (typ_in a.tree) && is_void (typ_in b.tree)) then Ok
+    (record { tree = conditional_node at (typ_in a.tree) (cat_of a.tree) test a.tree b.tree; work = w }) else (
     if both_of_class a b then two_objects c w at test a b else same_work w (two_values at test (value_form a) (value_form b) a b)))))
 
 abbrev pub conditional : Ctx → Work → At → Operand → Operand → Operand → Result Made ElabFault

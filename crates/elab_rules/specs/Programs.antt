@@ -43,7 +43,20 @@ tree_in (Some b) = Some b.tree
 tree_in None = None
 
 abbrev pub typed_func : List Class → Func → Option Body → TypedFunc
-typed_func classes f b = record { symbol = symbol_of classes f; declared = f.declared; linkage = f.linkage; text = f.text; kind = f.kind; class = f.class; implicit = f.implicit; words = words_of f; params = f.params; frame = frame_in b; body = tree_in b; closed_at = f.closed_at }
+typed_func classes f b = record {
+  symbol = symbol_of classes f;
+  declared = f.declared;
+  linkage = f.linkage;
+  text = f.text;
+  kind = f.kind;
+  class = f.class;
+  implicit = f.implicit;
+  words = words_of f;
+  params = f.params;
+  frame = frame_in b;
+  body = tree_in b;
+  closed_at = f.closed_at;
+}
 
 abbrev pub typed_funcs : State → ℕ → List Func → List TypedFunc
 typed_funcs st i [] = []
@@ -82,7 +95,8 @@ with_unit p x st = record { units = p.units ++ unit_shown x.tokens x.decls st �
 
 abbrev pub program_from : ℕ → TypedProgram → List Traits → List Source → Result TypedProgram ElabFault
 program_from i p traits [] = Ok p
-program_from i p traits (x ∷ xs) = and_then (unit_from x.tokens (start_behind i p traits) x.decls) (λ (st : State). program_from (suc i) (with_unit p x st) st.ctx.traits xs)
+program_from i p traits (x ∷ xs) = and_then (unit_from x.tokens (start_behind i p traits) x.decls)
+    (λ (st : State). program_from (suc i) (with_unit p x st) st.ctx.traits xs)
 
 -- the typed program of all units, or the first fault
 abbrev pub program_of : List Source → Result TypedProgram ElabFault

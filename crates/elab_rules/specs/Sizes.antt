@@ -1,6 +1,8 @@
 -- How long types, symbols and texts are, counted without writing them: none is longer than the greatest object (profile).
-use Rattle.std.specs.Prelude.{ℕ, ◌+◌, nat_lt, nat_le, Bool, true, false, ◌||◌, List, [], ◌∷◌, length, Option, Some, None, Result, Ok, Err, if◌then◌else◌, slice_get}
-use Rattle.elab_ctx.specs.cpp_types.Typ.{Typ, typ, Form, void, int, enum, null, ptr, ref, array, func, class, closure, tx_ex, Signature, signature, Typs, none, more}
+use Rattle.std.specs.Prelude.{ℕ, ◌+◌, nat_lt, nat_le, Bool, true, false, ◌||◌, List, [], ◌∷◌, length, Option, Some, None, Result, Ok, Err, if◌then◌else◌}
+use Rattle.std.specs.Prelude.{slice_get}
+use Rattle.elab_ctx.specs.cpp_types.Typ.{Typ, typ, Form, void, int, enum, null, ptr, ref, array, func, class, closure, tx_ex, Signature, signature, Typs, none}
+use Rattle.elab_ctx.specs.cpp_types.Typ.{more}
 use Rattle.elab_ctx.specs.cpp_types.Class.{Class, Function}
 use Rattle.elab_ctx.specs.cpp_types.Spelling.{kind_spelling, name_of}
 use Rattle.elab_ctx.specs.cpp_types.declared.classes.At.{At}
@@ -11,7 +13,8 @@ use Rattle.elab_ctx.specs.cpp_layout.declared.extents.TheConstants.{GREATEST_SIZ
 
 -- the decimal digits of a number below 10,000,000, as offsets and bounds are
 abbrev pub digit_count : ℕ → ℕ
-digit_count n = if nat_lt n 10 then 1 else (if nat_lt n 100 then 2 else (if nat_lt n 1000 then 3 else (if nat_lt n 10000 then 4 else (if nat_lt n 100000 then 5 else (if nat_lt n 1000000 then 6 else 7)))))
+digit_count n = if nat_lt n 10 then 1 else (if nat_lt n 100 then 2 else
+    (if nat_lt n 1000 then 3 else (if nat_lt n 10000 then 4 else (if nat_lt n 100000 then 5 else (if nat_lt n 1000000 then 6 else 7)))))
 
 abbrev pub if_set : Bool → ℕ → ℕ
 if_set true n = n

@@ -1,5 +1,6 @@
 -- Statements and variables (C++14 clause 6, 8.5, 15; the TS, [stmt.sync], [stmt.tx]).
-use Rattle.std.specs.Prelude.{ℕ, zero, suc, ◌+◌, ◌==◌, nat_le, Bool, true, false, not, ◌&&◌, ◌||◌, List, [], ◌∷◌, ◌++◌, length, map, Option, Some, None, is_some, is_none, Result, Ok, Err, if◌then◌else◌, slice_get, slice_set, codes, option_map}
+use Rattle.std.specs.Prelude.{ℕ, zero, suc, ◌+◌, ◌==◌, nat_le, Bool, true, false, not, ◌&&◌, ◌||◌, List, [], ◌∷◌, ◌++◌, length, map, Option, Some, None}
+use Rattle.std.specs.Prelude.{is_some, is_none, Result, Ok, Err, if◌then◌else◌, slice_get, slice_set, codes, option_map}
 use Rattle.std.specs.List.{list_any}
 use Rattle.std.specs.Str.{bytes_eq}
 use Rattle.std.specs.Ordering.{int_eq}
@@ -29,13 +30,16 @@ use Rattle.elab_ctx.specs.cpp_tree.declared.kinds.TKind.{TKind}
 use Rattle.elab_ctx.specs.cpp_tree.declared.kinds.TKind.TheVariants as forms
 use Rattle.elab_ctx.specs.cpp_tree.declared.faults.ElabFault.{ElabFault}
 use Rattle.elab_ctx.specs.cpp_tree.declared.faults.ElabFault.TheVariants.{Ill, JumpIntoBlock}
-use Rattle.elab_ctx.specs.cpp_tree.declared.faults.IllRule.TheVariants.{Redeclared, TypeDiffers, BadDeclaration, NotConstant, NoConversion, Incomplete, NoDefault, BadInit, Narrowing, BadReturn, BadBreak, BadCatch, BadCase, JumpPastInit, OutOfProfile}
+use Rattle.elab_ctx.specs.cpp_tree.declared.faults.IllRule.TheVariants.{Redeclared, TypeDiffers, BadDeclaration, NotConstant, NoConversion, Incomplete}
+use Rattle.elab_ctx.specs.cpp_tree.declared.faults.IllRule.TheVariants.{NoDefault, BadInit, Narrowing, BadReturn, BadBreak, BadCatch, BadCase, JumpPastInit}
+use Rattle.elab_ctx.specs.cpp_tree.declared.faults.IllRule.TheVariants.{OutOfProfile}
 use Rattle.elab_ctx.specs.cpp_tree.Trees.{Tree, node, Trees, none, more, one, two, three, typ_in, cat_of, kind_of}
 use Rattle.elab_ctx.specs.cpp_tree.Notation.{plain}
 use Rattle.elab_ctx.specs.cpp_tree.Typing.{form_in, unqualified, is_void, is_class_typ, kind_in, is_class_prvalue, is_reference}
 use Rattle.elab_ctx.specs.declared.env.Label.{Label}
 use Rattle.elab_ctx.specs.declared.env.Label.TheVariants.{Outside, Direct as DirectLabel, Inside, InBlock}
-use Rattle.elab_ctx.specs.Ctx.{Ctx, Work, Variable, Returns, known, deduced, Labels, Func, Special, absent, trivial, function, opened, closed, with_variable, with_item, next_place}
+use Rattle.elab_ctx.specs.Ctx.{Ctx, Work, Variable, Returns, known, deduced, Labels, Func, Special, absent, trivial, function, opened, closed, with_variable}
+use Rattle.elab_ctx.specs.Ctx.{with_item, next_place}
 use Rattle.elab_ctx.specs.Steps.{and_then, expect, check, Operand, Made, Typed, TypedAll, at_of, spelling, token_place}
 use Rattle.elab_rules.specs.Values.{bool_type, retyped, number, stored, converted}
 use Rattle.elab_rules.specs.Objects.{destroys, element_of, fields, traits_at, size_of, followed_by}
@@ -111,7 +115,8 @@ with_work st w = record { ctx = record st.ctx { closures = [] }; work = w; bodie
 
 -- an expression that is no part of another, behind its lambdas
 abbrev pub full_operand : Lambdas → List Lexeme → State → syntax.Tree → Result Full ElabFault
-full_operand lams s st e = and_then (lams s st e) (λ (x : State). and_then (and_then (expression_of s x.ctx x.work e) (chosen_operand x.ctx)) (λ (o : Typed). Ok (record { operand = o.operand; state = with_work x o.work })))
+full_operand lams s st e = and_then (lams s st e) (λ (x : State). and_then (and_then (expression_of s x.ctx x.work e) (chosen_operand x.ctx))
+    (λ (o : Typed). Ok (record { operand = o.operand; state = with_work x o.work })))
 
 abbrev pub full_made : Full → Result Made ElabFault → Result Done ElabFault
 full_made f r = and_then r (λ (m : Made). done (one (full f.operand.at m.tree)) (with_work f.state m.work))
@@ -120,7 +125,8 @@ abbrev pub expression_statement : Lambdas → List Lexeme → State → syntax.T
 expression_statement lams s st e = and_then (full_operand lams s st e) (λ (f : Full). full_made f (Ok (dropped f.state.ctx f.state.work f.operand)))
 
 abbrev pub condition : Lambdas → List Lexeme → State → syntax.Tree → Result Done ElabFault
-condition lams s st e = and_then (full_operand lams s st e) (λ (f : Full). full_made f (and_then (truth f.state.ctx f.state.work f.operand) (λ (t : Tree). Ok (record { tree = t; work = f.state.work }))))
+condition lams s st e = and_then (full_operand lams s st e)
+    (λ (f : Full). full_made f (and_then (truth f.state.ctx f.state.work f.operand) (λ (t : Tree). Ok (record { tree = t; work = f.state.work }))))
 
 abbrev pub the_tree : At → Trees → Tree
 the_tree at (more t none) = t
@@ -195,7 +201,8 @@ abbrev pub initialised : State → Typ → At → Tree → Full → Result Made 
 initialised st t at variable f r = and_then r (λ (m : Made). done (one (init_node f.state t at f.operand.at variable m.tree)) (with_work f.state m.work))
 
 abbrev pub string_initialised : State → List Lexeme → Typ → At → Tree → At → ℕ → Result Done ElabFault
-string_initialised st s t at variable p n = and_then (string_object st.ctx t p (string_bytes (spelling s n))) (λ (e : Tree). done (one (init_node st t at p variable e)) st)
+string_initialised st s t at variable p n = and_then (string_object st.ctx t p (string_bytes (spelling s n)))
+    (λ (e : Tree). done (one (init_node st t at p variable e)) st)
 
 -- where the initialiser in parentheses stands as a whole: at its one value, unless a constructor takes that
 abbrev pub is_own_value : Option ℕ → Operand → Bool
@@ -207,7 +214,9 @@ values_place t at (o ∷ []) = if is_own_value (class_number t) o then o.at else
 values_place t at os = at
 
 abbrev pub values_initialised : Lambdas → List Lexeme → State → Typ → At → Tree → At → Result TypedAll ElabFault → Result Done ElabFault
-values_initialised lams s st t at variable p r = and_then r (λ (xs : TypedAll). and_then (directly_initialised st.ctx xs.work t at xs.operands) (λ (m : Made). done (one (init_node st t at (values_place t at xs.operands) variable m.tree)) (with_work st m.work)))
+values_initialised lams s st t at variable p r = and_then r
+    (λ (xs : TypedAll). and_then (directly_initialised st.ctx xs.work t at xs.operands)
+    (λ (m : Made). done (one (init_node st t at (values_place t at xs.operands) variable m.tree)) (with_work st m.work)))
 
 -- the lambdas of each of some expressions
 abbrev pub all_lambdas : Lambdas → List Lexeme → State → syntax.Trees → Result State ElabFault
@@ -228,8 +237,10 @@ string_length s (Some n) = suc (length (string_bytes (spelling s n)))
 string_length s None = 0
 
 abbrev pub bound_by_initialiser : List Lexeme → Typ → syntax.Trees → Typ
-bound_by_initialiser s t (syntax.more (syntax.node k.EqualInitializer p token (syntax.more (syntax.node k.BracedInitList q brace items) syntax.none)) syntax.none) = closed_bound (count items) t
-bound_by_initialiser s t (syntax.more (syntax.node k.EqualInitializer p token (syntax.more e syntax.none)) syntax.none) = closed_bound (string_length s (string_token e)) t
+bound_by_initialiser s t (syntax.more (syntax.node k.EqualInitializer p token
+    (syntax.more (syntax.node k.BracedInitList q brace items) syntax.none)) syntax.none) = closed_bound (count items) t
+bound_by_initialiser s t (syntax.more (syntax.node k.EqualInitializer p token (syntax.more e syntax.none)) syntax.none) =
+    closed_bound (string_length s (string_token e)) t
 bound_by_initialiser s t kids = t
 
 abbrev pub is_bounded : Typ → Bool
@@ -239,14 +250,20 @@ is_bounded t = true
 -- the initialiser of the variable whose place comes next in `st`, where `v` is behind its declaration
 abbrev pub by_expression : Lambdas → List Lexeme → State → State → Typ → At → syntax.Tree → Bool → Option ℕ → Result Done ElabFault
 by_expression lams s st v t at e true (Some n) = string_initialised v s t at (variable_tree st t at) (syntax_place e) n
-by_expression lams s st v t at e b o = and_then (full_operand lams s v e) (λ (f : Full). initialised f.state t at (variable_tree st t at) f (copy_initialised f.state.ctx f.state.work t f.operand))
+by_expression lams s st v t at e b o = and_then (full_operand lams s v e)
+    (λ (f : Full). initialised f.state t at (variable_tree st t at) f (copy_initialised f.state.ctx f.state.work t f.operand))
 
 abbrev pub with_initialiser : Lambdas → List Lexeme → State → State → Typ → At → syntax.Trees → Result Done ElabFault
-with_initialiser lams s st v t at syntax.none = and_then (default_object v.ctx t at) (λ (e : Tree). done (one (init_node v t at at (variable_tree st t at) e)) v)
-with_initialiser lams s st v t at (syntax.more (syntax.node k.ParenthesizedInitializer p token es) syntax.none) = and_then (all_lambdas lams s v es) (λ (x : State). values_initialised lams s x t at (variable_tree st t at) (at_of p) (operands_of s x.ctx x.work es))
-with_initialiser lams s st v t at (syntax.more (syntax.node k.EqualInitializer p token (syntax.more (syntax.node k.BracedInitList q brace items) syntax.none)) syntax.none) = and_then (all_lambdas lams s v items) (λ (x : State).
-    and_then (item_of s x.ctx x.work (variable_tree st t at) t (syntax.node k.BracedInitList q brace items)) (λ (m : Made). done (one (init_node x t at (at_of q) (variable_tree st t at) m.tree)) (with_work x m.work)))
-with_initialiser lams s st v t at (syntax.more (syntax.node k.EqualInitializer p token (syntax.more e syntax.none)) syntax.none) = by_expression lams s st v t at e (is_char_array t) (string_token e)
+with_initialiser lams s st v t at syntax.none = and_then (default_object v.ctx t at)
+    (λ (e : Tree). done (one (init_node v t at at (variable_tree st t at) e)) v)
+with_initialiser lams s st v t at (syntax.more (syntax.node k.ParenthesizedInitializer p token es) syntax.none) =
+    and_then (all_lambdas lams s v es) (λ (x : State). values_initialised lams s x t at (variable_tree st t at) (at_of p) (operands_of s x.ctx x.work es))
+with_initialiser lams s st v t at (syntax.more (syntax.node k.EqualInitializer p token
+    (syntax.more (syntax.node k.BracedInitList q brace items) syntax.none)) syntax.none) = and_then (all_lambdas lams s v items) (λ (x : State).
+    and_then (item_of s x.ctx x.work (variable_tree st t at) t (syntax.node k.BracedInitList q brace items))
+    (λ (m : Made). done (one (init_node x t at (at_of q) (variable_tree st t at) m.tree)) (with_work x m.work)))
+with_initialiser lams s st v t at (syntax.more (syntax.node k.EqualInitializer p token (syntax.more e syntax.none)) syntax.none) =
+    by_expression lams s st v t at e (is_char_array t) (string_token e)
 with_initialiser lams s st v t at kids = Err (Ill at OutOfProfile)
 
 -- `auto` (7.1.6.4): what stands for it in the type of a declarator, from the type of the initialiser
@@ -280,14 +297,20 @@ is_null_type f = false
 
 -- (profile) not `nullptr`, nor nothing
 abbrev pub deduced_type : At → Typ → Operand → Result Typ ElabFault
-deduced_type at t o = and_then (check at OutOfProfile (not (is_null_type (form_in (typ_in (value o)))))) (λ x. and_then (check o.at BadInit (not (is_void (typ_in o.tree)))) (λ y. expect o.at NoConversion (auto_of t o)))
+deduced_type at t o = and_then (check at OutOfProfile (not (is_null_type (form_in (typ_in (value o))))))
+    (λ x. and_then (check o.at BadInit (not (is_void (typ_in o.tree)))) (λ y. expect o.at NoConversion (auto_of t o)))
 
 abbrev pub auto_placed : State → ℕ → Typ → State
-auto_placed st i t = record st { ctx = record st.ctx { variables = slice_set st.ctx.variables i (record { typ = Some t; place = next_place st.work }) }; work = with_item st.work t }
+auto_placed st i t = record st {
+  ctx = record st.ctx { variables = slice_set st.ctx.variables i (record { typ = Some t; place = next_place st.work }) };
+  work =
+      with_item st.work t;
+}
 
 -- the variable of number `i`, whose initialiser is read: its item stands behind those of the initialiser
 abbrev pub auto_initialised : State → Typ → At → ℕ → Typ → Operand → Result Made ElabFault → Result Done ElabFault
-auto_initialised st t at i u o r = and_then r (λ (m : Made). done (one (init_node st u at o.at (variable_tree (with_work st m.work) u at) m.tree)) (auto_placed (with_work st m.work) i u))
+auto_initialised st t at i u o r = and_then r (λ (m : Made). done (one (init_node st u at o.at (variable_tree (with_work st m.work) u at) m.tree))
+    (auto_placed (with_work st m.work) i u))
 
 abbrev pub auto_object : State → Typ → At → Typ → Operand → Result Made ElabFault
 auto_object st t at u o = copy_initialised st.ctx st.work u o
@@ -310,17 +333,21 @@ abbrev pub with_auto : Typ → Result Done ElabFault → Result Deduction ElabFa
 with_auto u r = and_then r (λ (d : Done). Ok (record { done = d; auto = Some u }))
 
 abbrev pub auto_variable : Lambdas → List Lexeme → State → ℕ → Typ → At → Option Typ → syntax.Tree → Result Deduction ElabFault
-auto_variable lams s st i t at before e = and_then (full_operand lams s st e) (λ (f : Full). and_then (deduced_type at t f.operand) (λ (u : Typ). and_then (check at TypeDiffers (same_deduction before u)) (λ y.
+auto_variable lams s st i t at before e = and_then (full_operand lams s st e)
+    (λ (f : Full). and_then (deduced_type at t f.operand) (λ (u : Typ). and_then (check at TypeDiffers (same_deduction before u)) (λ y.
     with_auto u (auto_initialised f.state t at i (replaced u t) f.operand (auto_object f.state t at (replaced u t) f.operand)))))
 
 abbrev pub without_auto : Option Typ → Result Done ElabFault → Result Deduction ElabFault
 without_auto before r = and_then r (λ (d : Done). Ok (record { done = d; auto = before }))
 
 abbrev pub plain_variable : Lambdas → List Lexeme → State → List ℕ → Typ → At → syntax.Trees → Result Done ElabFault
-plain_variable lams s st name t at init = and_then (declarable st.ctx at t) (λ x. and_then (check at BadDeclaration (is_bounded t)) (λ z. and_then (typ_sized st.ctx.classes at t) (λ y. with_initialiser lams s st (placed_variable st name t) t at init)))
+plain_variable lams s st name t at init = and_then (declarable st.ctx at t)
+    (λ x. and_then (check at BadDeclaration (is_bounded t))
+    (λ z. and_then (typ_sized st.ctx.classes at t) (λ y. with_initialiser lams s st (placed_variable st name t) t at init)))
 
 abbrev pub variable_by : Lambdas → List Lexeme → State → List ℕ → Typ → At → Option Typ → syntax.Trees → Bool → Result Deduction ElabFault
-variable_by lams s st name t at before init true = and_then (expect at BadInit (only_expression init)) (λ (e : syntax.Tree). auto_variable lams s (declared_variable st name None) (length st.ctx.variables) t at before e)
+variable_by lams s st name t at before init true = and_then (expect at BadInit (only_expression init))
+    (λ (e : syntax.Tree). auto_variable lams s (declared_variable st name None) (length st.ctx.variables) t at before e)
 variable_by lams s st name t at before init false = without_auto before (plain_variable lams s st name (bound_by_initialiser s t init) at init)
 
 -- a variable of a block
@@ -345,7 +372,12 @@ is_direct_label DirectLabel = true
 is_direct_label l = false
 
 abbrev pub past_declaration : Typ → syntax.Trees → State → State
-past_declaration t init st = record st { ctx = record st.ctx { labels = record st.ctx.labels { is_past = st.ctx.labels.is_past || (is_direct_label st.ctx.label && not (may_be_skipped st.ctx t init)) } } }
+past_declaration t init st = record st {
+  ctx = record st.ctx {
+    labels =
+        record st.ctx.labels { is_past = st.ctx.labels.is_past || (is_direct_label st.ctx.label && not (may_be_skipped st.ctx t init)) };
+  };
+}
 
 pub record Declaring : Type 0 where
   pub trees : Trees
@@ -365,7 +397,10 @@ is_own_name d = is_none d.owner && not d.is_destructor
 
 -- one declarator of a declaration in a block
 abbrev pub block_declarator : Lambdas → List Lexeme → Typ → Declaring → syntax.Tree → Result Declaring ElabFault
-block_declarator lams s t d (syntax.node k.InitDeclarator p token (syntax.more x init)) = and_then (declared_by s d.state.ctx d.state.work (at_of p) t x) (λ (r : Declared). and_then (check (at_of p) BadDeclaration (is_own_name r)) (λ z. and_then (variable lams s d.state (name_of s r.name) r.typ (at_of p) d.auto init) (λ (y : Deduction). Ok (declared_more d r.typ init y))))
+block_declarator lams s t d (syntax.node k.InitDeclarator p token (syntax.more x init)) =
+    and_then (declared_by s d.state.ctx d.state.work (at_of p) t x)
+    (λ (r : Declared). and_then (check (at_of p) BadDeclaration (is_own_name r))
+    (λ z. and_then (variable lams s d.state (name_of s r.name) r.typ (at_of p) d.auto init) (λ (y : Deduction). Ok (declared_more d r.typ init y))))
 block_declarator lams s t d (syntax.node kind p token kids) = Err (Ill (at_of p) OutOfProfile)
 
 abbrev pub block_declarators : Lambdas → List Lexeme → Typ → Declaring → syntax.Trees → Result Declaring ElabFault
@@ -375,7 +410,8 @@ block_declarators lams s t d (syntax.more x xs) = and_then (block_declarator lam
 -- a declaration in a block: no storage class there (profile)
 abbrev pub block_declaration : Lambdas → List Lexeme → State → At → syntax.Trees → Result Done ElabFault
 block_declaration lams s st at (syntax.more (syntax.node k.Attribute p token kids) ts) = block_declaration lams s st at ts
-block_declaration lams s st at (syntax.more (syntax.node k.TypeSpecifierSeq p token kids) ds) = and_then (type_of_specifiers s st.ctx st.work (syntax.node k.TypeSpecifierSeq p token kids)) (λ (t : Typ).
+block_declaration lams s st at (syntax.more (syntax.node k.TypeSpecifierSeq p token kids) ds) =
+    and_then (type_of_specifiers s st.ctx st.work (syntax.node k.TypeSpecifierSeq p token kids)) (λ (t : Typ).
     and_then (block_declarators lams s t (record { trees = none; state = st; auto = None }) ds) (λ (d : Declaring). done d.trees d.state))
 block_declaration lams s st at ts = Err (Ill at OutOfProfile)
 
@@ -392,18 +428,23 @@ abbrev pub result_object : Typ → At → Tree
 result_object t at = node (forms.Load ULong false) t Lvalue at (one (node (forms.Local 0) (plain (ptr t)) Lvalue at none))
 
 abbrev pub class_returned : At → Typ → Full → Made → Tree
-class_returned at t f m = statement (forms.Block false) at (two (statement forms.Init at (two (result_object t at) (full f.operand.at m.tree))) (return_node at none))
+class_returned at t f m = statement (forms.Block false) at
+    (two (statement forms.Init at (two (result_object t at) (full f.operand.at m.tree))) (return_node at none))
 
 abbrev pub return_value : At → Typ → Full → Result Done ElabFault
-return_value at (typ void d v) f = and_then (check at BadReturn (is_void (typ_in f.operand.tree) || is_throw (kind_of f.operand.tree))) (λ y. done (one (statement (forms.Block false) at (two (full f.operand.at f.operand.tree) (return_node at none)))) f.state)
-return_value at t f = if is_class_typ t then and_then (class_from f.state.ctx f.state.work t f.operand.at f.operand) (λ (m : Made). done (one (class_returned at t f m)) (with_work f.state m.work))
-    else and_then (initial f.state.ctx f.state.work t f.operand) (λ (m : Made). done (one (return_node at (one (full f.operand.at m.tree)))) (with_work f.state m.work))
+return_value at (typ void d v) f = and_then (check at BadReturn (is_void (typ_in f.operand.tree) || is_throw (kind_of f.operand.tree)))
+    (λ y. done (one (statement (forms.Block false) at (two (full f.operand.at f.operand.tree) (return_node at none)))) f.state)
+return_value at t f = if is_class_typ t then and_then (class_from f.state.ctx f.state.work t f.operand.at f.operand)
+    (λ (m : Made). done (one (class_returned at t f m)) (with_work f.state m.work))
+    else and_then (initial f.state.ctx f.state.work t f.operand)
+    (λ (m : Made). done (one (return_node at (one (full f.operand.at m.tree)))) (with_work f.state m.work))
 
 abbrev pub with_deduced : State → Option Typ → State
 with_deduced st t = record st { ctx = record st.ctx { returns = deduced t } }
 
 abbrev pub deduced_return : At → Option Typ → Full → Result Done ElabFault
-deduced_return at t f = and_then (check at BadReturn (same_deduction t (unqualified (typ_in (value f.operand))))) (λ y. done (one (return_node at none)) (with_deduced f.state (Some (unqualified (typ_in (value f.operand))))))
+deduced_return at t f = and_then (check at BadReturn (same_deduction t (unqualified (typ_in (value f.operand)))))
+    (λ y. done (one (return_node at none)) (with_deduced f.state (Some (unqualified (typ_in (value f.operand))))))
 
 abbrev pub return_by : At → Returns → Full → Result Done ElabFault
 return_by at (known t) f = return_value at t f
@@ -411,7 +452,8 @@ return_by at (deduced t) f = deduced_return at t f
 
 abbrev pub return_nothing : State → At → Returns → Result Done ElabFault
 return_nothing st at (known t) = and_then (check at BadReturn (is_void t)) (λ y. done (one (return_node at none)) st)
-return_nothing st at (deduced t) = and_then (check at BadReturn (same_deduction t (plain void))) (λ y. done (one (return_node at none)) (with_deduced st (Some (plain void))))
+return_nothing st at (deduced t) = and_then (check at BadReturn (same_deduction t (plain void)))
+    (λ y. done (one (return_node at none)) (with_deduced st (Some (plain void))))
 
 abbrev pub returned : Lambdas → List Lexeme → State → At → syntax.Trees → Result Done ElabFault
 returned lams s st at syntax.none = return_nothing st at st.ctx.returns
@@ -435,15 +477,19 @@ case_fits (Some j) (Some k) w = int_eq (convert_of k (value_of_word j w)) (value
 case_fits _ _ w = true
 
 abbrev pub case_checked : State → At → Operand → Tree → ℕ → ℕ → Result Done ElabFault
-case_checked st at o v w word = and_then (check o.at Narrowing (case_fits (kind_in (form_in (typ_in (value o)))) (kind_in (form_in st.ctx.labels.typ)) w)) (λ x. and_then (check at BadCase (not (list_any (λ (n : ℕ). n == word) st.ctx.labels.words))) (λ y.
+case_checked st at o v w word = and_then (check o.at Narrowing (case_fits (kind_in (form_in (typ_in (value o)))) (kind_in (form_in st.ctx.labels.typ)) w))
+    (λ x. and_then (check at BadCase (not (list_any (λ (n : ℕ). n == word) st.ctx.labels.words))) (λ y.
     done (one (statement (forms.Case word) at none)) (with_labels st (record st.ctx.labels { words = st.ctx.labels.words ++ word ∷ [] }))))
 
 abbrev pub case_label : List Lexeme → State → At → syntax.Tree → Result Done ElabFault
-case_label s st at e = and_then (label_here st at) (λ y. and_then (and_then (expression_of s st.ctx st.work e) (chosen_operand st.ctx)) (λ (o : Typed). and_then (initial st.ctx st.work st.ctx.labels.typ o.operand) (λ (m : Made).
-    and_then (expect o.operand.at NotConstant (constant st.work.globals (value o.operand))) (λ w. and_then (expect o.operand.at NotConstant (constant st.work.globals m.tree)) (λ word. case_checked st at o.operand m.tree w word)))))
+case_label s st at e = and_then (label_here st at) (λ y. and_then (and_then (expression_of s st.ctx st.work e) (chosen_operand st.ctx))
+    (λ (o : Typed). and_then (initial st.ctx st.work st.ctx.labels.typ o.operand) (λ (m : Made).
+    and_then (expect o.operand.at NotConstant (constant st.work.globals (value o.operand)))
+    (λ w. and_then (expect o.operand.at NotConstant (constant st.work.globals m.tree)) (λ word. case_checked st at o.operand m.tree w word)))))
 
 abbrev pub default_label : State → At → Result Done ElabFault
-default_label st at = and_then (label_here st at) (λ y. and_then (check at BadCase (not st.ctx.labels.has_default)) (λ z. done (one (statement forms.Default at none)) (with_labels st (record st.ctx.labels { has_default = true }))))
+default_label st at = and_then (label_here st at) (λ y. and_then (check at BadCase (not st.ctx.labels.has_default))
+    (λ z. done (one (statement forms.Default at none)) (with_labels st (record st.ctx.labels { has_default = true }))))
 
 -- Where a statement stands
 
@@ -473,7 +519,15 @@ in_switch st t = record st { ctx = record (opened st.ctx) { label = DirectLabel;
 
 -- behind it: what is said of where a statement stands is as it was
 abbrev pub outer : State → State → State
-outer before st = record st { ctx = record (closed st.ctx) { label = before.ctx.label; labels = before.ctx.labels; breaks = before.ctx.breaks; continues = before.ctx.continues } }
+outer before st = record st {
+  ctx = record (closed st.ctx) {
+    label = before.ctx.label;
+    labels = before.ctx.labels;
+    breaks = before.ctx.breaks;
+    continues =
+        before.ctx.continues;
+  };
+}
 
 abbrev pub left : State → Done → Done
 left before d = record { trees = d.trees; state = outer before d.state }
@@ -502,11 +556,18 @@ pub record Caught : Type 0 where
   pub fields : Trees
 
 abbrev pub named_handler : List Lexeme → State → At → At → Typ → Typ → Option ℕ → Result Caught ElabFault
-named_handler s st at p t u (Some n) = Ok (record { state = placed_variable st (spelling s n) u; typ = t; place = Some (next_place st.work); fields = fields st.ctx.classes at u })
+named_handler s st at p t u (Some n) = Ok (record {
+  state = placed_variable st (spelling s n) u;
+  typ = t;
+  place = Some (next_place st.work);
+  fields =
+      fields st.ctx.classes at u;
+})
 named_handler s st at p t u None = Ok (record { state = st; typ = t; place = None; fields = none })
 
 abbrev pub handler_type : List Lexeme → State → At → syntax.Tree → Result Caught ElabFault
-handler_type s st at (syntax.node k.ParameterDeclaration p token (syntax.more base (syntax.more d syntax.none))) = and_then (type_of_specifiers s st.ctx st.work base) (λ (t : Typ). and_then (declared_by s st.ctx st.work (at_of p) t d) (λ (r : Declared).
+handler_type s st at (syntax.node k.ParameterDeclaration p token (syntax.more base (syntax.more d syntax.none))) =
+    and_then (type_of_specifiers s st.ctx st.work base) (λ (t : Typ). and_then (declared_by s st.ctx st.work (at_of p) t d) (λ (r : Declared).
     and_then (caught_type st.ctx (at_of p) r.typ) (λ (u : Typ). named_handler s st at (at_of p) r.typ u r.name)))
 handler_type s st at t = Ok (record { state = st; typ = plain void; place = None; fields = none })
 
@@ -554,7 +615,9 @@ pub record Switched : Type 0 where
   pub state : State
 
 abbrev pub switched : Lambdas → List Lexeme → State → syntax.Tree → Result Switched ElabFault
-switched lams s st e = and_then (full_operand lams s st e) (λ (f : Full). and_then (switched_type f.operand.at (form_in (typ_in (value f.operand)))) (λ (t : Typ). Ok (record { value = full f.operand.at (switch_value t (value f.operand) f.operand); typ = t; state = f.state })))
+switched lams s st e = and_then (full_operand lams s st e)
+    (λ (f : Full). and_then (switched_type f.operand.at (form_in (typ_in (value f.operand))))
+    (λ (t : Typ). Ok (record { value = full f.operand.at (switch_value t (value f.operand) f.operand); typ = t; state = f.state })))
 
 abbrev pub jump : Bool → TKind → State → At → Result Done ElabFault
 jump allowed kind st at = and_then (check at BadBreak allowed) (λ y. done (one (statement kind at none)) st)
@@ -593,41 +656,72 @@ for_step lams s st at e = expression_statement lams s st e
 abbrev mutual
   -- a statement: its trees, of which a declaration has one for each declarator
   pub statement_of : Lambdas → List Lexeme → State → syntax.Tree → Result Done ElabFault
-  statement_of lams s st (syntax.node k.CompoundStatement p token kids) = and_then (statements_of lams s (inner st) kids) (λ (d : Done). done (one (block (at_of p) d.trees)) (outer st d.state))
+  statement_of lams s st (syntax.node k.CompoundStatement p token kids) =
+      and_then (statements_of lams s (inner st) kids) (λ (d : Done). done (one (block (at_of p) d.trees)) (outer st d.state))
   statement_of lams s st (syntax.node k.NullStatement p token kids) = done (one (block (at_of p) none)) st
   statement_of lams s st (syntax.node k.ExpressionStatement p token (syntax.more e syntax.none)) = expression_statement lams s st e
   statement_of lams s st (syntax.node k.SimpleDeclaration p token kids) = block_declaration lams s st (at_of p) kids
-  statement_of lams s st (syntax.node k.IfStatement p token (syntax.more e (syntax.more a syntax.none))) = and_then (condition lams s st e) (λ (x : Done). and_then (and_then (statement_of lams s (inner x.state) a) (a_part s a)) (λ (y : Done).
-      done (one (statement forms.Conditional (at_of p) (three (the_tree (at_of p) x.trees) (the_tree (at_of p) y.trees) (block (at_of p) none)))) (outer x.state y.state)))
-  statement_of lams s st (syntax.node k.IfStatement p token (syntax.more e (syntax.more a (syntax.more b syntax.none)))) = and_then (condition lams s st e) (λ (x : Done). and_then (and_then (statement_of lams s (inner x.state) a) (a_part s a)) (λ (y : Done). and_then (and_then (statement_of lams s (inner (outer x.state y.state)) b) (a_part s b)) (λ (z : Done).
-      done (one (statement forms.Conditional (at_of p) (three (the_tree (at_of p) x.trees) (the_tree (at_of p) y.trees) (the_tree (at_of p) z.trees)))) (outer x.state z.state))))
-  statement_of lams s st (syntax.node k.WhileStatement p token (syntax.more e (syntax.more a syntax.none))) = and_then (condition lams s st e) (λ (x : Done). and_then (and_then (statement_of lams s (in_loop x.state) a) (a_part s a)) (λ (y : Done).
-      done (one (statement (forms.Loop true) (at_of p) (three (the_tree (at_of p) x.trees) (the_tree (at_of p) y.trees) (block (at_of p) none)))) (outer x.state y.state)))
-  statement_of lams s st (syntax.node k.DoStatement p token (syntax.more a (syntax.more e syntax.none))) = and_then (and_then (statement_of lams s (in_loop st) a) (a_part s a)) (λ (y : Done). and_then (condition lams s (outer st y.state) e) (λ (x : Done).
+  statement_of lams s st (syntax.node k.IfStatement p token (syntax.more e (syntax.more a syntax.none))) =
+      and_then (condition lams s st e) (λ (x : Done). and_then (and_then (statement_of lams s (inner x.state) a) (a_part s a)) (λ (y : Done).
+      done (one (statement forms.Conditional (at_of p) (three (the_tree (at_of p) x.trees) (the_tree (at_of p) y.trees) (block (at_of p) none))))
+      (outer x.state y.state)))
+  statement_of lams s st (syntax.node k.IfStatement p token (syntax.more e (syntax.more a (syntax.more b syntax.none)))) =
+      and_then (condition lams s st e) (λ (x : Done). and_then (and_then (statement_of lams s (inner x.state) a) (a_part s a))
+      (λ (y : Done). and_then (and_then (statement_of lams s (inner (outer x.state y.state)) b) (a_part s b)) (λ (z : Done).
+      done (one (statement forms.Conditional (at_of p) (three (the_tree (at_of p) x.trees) (the_tree (at_of p) y.trees) (the_tree (at_of p) z.trees))))
+      (outer x.state z.state))))
+  statement_of lams s st (syntax.node k.WhileStatement p token (syntax.more e (syntax.more a syntax.none))) =
+      and_then (condition lams s st e) (λ (x : Done). and_then (and_then (statement_of lams s (in_loop x.state) a) (a_part s a)) (λ (y : Done).
+      done (one (statement (forms.Loop true) (at_of p) (three (the_tree (at_of p) x.trees) (the_tree (at_of p) y.trees) (block (at_of p) none))))
+      (outer x.state y.state)))
+  statement_of lams s st (syntax.node k.DoStatement p token (syntax.more a (syntax.more e syntax.none))) =
+      and_then (and_then (statement_of lams s (in_loop st) a) (a_part s a)) (λ (y : Done). and_then (condition lams s (outer st y.state) e) (λ (x : Done).
       done (one (statement (forms.Loop false) (at_of p) (three (the_tree (at_of p) x.trees) (the_tree (at_of p) y.trees) (block (at_of p) none)))) x.state))
-  statement_of lams s st (syntax.node k.ForStatement p token (syntax.more i (syntax.more e (syntax.more n (syntax.more (syntax.node k.CompoundStatement q brace kids) syntax.none))))) = and_then (for_first lams s (in_loop st) i) (λ (f : Done). and_then (for_test lams s f.state (at_of p) e) (λ (x : Done). and_then (for_step lams s x.state (at_of p) n) (λ (z : Done). and_then (statements_of lams s z.state kids) (λ (y : Done).
-      done (one (block (at_of p) (followed_by f.trees (one (statement (forms.Loop true) (at_of p) (three (the_tree (at_of p) x.trees) (block (at_of q) y.trees) (the_tree (at_of p) z.trees))))))) (outer st y.state)))))
-  statement_of lams s st (syntax.node k.ForStatement p token (syntax.more i (syntax.more e (syntax.more n (syntax.more a syntax.none))))) = and_then (for_first lams s (in_loop st) i) (λ (f : Done). and_then (for_test lams s f.state (at_of p) e) (λ (x : Done). and_then (for_step lams s x.state (at_of p) n) (λ (z : Done). and_then (and_then (statement_of lams s z.state a) (a_part s a)) (λ (y : Done).
-      done (one (block (at_of p) (followed_by f.trees (one (statement (forms.Loop true) (at_of p) (three (the_tree (at_of p) x.trees) (the_tree (at_of p) y.trees) (the_tree (at_of p) z.trees))))))) (outer st y.state)))))
-  statement_of lams s st (syntax.node k.SwitchStatement p token (syntax.more e (syntax.more (syntax.node kind q brace kids) syntax.none))) = and_then (switched lams s st e) (λ (v : Switched). and_then (statements_of lams s (in_switch v.state v.typ) kids) (λ (d : Done).
+  statement_of lams s st (syntax.node k.ForStatement p token
+      (syntax.more i (syntax.more e (syntax.more n (syntax.more (syntax.node k.CompoundStatement q brace kids) syntax.none))))) =
+      and_then (for_first lams s (in_loop st) i) (λ (f : Done). and_then (for_test lams s f.state (at_of p) e)
+      (λ (x : Done). and_then (for_step lams s x.state (at_of p) n) (λ (z : Done). and_then (statements_of lams s z.state kids) (λ (y : Done).
+      done (one (block (at_of p) (followed_by f.trees
+      (one (statement (forms.Loop true) (at_of p) (three (the_tree (at_of p) x.trees) (block (at_of q) y.trees) (the_tree (at_of p) z.trees)))))))
+      (outer st y.state)))))
+  statement_of lams s st (syntax.node k.ForStatement p token (syntax.more i (syntax.more e (syntax.more n (syntax.more a syntax.none))))) =
+      and_then (for_first lams s (in_loop st) i) (λ (f : Done). and_then (for_test lams s f.state (at_of p) e)
+      (λ (x : Done). and_then (for_step lams s x.state (at_of p) n)
+      (λ (z : Done). and_then (and_then (statement_of lams s z.state a) (a_part s a)) (λ (y : Done).
+      done (one (block (at_of p) (followed_by f.trees
+      (one (statement (forms.Loop true) (at_of p) (three (the_tree (at_of p) x.trees) (the_tree (at_of p) y.trees) (the_tree (at_of p) z.trees)))))))
+      (outer st y.state)))))
+  statement_of lams s st (syntax.node k.SwitchStatement p token (syntax.more e (syntax.more (syntax.node kind q brace kids) syntax.none))) =
+      and_then (switched lams s st e) (λ (v : Switched). and_then (statements_of lams s (in_switch v.state v.typ) kids) (λ (d : Done).
       done (one (statement forms.Switch (at_of p) (more v.value d.trees))) (outer v.state d.state)))
-  statement_of lams s st (syntax.node k.CaseStatement p token (syntax.more e (syntax.more a syntax.none))) = and_then (case_label s st (at_of p) e) (λ (x : Done). and_then (statement_of lams s x.state a) (λ (y : Done). Ok (joined x y)))
-  statement_of lams s st (syntax.node k.DefaultStatement p token (syntax.more a syntax.none)) = and_then (default_label st (at_of p)) (λ (x : Done). and_then (statement_of lams s x.state a) (λ (y : Done). Ok (joined x y)))
+  statement_of lams s st (syntax.node k.CaseStatement p token (syntax.more e (syntax.more a syntax.none))) =
+      and_then (case_label s st (at_of p) e) (λ (x : Done). and_then (statement_of lams s x.state a) (λ (y : Done). Ok (joined x y)))
+  statement_of lams s st (syntax.node k.DefaultStatement p token (syntax.more a syntax.none)) =
+      and_then (default_label st (at_of p)) (λ (x : Done). and_then (statement_of lams s x.state a) (λ (y : Done). Ok (joined x y)))
   statement_of lams s st (syntax.node k.BreakStatement p token kids) = jump st.ctx.breaks forms.Break st (at_of p)
   statement_of lams s st (syntax.node k.ContinueStatement p token kids) = jump st.ctx.continues forms.Continue st (at_of p)
   statement_of lams s st (syntax.node k.ReturnStatement p token kids) = returned lams s st (at_of p) kids
-  statement_of lams s st (syntax.node k.TryBlock p token (syntax.more (syntax.node kind q brace kids) hs)) = and_then (statements_of lams s (inner st) kids) (λ (d : Done). and_then (handlers_of lams s (outer st d.state) hs) (λ (r : Done).
+  statement_of lams s st (syntax.node k.TryBlock p token (syntax.more (syntax.node kind q brace kids) hs)) =
+      and_then (statements_of lams s (inner st) kids) (λ (d : Done). and_then (handlers_of lams s (outer st d.state) hs) (λ (r : Done).
       done (one (statement forms.Try (at_of p) (more (block (at_of q) d.trees) r.trees))) r.state))
-  statement_of lams s st (syntax.node k.SynchronizedStatement p token (syntax.more (syntax.node kind q brace kids) syntax.none)) = and_then (statements_of lams s (in_block st) kids) (λ (d : Done). done (one (statement forms.Synchronized (at_of p) (one (block (at_of q) d.trees)))) (outer st d.state))
-  statement_of lams s st (syntax.node k.AtomicStatement p (Some t) (syntax.more (syntax.node kind q brace kids) syntax.none)) = and_then (statements_of lams s (in_block st) kids) (λ (d : Done). done (one (statement (forms.Atomic (block_kind (spelling s t))) (at_of p) (one (block (at_of q) d.trees)))) (outer st d.state))
+  statement_of lams s st (syntax.node k.SynchronizedStatement p token (syntax.more (syntax.node kind q brace kids) syntax.none)) =
+      and_then (statements_of lams s (in_block st) kids)
+      (λ (d : Done). done (one (statement forms.Synchronized (at_of p) (one (block (at_of q) d.trees)))) (outer st d.state))
+  statement_of lams s st (syntax.node k.AtomicStatement p (Some t) (syntax.more (syntax.node kind q brace kids) syntax.none)) =
+      and_then (statements_of lams s (in_block st) kids)
+      (λ (d : Done). done (one (statement (forms.Atomic (block_kind (spelling s t))) (at_of p) (one (block (at_of q) d.trees)))) (outer st d.state))
   statement_of lams s st (syntax.node kind p token kids) = Err (Ill (at_of p) OutOfProfile)
 
   pub statements_of : Lambdas → List Lexeme → State → syntax.Trees → Result Done ElabFault
   statements_of lams s st syntax.none = done none st
-  statements_of lams s st (syntax.more t ts) = and_then (statement_of lams s st t) (λ (x : Done). and_then (statements_of lams s x.state ts) (λ (y : Done). Ok (joined x y)))
+  statements_of lams s st (syntax.more t ts) = and_then (statement_of lams s st t)
+      (λ (x : Done). and_then (statements_of lams s x.state ts) (λ (y : Done). Ok (joined x y)))
 
   pub handlers_of : Lambdas → List Lexeme → State → syntax.Trees → Result Done ElabFault
   handlers_of lams s st syntax.none = done none st
-  handlers_of lams s st (syntax.more (syntax.node kind p token (syntax.more x (syntax.more (syntax.node b q brace kids) syntax.none))) hs) = and_then (in_order (at_of p) x hs) (λ y. and_then (handler_type s (inner st) (at_of p) x) (λ (h : Caught). and_then (statements_of lams s h.state kids) (λ (d : Done).
-      and_then (handlers_of lams s (outer st d.state) hs) (λ (r : Done). done (more (handler_node (at_of p) h.place h.typ (block (at_of q) d.trees) h.fields) r.trees) r.state))))
+  handlers_of lams s st (syntax.more (syntax.node kind p token (syntax.more x (syntax.more (syntax.node b q brace kids) syntax.none))) hs) =
+      and_then (in_order (at_of p) x hs) (λ y. and_then (handler_type s (inner st) (at_of p) x)
+      (λ (h : Caught). and_then (statements_of lams s h.state kids) (λ (d : Done).
+      and_then (handlers_of lams s (outer st d.state) hs)
+      (λ (r : Done). done (more (handler_node (at_of p) h.place h.typ (block (at_of q) d.trees) h.fields) r.trees) r.state))))
   handlers_of lams s st (syntax.more (syntax.node kind p token kids) hs) = Err (Ill (at_of p) OutOfProfile)

@@ -1,5 +1,6 @@
 -- The bytes of a string literal (C++14 2.14.3, 2.14.5), by reading its spelling once from the left.
-use Rattle.std.specs.Prelude.{ℕ, zero, suc, ◌+◌, ◌-◌, ◌*◌, nat_le, nat_eq, Bool, true, false, ◌&&◌, List, [], ◌∷◌, ◌++◌, fold, Option, Some, None, if◌then◌else◌, unwrap_or}
+use Rattle.std.specs.Prelude.{ℕ, zero, suc, ◌+◌, ◌-◌, ◌*◌, nat_le, nat_eq, Bool, true, false, ◌&&◌, List, [], ◌∷◌, ◌++◌, fold, Option, Some, None}
+use Rattle.std.specs.Prelude.{if◌then◌else◌, unwrap_or}
 use Rattle.elab_ctx.specs.cpp_lex.Bytes.{digit_value, is_digit}
 use Rattle.elab_ctx.specs.cpp_lex.Quoted.{simple_escape}
 
@@ -16,10 +17,12 @@ pub record Reading : Type 0 where
 
 -- a byte that begins something: quotes only bound the pieces
 abbrev pub fresh : List ℕ → ℕ → Reading
-fresh bytes b = if nat_eq b 34 then record { mode = text; bytes = bytes } else (if nat_eq b 92 then record { mode = slash; bytes = bytes } else record { mode = text; bytes = bytes ++ b ∷ [] })
+fresh bytes b = if nat_eq b 34 then record { mode = text; bytes = bytes } else
+    (if nat_eq b 92 then record { mode = slash; bytes = bytes } else record { mode = text; bytes = bytes ++ b ∷ [] })
 
 abbrev pub escaped : List ℕ → ℕ → Reading
-escaped bytes b = if is_digit 8 b then record { mode = octal 2 (digit_value b); bytes = bytes } else (if nat_eq b 120 then record { mode = hex 0; bytes = bytes }
+escaped bytes b = if is_digit 8 b then record { mode = octal 2 (digit_value b); bytes = bytes } else
+    (if nat_eq b 120 then record { mode = hex 0; bytes = bytes }
     else record { mode = text; bytes = bytes ++ unwrap_or (simple_escape b) b ∷ [] })
 
 abbrev pub read_in : Mode → List ℕ → ℕ → Reading

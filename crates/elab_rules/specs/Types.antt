@@ -1,10 +1,13 @@
 -- Types of specifiers and declarators (C++14 7.1.6, 8.1, 8.3), but for what they hold of expressions.
-use Rattle.std.specs.Prelude.{ℕ, suc, ◌+◌, ◌*◌, ◌^◌, ◌==◌, nat_le, nat_lt, Bool, true, false, not, ◌&&◌, ◌||◌, List, [], ◌∷◌, ◌++◌, length, map, count_by, Option, Some, None, is_some, Result, Ok, Err, if◌then◌else◌, slice_get, codes, ℤ, pos, int_lt}
+use Rattle.std.specs.Prelude.{ℕ, suc, ◌+◌, ◌*◌, ◌^◌, ◌==◌, nat_le, nat_lt, Bool, true, false, not, ◌&&◌, ◌||◌, List, [], ◌∷◌, ◌++◌, length, map, count_by}
+use Rattle.std.specs.Prelude.{Option, Some, None, is_some, Result, Ok, Err, if◌then◌else◌, slice_get, codes, ℤ, pos, int_lt}
 use Rattle.std.specs.Str.{bytes_eq}
 use Rattle.elab_ctx.specs.tx_ints.declared.kinds.IntKind.{IntKind}
-use Rattle.elab_ctx.specs.tx_ints.declared.kinds.IntKind.TheVariants.{Bool as BoolKind, Char, SChar, UChar, Short, UShort, Int, UInt, Long, ULong, LLong, ULLong}
+use Rattle.elab_ctx.specs.tx_ints.declared.kinds.IntKind.TheVariants.{Bool as BoolKind, Char, SChar, UChar, Short, UShort, Int, UInt, Long, ULong, LLong}
+use Rattle.elab_ctx.specs.tx_ints.declared.kinds.IntKind.TheVariants.{ULLong}
 use Rattle.elab_ctx.specs.tx_ints.Words.{value_of_word}
-use Rattle.elab_ctx.specs.cpp_types.Typ.{Typ, typ, Form, void, int, enum, null, ptr, ref, array, func, class, closure, tx_ex, Signature, signature, Typs, none as no_typs, more as and_typ}
+use Rattle.elab_ctx.specs.cpp_types.Typ.{Typ, typ, Form, void, int, enum, null, ptr, ref, array, func, class, closure, tx_ex, Signature, signature, Typs}
+use Rattle.elab_ctx.specs.cpp_types.Typ.{none as no_typs, more as and_typ}
 use Rattle.elab_ctx.specs.cpp_types.Class.{held, completion_of}
 use Rattle.elab_ctx.specs.cpp_types.declared.classes.At.{At}
 use Rattle.elab_ctx.specs.cpp_lex.Tokens.{Lexeme}
@@ -14,7 +17,8 @@ use Rattle.elab_ctx.specs.cpp_ast.Trees as syntax
 use Rattle.elab_ctx.specs.cpp_tree.declared.faults.ElabFault.{ElabFault}
 use Rattle.elab_ctx.specs.cpp_tree.declared.faults.ElabFault.TheVariants.{Ill, Limit}
 use Rattle.elab_ctx.specs.cpp_tree.declared.faults.LimitKind.TheVariants.{Size, Params}
-use Rattle.elab_ctx.specs.cpp_tree.declared.faults.IllRule.TheVariants.{BadDeclaration, OutOfProfile, NotTriviallyCopyable, AbstractObject, UnknownName, NotConstant}
+use Rattle.elab_ctx.specs.cpp_tree.declared.faults.IllRule.TheVariants.{BadDeclaration, OutOfProfile, NotTriviallyCopyable, AbstractObject, UnknownName}
+use Rattle.elab_ctx.specs.cpp_tree.declared.faults.IllRule.TheVariants.{NotConstant}
 use Rattle.elab_ctx.specs.cpp_tree.Notation.{plain}
 use Rattle.elab_ctx.specs.cpp_tree.Typing.{form_in, qualified, unqualified, is_void}
 use Rattle.elab_ctx.specs.Ctx.{Ctx}
@@ -78,7 +82,16 @@ pub record Words : Type 0 where
   pub ints : ℕ
 
 abbrev pub words_of : List (List ℕ) → Words
-words_of ws = record { all = length ws; signs = times ws (codes "signed"); unsigned = times ws (codes "unsigned"); shorts = times ws (codes "short"); longs = times ws (codes "long"); chars = times ws (codes "char"); ints = times ws (codes "int") }
+words_of ws = record {
+  all = length ws;
+  signs = times ws (codes "signed");
+  unsigned = times ws (codes "unsigned");
+  shorts = times ws (codes "short");
+  longs =
+      times ws (codes "long");
+  chars = times ws (codes "char");
+  ints = times ws (codes "int");
+}
 
 abbrev pub signed_kind : Words → IntKind → IntKind → IntKind
 signed_kind w s u = if w.unsigned == 1 then u else s
@@ -101,7 +114,9 @@ integer_words w =
 
 abbrev pub word_form : List (List ℕ) → Option Form
 word_form (word ∷ []) =
-    if bytes_eq word (codes "void") then Some void else (if bytes_eq word (codes "bool") then Some (int BoolKind) else (if bytes_eq word (codes "auto") then Some auto_form else integer_words (words_of (word ∷ []))))
+    if bytes_eq word (codes "void") then Some void else
+    (if bytes_eq word (codes "bool") then Some (int BoolKind) else
+    (if bytes_eq word (codes "auto") then Some auto_form else integer_words (words_of (word ∷ []))))
 word_form words = integer_words (words_of words)
 
 abbrev pub words_type : Option Form → Option Typ
@@ -144,7 +159,8 @@ pub record Qualifiers : Type 0 where
 abbrev pub no_qualifiers : Qualifiers
 no_qualifiers = record { is_const = false; is_safe = false; is_dynamic = false; no_except = false }
 
--- what a declarator declares: its name by its token, the class before it, whether it is a destructor, its type, and of a function its parameters and what follows them
+-- what a declarator declares: its name by its token, the class before it, whether it is a destructor, its type, and of a function its parameters and what
+-- follows them
 pub record Declared : Type 0 where
   pub name : Option ℕ
   pub owner : Option ℕ
@@ -154,7 +170,15 @@ pub record Declared : Type 0 where
   pub qualifiers : Qualifiers
 
 abbrev pub declared_name : Option ℕ → Option ℕ → Bool → Typ → Declared
-declared_name name owner is_destructor t = record { name = name; owner = owner; is_destructor = is_destructor; typ = t; params = []; qualifiers = no_qualifiers }
+declared_name name owner is_destructor t = record {
+  name = name;
+  owner = owner;
+  is_destructor = is_destructor;
+  typ = t;
+  params = [];
+  qualifiers =
+      no_qualifiers;
+}
 
 abbrev pub is_reference_form : Form → Bool
 is_reference_form (ref t) = true
@@ -170,7 +194,8 @@ is_function_form f = false
 
 -- a pointer (C++14 8.3.1); none to `void` (profile)
 abbrev pub pointer_to : At → Typ → Result Typ ElabFault
-pointer_to at t = and_then (check at BadDeclaration (not (is_reference_form (form_in t)))) (λ y. and_then (check at OutOfProfile (not (is_void t))) (λ z. Ok (plain (ptr t))))
+pointer_to at t = and_then (check at BadDeclaration (not (is_reference_form (form_in t))))
+    (λ y. and_then (check at OutOfProfile (not (is_void t))) (λ z. Ok (plain (ptr t))))
 
 -- a reference (8.3.2)
 abbrev pub reference_to : At → Typ → Result Typ ElabFault
@@ -184,7 +209,8 @@ is_within_size c t n = not (is_complete c (held t)) || nat_le (size_of c.classes
 
 -- an array of so many elements (8.3.4); the bound is a number above 0
 abbrev pub array_of : Ctx → At → At → Typ → IntKind → ℕ → Result Typ ElabFault
-array_of c at p t kind w = and_then (check at BadDeclaration (is_element t)) (λ x. and_then (check p BadDeclaration (int_lt (pos 0) (value_of_word kind w))) (λ y.
+array_of c at p t kind w = and_then (check at BadDeclaration (is_element t))
+    (λ x. and_then (check p BadDeclaration (int_lt (pos 0) (value_of_word kind w))) (λ y.
     if nat_le w GREATEST_SIZE && is_within_size c t w then Ok (plain (array t w)) else Err (Limit at Size)))
 
 -- an array whose bound its initialiser gives, with 0 for it
@@ -210,7 +236,8 @@ abbrev pub is_abstract_type : Ctx → Typ → Bool
 is_abstract_type c t = is_abstract_class c (class_of_form (form_in t))
 
 abbrev pub parameter_type : Ctx → At → Typ → Result Typ ElabFault
-parameter_type c at t = and_then (check at BadDeclaration (not (is_void t))) (λ x. and_then (check at OutOfProfile (not (has_auto t))) (λ y. and_then (check at AbstractObject (not (is_abstract_type c t))) (λ z. Ok (adjusted t))))
+parameter_type c at t = and_then (check at BadDeclaration (not (is_void t)))
+    (λ x. and_then (check at OutOfProfile (not (has_auto t))) (λ y. and_then (check at AbstractObject (not (is_abstract_type c t))) (λ z. Ok (adjusted t))))
 
 abbrev pub types_of : List Parameter → Typs
 types_of [] = no_typs
@@ -227,7 +254,9 @@ is_result t = not (is_array_form (form_in t)) && not (is_function_form (form_in 
 
 -- a function of these parameters (8.3.5)
 abbrev pub function_of : Ctx → At → Typ → List Parameter → Bool → Result Typ ElabFault
-function_of c at r ps safe = and_then (check at BadDeclaration (is_result r)) (λ x. and_then (check at OutOfProfile (not (has_auto r))) (λ a. and_then (check at AbstractObject (not (is_abstract_type c r))) (λ y. and_then (within_parameters at ps) (λ z.
+function_of c at r ps safe = and_then (check at BadDeclaration (is_result r))
+    (λ x. and_then (check at OutOfProfile (not (has_auto r)))
+    (λ a. and_then (check at AbstractObject (not (is_abstract_type c r))) (λ y. and_then (within_parameters at ps) (λ z.
     Ok (plain (func (signature (types_of ps) r safe)))))))
 
 -- the declarator is a name alone, in parentheses or not
@@ -242,7 +271,8 @@ is_name d = false
 
 abbrev pub with_qualifier : List Lexeme → Qualifiers → syntax.Tree → Qualifiers
 with_qualifier s q (syntax.node k.CvQualifier at token kids) = record q { is_const = true }
-with_qualifier s q (syntax.node k.TxQualifier at (Some t) kids) = if bytes_eq (spelling s t) (codes "transaction_safe") then record q { is_safe = true } else record q { is_dynamic = true }
+with_qualifier s q (syntax.node k.TxQualifier at (Some t) kids) =
+    if bytes_eq (spelling s t) (codes "transaction_safe") then record q { is_safe = true } else record q { is_dynamic = true }
 with_qualifier s q (syntax.node k.NoexceptSpecification at token kids) = record q { no_except = true }
 with_qualifier s q t = q
 

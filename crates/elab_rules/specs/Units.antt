@@ -24,7 +24,8 @@ use Rattle.elab_rules.specs.Types.{Declared}
 use Rattle.elab_rules.specs.Strings.{string_bytes}
 use Rattle.elab_rules.specs.Expressions.{type_of_specifiers, type_id_of, declared_by}
 use Rattle.elab_rules.specs.Statements.{State, is_own_name, name_of, no_labels, bound_by_initialiser}
-use Rattle.elab_rules.specs.Functions.{Storage, no_storage, with_specifier, Header, Placed, function_declared, function_body, with_definition, text_between, text_sized}
+use Rattle.elab_rules.specs.Functions.{Storage, no_storage, with_specifier, Header, Placed, function_declared, function_body, with_definition, text_between}
+use Rattle.elab_rules.specs.Functions.{text_sized}
 use Rattle.elab_rules.specs.Members.{member_defined, declared_only, class_defined}
 use Rattle.elab_rules.specs.Lambdas.{lambdas_of}
 use Rattle.elab_rules.specs.Implicit.{with_implied}
@@ -43,13 +44,15 @@ thread_function = plain (ptr (plain (func (signature (and_typ (plain (int Long))
 
 abbrev pub builtins : List Func
 builtins = builtin PutChar (codes "putchar") (and_typ int_typ no_typs) int_typ ∷ builtin GetChar (codes "getchar") no_typs int_typ
-    ∷ builtin Spawn (codes "__txcc_spawn") (and_typ thread_function (and_typ (plain (int Long)) no_typs)) int_typ ∷ builtin Join (codes "__txcc_join") (and_typ int_typ no_typs) (plain void) ∷ []
+    ∷ builtin Spawn (codes "__txcc_spawn") (and_typ thread_function (and_typ (plain (int Long)) no_typs)) int_typ
+    ∷ builtin Join (codes "__txcc_join") (and_typ int_typ no_typs) (plain void) ∷ []
 
 abbrev pub start : ℕ → State
 start source = record {
   ctx = record {
     source = source;
-    scopes = ((codes "putchar", record { kind = entities.Funcs; id = 0 }) ∷ (codes "getchar", record { kind = entities.Funcs; id = 1 }) ∷ (codes "__txcc_spawn", record { kind = entities.Funcs; id = 2 }) ∷ (codes "__txcc_join", record { kind = entities.Funcs; id = 3 }) ∷ []) ∷ [];
+    scopes = ((codes "putchar", record { kind = entities.Funcs; id = 0 }) ∷ (codes "getchar", record { kind = entities.Funcs; id = 1 }) ∷
+        (codes "__txcc_spawn", record { kind = entities.Funcs; id = 2 }) ∷ (codes "__txcc_join", record { kind = entities.Funcs; id = 3 }) ∷ []) ∷ [];
     types = [];
     classes = [];
     traits = [];
@@ -75,15 +78,27 @@ start source = record {
 -- Declarations
 
 abbrev pub header_of : List Lexeme → At → Storage → Declared → Signature → Header
-header_of s at x d sig = record { name = name_of s d.name; at = at; signature = sig; params = d.params; qualifiers = d.qualifiers; storage = x; kind = Plain; class = None }
+header_of s at x d sig = record {
+  name = name_of s d.name;
+  at = at;
+  signature = sig;
+  params = d.params;
+  qualifiers = d.qualifiers;
+  storage = x;
+  kind = Plain;
+  class = None;
+}
 
 abbrev pub declared_of_type : List Lexeme → State → Storage → At → Declared → syntax.Trees → Form → Result State ElabFault
-declared_of_type s st x at d syntax.none (func sig) = and_then (function_declared st.ctx (header_of s at x d sig) false) (λ (p : Placed). Ok (record st { ctx = p.ctx }))
+declared_of_type s st x at d syntax.none (func sig) =
+    and_then (function_declared st.ctx (header_of s at x d sig) false) (λ (p : Placed). Ok (record st { ctx = p.ctx }))
 declared_of_type s st x at d init (func sig) = Err (Ill at BadDeclaration)
 declared_of_type s st x at d init f = global_declared s st x at (name_of s d.name) (bound_by_initialiser s d.typ init) init
 
 abbrev pub file_declarator : List Lexeme → Storage → Typ → State → syntax.Tree → Result State ElabFault
-file_declarator s x t st (syntax.node k.InitDeclarator p token (syntax.more d init)) = and_then (declared_by s st.ctx st.work (at_of p) t d) (λ (r : Declared). and_then (check (at_of p) BadDeclaration (is_own_name r)) (λ z. declared_of_type s st x (at_of p) r init (form_in r.typ)))
+file_declarator s x t st (syntax.node k.InitDeclarator p token (syntax.more d init)) =
+    and_then (declared_by s st.ctx st.work (at_of p) t d)
+    (λ (r : Declared). and_then (check (at_of p) BadDeclaration (is_own_name r)) (λ z. declared_of_type s st x (at_of p) r init (form_in r.typ)))
 file_declarator s x t st (syntax.node kind p token kids) = Err (Ill (at_of p) OutOfProfile)
 
 abbrev pub file_declarators : List Lexeme → Storage → Typ → State → syntax.Trees → Result State ElabFault
@@ -92,7 +107,8 @@ file_declarators s x t = each_of (file_declarator s x t)
 abbrev pub file_declaration : List Lexeme → State → Storage → At → syntax.Trees → Result State ElabFault
 file_declaration s st x at (syntax.more (syntax.node k.Attribute p token kids) ts) = file_declaration s st x at ts
 file_declaration s st x at (syntax.more (syntax.node k.DeclSpecifier p (Some t) kids) ts) = file_declaration s st (with_specifier x (spelling s t)) at ts
-file_declaration s st x at (syntax.more (syntax.node k.TypeSpecifierSeq p token kids) ts) = and_then (type_of_specifiers s st.ctx st.work (syntax.node k.TypeSpecifierSeq p token kids)) (λ (t : Typ). file_declarators s x t st ts)
+file_declaration s st x at (syntax.more (syntax.node k.TypeSpecifierSeq p token kids) ts) =
+    and_then (type_of_specifiers s st.ctx st.work (syntax.node k.TypeSpecifierSeq p token kids)) (λ (t : Typ). file_declarators s x t st ts)
 file_declaration s st x at ts = Err (Ill at OutOfProfile)
 
 -- the token behind which a body ends
@@ -111,8 +127,12 @@ abbrev pub closing_offset : List Lexeme → syntax.Tree → ℕ
 closing_offset s body = token_end (slice_get s (brace_of body))
 
 abbrev pub defined_with : List Lexeme → State → Storage → At → ℕ → Declared → syntax.Tree → Form → Result State ElabFault
-defined_with s st x at first d body (func sig) = and_then (text_sized at (definition_text s x first body)) (λ y. and_then (function_declared st.ctx (header_of s at x d sig) true) (λ (p : Placed).
-    function_body lambdas_of s (record st { ctx = with_definition p.ctx p.place (header_of s at x d sig) (definition_text s x first body) (closing_offset s body) }) (header_of s at x d sig) None p.place body))
+defined_with s st x at first d body (func sig) = and_then (text_sized at (definition_text s x first body))
+    (λ y. and_then (function_declared st.ctx (header_of s at x d sig) true) (λ (p : Placed).
+    function_body lambdas_of s (record st {
+      ctx = with_definition p.ctx p.place (header_of s at x d sig) (definition_text s x first body)
+          (closing_offset s body);
+    }) (header_of s at x d sig) None p.place body))
 defined_with s st x at first d body f = Err (Ill at BadDeclaration)
 
 abbrev pub is_qualified : Declared → Bool
@@ -124,8 +144,10 @@ defined_by s st whole x at first r body false = defined_with s st x at first r b
 
 abbrev pub function_defined : List Lexeme → State → syntax.Trees → Storage → At → ℕ → syntax.Trees → Result State ElabFault
 function_defined s st whole x at first (syntax.more (syntax.node k.Attribute p token kids) ts) = function_defined s st whole x at first ts
-function_defined s st whole x at first (syntax.more (syntax.node k.DeclSpecifier p (Some t) kids) ts) = function_defined s st whole (with_specifier x (spelling s t)) at first ts
-function_defined s st whole x at first (syntax.more base (syntax.more d (syntax.more body syntax.none))) = and_then (type_of_specifiers s st.ctx st.work base) (λ (t : Typ). and_then (declared_by s st.ctx st.work at t d) (λ (r : Declared).
+function_defined s st whole x at first (syntax.more (syntax.node k.DeclSpecifier p (Some t) kids) ts) =
+    function_defined s st whole (with_specifier x (spelling s t)) at first ts
+function_defined s st whole x at first (syntax.more base (syntax.more d (syntax.more body syntax.none))) =
+    and_then (type_of_specifiers s st.ctx st.work base) (λ (t : Typ). and_then (declared_by s st.ctx st.work at t d) (λ (r : Declared).
     defined_by s st whole x at first r body (is_qualified r)))
 function_defined s st whole x at first ts = Err (Ill at OutOfProfile)
 
@@ -143,8 +165,10 @@ abbrev mutual
   declaration_of s x st (syntax.node k.EnumSpecifier p (Some t) kids) = enum_declared s st (at_of p) (spelling s t) kids
   declaration_of s x st (syntax.node k.SimpleDeclaration p token kids) = file_declaration s st x (at_of p) kids
   declaration_of s x st (syntax.node k.FunctionDefinition p (Some t) kids) = function_defined s st kids x (at_of p) t kids
-  declaration_of s x st (syntax.node k.LinkageSpecification p (Some t) kids) = and_then (check (at_of p) OutOfProfile (is_c (string_bytes (spelling s t)))) (λ y. declarations_of s (record x { is_c = true; is_extern = true }) st kids)
-  declaration_of s x st (syntax.node k.LinkageBlock p (Some t) kids) = and_then (check (at_of p) OutOfProfile (is_c (string_bytes (spelling s t)))) (λ y. declarations_of s (record x { is_c = true }) st kids)
+  declaration_of s x st (syntax.node k.LinkageSpecification p (Some t) kids) =
+      and_then (check (at_of p) OutOfProfile (is_c (string_bytes (spelling s t)))) (λ y. declarations_of s (record x { is_c = true; is_extern = true }) st kids)
+  declaration_of s x st (syntax.node k.LinkageBlock p (Some t) kids) =
+      and_then (check (at_of p) OutOfProfile (is_c (string_bytes (spelling s t)))) (λ y. declarations_of s (record x { is_c = true }) st kids)
   declaration_of s x st (syntax.node k.ClassDeclaration p (Some t) kids) = declared_only st (at_of p) (spelling s t)
   declaration_of s x st (syntax.node k.ClassSpecifier p (Some t) kids) = class_defined lambdas_of s st (at_of p) (spelling s t) kids
   declaration_of s x st (syntax.node k.ConstructorDefinition p (Some t) kids) = member_defined lambdas_of s x st (at_of p) Constructor t kids

@@ -18,10 +18,16 @@ pub record Making (a b : StateRec) (rest x : Result State ElabFault) : Type 0 wh
 pub making_none : (a : StateRec) (x : Result State ElabFault) → Making a a x x
 making_none a x = record { grown = grown_refl a; is = refl }
 
-pub making_more : (a b c : StateRec) (rest x y : Result State ElabFault) (f : State → Result State ElabFault) → Making a b rest x → rest ≡ and_then y f → Changed b c y → Making a c (f (state_of c)) x
-making_more a b c rest x y f m e n = record { grown = grown_trans a b c m.grown n.grown; is = m.is ∙ e ∙ ap (λ (z : Result State ElabFault). and_then z f) n.is }
+pub making_more : (a b c : StateRec) (rest x y : Result State ElabFault) (f : State → Result State ElabFault) → Making a b rest x → rest ≡ and_then y f
+    → Changed b c y → Making a c (f (state_of c)) x
+making_more a b c rest x y f m e n = record {
+  grown = grown_trans a b c m.grown n.grown;
+  is = m.is ∙ e ∙ ap
+      (λ (z : Result State ElabFault). and_then z f) n.is;
+}
 
-pub making_fault : (a b : StateRec) (rest x y : Result State ElabFault) (f : State → Result State ElabFault) (e : ElabFault) → Making a b rest x → rest ≡ and_then y f → Faults e y → Faults e x
+pub making_fault : (a b : StateRec) (rest x y : Result State ElabFault) (f : State → Result State ElabFault) (e : ElabFault) → Making a b rest x
+    → rest ≡ and_then y f → Faults e y → Faults e x
 making_fault a b rest x y f e m h g = faults_same e (and_then y f) x (m.is ∙ h) (faults_in (λ (z : Result State ElabFault). and_then z f) e y (λ d. refl) g)
 
 pub making_done : (a b : StateRec) (rest x : Result State ElabFault) → Making a b rest x → rest ≡ Ok (state_of b) → Changed a b x

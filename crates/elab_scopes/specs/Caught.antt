@@ -45,4 +45,5 @@ abbrev pub typed_handler : List Lexeme → State → At → At → Typ → Optio
 typed_handler s st at p t name = and_then (caught_type st.ctx p t) (λ (u : Typ). named_handler s st at p t u name)
 
 abbrev pub parameter_caught : List Lexeme → State → At → At → syntax.Tree → syntax.Tree → Result Caught ElabFault
-parameter_caught s st at p base d = and_then (type_of_specifiers s st.ctx st.work base) (λ (t : Typ). and_then (declared_by s st.ctx st.work p t d) (λ (r : Declared). typed_handler s st at p r.typ r.name))
+parameter_caught s st at p base d = and_then (type_of_specifiers s st.ctx st.work base)
+    (λ (t : Typ). and_then (declared_by s st.ctx st.work p t d) (λ (r : Declared). typed_handler s st at p r.typ r.name))

@@ -17,7 +17,8 @@ abbrev pub void_returned : At → At → Tree → Tree
 void_returned at place e = statement (forms.Block false) at (two (full place e) (return_node at none))
 
 abbrev pub return_void : At → Full → Result Done ElabFault
-return_void at f = and_then (check at BadReturn (is_void (typ_in f.operand.tree) || is_throw (kind_of f.operand.tree))) (λ y. done (one (void_returned at f.operand.at f.operand.tree)) f.state)
+return_void at f = and_then (check at BadReturn (is_void (typ_in f.operand.tree) || is_throw (kind_of f.operand.tree)))
+    (λ y. done (one (void_returned at f.operand.at f.operand.tree)) f.state)
 
 abbrev pub object_built : At → Typ → At → Tree → Tree
 object_built at t place e = statement forms.Init at (two (result_object t at) (full place e))
@@ -26,13 +27,15 @@ abbrev pub object_returned : At → Typ → At → Tree → Tree
 object_returned at t place e = statement (forms.Block false) at (two (object_built at t place e) (return_node at none))
 
 abbrev pub return_object : At → Typ → Full → Result Done ElabFault
-return_object at t f = and_then (class_from f.state.ctx f.state.work t f.operand.at f.operand) (λ (m : Made). done (one (object_returned at t f.operand.at m.tree)) (with_work f.state m.work))
+return_object at t f = and_then (class_from f.state.ctx f.state.work t f.operand.at f.operand)
+    (λ (m : Made). done (one (object_returned at t f.operand.at m.tree)) (with_work f.state m.work))
 
 abbrev pub scalar_returned : At → At → Tree → Tree
 scalar_returned at place e = return_node at (one (full place e))
 
 abbrev pub return_scalar : At → Typ → Full → Result Done ElabFault
-return_scalar at t f = and_then (initial f.state.ctx f.state.work t f.operand) (λ (m : Made). done (one (scalar_returned at f.operand.at m.tree)) (with_work f.state m.work))
+return_scalar at t f = and_then (initial f.state.ctx f.state.work t f.operand)
+    (λ (m : Made). done (one (scalar_returned at f.operand.at m.tree)) (with_work f.state m.work))
 
 abbrev pub return_known : Returns → Option Typ
 return_known (known t) = Some t

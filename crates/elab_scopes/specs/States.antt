@@ -35,7 +35,14 @@ pub record Grown (old new : StateRec) : Type 0 where
 -- Where a statement stands, to come back to it
 
 abbrev pub mark_in : Ctx → Mark
-mark_in c = record { label = c.label; words = length c.labels.words; has_default = c.labels.has_default; is_past = c.labels.is_past; breaks = c.breaks; continues = c.continues }
+mark_in c = record {
+  label = c.label;
+  words = length c.labels.words;
+  has_default = c.labels.has_default;
+  is_past = c.labels.is_past;
+  breaks = c.breaks;
+  continues = c.continues;
+}
 
 abbrev pub labels_at : Mark → Labels → Labels
 labels_at m l = record { typ = l.typ; words = take m.words l.words; has_default = m.has_default; is_past = m.is_past }

@@ -16,7 +16,8 @@ abbrev pub truth_whole : Full → Result Done ElabFault
 truth_whole f = full_made f (and_then (truth f.state.ctx f.state.work f.operand) (λ (t : Tree). Ok (record { tree = t; work = f.state.work })))
 
 abbrev pub switched_on : Full → Result Switched ElabFault
-switched_on f = and_then (switched_type f.operand.at (form_in (typ_in (value f.operand)))) (λ (t : Typ). Ok (record { value = full f.operand.at (switch_value t (value f.operand) f.operand); typ = t; state = f.state }))
+switched_on f = and_then (switched_type f.operand.at (form_in (typ_in (value f.operand))))
+    (λ (t : Typ). Ok (record { value = full f.operand.at (switch_value t (value f.operand) f.operand); typ = t; state = f.state }))
 
 -- a value in the type of a `switch`, by its place
 abbrev pub value_at : At → Typ → Tree → Tree

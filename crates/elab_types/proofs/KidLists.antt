@@ -12,7 +12,15 @@ are_many [] h trees = absurd (omega arith)
 are_many (a ∷ []) h trees = absurd (omega arith)
 are_many (a ∷ b ∷ []) h trees = absurd (omega arith)
 are_many (a ∷ b ∷ c ∷ []) h trees = absurd (omega arith)
-are_many (a ∷ b ∷ c ∷ d ∷ ids) h trees = record { first = tree_at trees a; second = tree_at trees b; third = tree_at trees c; fourth = tree_at trees d; rest = trees_at trees ids; are = refl }
+are_many (a ∷ b ∷ c ∷ d ∷ ids) h trees = record {
+  first = tree_at trees a;
+  second = tree_at trees b;
+  third = tree_at trees c;
+  fourth = tree_at trees d;
+  rest =
+      trees_at trees ids;
+  are = refl;
+}
 
 pub wider : (m n : ℕ) (ids : List NodeId) → m < n → are_below m ids ≡ true → are_below n ids ≡ true
 wider m n [] h b = refl

@@ -26,11 +26,17 @@ drop_all [] (suc i) h = refl
 drop_all (x ∷ xs) zero h = absurd (omega arith)
 drop_all (x ∷ xs) (suc i) h = drop_all xs i (omega arith)
 
-pub types_more : (ps : List Parameter) (i : ℕ) (p : Parameter) (xs ys : List Ty) (x : Ty) (all : Typs) → i < length ps → p ≡ get_or ps i p → typ_of x ≡ unqualified (typ_of p.ty) → ys ≡ xs ++ x ∷ [] → joined (typs_of xs) (types_of (map parameter_of (drop i ps))) ≡ all → joined (typs_of ys) (types_of (map parameter_of (drop (i + 1) ps))) ≡ all
+pub types_more : (ps : List Parameter) (i : ℕ) (p : Parameter) (xs ys : List Ty) (x : Ty) (all : Typs) → i < length ps → p ≡ get_or ps i p
+    → typ_of x ≡ unqualified (typ_of p.ty) → ys ≡ xs ++ x ∷ [] → joined (typs_of xs) (types_of (map parameter_of (drop i ps))) ≡ all
+    → joined (typs_of ys) (types_of (map parameter_of (drop (i + 1) ps))) ≡ all
 types_more ps i p xs ys x all h e t n g =
     let one : drop i ps ≡ p ∷ drop (suc i) ps = drop-cons ps i p h ∙ ap (λ (z : Parameter). z ∷ drop (suc i) ps) (sym e) in
-    let before : joined (typs_of xs) (more (unqualified (typ_of p.ty)) (types_of (map parameter_of (drop (suc i) ps)))) ≡ all = sym (ap (λ (z : List Parameter). joined (typs_of xs) (types_of (map parameter_of z))) one) ∙ g in
-    rw (n, add-one i) (pushed xs x (types_of (map parameter_of (drop (suc i) ps))) ∙ ap (λ (z : Typ). joined (typs_of xs) (more z (types_of (map parameter_of (drop (suc i) ps))))) t ∙ before)
+    let before : joined (typs_of xs) (more (unqualified (typ_of p.ty)) (types_of (map parameter_of (drop (suc i) ps)))) ≡ all =
+    sym (ap (λ (z : List Parameter). joined (typs_of xs) (types_of (map parameter_of z))) one) ∙ g in
+    rw (n, add-one i) (pushed xs x (types_of (map parameter_of (drop (suc i) ps))) ∙ ap
+    (λ (z : Typ). joined (typs_of xs) (more z (types_of (map parameter_of (drop (suc i) ps))))) t ∙ before)
 
-pub types_all : (ps : List Parameter) (i : ℕ) (xs : List Ty) (all : Typs) → length ps ≤ i → joined (typs_of xs) (types_of (map parameter_of (drop i ps))) ≡ all → typs_of xs ≡ all
-types_all ps i xs all h g = sym (joined_none (typs_of xs)) ∙ sym (ap (λ (z : List Parameter). joined (typs_of xs) (types_of (map parameter_of z))) (drop_all ps i h)) ∙ g
+pub types_all : (ps : List Parameter) (i : ℕ) (xs : List Ty) (all : Typs) → length ps ≤ i → joined (typs_of xs) (types_of (map parameter_of (drop i ps))) ≡ all
+    → typs_of xs ≡ all
+types_all ps i xs all h g = sym (joined_none (typs_of xs))
+    ∙ sym (ap (λ (z : List Parameter). joined (typs_of xs) (types_of (map parameter_of z))) (drop_all ps i h)) ∙ g

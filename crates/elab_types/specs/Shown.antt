@@ -38,4 +38,11 @@ abbrev pub qualifiers_of : QualifiersRec → Qualifiers
 qualifiers_of q = record { is_const = q.is_const; is_safe = q.is_safe; is_dynamic = q.is_dynamic; no_except = q.no_except }
 
 abbrev pub declared_of : DeclaredRec → Declared
-declared_of d = record { name = d.name; owner = d.owner; is_destructor = d.is_destructor; typ = typ_of d.ty; params = map parameter_of d.params.items; qualifiers = qualifiers_of d.qualifiers }
+declared_of d = record {
+  name = d.name;
+  owner = d.owner;
+  is_destructor = d.is_destructor;
+  typ = typ_of d.ty;
+  params = map parameter_of d.params.items;
+  qualifiers = qualifiers_of d.qualifiers;
+}

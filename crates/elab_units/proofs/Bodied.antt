@@ -1,5 +1,6 @@
 -- Functions that get their bodies, and the classes that declarations define.
-use Rattle.std.proofs.Common.{◌≡◌, ◌∙◌, ◌<◌, ◌≤◌, ◌+◌, ℕ, zero, suc, Bool, true, false, List, [], ◌∷◌, Option, Some, None, Result, Ok, Err, OnOk, IfOk, length, map, unwrap_or, slice_get, slice_set, find, fold, cond, if◌then◌else◌, is_some, option_map, ap, sym, arith, refl}
+use Rattle.std.proofs.Common.{◌≡◌, ◌∙◌, ◌<◌, ◌≤◌, ◌+◌, ℕ, zero, suc, Bool, true, false, List, [], ◌∷◌, Option, Some, None, Result, Ok, Err, OnOk, IfOk, length}
+use Rattle.std.proofs.Common.{map, unwrap_or, slice_get, slice_set, find, fold, cond, if◌then◌else◌, is_some, option_map, ap, sym, arith, refl}
 use Rattle.std.proofs.lemmas.Bool.{eq-eqb, ne_eqb}
 use Rattle.elab_entry.specs.cpp_types.Typ.{Typ, typ, void, int, enum, null, ptr, ref, array, func, class, closure, tx_ex}
 use Rattle.elab_entry.specs.cpp_types.Class.{Class}
@@ -29,13 +30,15 @@ before_all : (i : ℕ) (fs : List TypedFunc) (b : Body) (bs : List Body) → b.f
 before_all i [] b bs h = refl
 before_all i (f ∷ fs) b bs h =
     let here : with_body f (body_of i bs) ≡ with_body f (body_of i (b ∷ bs)) = ap (with_body f) (sym (found_other i b bs (λ e. omega (arith, e)))) in
-    ap (λ (z : TypedFunc). z ∷ with_bodies (suc i) fs bs) here ∙ ap (λ (z : List TypedFunc). with_body f (body_of i (b ∷ bs)) ∷ z) (before_all (suc i) fs b bs (omega arith))
+    ap (λ (z : TypedFunc). z ∷ with_bodies (suc i) fs bs) here
+    ∙ ap (λ (z : List TypedFunc). with_body f (body_of i (b ∷ bs)) ∷ z) (before_all (suc i) fs b bs (omega arith))
 
 pub behind_all : (i : ℕ) (fs : List TypedFunc) (b : Body) (bs : List Body) → i + length fs ≤ b.func → with_bodies i fs bs ≡ with_bodies i fs (b ∷ bs)
 behind_all i [] b bs h = refl
 behind_all i (f ∷ fs) b bs h =
     let here : with_body f (body_of i bs) ≡ with_body f (body_of i (b ∷ bs)) = ap (with_body f) (sym (found_other i b bs (λ e. omega (arith, e)))) in
-    ap (λ (z : TypedFunc). z ∷ with_bodies (suc i) fs bs) here ∙ ap (λ (z : List TypedFunc). with_body f (body_of i (b ∷ bs)) ∷ z) (behind_all (suc i) fs b bs (omega arith))
+    ap (λ (z : TypedFunc). z ∷ with_bodies (suc i) fs bs) here
+    ∙ ap (λ (z : List TypedFunc). with_body f (body_of i (b ∷ bs)) ∷ z) (behind_all (suc i) fs b bs (omega arith))
 
 -- a function that has a body keeps it
 keeps_inner : (f : TypedFunc) (b : Body) (o : Option Body) (h : Bool) → is_some f.body ≡ h → with_body (with_body f (Some b)) o ≡ with_body f (Some b)
@@ -46,14 +49,18 @@ keeps_inner f b (Some d) false e = rw e refl
 keeps : (f : TypedFunc) (b : Body) (o : Option Body) → with_body (with_body f (Some b)) o ≡ with_body f (Some b)
 keeps f b o = keeps_inner f b o (is_some f.body) refl
 
-pub one_put : (i n : ℕ) (fs : List TypedFunc) (b : Body) (bs : List Body) (d : TypedFunc) → b.func ≡ i + n → with_bodies i (slice_set fs n (with_body (unwrap_or (slice_get fs n) d) (Some b))) bs ≡ with_bodies i fs (b ∷ bs)
+pub one_put : (i n : ℕ) (fs : List TypedFunc) (b : Body) (bs : List Body) (d : TypedFunc) → b.func ≡ i + n
+    → with_bodies i (slice_set fs n (with_body (unwrap_or (slice_get fs n) d) (Some b))) bs ≡ with_bodies i fs (b ∷ bs)
 one_put i n [] b bs d h = refl
 one_put i zero (f ∷ fs) b bs d h =
-    let here : with_body (with_body f (Some b)) (body_of i bs) ≡ with_body f (body_of i (b ∷ bs)) = keeps f b (body_of i bs) ∙ ap (with_body f) (sym (found_own i b bs (omega (arith, h)))) in
-    ap (λ (z : TypedFunc). z ∷ with_bodies (suc i) fs bs) here ∙ ap (λ (z : List TypedFunc). with_body f (body_of i (b ∷ bs)) ∷ z) (before_all (suc i) fs b bs (omega (arith, h)))
+    let here : with_body (with_body f (Some b)) (body_of i bs) ≡ with_body f (body_of i (b ∷ bs)) = keeps f b (body_of i bs)
+    ∙ ap (with_body f) (sym (found_own i b bs (omega (arith, h)))) in
+    ap (λ (z : TypedFunc). z ∷ with_bodies (suc i) fs bs) here
+    ∙ ap (λ (z : List TypedFunc). with_body f (body_of i (b ∷ bs)) ∷ z) (before_all (suc i) fs b bs (omega (arith, h)))
 one_put i (suc n) (f ∷ fs) b bs d h =
     let here : with_body f (body_of i bs) ≡ with_body f (body_of i (b ∷ bs)) = ap (with_body f) (sym (found_other i b bs (λ e. omega (arith, e, h)))) in
-    ap (λ (z : TypedFunc). z ∷ with_bodies (suc i) (slice_set fs n (with_body (unwrap_or (slice_get fs n) d) (Some b))) bs) here ∙ ap (λ (z : List TypedFunc). with_body f (body_of i (b ∷ bs)) ∷ z) (one_put (suc i) n fs b bs d (omega (arith, h)))
+    ap (λ (z : TypedFunc). z ∷ with_bodies (suc i) (slice_set fs n (with_body (unwrap_or (slice_get fs n) d) (Some b))) bs) here
+    ∙ ap (λ (z : List TypedFunc). with_body f (body_of i (b ∷ bs)) ∷ z) (one_put (suc i) n fs b bs d (omega (arith, h)))
 
 -- Functions of a unit with their bodies
 
@@ -61,9 +68,12 @@ body_given : (cs : List Class) (f : Func) (o : Option Body) → with_body (typed
 body_given cs f None = refl
 body_given cs f (Some b) = refl
 
-pub bodies_given : (st : State) (i : ℕ) (fs : List Func) → with_bodies i (map (λ (f : Func). typed_func st.ctx.classes f None) fs) st.bodies ≡ typed_funcs st i fs
+pub bodies_given : (st : State) (i : ℕ) (fs : List Func)
+    → with_bodies i (map (λ (f : Func). typed_func st.ctx.classes f None) fs) st.bodies ≡ typed_funcs st i fs
 bodies_given st i [] = refl
-bodies_given st i (f ∷ fs) = ap (λ (z : TypedFunc). z ∷ with_bodies (suc i) (map (λ (g : Func). typed_func st.ctx.classes g None) fs) st.bodies) (body_given st.ctx.classes f (body_of i st.bodies)) ∙ ap (λ (z : List TypedFunc). typed_func st.ctx.classes f (body_of i st.bodies) ∷ z) (bodies_given st (suc i) fs)
+bodies_given st i (f ∷ fs) = ap (λ (z : TypedFunc). z ∷ with_bodies (suc i) (map (λ (g : Func). typed_func st.ctx.classes g None) fs) st.bodies)
+    (body_given st.ctx.classes f (body_of i st.bodies))
+    ∙ ap (λ (z : List TypedFunc). typed_func st.ctx.classes f (body_of i st.bodies) ∷ z) (bodies_given st (suc i) fs)
 
 -- Classes
 
@@ -92,10 +102,13 @@ map_twice f g (x ∷ xs) = ap (λ z. f (g x) ∷ z) (map_twice f g xs)
 
 -- a function of the unit gets a body
 pub body_kept : (trees : List Tree) (f : TFunc) (id : TNodeId) (b : Body) → f.body ≡ Some id → func_of trees f ≡ with_body (func_of trees f) (Some b)
-body_kept trees f id b e = sym (ap (λ (o : Option TNodeId). if is_some (option_map (tree_at trees) o) then func_of trees f else record (func_of trees f) { body = Some b.tree; frame = b.frame }) e)
+body_kept trees f id b e = sym (ap (λ (o : Option TNodeId). if is_some (option_map (tree_at trees) o) then func_of trees f else
+    record (func_of trees f) { body = Some b.tree; frame = b.frame }) e)
 
-pub body_new : (trees : List Tree) (f : TFunc) (b : Body) → f.body ≡ None → record (func_of trees f) { body = Some b.tree; frame = b.frame } ≡ with_body (func_of trees f) (Some b)
-body_new trees f b e = sym (ap (λ (o : Option TNodeId). if is_some (option_map (tree_at trees) o) then func_of trees f else record (func_of trees f) { body = Some b.tree; frame = b.frame }) e)
+pub body_new : (trees : List Tree) (f : TFunc) (b : Body) → f.body ≡ None
+    → record (func_of trees f) { body = Some b.tree; frame = b.frame } ≡ with_body (func_of trees f) (Some b)
+body_new trees f b e = sym (ap (λ (o : Option TNodeId). if is_some (option_map (tree_at trees) o) then func_of trees f else
+    record (func_of trees f) { body = Some b.tree; frame = b.frame }) e)
 
 -- Answers of which more is known
 

@@ -1,5 +1,6 @@
 -- Declarations as steps, and what is answered of them.
-use Rattle.std.proofs.Common.{◌≡◌, ◌∙◌, ◌<◌, ◌≤◌, ◌+◌, ℕ, Bool, true, false, List, length, drop, get_or, Option, Some, None, Result, Ok, Err, OnOk, IfErr, refl, sym, ap, subst}
+use Rattle.std.proofs.Common.{◌≡◌, ◌∙◌, ◌<◌, ◌≤◌, ◌+◌, ℕ, Bool, true, false, List, length, drop, get_or, Option, Some, None, Result, Ok, Err, OnOk, IfErr, refl}
+use Rattle.std.proofs.Common.{sym, ap, subst}
 use Rattle.elab_entry.specs.cpp_types.Typ.{Typ, Form, void, int, enum, null, ptr, ref, array, func, class, closure, tx_ex}
 use Rattle.elab_entry.specs.cpp_types.declared.classes.At.{At}
 use Rattle.elab_entry.specs.cpp_lex.Tokens.{Lexeme}
@@ -28,14 +29,17 @@ use Rattle.class_members.specs.Shown.{Answers}
 use Rattle.elab_decls.proofs.Steps.{faults_then}
 use Rattle.elab_units.proofs.KidSteps.{trees_step, trees_past}
 use Rattle.elab_members.specs.Whole.{Stands}
-use Rattle.elab_leaving.specs.Declaring.{is_function_form, file_header, has_trees, only_declared, declarator_by, file_started, defined_with, defined_header, defined_steps, defined_typed, are_three, declaration_of, declarations_of}
+use Rattle.elab_leaving.specs.Declaring.{is_function_form, file_header, has_trees, only_declared, declarator_by, file_started, defined_with, defined_header}
+use Rattle.elab_leaving.specs.Declaring.{defined_steps, defined_typed, are_three, declaration_of, declarations_of}
 
 -- Trees, one behind the other
 
-pub each_more : {R : Type 0} (step : R → Tree → Result R ElabFault) (r next : R) (t : Tree) (ts : Trees) (all : Result R ElabFault) → step r t ≡ Ok next → all ≡ each_of step r (more t ts) → all ≡ each_of step next ts
+pub each_more : {R : Type 0} (step : R → Tree → Result R ElabFault) (r next : R) (t : Tree) (ts : Trees) (all : Result R ElabFault) → step r t ≡ Ok next
+    → all ≡ each_of step r (more t ts) → all ≡ each_of step next ts
 each_more step r next t ts all f g = g ∙ ap (λ z. and_then z (λ y. each_of step y ts)) f
 
-pub each_fails : {R : Type 0} (step : R → Tree → Result R ElabFault) (r : R) (t : Tree) (ts : Trees) (all : Result R ElabFault) (e : ElabFault) → Faults e (step r t) → all ≡ each_of step r (more t ts) → Faults e all
+pub each_fails : {R : Type 0} (step : R → Tree → Result R ElabFault) (r : R) (t : Tree) (ts : Trees) (all : Result R ElabFault) (e : ElabFault)
+    → Faults e (step r t) → all ≡ each_of step r (more t ts) → Faults e all
 each_fails step r t ts all e f g = subst (Faults e) (sym g) (faults_then e (step r t) _ f)
 
 -- What is answered
@@ -57,15 +61,18 @@ answers_so {B} b r x y e h = subst (λ (z : Result B ElabFault). Answers b r z) 
 err_answers : (b : State) (r : Result (Unit {0}) ElabFault) (e : ElabFault) (x : Result State ElabFault) → r ≡ Err e → Faults e x → Answers b r x
 err_answers b r e x g h = subst (λ (z : Result (Unit {0}) ElabFault). Answers b z x) (sym g) h
 
-pub linkage_fails : (c : State) (r : Result (Unit {0}) ElabFault) (e : ElabFault) (d : Result Bool ElabFault) (rest : Bool → Result State ElabFault) → r ≡ Err e → Faults e d → Answers c r (and_then d rest)
+pub linkage_fails : (c : State) (r : Result (Unit {0}) ElabFault) (e : ElabFault) (d : Result Bool ElabFault) (rest : Bool → Result State ElabFault) → r ≡ Err e
+    → Faults e d → Answers c r (and_then d rest)
 linkage_fails c r e d rest g h = err_answers c r e (and_then d rest) g (faults_then e d rest h)
 
-pub linkage_goes : (c : State) (r : Result (Unit {0}) ElabFault) (b : Bool) (d : Result Bool ElabFault) (rest : Bool → Result State ElabFault) → d ≡ Ok b → Answers c r (rest b) → Answers c r (and_then d rest)
+pub linkage_goes : (c : State) (r : Result (Unit {0}) ElabFault) (b : Bool) (d : Result Bool ElabFault) (rest : Bool → Result State ElabFault) → d ≡ Ok b
+    → Answers c r (rest b) → Answers c r (and_then d rest)
 linkage_goes c r b d rest g h = subst (λ (z : Result Bool ElabFault). Answers c r (and_then z rest)) (sym g) h
 
 -- Functions and variables
 
-pub header_plain : (s : List Lexeme) (at : At) (x : Storage) (d : Declared) (f : Form) → file_header s at x d f ≡ and_then (header_in 0 x Plain at (name_of s d.name) d f) (λ (h : Header). Ok (record h { class = None }))
+pub header_plain : (s : List Lexeme) (at : At) (x : Storage) (d : Declared) (f : Form)
+    → file_header s at x d f ≡ and_then (header_in 0 x Plain at (name_of s d.name) d f) (λ (h : Header). Ok (record h { class = None }))
 header_plain s at x d (func g) = refl
 header_plain s at x d void = refl
 header_plain s at x d (int i) = refl
@@ -78,7 +85,8 @@ header_plain s at x d (class i) = refl
 header_plain s at x d (closure i) = refl
 header_plain s at x d (tx_ex t) = refl
 
-variable_inner : (s : List Lexeme) (st : State) (x : Storage) (at : At) (d : Declared) (init : Trees) (f : Form) → is_function_form f ≡ false → declared_of_type s st x at d init f ≡ global_declared s st x at (name_of s d.name) (bound_by_initialiser s d.typ init) init
+variable_inner : (s : List Lexeme) (st : State) (x : Storage) (at : At) (d : Declared) (init : Trees) (f : Form) → is_function_form f ≡ false
+    → declared_of_type s st x at d init f ≡ global_declared s st x at (name_of s d.name) (bound_by_initialiser s d.typ init) init
 variable_inner s st x at d none (func g) h = absurd cc
 variable_inner s st x at d none void h = refl
 variable_inner s st x at d none (int i) h = refl
@@ -102,10 +110,12 @@ variable_inner s st x at d (more a as_more) (class i) h = refl
 variable_inner s st x at d (more a as_more) (closure i) h = refl
 variable_inner s st x at d (more a as_more) (tx_ex t) h = refl
 
-pub variable_chosen : (s : List Lexeme) (st : State) (x : Storage) (at : At) (d : Declared) (init : Trees) (f : Form) → is_function_form f ≡ false → declared_of_type s st x at d init f ≡ global_declared s st x at (name_of s d.name) (bound_by_initialiser s d.typ init) init
+pub variable_chosen : (s : List Lexeme) (st : State) (x : Storage) (at : At) (d : Declared) (init : Trees) (f : Form) → is_function_form f ≡ false
+    → declared_of_type s st x at d init f ≡ global_declared s st x at (name_of s d.name) (bound_by_initialiser s d.typ init) init
 variable_chosen s st x at d init f h = variable_inner s st x at d init f h
 
-pub function_initialised : (s : List Lexeme) (st : State) (x : Storage) (at : At) (d : Declared) (init : Trees) (f : Form) → is_function_form f ≡ true → has_trees init ≡ true → declared_of_type s st x at d init f ≡ Err (Ill at BadDeclaration)
+pub function_initialised : (s : List Lexeme) (st : State) (x : Storage) (at : At) (d : Declared) (init : Trees) (f : Form) → is_function_form f ≡ true
+    → has_trees init ≡ true → declared_of_type s st x at d init f ≡ Err (Ill at BadDeclaration)
 function_initialised s st x at d none f h g = absurd cc
 function_initialised s st x at d (more a as_more) (func g) h q = refl
 function_initialised s st x at d (more a as_more) void h g = absurd cc
@@ -119,7 +129,8 @@ function_initialised s st x at d (more a as_more) (class i) h g = absurd cc
 function_initialised s st x at d (more a as_more) (closure i) h g = absurd cc
 function_initialised s st x at d (more a as_more) (tx_ex t) h g = absurd cc
 
-pub function_only : (s : List Lexeme) (st : State) (x : Storage) (at : At) (d : Declared) (init : Trees) (f : Form) → is_function_form f ≡ true → has_trees init ≡ false → declared_of_type s st x at d init f ≡ and_then (file_header s at x d f) (only_declared st)
+pub function_only : (s : List Lexeme) (st : State) (x : Storage) (at : At) (d : Declared) (init : Trees) (f : Form) → is_function_form f ≡ true
+    → has_trees init ≡ false → declared_of_type s st x at d init f ≡ and_then (file_header s at x d f) (only_declared st)
 function_only s st x at d (more a as_more) f h g = absurd cc
 function_only s st x at d none (func g) h q = refl
 function_only s st x at d none void h g = absurd cc
@@ -135,14 +146,20 @@ function_only s st x at d none (tx_ex t) h g = absurd cc
 
 -- Declarators
 
-declarator_inner : (s : List Lexeme) (x : Storage) (t : Typ) (st : State) (p : SyntaxAt) (token : Option ℕ) (kids : Trees) → file_declarator s x t st (node k.InitDeclarator p token kids) ≡ declarator_by s x t st (at_of p) kids
+declarator_inner : (s : List Lexeme) (x : Storage) (t : Typ) (st : State) (p : SyntaxAt) (token : Option ℕ) (kids : Trees)
+    → file_declarator s x t st (node k.InitDeclarator p token kids) ≡ declarator_by s x t st (at_of p) kids
 declarator_inner s x t st p token none = refl
 declarator_inner s x t st p token (more d init) = refl
 
-pub declarator_is : (s : List Lexeme) (x : Storage) (t : Typ) (st : State) (tree : Tree) (kind : NodeKind) (p : SyntaxAt) (token : Option ℕ) (kids those : Trees) (at : At) → tree ≡ node kind p token kids → kind ≡ k.InitDeclarator → at ≡ at_of p → those ≡ kids → file_declarator s x t st tree ≡ declarator_by s x t st at those
-declarator_is s x t st tree kind p token kids those at e h q w = ap (file_declarator s x t st) e ∙ ap (λ (z : NodeKind). file_declarator s x t st (node z p token kids)) h ∙ declarator_inner s x t st p token kids ∙ ap (λ (z : At). declarator_by s x t st z kids) (sym q) ∙ ap (declarator_by s x t st at) (sym w)
+pub declarator_is : (s : List Lexeme) (x : Storage) (t : Typ) (st : State) (tree : Tree) (kind : NodeKind) (p : SyntaxAt) (token : Option ℕ)
+    (kids those : Trees) (at : At) → tree ≡ node kind p token kids → kind ≡ k.InitDeclarator → at ≡ at_of p → those ≡ kids
+    → file_declarator s x t st tree ≡ declarator_by s x t st at those
+declarator_is s x t st tree kind p token kids those at e h q w = ap (file_declarator s x t st) e
+    ∙ ap (λ (z : NodeKind). file_declarator s x t st (node z p token kids)) h ∙ declarator_inner s x t st p token kids
+    ∙ ap (λ (z : At). declarator_by s x t st z kids) (sym q) ∙ ap (declarator_by s x t st at) (sym w)
 
-pub started_is : (s : List Lexeme) (st : State) (at : At) (ts : Trees) (x : Storage) → file_declaration s st x at ts ≡ file_started s st at (started_from s x ts)
+pub started_is : (s : List Lexeme) (st : State) (at : At) (ts : Trees) (x : Storage)
+    → file_declaration s st x at ts ≡ file_started s st at (started_from s x ts)
 started_is s st at none x = refl
 started_is s st at (more (node k.Attribute p token kids) ts) x = started_is s st at ts x
 started_is s st at (more (node k.DeclSpecifier p (Some t) kids) ts) x = started_is s st at ts (with_specifier x (spelling s t))
@@ -152,7 +169,8 @@ started_is s st at (more (node kind p token kids) ts) x = refl
 
 -- Definitions
 
-pub definition_steps : (s : List Lexeme) (st : State) (x : Storage) (at : At) (first : ℕ) (d : Declared) (body : Tree) (f : Form) → is_function_form f ≡ true → defined_with s st x at first d body f ≡ defined_steps s st x at first d body f
+pub definition_steps : (s : List Lexeme) (st : State) (x : Storage) (at : At) (first : ℕ) (d : Declared) (body : Tree) (f : Form) → is_function_form f ≡ true
+    → defined_with s st x at first d body f ≡ defined_steps s st x at first d body f
 definition_steps s st x at first d body (func g) h = refl
 definition_steps s st x at first d body void h = absurd cc
 definition_steps s st x at first d body (int i) h = absurd cc
@@ -165,7 +183,8 @@ definition_steps s st x at first d body (class i) h = absurd cc
 definition_steps s st x at first d body (closure i) h = absurd cc
 definition_steps s st x at first d body (tx_ex t) h = absurd cc
 
-pub definition_refused : (s : List Lexeme) (st : State) (x : Storage) (at : At) (first : ℕ) (d : Declared) (body : Tree) (f : Form) → is_function_form f ≡ false → defined_with s st x at first d body f ≡ Err (Ill at BadDeclaration)
+pub definition_refused : (s : List Lexeme) (st : State) (x : Storage) (at : At) (first : ℕ) (d : Declared) (body : Tree) (f : Form) → is_function_form f ≡ false
+    → defined_with s st x at first d body f ≡ Err (Ill at BadDeclaration)
 definition_refused s st x at first d body (func g) h = absurd cc
 definition_refused s st x at first d body void h = refl
 definition_refused s st x at first d body (int i) h = refl
@@ -194,14 +213,19 @@ header_storage_of s at x d (tx_ex t) h e = absurd cc
 pub header_storage : (s : List Lexeme) (at : At) (x : Storage) (d : Declared) (f : Form) (h : Header) → file_header s at x d f ≡ Ok h → h.storage ≡ x
 header_storage s at x d f h e = header_storage_of s at x d f h e
 
-pub definition_is : (s : List Lexeme) (st : State) (x : Storage) (at : At) (first : ℕ) (d : Declared) (body : Tree) (f : Form) (b : Bool) (h : Header) → is_function_form f ≡ true → text_sized at (definition_text s x first body) ≡ Ok b → file_header s at x d f ≡ Ok h → defined_with s st x at first d body f ≡ defined_header s st first body h
-definition_is s st x at first d body f b h k e g = definition_steps s st x at first d body f k ∙ ap (λ (z : Result Bool ElabFault). and_then z (λ y. and_then (file_header s at x d f) (defined_header s st first body))) e ∙ ap (λ (z : Result Header ElabFault). and_then z (defined_header s st first body)) g
+pub definition_is : (s : List Lexeme) (st : State) (x : Storage) (at : At) (first : ℕ) (d : Declared) (body : Tree) (f : Form) (b : Bool) (h : Header)
+    → is_function_form f ≡ true → text_sized at (definition_text s x first body) ≡ Ok b → file_header s at x d f ≡ Ok h
+    → defined_with s st x at first d body f ≡ defined_header s st first body h
+definition_is s st x at first d body f b h k e g = definition_steps s st x at first d body f k
+    ∙ ap (λ (z : Result Bool ElabFault). and_then z (λ y. and_then (file_header s at x d f) (defined_header s st first body))) e
+    ∙ ap (λ (z : Result Header ElabFault). and_then z (defined_header s st first body)) g
 
 pub alias_answers : {A B : Type 0} (b : B) (r : Result A ElabFault) (x : Result B ElabFault) → OnOk r (x ≡ Ok b) → IfErr r (λ e. Faults e x) → Answers b r x
 alias_answers b (Ok a) x h g = h
 alias_answers b (Err e) x h g = g
 
-pub parts_refused : (s : List Lexeme) (st : State) (known : Storage) (whole : Trees) (x : Storage) (at : At) (first : ℕ) (ts : Trees) → are_three ts ≡ false → defined_typed s st known whole x at first ts ≡ Err (Ill at OutOfProfile)
+pub parts_refused : (s : List Lexeme) (st : State) (known : Storage) (whole : Trees) (x : Storage) (at : At) (first : ℕ) (ts : Trees) → are_three ts ≡ false
+    → defined_typed s st known whole x at first ts ≡ Err (Ill at OutOfProfile)
 parts_refused s st known whole x at first none h = refl
 parts_refused s st known whole x at first (more a none) h = refl
 parts_refused s st known whole x at first (more a (more b none)) h = refl
@@ -217,17 +241,24 @@ pub record DeclaredTo (s : List Lexeme) (x : Storage) (first st : State) (ts res
 pub declared_none : (s : List Lexeme) (x : Storage) (st : State) (ts : Trees) → DeclaredTo s x st st ts ts
 declared_none s x st ts = record { is = refl }
 
-module _ (s : List Lexeme) (x : Storage) (first st : State) (trees : List Tree) (ids : List NodeId) (i : ℕ) (all : DeclaredTo s x first st (trees_at trees ids) (trees_at trees (drop i ids))) where
-  pub declared_more : (d : NodeId) (next : State) → i < length ids → declaration_of s x st (tree_at trees (get_or ids i d)) ≡ Ok next → DeclaredTo s x first next (trees_at trees ids) (trees_at trees (drop (i + 1) ids))
+module _ (s : List Lexeme) (x : Storage) (first st : State) (trees : List Tree) (ids : List NodeId) (i : ℕ)
+    (all : DeclaredTo s x first st (trees_at trees ids) (trees_at trees (drop i ids))) where
+  pub declared_more : (d : NodeId) (next : State) → i < length ids → declaration_of s x st (tree_at trees (get_or ids i d)) ≡ Ok next
+      → DeclaredTo s x first next (trees_at trees ids) (trees_at trees (drop (i + 1) ids))
   declared_more d next l m =
       let rest = trees_at trees (drop (i + 1) ids) in
-      record { is = all.is ∙ ap (declarations_of s x st) (trees_step trees ids i d l) ∙ ap (λ (z : Result State ElabFault). and_then z (λ (y : State). declarations_of s x y rest)) m }
+      record {
+        is = all.is ∙ ap (declarations_of s x st) (trees_step trees ids i d l)
+            ∙ ap (λ (z : Result State ElabFault). and_then z (λ (y : State). declarations_of s x y rest)) m;
+      }
 
-  pub declared_fails : (d : NodeId) (c : State) (r : Result (Unit {0}) ElabFault) (e : ElabFault) → i < length ids → r ≡ Err e → Faults e (declaration_of s x st (tree_at trees (get_or ids i d))) → Answers c r (declarations_of s x first (trees_at trees ids))
+  pub declared_fails : (d : NodeId) (c : State) (r : Result (Unit {0}) ElabFault) (e : ElabFault) → i < length ids → r ≡ Err e
+      → Faults e (declaration_of s x st (tree_at trees (get_or ids i d))) → Answers c r (declarations_of s x first (trees_at trees ids))
   declared_fails d c r e l g m =
       let rest = trees_at trees (drop (i + 1) ids) in
       err_answers c r e (declarations_of s x first (trees_at trees ids)) g
-      (subst (Faults e) (sym (all.is ∙ ap (declarations_of s x st) (trees_step trees ids i d l))) (faults_then e (declaration_of s x st (tree_at trees (get_or ids i d))) (λ (y : State). declarations_of s x y rest) m))
+      (subst (Faults e) (sym (all.is ∙ ap (declarations_of s x st) (trees_step trees ids i d l)))
+      (faults_then e (declaration_of s x st (tree_at trees (get_or ids i d))) (λ (y : State). declarations_of s x y rest) m))
 
   pub declared_last : (u : Unit {0}) → length ids ≤ i → Answers st (Ok u) (declarations_of s x first (trees_at trees ids))
   declared_last u l = all.is ∙ ap (declarations_of s x st) (trees_past trees ids i l)

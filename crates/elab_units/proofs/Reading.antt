@@ -1,5 +1,6 @@
 -- Nodes, functions and units, one behind the other.
-use Rattle.std.proofs.Common.{◌≡◌, ◌∙◌, ◌⊎◌, inl, inr, ◌<◌, ◌≤◌, ◌+◌, ◌++◌, ℕ, zero, suc, Bool, true, List, [], ◌∷◌, Some, None, get_or, length, slice_get, ap, sym, subst, arith, refl}
+use Rattle.std.proofs.Common.{◌≡◌, ◌∙◌, ◌⊎◌, inl, inr, ◌<◌, ◌≤◌, ◌+◌, ◌++◌, ℕ, zero, suc, Bool, true, List, [], ◌∷◌, Some, None, get_or, length, slice_get, ap}
+use Rattle.std.proofs.Common.{sym, subst, arith, refl}
 use Rattle.std.proofs.lemmas.Bool.{and_parts, cases_lt}
 use Rattle.std.proofs.lemmas.List.{length-append}
 use Rattle.std.proofs.lemmas.Option.{slice_get_read, slice_get_within}
@@ -59,7 +60,8 @@ pub record HaveFirst (count : ℕ) (funcs : List TFunc) (first : ℕ) : Type 0 w
 pub first_none : (count : ℕ) (funcs : List TFunc) → HaveFirst count funcs 0
 first_none count funcs = record { each = λ n f l g. absurd (omega arith) }
 
-pub first_more : (count : ℕ) (funcs : List TFunc) (i : ℕ) (x : TFunc) → x ≡ get_or funcs i x → HaveFirst count funcs i → HasRoot count x → HaveFirst count funcs (i + 1)
+pub first_more : (count : ℕ) (funcs : List TFunc) (i : ℕ) (x : TFunc) → x ≡ get_or funcs i x → HaveFirst count funcs i → HasRoot count x
+    → HaveFirst count funcs (i + 1)
 first_more count funcs i x e h r = record { each = λ n f l g. here n f l g (cases_lt n i) }
   where
     here : (n : ℕ) (f : TFunc) → n < i + 1 → slice_get funcs n ≡ Some f → (n < i) ⊎ (i ≤ n) → HasRoot count f
@@ -77,7 +79,8 @@ first_all count funcs i l h = record { each = λ n f g. h.each n f (let w : n < 
 
 -- units
 
-pub readable_is : (u : UnitTree) (nodes : List TNode) (funcs : List TFunc) → nodes ≡ u.nodes.items → funcs ≡ u.funcs.items → IsOrdered nodes → HaveRoots (length nodes) funcs → IsReadable u
+pub readable_is : (u : UnitTree) (nodes : List TNode) (funcs : List TFunc) → nodes ≡ u.nodes.items → funcs ≡ u.funcs.items → IsOrdered nodes
+    → HaveRoots (length nodes) funcs → IsReadable u
 readable_is u nodes funcs a b o h = record {
   ordered = subst (λ (z : List TNode). IsOrdered z) a o;
   roots = subst (λ (z : List TFunc). HaveRoots (length u.nodes.items) z) b (subst (λ (z : List TNode). HaveRoots (length z) funcs) a h);

@@ -59,8 +59,29 @@ tokens = token t.Key 0 3 0 (codes "int")
     ∷ []
 
 abbrev pub decls : List Tree
-decls = (node k.SimpleDeclaration (at 4) (Some 0) (more (node k.TypeSpecifierSeq (at 0) None (more (node k.SimpleTypeSpecifier (at 0) (Some 0) none) none)) (more (node k.InitDeclarator (at 4) (Some 1) (more (node k.DeclaratorId (at 4) (Some 1) none) (more (node k.EqualInitializer (at 6) (Some 2) (more (node k.IntegerLiteral (at 8) (Some 3) none) none)) none))) none)))
-    ∷ (node k.FunctionDefinition (at 15) (Some 5) (more (node k.TypeSpecifierSeq (at 11) None (more (node k.SimpleTypeSpecifier (at 11) (Some 5) none) none)) (more (node k.FunctionDeclarator (at 15) (Some 7) (more (node k.DeclaratorId (at 15) (Some 6) none) (more (node k.ParameterDeclarationClause (at 20) None none) (more (node k.FunctionQualifiers (at 22) None none) none)))) (more (node k.CompoundStatement (at 22) (Some 40) (more (node k.ExpressionStatement (at 26) (Some 14) (more (node k.FunctionCall (at 26) (Some 11) (more (node k.UnqualifiedId (at 26) (Some 10) none) (more (node k.CharacterLiteral (at 34) (Some 12) none) none))) none)) (more (node k.AtomicStatement (at 42) (Some 15) (more (node k.CompoundStatement (at 58) (Some 31) (more (node k.IfStatement (at 60) (Some 17) (more (node k.UnqualifiedId (at 64) (Some 19) none) (more (node k.ExpressionStatement (at 67) (Some 26) (more (node k.FunctionCall (at 67) (Some 24) (more (node k.StdAbort (at 67) (Some 23) none) none)) none)) none))) (more (node k.ExpressionStatement (at 81) (Some 30) (more (node k.AssignmentExpression (at 81) (Some 28) (more (node k.UnqualifiedId (at 81) (Some 27) none) (more (node k.IntegerLiteral (at 85) (Some 29) none) none))) none)) none))) none)) (more (node k.ExpressionStatement (at 92) (Some 36) (more (node k.FunctionCall (at 92) (Some 33) (more (node k.UnqualifiedId (at 92) (Some 32) none) (more (node k.CharacterLiteral (at 100) (Some 34) none) none))) none)) (more (node k.ReturnStatement (at 108) (Some 37) (more (node k.IntegerLiteral (at 115) (Some 38) none) none)) none))))) none))))
+decls = (node k.SimpleDeclaration (at 4) (Some 0) (more (node k.TypeSpecifierSeq (at 0) None (more (node k.SimpleTypeSpecifier (at 0) (Some 0) none) none))
+    (more (node k.InitDeclarator (at 4) (Some 1) (more (node k.DeclaratorId (at 4) (Some 1) none)
+    (more (node k.EqualInitializer (at 6) (Some 2) (more (node k.IntegerLiteral (at 8) (Some 3) none) none)) none))) none)))
+    ∷ (node k.FunctionDefinition (at 15) (Some 5) (more (node k.TypeSpecifierSeq (at 11) None (more (node k.SimpleTypeSpecifier (at 11) (Some 5) none) none))
+    (more (node k.FunctionDeclarator (at 15) (Some 7)
+    (more (node k.DeclaratorId (at 15) (Some 6) none)
+    (more (node k.ParameterDeclarationClause (at 20) None none) (more (node k.FunctionQualifiers (at 22) None none) none))))
+    (more (node k.CompoundStatement (at 22) (Some 40)
+    (more (node k.ExpressionStatement (at 26) (Some 14)
+    (more (node k.FunctionCall (at 26) (Some 11) (more (node k.UnqualifiedId (at 26) (Some 10) none)
+    (more (node k.CharacterLiteral (at 34) (Some 12) none) none))) none))
+    (more (node k.AtomicStatement (at 42) (Some 15)
+    (more (node k.CompoundStatement (at 58) (Some 31)
+    (more (node k.IfStatement (at 60) (Some 17) (more (node k.UnqualifiedId (at 64) (Some 19) none)
+    (more (node k.ExpressionStatement (at 67) (Some 26)
+    (more (node k.FunctionCall (at 67) (Some 24) (more (node k.StdAbort (at 67) (Some 23) none) none)) none)) none)))
+    (more (node k.ExpressionStatement (at 81) (Some 30)
+    (more (node k.AssignmentExpression (at 81) (Some 28)
+    (more (node k.UnqualifiedId (at 81) (Some 27) none) (more (node k.IntegerLiteral (at 85) (Some 29) none) none))) none)) none))) none))
+    (more (node k.ExpressionStatement (at 92) (Some 36)
+    (more (node k.FunctionCall (at 92) (Some 33) (more (node k.UnqualifiedId (at 92) (Some 32) none)
+    (more (node k.CharacterLiteral (at 100) (Some 34) none) none))) none))
+    (more (node k.ReturnStatement (at 108) (Some 37) (more (node k.IntegerLiteral (at 115) (Some 38) none) none)) none))))) none))))
     ∷ []
 
 abbrev pub text : List ℕ

@@ -44,7 +44,25 @@ tokens = token t.Key 0 3 0 (codes "int")
     ∷ []
 
 abbrev pub decls : List Tree
-decls = (node k.FunctionDefinition (at 4) (Some 0) (more (node k.TypeSpecifierSeq (at 0) None (more (node k.SimpleTypeSpecifier (at 0) (Some 0) none) none)) (more (node k.FunctionDeclarator (at 4) (Some 2) (more (node k.DeclaratorId (at 4) (Some 1) none) (more (node k.ParameterDeclarationClause (at 9) None none) (more (node k.FunctionQualifiers (at 11) None none) none)))) (more (node k.CompoundStatement (at 11) (Some 31) (more (node k.TryBlock (at 13) (Some 5) (more (node k.CompoundStatement (at 17) (Some 16) (more (node k.SynchronizedStatement (at 19) (Some 7) (more (node k.CompoundStatement (at 32) (Some 15) (more (node k.AtomicStatement (at 34) (Some 9) (more (node k.CompoundStatement (at 48) (Some 14) (more (node k.ExpressionStatement (at 50) (Some 13) (more (node k.ThrowExpression (at 50) (Some 11) (more (node k.CharacterLiteral (at 56) (Some 12) none) none)) none)) none)) none)) none)) none)) none)) (more (node k.Handler (at 67) (Some 17) (more (node k.ParameterDeclaration (at 74) None (more (node k.TypeSpecifierSeq (at 74) None (more (node k.SimpleTypeSpecifier (at 74) (Some 19) none) none)) (more (node k.OmittedId (at 78) None none) none))) (more (node k.CompoundStatement (at 80) (Some 27) (more (node k.ExpressionStatement (at 82) (Some 26) (more (node k.FunctionCall (at 82) (Some 23) (more (node k.UnqualifiedId (at 82) (Some 22) none) (more (node k.CharacterLiteral (at 90) (Some 24) none) none))) none)) none)) none))) none))) (more (node k.ReturnStatement (at 98) (Some 28) (more (node k.IntegerLiteral (at 105) (Some 29) none) none)) none))) none))))
+decls = (node k.FunctionDefinition (at 4) (Some 0) (more (node k.TypeSpecifierSeq (at 0) None (more (node k.SimpleTypeSpecifier (at 0) (Some 0) none) none))
+    (more (node k.FunctionDeclarator (at 4) (Some 2) (more (node k.DeclaratorId (at 4) (Some 1) none)
+    (more (node k.ParameterDeclarationClause (at 9) None none) (more (node k.FunctionQualifiers (at 11) None none) none))))
+    (more (node k.CompoundStatement (at 11) (Some 31)
+    (more (node k.TryBlock (at 13) (Some 5) (more (node k.CompoundStatement (at 17) (Some 16)
+    (more (node k.SynchronizedStatement (at 19) (Some 7)
+    (more (node k.CompoundStatement (at 32) (Some 15)
+    (more (node k.AtomicStatement (at 34) (Some 9) (more
+    (node k.CompoundStatement (at 48) (Some 14) (more
+    (node k.ExpressionStatement (at 50) (Some 13) (more
+    (node k.ThrowExpression (at 50) (Some 11) (more (node k.CharacterLiteral (at 56) (Some 12) none) none)) none)) none)) none)) none)) none)) none))
+    (more (node k.Handler (at 67) (Some 17) (more (node k.ParameterDeclaration (at 74) None
+    (more (node k.TypeSpecifierSeq (at 74) None (more (node k.SimpleTypeSpecifier (at 74) (Some 19) none) none))
+    (more (node k.OmittedId (at 78) None none) none)))
+    (more (node k.CompoundStatement (at 80) (Some 27)
+    (more (node k.ExpressionStatement (at 82) (Some 26)
+    (more (node k.FunctionCall (at 82) (Some 23) (more (node k.UnqualifiedId (at 82) (Some 22) none)
+    (more (node k.CharacterLiteral (at 90) (Some 24) none) none))) none)) none)) none))) none)))
+    (more (node k.ReturnStatement (at 98) (Some 28) (more (node k.IntegerLiteral (at 105) (Some 29) none) none)) none))) none))))
     ∷ []
 
 abbrev pub text : List ℕ

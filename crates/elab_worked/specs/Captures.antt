@@ -58,7 +58,37 @@ tokens = token t.Key 0 3 0 (codes "int")
     ∷ []
 
 abbrev pub decls : List Tree
-decls = (node k.FunctionDefinition (at 4) (Some 0) (more (node k.TypeSpecifierSeq (at 0) None (more (node k.SimpleTypeSpecifier (at 0) (Some 0) none) none)) (more (node k.FunctionDeclarator (at 4) (Some 2) (more (node k.DeclaratorId (at 4) (Some 1) none) (more (node k.ParameterDeclarationClause (at 6) None none) (more (node k.FunctionQualifiers (at 8) None none) none)))) (more (node k.CompoundStatement (at 8) (Some 45) (more (node k.SimpleDeclaration (at 14) (Some 5) (more (node k.TypeSpecifierSeq (at 10) None (more (node k.SimpleTypeSpecifier (at 10) (Some 5) none) none)) (more (node k.InitDeclarator (at 14) (Some 6) (more (node k.DeclaratorId (at 14) (Some 6) none) (more (node k.EqualInitializer (at 16) (Some 7) (more (node k.IntegerLiteral (at 18) (Some 8) none) none)) none))) none))) (more (node k.SimpleDeclaration (at 25) (Some 10) (more (node k.TypeSpecifierSeq (at 21) None (more (node k.SimpleTypeSpecifier (at 21) (Some 10) none) none)) (more (node k.InitDeclarator (at 25) (Some 11) (more (node k.DeclaratorId (at 25) (Some 11) none) (more (node k.EqualInitializer (at 27) (Some 12) (more (node k.IntegerLiteral (at 29) (Some 13) none) none)) none))) none))) (more (node k.SimpleDeclaration (at 37) (Some 15) (more (node k.TypeSpecifierSeq (at 32) None (more (node k.SimpleTypeSpecifier (at 32) (Some 15) none) none)) (more (node k.InitDeclarator (at 37) (Some 16) (more (node k.DeclaratorId (at 37) (Some 16) none) (more (node k.EqualInitializer (at 39) (Some 17) (more (node k.Lambda (at 41) (Some 18) (more (node k.LambdaIntroducer (at 41) (Some 18) (more (node k.SimpleCapture (at 42) (Some 19) none) (more (node k.ReferenceCapture (at 45) (Some 22) none) none))) (more (node k.LambdaDeclarator (at 48) None (more (node k.ParameterDeclarationClause (at 49) None (more (node k.ParameterDeclaration (at 53) None (more (node k.TypeSpecifierSeq (at 49) None (more (node k.SimpleTypeSpecifier (at 49) (Some 25) none) none)) (more (node k.DeclaratorId (at 53) (Some 26) none) none))) none)) none)) (more (node k.CompoundStatement (at 56) (Some 35) (more (node k.ExpressionStatement (at 58) (Some 34) (more (node k.AssignmentExpression (at 58) (Some 30) (more (node k.UnqualifiedId (at 58) (Some 29) none) (more (node k.BinaryExpression (at 62) (Some 32) (more (node k.UnqualifiedId (at 62) (Some 31) none) (more (node k.UnqualifiedId (at 66) (Some 33) none) none))) none))) none)) none)) none)))) none)) none))) none))) (more (node k.ExpressionStatement (at 72) (Some 41) (more (node k.FunctionCall (at 72) (Some 38) (more (node k.UnqualifiedId (at 72) (Some 37) none) (more (node k.IntegerLiteral (at 74) (Some 39) none) none))) none)) (more (node k.ReturnStatement (at 78) (Some 42) (more (node k.UnqualifiedId (at 85) (Some 43) none) none)) none)))))) none))))
+decls = (node k.FunctionDefinition (at 4) (Some 0) (more (node k.TypeSpecifierSeq (at 0) None (more (node k.SimpleTypeSpecifier (at 0) (Some 0) none) none))
+    (more (node k.FunctionDeclarator (at 4) (Some 2) (more (node k.DeclaratorId (at 4) (Some 1) none)
+    (more (node k.ParameterDeclarationClause (at 6) None none) (more (node k.FunctionQualifiers (at 8) None none) none))))
+    (more (node k.CompoundStatement (at 8) (Some 45) (more
+    (node k.SimpleDeclaration (at 14) (Some 5) (more (node k.TypeSpecifierSeq (at 10) None (more (node k.SimpleTypeSpecifier (at 10) (Some 5) none) none))
+    (more (node k.InitDeclarator (at 14) (Some 6) (more (node k.DeclaratorId (at 14) (Some 6) none)
+    (more (node k.EqualInitializer (at 16) (Some 7) (more (node k.IntegerLiteral (at 18) (Some 8) none) none)) none))) none)))
+    (more (node k.SimpleDeclaration (at 25) (Some 10)
+    (more (node k.TypeSpecifierSeq (at 21) None (more (node k.SimpleTypeSpecifier (at 21) (Some 10) none) none))
+    (more (node k.InitDeclarator (at 25) (Some 11) (more (node k.DeclaratorId (at 25) (Some 11) none)
+    (more (node k.EqualInitializer (at 27) (Some 12) (more (node k.IntegerLiteral (at 29) (Some 13) none) none)) none))) none)))
+    (more (node k.SimpleDeclaration (at 37) (Some 15)
+    (more (node k.TypeSpecifierSeq (at 32) None (more (node k.SimpleTypeSpecifier (at 32) (Some 15) none) none))
+    (more (node k.InitDeclarator (at 37) (Some 16) (more (node k.DeclaratorId (at 37) (Some 16) none)
+    (more (node k.EqualInitializer (at 39) (Some 17) (more
+    (node k.Lambda (at 41) (Some 18) (more (node k.LambdaIntroducer (at 41) (Some 18)
+    (more (node k.SimpleCapture (at 42) (Some 19) none) (more (node k.ReferenceCapture (at 45) (Some 22) none) none)))
+    (more (node k.LambdaDeclarator (at 48) None (more
+    (node k.ParameterDeclarationClause (at 49) None (more
+    (node k.ParameterDeclaration (at 53) None (more (node k.TypeSpecifierSeq (at 49) None (more (node k.SimpleTypeSpecifier (at 49) (Some 25) none) none))
+    (more (node k.DeclaratorId (at 53) (Some 26) none) none))) none)) none))
+    (more (node k.CompoundStatement (at 56) (Some 35)
+    (more (node k.ExpressionStatement (at 58) (Some 34)
+    (more (node k.AssignmentExpression (at 58) (Some 30)
+    (more (node k.UnqualifiedId (at 58) (Some 29) none)
+    (more (node k.BinaryExpression (at 62) (Some 32) (more (node k.UnqualifiedId (at 62) (Some 31) none)
+    (more (node k.UnqualifiedId (at 66) (Some 33) none) none))) none))) none)) none)) none)))) none)) none))) none)))
+    (more (node k.ExpressionStatement (at 72) (Some 41)
+    (more (node k.FunctionCall (at 72) (Some 38) (more (node k.UnqualifiedId (at 72) (Some 37) none)
+    (more (node k.IntegerLiteral (at 74) (Some 39) none) none))) none))
+    (more (node k.ReturnStatement (at 78) (Some 42) (more (node k.UnqualifiedId (at 85) (Some 43) none) none)) none)))))) none))))
     ∷ []
 
 abbrev pub text : List ℕ

@@ -32,8 +32,20 @@ override_nothing_tokens = token t.Key 0 6 0 (codes "struct")
     ∷ []
 
 abbrev pub override_nothing_decls : List Tree
-override_nothing_decls = (node k.ClassSpecifier (at 7) (Some 1) (more (node k.ClassKey (at 0) (Some 0) none) (more (node k.MemberSpecification (at 9) (Some 10) (more (node k.FunctionDefinition (at 16) (Some 3) (more (node k.TypeSpecifierSeq (at 11) None (more (node k.SimpleTypeSpecifier (at 11) (Some 3) none) none)) (more (node k.FunctionDeclarator (at 16) (Some 5) (more (node k.DeclaratorId (at 16) (Some 4) none) (more (node k.ParameterDeclarationClause (at 18) None none) (more (node k.FunctionQualifiers (at 20) None none) none)))) (more (node k.VirtSpecifier (at 20) (Some 7) none) (more (node k.CompoundStatement (at 26) (Some 9) none) none))))) none)) none)))
-    ∷ (node k.FunctionDefinition (at 36) (Some 12) (more (node k.TypeSpecifierSeq (at 32) None (more (node k.SimpleTypeSpecifier (at 32) (Some 12) none) none)) (more (node k.FunctionDeclarator (at 36) (Some 14) (more (node k.DeclaratorId (at 36) (Some 13) none) (more (node k.ParameterDeclarationClause (at 41) None none) (more (node k.FunctionQualifiers (at 43) None none) none)))) (more (node k.CompoundStatement (at 43) (Some 20) (more (node k.ReturnStatement (at 45) (Some 17) (more (node k.IntegerLiteral (at 52) (Some 18) none) none)) none)) none))))
+override_nothing_decls = (node k.ClassSpecifier (at 7) (Some 1)
+    (more (node k.ClassKey (at 0) (Some 0) none) (more
+    (node k.MemberSpecification (at 9) (Some 10) (more
+    (node k.FunctionDefinition (at 16) (Some 3) (more (node k.TypeSpecifierSeq (at 11) None (more (node k.SimpleTypeSpecifier (at 11) (Some 3) none) none))
+    (more (node k.FunctionDeclarator (at 16) (Some 5)
+    (more (node k.DeclaratorId (at 16) (Some 4) none)
+    (more (node k.ParameterDeclarationClause (at 18) None none) (more (node k.FunctionQualifiers (at 20) None none) none))))
+    (more (node k.VirtSpecifier (at 20) (Some 7) none) (more (node k.CompoundStatement (at 26) (Some 9) none) none))))) none)) none)))
+    ∷ (node k.FunctionDefinition (at 36) (Some 12) (more (node k.TypeSpecifierSeq (at 32) None (more (node k.SimpleTypeSpecifier (at 32) (Some 12) none) none))
+    (more (node k.FunctionDeclarator (at 36) (Some 14)
+    (more (node k.DeclaratorId (at 36) (Some 13) none)
+    (more (node k.ParameterDeclarationClause (at 41) None none) (more (node k.FunctionQualifiers (at 43) None none) none))))
+    (more (node k.CompoundStatement (at 43) (Some 20)
+    (more (node k.ReturnStatement (at 45) (Some 17) (more (node k.IntegerLiteral (at 52) (Some 18) none) none)) none)) none))))
     ∷ []
 
 --     struct A { virtual ~A() final {} }; struct B : A { ~B() {} }; int main() { return 0; }
@@ -76,9 +88,28 @@ overrides_final_tokens = token t.Key 0 6 0 (codes "struct")
     ∷ []
 
 abbrev pub overrides_final_decls : List Tree
-overrides_final_decls = (node k.ClassSpecifier (at 7) (Some 1) (more (node k.ClassKey (at 0) (Some 0) none) (more (node k.MemberSpecification (at 9) (Some 11) (more (node k.DestructorDefinition (at 19) (Some 3) (more (node k.DeclSpecifier (at 11) (Some 3) none) (more (node k.FunctionDeclarator (at 19) (Some 6) (more (node k.DestructorId (at 19) (Some 5) none) (more (node k.ParameterDeclarationClause (at 22) None none) (more (node k.FunctionQualifiers (at 24) None none) none)))) (more (node k.VirtSpecifier (at 24) (Some 8) none) (more (node k.CompoundStatement (at 30) (Some 10) none) none))))) none)) none)))
-    ∷ (node k.ClassSpecifier (at 43) (Some 14) (more (node k.ClassKey (at 36) (Some 13) none) (more (node k.BaseSpecifier (at 47) (Some 16) none) (more (node k.MemberSpecification (at 49) (Some 24) (more (node k.DestructorDefinition (at 51) (Some 18) (more (node k.FunctionDeclarator (at 51) (Some 20) (more (node k.DestructorId (at 51) (Some 19) none) (more (node k.ParameterDeclarationClause (at 54) None none) (more (node k.FunctionQualifiers (at 56) None none) none)))) (more (node k.CompoundStatement (at 56) (Some 23) none) none))) none)) none))))
-    ∷ (node k.FunctionDefinition (at 66) (Some 26) (more (node k.TypeSpecifierSeq (at 62) None (more (node k.SimpleTypeSpecifier (at 62) (Some 26) none) none)) (more (node k.FunctionDeclarator (at 66) (Some 28) (more (node k.DeclaratorId (at 66) (Some 27) none) (more (node k.ParameterDeclarationClause (at 71) None none) (more (node k.FunctionQualifiers (at 73) None none) none)))) (more (node k.CompoundStatement (at 73) (Some 34) (more (node k.ReturnStatement (at 75) (Some 31) (more (node k.IntegerLiteral (at 82) (Some 32) none) none)) none)) none))))
+overrides_final_decls = (node k.ClassSpecifier (at 7) (Some 1)
+    (more (node k.ClassKey (at 0) (Some 0) none) (more
+    (node k.MemberSpecification (at 9) (Some 11) (more
+    (node k.DestructorDefinition (at 19) (Some 3) (more (node k.DeclSpecifier (at 11) (Some 3) none)
+    (more (node k.FunctionDeclarator (at 19) (Some 6)
+    (more (node k.DestructorId (at 19) (Some 5) none)
+    (more (node k.ParameterDeclarationClause (at 22) None none) (more (node k.FunctionQualifiers (at 24) None none) none))))
+    (more (node k.VirtSpecifier (at 24) (Some 8) none) (more (node k.CompoundStatement (at 30) (Some 10) none) none))))) none)) none)))
+    ∷ (node k.ClassSpecifier (at 43) (Some 14) (more (node k.ClassKey (at 36) (Some 13) none)
+    (more (node k.BaseSpecifier (at 47) (Some 16) none)
+    (more (node k.MemberSpecification (at 49) (Some 24)
+    (more (node k.DestructorDefinition (at 51) (Some 18)
+    (more (node k.FunctionDeclarator (at 51) (Some 20)
+    (more (node k.DestructorId (at 51) (Some 19) none)
+    (more (node k.ParameterDeclarationClause (at 54) None none) (more (node k.FunctionQualifiers (at 56) None none) none))))
+    (more (node k.CompoundStatement (at 56) (Some 23) none) none))) none)) none))))
+    ∷ (node k.FunctionDefinition (at 66) (Some 26) (more (node k.TypeSpecifierSeq (at 62) None (more (node k.SimpleTypeSpecifier (at 62) (Some 26) none) none))
+    (more (node k.FunctionDeclarator (at 66) (Some 28)
+    (more (node k.DeclaratorId (at 66) (Some 27) none)
+    (more (node k.ParameterDeclarationClause (at 71) None none) (more (node k.FunctionQualifiers (at 73) None none) none))))
+    (more (node k.CompoundStatement (at 73) (Some 34)
+    (more (node k.ReturnStatement (at 75) (Some 31) (more (node k.IntegerLiteral (at 82) (Some 32) none) none)) none)) none))))
     ∷ []
 
 --     struct A final { }; struct B : A { }; int main() { return 0; }
@@ -108,9 +139,17 @@ base_final_tokens = token t.Key 0 6 0 (codes "struct")
     ∷ []
 
 abbrev pub base_final_decls : List Tree
-base_final_decls = (node k.ClassSpecifier (at 7) (Some 1) (more (node k.ClassKey (at 0) (Some 0) none) (more (node k.VirtSpecifier (at 9) (Some 2) none) (more (node k.MemberSpecification (at 15) (Some 4) none) none))))
-    ∷ (node k.ClassSpecifier (at 27) (Some 7) (more (node k.ClassKey (at 20) (Some 6) none) (more (node k.BaseSpecifier (at 31) (Some 9) none) (more (node k.MemberSpecification (at 33) (Some 11) none) none))))
-    ∷ (node k.FunctionDefinition (at 42) (Some 13) (more (node k.TypeSpecifierSeq (at 38) None (more (node k.SimpleTypeSpecifier (at 38) (Some 13) none) none)) (more (node k.FunctionDeclarator (at 42) (Some 15) (more (node k.DeclaratorId (at 42) (Some 14) none) (more (node k.ParameterDeclarationClause (at 47) None none) (more (node k.FunctionQualifiers (at 49) None none) none)))) (more (node k.CompoundStatement (at 49) (Some 21) (more (node k.ReturnStatement (at 51) (Some 18) (more (node k.IntegerLiteral (at 58) (Some 19) none) none)) none)) none))))
+base_final_decls = (node k.ClassSpecifier (at 7) (Some 1)
+    (more (node k.ClassKey (at 0) (Some 0) none) (more (node k.VirtSpecifier (at 9) (Some 2) none)
+    (more (node k.MemberSpecification (at 15) (Some 4) none) none))))
+    ∷ (node k.ClassSpecifier (at 27) (Some 7) (more (node k.ClassKey (at 20) (Some 6) none)
+    (more (node k.BaseSpecifier (at 31) (Some 9) none) (more (node k.MemberSpecification (at 33) (Some 11) none) none))))
+    ∷ (node k.FunctionDefinition (at 42) (Some 13) (more (node k.TypeSpecifierSeq (at 38) None (more (node k.SimpleTypeSpecifier (at 38) (Some 13) none) none))
+    (more (node k.FunctionDeclarator (at 42) (Some 15)
+    (more (node k.DeclaratorId (at 42) (Some 14) none)
+    (more (node k.ParameterDeclarationClause (at 47) None none) (more (node k.FunctionQualifiers (at 49) None none) none))))
+    (more (node k.CompoundStatement (at 49) (Some 21)
+    (more (node k.ReturnStatement (at 51) (Some 18) (more (node k.IntegerLiteral (at 58) (Some 19) none) none)) none)) none))))
     ∷ []
 
 --     struct A { virtual void f() {} }; struct B : A { int f() override { return 1; } }; int main() { return 0; }
@@ -156,9 +195,32 @@ return_differs_tokens = token t.Key 0 6 0 (codes "struct")
     ∷ []
 
 abbrev pub return_differs_decls : List Tree
-return_differs_decls = (node k.ClassSpecifier (at 7) (Some 1) (more (node k.ClassKey (at 0) (Some 0) none) (more (node k.MemberSpecification (at 9) (Some 10) (more (node k.FunctionDefinition (at 24) (Some 3) (more (node k.DeclSpecifier (at 11) (Some 3) none) (more (node k.TypeSpecifierSeq (at 19) None (more (node k.SimpleTypeSpecifier (at 19) (Some 4) none) none)) (more (node k.FunctionDeclarator (at 24) (Some 6) (more (node k.DeclaratorId (at 24) (Some 5) none) (more (node k.ParameterDeclarationClause (at 26) None none) (more (node k.FunctionQualifiers (at 28) None none) none)))) (more (node k.CompoundStatement (at 28) (Some 9) none) none))))) none)) none)))
-    ∷ (node k.ClassSpecifier (at 41) (Some 13) (more (node k.ClassKey (at 34) (Some 12) none) (more (node k.BaseSpecifier (at 45) (Some 15) none) (more (node k.MemberSpecification (at 47) (Some 27) (more (node k.FunctionDefinition (at 53) (Some 17) (more (node k.TypeSpecifierSeq (at 49) None (more (node k.SimpleTypeSpecifier (at 49) (Some 17) none) none)) (more (node k.FunctionDeclarator (at 53) (Some 19) (more (node k.DeclaratorId (at 53) (Some 18) none) (more (node k.ParameterDeclarationClause (at 55) None none) (more (node k.FunctionQualifiers (at 57) None none) none)))) (more (node k.VirtSpecifier (at 57) (Some 21) none) (more (node k.CompoundStatement (at 66) (Some 26) (more (node k.ReturnStatement (at 68) (Some 23) (more (node k.IntegerLiteral (at 75) (Some 24) none) none)) none)) none))))) none)) none))))
-    ∷ (node k.FunctionDefinition (at 87) (Some 29) (more (node k.TypeSpecifierSeq (at 83) None (more (node k.SimpleTypeSpecifier (at 83) (Some 29) none) none)) (more (node k.FunctionDeclarator (at 87) (Some 31) (more (node k.DeclaratorId (at 87) (Some 30) none) (more (node k.ParameterDeclarationClause (at 92) None none) (more (node k.FunctionQualifiers (at 94) None none) none)))) (more (node k.CompoundStatement (at 94) (Some 37) (more (node k.ReturnStatement (at 96) (Some 34) (more (node k.IntegerLiteral (at 103) (Some 35) none) none)) none)) none))))
+return_differs_decls = (node k.ClassSpecifier (at 7) (Some 1)
+    (more (node k.ClassKey (at 0) (Some 0) none) (more
+    (node k.MemberSpecification (at 9) (Some 10) (more
+    (node k.FunctionDefinition (at 24) (Some 3) (more (node k.DeclSpecifier (at 11) (Some 3) none)
+    (more (node k.TypeSpecifierSeq (at 19) None (more (node k.SimpleTypeSpecifier (at 19) (Some 4) none) none))
+    (more (node k.FunctionDeclarator (at 24) (Some 6)
+    (more (node k.DeclaratorId (at 24) (Some 5) none)
+    (more (node k.ParameterDeclarationClause (at 26) None none) (more (node k.FunctionQualifiers (at 28) None none) none))))
+    (more (node k.CompoundStatement (at 28) (Some 9) none) none))))) none)) none)))
+    ∷ (node k.ClassSpecifier (at 41) (Some 13) (more (node k.ClassKey (at 34) (Some 12) none)
+    (more (node k.BaseSpecifier (at 45) (Some 15) none)
+    (more (node k.MemberSpecification (at 47) (Some 27)
+    (more (node k.FunctionDefinition (at 53) (Some 17)
+    (more (node k.TypeSpecifierSeq (at 49) None (more (node k.SimpleTypeSpecifier (at 49) (Some 17) none) none))
+    (more (node k.FunctionDeclarator (at 53) (Some 19)
+    (more (node k.DeclaratorId (at 53) (Some 18) none)
+    (more (node k.ParameterDeclarationClause (at 55) None none) (more (node k.FunctionQualifiers (at 57) None none) none))))
+    (more (node k.VirtSpecifier (at 57) (Some 21) none)
+    (more (node k.CompoundStatement (at 66) (Some 26)
+    (more (node k.ReturnStatement (at 68) (Some 23) (more (node k.IntegerLiteral (at 75) (Some 24) none) none)) none)) none))))) none)) none))))
+    ∷ (node k.FunctionDefinition (at 87) (Some 29) (more (node k.TypeSpecifierSeq (at 83) None (more (node k.SimpleTypeSpecifier (at 83) (Some 29) none) none))
+    (more (node k.FunctionDeclarator (at 87) (Some 31)
+    (more (node k.DeclaratorId (at 87) (Some 30) none)
+    (more (node k.ParameterDeclarationClause (at 92) None none) (more (node k.FunctionQualifiers (at 94) None none) none))))
+    (more (node k.CompoundStatement (at 94) (Some 37)
+    (more (node k.ReturnStatement (at 96) (Some 34) (more (node k.IntegerLiteral (at 103) (Some 35) none) none)) none)) none))))
     ∷ []
 
 --     struct A { virtual void f() noexcept {} }; struct B : A { void f() {} }; int main() { return 0; }
@@ -201,9 +263,31 @@ looser_noexcept_tokens = token t.Key 0 6 0 (codes "struct")
     ∷ []
 
 abbrev pub looser_noexcept_decls : List Tree
-looser_noexcept_decls = (node k.ClassSpecifier (at 7) (Some 1) (more (node k.ClassKey (at 0) (Some 0) none) (more (node k.MemberSpecification (at 9) (Some 11) (more (node k.FunctionDefinition (at 24) (Some 3) (more (node k.DeclSpecifier (at 11) (Some 3) none) (more (node k.TypeSpecifierSeq (at 19) None (more (node k.SimpleTypeSpecifier (at 19) (Some 4) none) none)) (more (node k.FunctionDeclarator (at 24) (Some 6) (more (node k.DeclaratorId (at 24) (Some 5) none) (more (node k.ParameterDeclarationClause (at 26) None none) (more (node k.FunctionQualifiers (at 28) None (more (node k.NoexceptSpecification (at 28) (Some 8) none) none)) none)))) (more (node k.CompoundStatement (at 37) (Some 10) none) none))))) none)) none)))
-    ∷ (node k.ClassSpecifier (at 50) (Some 14) (more (node k.ClassKey (at 43) (Some 13) none) (more (node k.BaseSpecifier (at 54) (Some 16) none) (more (node k.MemberSpecification (at 56) (Some 24) (more (node k.FunctionDefinition (at 63) (Some 18) (more (node k.TypeSpecifierSeq (at 58) None (more (node k.SimpleTypeSpecifier (at 58) (Some 18) none) none)) (more (node k.FunctionDeclarator (at 63) (Some 20) (more (node k.DeclaratorId (at 63) (Some 19) none) (more (node k.ParameterDeclarationClause (at 65) None none) (more (node k.FunctionQualifiers (at 67) None none) none)))) (more (node k.CompoundStatement (at 67) (Some 23) none) none)))) none)) none))))
-    ∷ (node k.FunctionDefinition (at 77) (Some 26) (more (node k.TypeSpecifierSeq (at 73) None (more (node k.SimpleTypeSpecifier (at 73) (Some 26) none) none)) (more (node k.FunctionDeclarator (at 77) (Some 28) (more (node k.DeclaratorId (at 77) (Some 27) none) (more (node k.ParameterDeclarationClause (at 82) None none) (more (node k.FunctionQualifiers (at 84) None none) none)))) (more (node k.CompoundStatement (at 84) (Some 34) (more (node k.ReturnStatement (at 86) (Some 31) (more (node k.IntegerLiteral (at 93) (Some 32) none) none)) none)) none))))
+looser_noexcept_decls = (node k.ClassSpecifier (at 7) (Some 1)
+    (more (node k.ClassKey (at 0) (Some 0) none) (more
+    (node k.MemberSpecification (at 9) (Some 11) (more
+    (node k.FunctionDefinition (at 24) (Some 3) (more (node k.DeclSpecifier (at 11) (Some 3) none)
+    (more (node k.TypeSpecifierSeq (at 19) None (more (node k.SimpleTypeSpecifier (at 19) (Some 4) none) none))
+    (more (node k.FunctionDeclarator (at 24) (Some 6)
+    (more (node k.DeclaratorId (at 24) (Some 5) none)
+    (more (node k.ParameterDeclarationClause (at 26) None none)
+    (more (node k.FunctionQualifiers (at 28) None (more (node k.NoexceptSpecification (at 28) (Some 8) none) none)) none))))
+    (more (node k.CompoundStatement (at 37) (Some 10) none) none))))) none)) none)))
+    ∷ (node k.ClassSpecifier (at 50) (Some 14) (more (node k.ClassKey (at 43) (Some 13) none)
+    (more (node k.BaseSpecifier (at 54) (Some 16) none)
+    (more (node k.MemberSpecification (at 56) (Some 24)
+    (more (node k.FunctionDefinition (at 63) (Some 18)
+    (more (node k.TypeSpecifierSeq (at 58) None (more (node k.SimpleTypeSpecifier (at 58) (Some 18) none) none))
+    (more (node k.FunctionDeclarator (at 63) (Some 20)
+    (more (node k.DeclaratorId (at 63) (Some 19) none)
+    (more (node k.ParameterDeclarationClause (at 65) None none) (more (node k.FunctionQualifiers (at 67) None none) none))))
+    (more (node k.CompoundStatement (at 67) (Some 23) none) none)))) none)) none))))
+    ∷ (node k.FunctionDefinition (at 77) (Some 26) (more (node k.TypeSpecifierSeq (at 73) None (more (node k.SimpleTypeSpecifier (at 73) (Some 26) none) none))
+    (more (node k.FunctionDeclarator (at 77) (Some 28)
+    (more (node k.DeclaratorId (at 77) (Some 27) none)
+    (more (node k.ParameterDeclarationClause (at 82) None none) (more (node k.FunctionQualifiers (at 84) None none) none))))
+    (more (node k.CompoundStatement (at 84) (Some 34)
+    (more (node k.ReturnStatement (at 86) (Some 31) (more (node k.IntegerLiteral (at 93) (Some 32) none) none)) none)) none))))
     ∷ []
 
 --     struct A { virtual ~A() transaction_safe {} }; struct B : A { ~B() transaction_safe_dynamic {} }; int main() { return 0; }
@@ -247,9 +331,30 @@ dynamic_over_safe_tokens = token t.Key 0 6 0 (codes "struct")
     ∷ []
 
 abbrev pub dynamic_over_safe_decls : List Tree
-dynamic_over_safe_decls = (node k.ClassSpecifier (at 7) (Some 1) (more (node k.ClassKey (at 0) (Some 0) none) (more (node k.MemberSpecification (at 9) (Some 11) (more (node k.DestructorDefinition (at 19) (Some 3) (more (node k.DeclSpecifier (at 11) (Some 3) none) (more (node k.FunctionDeclarator (at 19) (Some 6) (more (node k.DestructorId (at 19) (Some 5) none) (more (node k.ParameterDeclarationClause (at 22) None none) (more (node k.FunctionQualifiers (at 24) None (more (node k.TxQualifier (at 24) (Some 8) none) none)) none)))) (more (node k.CompoundStatement (at 41) (Some 10) none) none)))) none)) none)))
-    ∷ (node k.ClassSpecifier (at 54) (Some 14) (more (node k.ClassKey (at 47) (Some 13) none) (more (node k.BaseSpecifier (at 58) (Some 16) none) (more (node k.MemberSpecification (at 60) (Some 25) (more (node k.DestructorDefinition (at 62) (Some 18) (more (node k.FunctionDeclarator (at 62) (Some 20) (more (node k.DestructorId (at 62) (Some 19) none) (more (node k.ParameterDeclarationClause (at 65) None none) (more (node k.FunctionQualifiers (at 67) None (more (node k.TxQualifier (at 67) (Some 22) none) none)) none)))) (more (node k.CompoundStatement (at 92) (Some 24) none) none))) none)) none))))
-    ∷ (node k.FunctionDefinition (at 102) (Some 27) (more (node k.TypeSpecifierSeq (at 98) None (more (node k.SimpleTypeSpecifier (at 98) (Some 27) none) none)) (more (node k.FunctionDeclarator (at 102) (Some 29) (more (node k.DeclaratorId (at 102) (Some 28) none) (more (node k.ParameterDeclarationClause (at 107) None none) (more (node k.FunctionQualifiers (at 109) None none) none)))) (more (node k.CompoundStatement (at 109) (Some 35) (more (node k.ReturnStatement (at 111) (Some 32) (more (node k.IntegerLiteral (at 118) (Some 33) none) none)) none)) none))))
+dynamic_over_safe_decls = (node k.ClassSpecifier (at 7) (Some 1)
+    (more (node k.ClassKey (at 0) (Some 0) none) (more
+    (node k.MemberSpecification (at 9) (Some 11) (more
+    (node k.DestructorDefinition (at 19) (Some 3) (more (node k.DeclSpecifier (at 11) (Some 3) none)
+    (more (node k.FunctionDeclarator (at 19) (Some 6)
+    (more (node k.DestructorId (at 19) (Some 5) none)
+    (more (node k.ParameterDeclarationClause (at 22) None none)
+    (more (node k.FunctionQualifiers (at 24) None (more (node k.TxQualifier (at 24) (Some 8) none) none)) none))))
+    (more (node k.CompoundStatement (at 41) (Some 10) none) none)))) none)) none)))
+    ∷ (node k.ClassSpecifier (at 54) (Some 14) (more (node k.ClassKey (at 47) (Some 13) none)
+    (more (node k.BaseSpecifier (at 58) (Some 16) none)
+    (more (node k.MemberSpecification (at 60) (Some 25)
+    (more (node k.DestructorDefinition (at 62) (Some 18)
+    (more (node k.FunctionDeclarator (at 62) (Some 20)
+    (more (node k.DestructorId (at 62) (Some 19) none)
+    (more (node k.ParameterDeclarationClause (at 65) None none)
+    (more (node k.FunctionQualifiers (at 67) None (more (node k.TxQualifier (at 67) (Some 22) none) none)) none))))
+    (more (node k.CompoundStatement (at 92) (Some 24) none) none))) none)) none))))
+    ∷ (node k.FunctionDefinition (at 102) (Some 27) (more (node k.TypeSpecifierSeq (at 98) None (more (node k.SimpleTypeSpecifier (at 98) (Some 27) none) none))
+    (more (node k.FunctionDeclarator (at 102) (Some 29)
+    (more (node k.DeclaratorId (at 102) (Some 28) none)
+    (more (node k.ParameterDeclarationClause (at 107) None none) (more (node k.FunctionQualifiers (at 109) None none) none))))
+    (more (node k.CompoundStatement (at 109) (Some 35)
+    (more (node k.ReturnStatement (at 111) (Some 32) (more (node k.IntegerLiteral (at 118) (Some 33) none) none)) none)) none))))
     ∷ []
 
 --     struct A { ~A() transaction_safe_dynamic {} }; int main() { return 0; }
@@ -278,8 +383,20 @@ dynamic_not_virtual_tokens = token t.Key 0 6 0 (codes "struct")
     ∷ []
 
 abbrev pub dynamic_not_virtual_decls : List Tree
-dynamic_not_virtual_decls = (node k.ClassSpecifier (at 7) (Some 1) (more (node k.ClassKey (at 0) (Some 0) none) (more (node k.MemberSpecification (at 9) (Some 10) (more (node k.DestructorDefinition (at 11) (Some 3) (more (node k.FunctionDeclarator (at 11) (Some 5) (more (node k.DestructorId (at 11) (Some 4) none) (more (node k.ParameterDeclarationClause (at 14) None none) (more (node k.FunctionQualifiers (at 16) None (more (node k.TxQualifier (at 16) (Some 7) none) none)) none)))) (more (node k.CompoundStatement (at 41) (Some 9) none) none))) none)) none)))
-    ∷ (node k.FunctionDefinition (at 51) (Some 12) (more (node k.TypeSpecifierSeq (at 47) None (more (node k.SimpleTypeSpecifier (at 47) (Some 12) none) none)) (more (node k.FunctionDeclarator (at 51) (Some 14) (more (node k.DeclaratorId (at 51) (Some 13) none) (more (node k.ParameterDeclarationClause (at 56) None none) (more (node k.FunctionQualifiers (at 58) None none) none)))) (more (node k.CompoundStatement (at 58) (Some 20) (more (node k.ReturnStatement (at 60) (Some 17) (more (node k.IntegerLiteral (at 67) (Some 18) none) none)) none)) none))))
+dynamic_not_virtual_decls = (node k.ClassSpecifier (at 7) (Some 1)
+    (more (node k.ClassKey (at 0) (Some 0) none) (more
+    (node k.MemberSpecification (at 9) (Some 10) (more
+    (node k.DestructorDefinition (at 11) (Some 3) (more
+    (node k.FunctionDeclarator (at 11) (Some 5) (more (node k.DestructorId (at 11) (Some 4) none)
+    (more (node k.ParameterDeclarationClause (at 14) None none)
+    (more (node k.FunctionQualifiers (at 16) None (more (node k.TxQualifier (at 16) (Some 7) none) none)) none))))
+    (more (node k.CompoundStatement (at 41) (Some 9) none) none))) none)) none)))
+    ∷ (node k.FunctionDefinition (at 51) (Some 12) (more (node k.TypeSpecifierSeq (at 47) None (more (node k.SimpleTypeSpecifier (at 47) (Some 12) none) none))
+    (more (node k.FunctionDeclarator (at 51) (Some 14)
+    (more (node k.DeclaratorId (at 51) (Some 13) none)
+    (more (node k.ParameterDeclarationClause (at 56) None none) (more (node k.FunctionQualifiers (at 58) None none) none))))
+    (more (node k.CompoundStatement (at 58) (Some 20)
+    (more (node k.ReturnStatement (at 60) (Some 17) (more (node k.IntegerLiteral (at 67) (Some 18) none) none)) none)) none))))
     ∷ []
 
 --     struct S { int a; }; S::~S() {} int main() { return 0; }
@@ -312,9 +429,21 @@ no_such_member_tokens = token t.Key 0 6 0 (codes "struct")
     ∷ []
 
 abbrev pub no_such_member_decls : List Tree
-no_such_member_decls = (node k.ClassSpecifier (at 7) (Some 1) (more (node k.ClassKey (at 0) (Some 0) none) (more (node k.MemberSpecification (at 9) (Some 6) (more (node k.MemberDeclaration (at 15) (Some 3) (more (node k.TypeSpecifierSeq (at 11) None (more (node k.SimpleTypeSpecifier (at 11) (Some 3) none) none)) (more (node k.MemberDeclarator (at 15) (Some 4) (more (node k.DeclaratorId (at 15) (Some 4) none) none)) none))) none)) none)))
-    ∷ (node k.DestructorDefinition (at 24) (Some 8) (more (node k.FunctionDeclarator (at 21) (Some 12) (more (node k.QualifiedDestructorId (at 21) (Some 11) (more (node k.TypeName (at 21) (Some 8) none) none)) (more (node k.ParameterDeclarationClause (at 27) None none) (more (node k.FunctionQualifiers (at 29) None none) none)))) (more (node k.CompoundStatement (at 29) (Some 15) none) none)))
-    ∷ (node k.FunctionDefinition (at 36) (Some 16) (more (node k.TypeSpecifierSeq (at 32) None (more (node k.SimpleTypeSpecifier (at 32) (Some 16) none) none)) (more (node k.FunctionDeclarator (at 36) (Some 18) (more (node k.DeclaratorId (at 36) (Some 17) none) (more (node k.ParameterDeclarationClause (at 41) None none) (more (node k.FunctionQualifiers (at 43) None none) none)))) (more (node k.CompoundStatement (at 43) (Some 24) (more (node k.ReturnStatement (at 45) (Some 21) (more (node k.IntegerLiteral (at 52) (Some 22) none) none)) none)) none))))
+no_such_member_decls = (node k.ClassSpecifier (at 7) (Some 1)
+    (more (node k.ClassKey (at 0) (Some 0) none) (more
+    (node k.MemberSpecification (at 9) (Some 6) (more
+    (node k.MemberDeclaration (at 15) (Some 3) (more (node k.TypeSpecifierSeq (at 11) None (more (node k.SimpleTypeSpecifier (at 11) (Some 3) none) none))
+    (more (node k.MemberDeclarator (at 15) (Some 4) (more (node k.DeclaratorId (at 15) (Some 4) none) none)) none))) none)) none)))
+    ∷ (node k.DestructorDefinition (at 24) (Some 8) (more
+    (node k.FunctionDeclarator (at 21) (Some 12) (more (node k.QualifiedDestructorId (at 21) (Some 11) (more (node k.TypeName (at 21) (Some 8) none) none))
+    (more (node k.ParameterDeclarationClause (at 27) None none) (more (node k.FunctionQualifiers (at 29) None none) none))))
+    (more (node k.CompoundStatement (at 29) (Some 15) none) none)))
+    ∷ (node k.FunctionDefinition (at 36) (Some 16) (more (node k.TypeSpecifierSeq (at 32) None (more (node k.SimpleTypeSpecifier (at 32) (Some 16) none) none))
+    (more (node k.FunctionDeclarator (at 36) (Some 18)
+    (more (node k.DeclaratorId (at 36) (Some 17) none)
+    (more (node k.ParameterDeclarationClause (at 41) None none) (more (node k.FunctionQualifiers (at 43) None none) none))))
+    (more (node k.CompoundStatement (at 43) (Some 24)
+    (more (node k.ReturnStatement (at 45) (Some 21) (more (node k.IntegerLiteral (at 52) (Some 22) none) none)) none)) none))))
     ∷ []
 
 --     struct S { int f(); }; long S::f() { return 1; } int main() { return 0; }
@@ -352,9 +481,25 @@ other_type_tokens = token t.Key 0 6 0 (codes "struct")
     ∷ []
 
 abbrev pub other_type_decls : List Tree
-other_type_decls = (node k.ClassSpecifier (at 7) (Some 1) (more (node k.ClassKey (at 0) (Some 0) none) (more (node k.MemberSpecification (at 9) (Some 8) (more (node k.MemberDeclaration (at 15) (Some 3) (more (node k.TypeSpecifierSeq (at 11) None (more (node k.SimpleTypeSpecifier (at 11) (Some 3) none) none)) (more (node k.MemberDeclarator (at 15) (Some 4) (more (node k.FunctionDeclarator (at 15) (Some 5) (more (node k.DeclaratorId (at 15) (Some 4) none) (more (node k.ParameterDeclarationClause (at 17) None none) (more (node k.FunctionQualifiers (at 18) None none) none)))) none)) none))) none)) none)))
-    ∷ (node k.FunctionDefinition (at 31) (Some 10) (more (node k.TypeSpecifierSeq (at 23) None (more (node k.SimpleTypeSpecifier (at 23) (Some 10) none) none)) (more (node k.FunctionDeclarator (at 28) (Some 14) (more (node k.QualifiedDeclaratorId (at 28) (Some 13) (more (node k.TypeName (at 28) (Some 11) none) none)) (more (node k.ParameterDeclarationClause (at 33) None none) (more (node k.FunctionQualifiers (at 35) None none) none)))) (more (node k.CompoundStatement (at 35) (Some 20) (more (node k.ReturnStatement (at 37) (Some 17) (more (node k.IntegerLiteral (at 44) (Some 18) none) none)) none)) none))))
-    ∷ (node k.FunctionDefinition (at 53) (Some 21) (more (node k.TypeSpecifierSeq (at 49) None (more (node k.SimpleTypeSpecifier (at 49) (Some 21) none) none)) (more (node k.FunctionDeclarator (at 53) (Some 23) (more (node k.DeclaratorId (at 53) (Some 22) none) (more (node k.ParameterDeclarationClause (at 58) None none) (more (node k.FunctionQualifiers (at 60) None none) none)))) (more (node k.CompoundStatement (at 60) (Some 29) (more (node k.ReturnStatement (at 62) (Some 26) (more (node k.IntegerLiteral (at 69) (Some 27) none) none)) none)) none))))
+other_type_decls = (node k.ClassSpecifier (at 7) (Some 1)
+    (more (node k.ClassKey (at 0) (Some 0) none) (more
+    (node k.MemberSpecification (at 9) (Some 8) (more
+    (node k.MemberDeclaration (at 15) (Some 3) (more (node k.TypeSpecifierSeq (at 11) None (more (node k.SimpleTypeSpecifier (at 11) (Some 3) none) none))
+    (more (node k.MemberDeclarator (at 15) (Some 4) (more
+    (node k.FunctionDeclarator (at 15) (Some 5) (more (node k.DeclaratorId (at 15) (Some 4) none)
+    (more (node k.ParameterDeclarationClause (at 17) None none) (more (node k.FunctionQualifiers (at 18) None none) none)))) none)) none))) none)) none)))
+    ∷ (node k.FunctionDefinition (at 31) (Some 10) (more (node k.TypeSpecifierSeq (at 23) None (more (node k.SimpleTypeSpecifier (at 23) (Some 10) none) none))
+    (more (node k.FunctionDeclarator (at 28) (Some 14)
+    (more (node k.QualifiedDeclaratorId (at 28) (Some 13) (more (node k.TypeName (at 28) (Some 11) none) none))
+    (more (node k.ParameterDeclarationClause (at 33) None none) (more (node k.FunctionQualifiers (at 35) None none) none))))
+    (more (node k.CompoundStatement (at 35) (Some 20)
+    (more (node k.ReturnStatement (at 37) (Some 17) (more (node k.IntegerLiteral (at 44) (Some 18) none) none)) none)) none))))
+    ∷ (node k.FunctionDefinition (at 53) (Some 21) (more (node k.TypeSpecifierSeq (at 49) None (more (node k.SimpleTypeSpecifier (at 49) (Some 21) none) none))
+    (more (node k.FunctionDeclarator (at 53) (Some 23)
+    (more (node k.DeclaratorId (at 53) (Some 22) none)
+    (more (node k.ParameterDeclarationClause (at 58) None none) (more (node k.FunctionQualifiers (at 60) None none) none))))
+    (more (node k.CompoundStatement (at 60) (Some 29)
+    (more (node k.ReturnStatement (at 62) (Some 26) (more (node k.IntegerLiteral (at 69) (Some 27) none) none)) none)) none))))
     ∷ []
 
 --     struct S { S(); }; S::S() transaction_safe {} int main() { return 0; }
@@ -388,9 +533,23 @@ other_safety_tokens = token t.Key 0 6 0 (codes "struct")
     ∷ []
 
 abbrev pub other_safety_decls : List Tree
-other_safety_decls = (node k.ClassSpecifier (at 7) (Some 1) (more (node k.ClassKey (at 0) (Some 0) none) (more (node k.MemberSpecification (at 9) (Some 7) (more (node k.ConstructorDeclaration (at 11) (Some 3) (more (node k.FunctionDeclarator (at 11) (Some 4) (more (node k.DeclaratorId (at 11) (Some 3) none) (more (node k.ParameterDeclarationClause (at 13) None none) (more (node k.FunctionQualifiers (at 14) None none) none)))) none)) none)) none)))
-    ∷ (node k.ConstructorDefinition (at 22) (Some 9) (more (node k.FunctionDeclarator (at 19) (Some 12) (more (node k.QualifiedDeclaratorId (at 19) (Some 11) (more (node k.TypeName (at 19) (Some 9) none) none)) (more (node k.ParameterDeclarationClause (at 24) None none) (more (node k.FunctionQualifiers (at 26) None (more (node k.TxQualifier (at 26) (Some 14) none) none)) none)))) (more (node k.CompoundStatement (at 43) (Some 16) none) none)))
-    ∷ (node k.FunctionDefinition (at 50) (Some 17) (more (node k.TypeSpecifierSeq (at 46) None (more (node k.SimpleTypeSpecifier (at 46) (Some 17) none) none)) (more (node k.FunctionDeclarator (at 50) (Some 19) (more (node k.DeclaratorId (at 50) (Some 18) none) (more (node k.ParameterDeclarationClause (at 55) None none) (more (node k.FunctionQualifiers (at 57) None none) none)))) (more (node k.CompoundStatement (at 57) (Some 25) (more (node k.ReturnStatement (at 59) (Some 22) (more (node k.IntegerLiteral (at 66) (Some 23) none) none)) none)) none))))
+other_safety_decls = (node k.ClassSpecifier (at 7) (Some 1)
+    (more (node k.ClassKey (at 0) (Some 0) none) (more
+    (node k.MemberSpecification (at 9) (Some 7) (more
+    (node k.ConstructorDeclaration (at 11) (Some 3) (more
+    (node k.FunctionDeclarator (at 11) (Some 4) (more (node k.DeclaratorId (at 11) (Some 3) none)
+    (more (node k.ParameterDeclarationClause (at 13) None none) (more (node k.FunctionQualifiers (at 14) None none) none)))) none)) none)) none)))
+    ∷ (node k.ConstructorDefinition (at 22) (Some 9) (more
+    (node k.FunctionDeclarator (at 19) (Some 12) (more (node k.QualifiedDeclaratorId (at 19) (Some 11) (more (node k.TypeName (at 19) (Some 9) none) none))
+    (more (node k.ParameterDeclarationClause (at 24) None none)
+    (more (node k.FunctionQualifiers (at 26) None (more (node k.TxQualifier (at 26) (Some 14) none) none)) none))))
+    (more (node k.CompoundStatement (at 43) (Some 16) none) none)))
+    ∷ (node k.FunctionDefinition (at 50) (Some 17) (more (node k.TypeSpecifierSeq (at 46) None (more (node k.SimpleTypeSpecifier (at 46) (Some 17) none) none))
+    (more (node k.FunctionDeclarator (at 50) (Some 19)
+    (more (node k.DeclaratorId (at 50) (Some 18) none)
+    (more (node k.ParameterDeclarationClause (at 55) None none) (more (node k.FunctionQualifiers (at 57) None none) none))))
+    (more (node k.CompoundStatement (at 57) (Some 25)
+    (more (node k.ReturnStatement (at 59) (Some 22) (more (node k.IntegerLiteral (at 66) (Some 23) none) none)) none)) none))))
     ∷ []
 
 --     struct A { virtual void f() = 0; }; int main() { A a; return 0; }
@@ -423,8 +582,24 @@ abstract_object_tokens = token t.Key 0 6 0 (codes "struct")
     ∷ []
 
 abbrev pub abstract_object_decls : List Tree
-abstract_object_decls = (node k.ClassSpecifier (at 7) (Some 1) (more (node k.ClassKey (at 0) (Some 0) none) (more (node k.MemberSpecification (at 9) (Some 11) (more (node k.MemberDeclaration (at 24) (Some 3) (more (node k.DeclSpecifier (at 11) (Some 3) none) (more (node k.TypeSpecifierSeq (at 19) None (more (node k.SimpleTypeSpecifier (at 19) (Some 4) none) none)) (more (node k.MemberDeclarator (at 24) (Some 5) (more (node k.FunctionDeclarator (at 24) (Some 6) (more (node k.DeclaratorId (at 24) (Some 5) none) (more (node k.ParameterDeclarationClause (at 26) None none) (more (node k.FunctionQualifiers (at 28) None none) none)))) (more (node k.PureSpecifier (at 28) (Some 8) (more (node k.IntegerLiteral (at 30) (Some 9) none) none)) none))) none)))) none)) none)))
-    ∷ (node k.FunctionDefinition (at 40) (Some 13) (more (node k.TypeSpecifierSeq (at 36) None (more (node k.SimpleTypeSpecifier (at 36) (Some 13) none) none)) (more (node k.FunctionDeclarator (at 40) (Some 15) (more (node k.DeclaratorId (at 40) (Some 14) none) (more (node k.ParameterDeclarationClause (at 45) None none) (more (node k.FunctionQualifiers (at 47) None none) none)))) (more (node k.CompoundStatement (at 47) (Some 24) (more (node k.SimpleDeclaration (at 51) (Some 18) (more (node k.TypeSpecifierSeq (at 49) None (more (node k.TypeName (at 49) (Some 18) none) none)) (more (node k.InitDeclarator (at 51) (Some 19) (more (node k.DeclaratorId (at 51) (Some 19) none) none)) none))) (more (node k.ReturnStatement (at 54) (Some 21) (more (node k.IntegerLiteral (at 61) (Some 22) none) none)) none))) none))))
+abstract_object_decls = (node k.ClassSpecifier (at 7) (Some 1)
+    (more (node k.ClassKey (at 0) (Some 0) none) (more
+    (node k.MemberSpecification (at 9) (Some 11) (more
+    (node k.MemberDeclaration (at 24) (Some 3) (more (node k.DeclSpecifier (at 11) (Some 3) none)
+    (more (node k.TypeSpecifierSeq (at 19) None (more (node k.SimpleTypeSpecifier (at 19) (Some 4) none) none))
+    (more (node k.MemberDeclarator (at 24) (Some 5) (more
+    (node k.FunctionDeclarator (at 24) (Some 6) (more (node k.DeclaratorId (at 24) (Some 5) none)
+    (more (node k.ParameterDeclarationClause (at 26) None none) (more (node k.FunctionQualifiers (at 28) None none) none))))
+    (more (node k.PureSpecifier (at 28) (Some 8) (more (node k.IntegerLiteral (at 30) (Some 9) none) none)) none))) none)))) none)) none)))
+    ∷ (node k.FunctionDefinition (at 40) (Some 13) (more (node k.TypeSpecifierSeq (at 36) None (more (node k.SimpleTypeSpecifier (at 36) (Some 13) none) none))
+    (more (node k.FunctionDeclarator (at 40) (Some 15)
+    (more (node k.DeclaratorId (at 40) (Some 14) none)
+    (more (node k.ParameterDeclarationClause (at 45) None none) (more (node k.FunctionQualifiers (at 47) None none) none))))
+    (more (node k.CompoundStatement (at 47) (Some 24)
+    (more (node k.SimpleDeclaration (at 51) (Some 18)
+    (more (node k.TypeSpecifierSeq (at 49) None (more (node k.TypeName (at 49) (Some 18) none) none))
+    (more (node k.InitDeclarator (at 51) (Some 19) (more (node k.DeclaratorId (at 51) (Some 19) none) none)) none)))
+    (more (node k.ReturnStatement (at 54) (Some 21) (more (node k.IntegerLiteral (at 61) (Some 22) none) none)) none))) none))))
     ∷ []
 
 --     struct S { S(int) {} }; int main() { S s; return 0; }
@@ -455,8 +630,24 @@ no_default_tokens = token t.Key 0 6 0 (codes "struct")
     ∷ []
 
 abbrev pub no_default_decls : List Tree
-no_default_decls = (node k.ClassSpecifier (at 7) (Some 1) (more (node k.ClassKey (at 0) (Some 0) none) (more (node k.MemberSpecification (at 9) (Some 9) (more (node k.ConstructorDefinition (at 11) (Some 3) (more (node k.FunctionDeclarator (at 11) (Some 4) (more (node k.DeclaratorId (at 11) (Some 3) none) (more (node k.ParameterDeclarationClause (at 13) None (more (node k.ParameterDeclaration (at 13) None (more (node k.TypeSpecifierSeq (at 13) None (more (node k.SimpleTypeSpecifier (at 13) (Some 5) none) none)) (more (node k.OmittedId (at 16) None none) none))) none)) (more (node k.FunctionQualifiers (at 18) None none) none)))) (more (node k.CompoundStatement (at 18) (Some 8) none) none))) none)) none)))
-    ∷ (node k.FunctionDefinition (at 28) (Some 11) (more (node k.TypeSpecifierSeq (at 24) None (more (node k.SimpleTypeSpecifier (at 24) (Some 11) none) none)) (more (node k.FunctionDeclarator (at 28) (Some 13) (more (node k.DeclaratorId (at 28) (Some 12) none) (more (node k.ParameterDeclarationClause (at 33) None none) (more (node k.FunctionQualifiers (at 35) None none) none)))) (more (node k.CompoundStatement (at 35) (Some 22) (more (node k.SimpleDeclaration (at 39) (Some 16) (more (node k.TypeSpecifierSeq (at 37) None (more (node k.TypeName (at 37) (Some 16) none) none)) (more (node k.InitDeclarator (at 39) (Some 17) (more (node k.DeclaratorId (at 39) (Some 17) none) none)) none))) (more (node k.ReturnStatement (at 42) (Some 19) (more (node k.IntegerLiteral (at 49) (Some 20) none) none)) none))) none))))
+no_default_decls = (node k.ClassSpecifier (at 7) (Some 1)
+    (more (node k.ClassKey (at 0) (Some 0) none) (more
+    (node k.MemberSpecification (at 9) (Some 9) (more
+    (node k.ConstructorDefinition (at 11) (Some 3) (more
+    (node k.FunctionDeclarator (at 11) (Some 4) (more (node k.DeclaratorId (at 11) (Some 3) none)
+    (more (node k.ParameterDeclarationClause (at 13) None
+    (more (node k.ParameterDeclaration (at 13) None (more (node k.TypeSpecifierSeq (at 13) None (more (node k.SimpleTypeSpecifier (at 13) (Some 5) none) none))
+    (more (node k.OmittedId (at 16) None none) none))) none)) (more (node k.FunctionQualifiers (at 18) None none) none))))
+    (more (node k.CompoundStatement (at 18) (Some 8) none) none))) none)) none)))
+    ∷ (node k.FunctionDefinition (at 28) (Some 11) (more (node k.TypeSpecifierSeq (at 24) None (more (node k.SimpleTypeSpecifier (at 24) (Some 11) none) none))
+    (more (node k.FunctionDeclarator (at 28) (Some 13)
+    (more (node k.DeclaratorId (at 28) (Some 12) none)
+    (more (node k.ParameterDeclarationClause (at 33) None none) (more (node k.FunctionQualifiers (at 35) None none) none))))
+    (more (node k.CompoundStatement (at 35) (Some 22)
+    (more (node k.SimpleDeclaration (at 39) (Some 16)
+    (more (node k.TypeSpecifierSeq (at 37) None (more (node k.TypeName (at 37) (Some 16) none) none))
+    (more (node k.InitDeclarator (at 39) (Some 17) (more (node k.DeclaratorId (at 39) (Some 17) none) none)) none)))
+    (more (node k.ReturnStatement (at 42) (Some 19) (more (node k.IntegerLiteral (at 49) (Some 20) none) none)) none))) none))))
     ∷ []
 
 --     struct S { const int a; }; int main() { S s = {1}; S t = {2}; s = t; return 0; }
@@ -500,8 +691,33 @@ no_copy_tokens = token t.Key 0 6 0 (codes "struct")
     ∷ []
 
 abbrev pub no_copy_decls : List Tree
-no_copy_decls = (node k.ClassSpecifier (at 7) (Some 1) (more (node k.ClassKey (at 0) (Some 0) none) (more (node k.MemberSpecification (at 9) (Some 7) (more (node k.MemberDeclaration (at 21) (Some 3) (more (node k.TypeSpecifierSeq (at 11) None (more (node k.CvQualifier (at 11) (Some 3) none) (more (node k.SimpleTypeSpecifier (at 17) (Some 4) none) none))) (more (node k.MemberDeclarator (at 21) (Some 5) (more (node k.DeclaratorId (at 21) (Some 5) none) none)) none))) none)) none)))
-    ∷ (node k.FunctionDefinition (at 31) (Some 9) (more (node k.TypeSpecifierSeq (at 27) None (more (node k.SimpleTypeSpecifier (at 27) (Some 9) none) none)) (more (node k.FunctionDeclarator (at 31) (Some 11) (more (node k.DeclaratorId (at 31) (Some 10) none) (more (node k.ParameterDeclarationClause (at 36) None none) (more (node k.FunctionQualifiers (at 38) None none) none)))) (more (node k.CompoundStatement (at 38) (Some 35) (more (node k.SimpleDeclaration (at 42) (Some 14) (more (node k.TypeSpecifierSeq (at 40) None (more (node k.TypeName (at 40) (Some 14) none) none)) (more (node k.InitDeclarator (at 42) (Some 15) (more (node k.DeclaratorId (at 42) (Some 15) none) (more (node k.EqualInitializer (at 44) (Some 16) (more (node k.BracedInitList (at 46) (Some 17) (more (node k.IntegerLiteral (at 47) (Some 18) none) none)) none)) none))) none))) (more (node k.SimpleDeclaration (at 53) (Some 21) (more (node k.TypeSpecifierSeq (at 51) None (more (node k.TypeName (at 51) (Some 21) none) none)) (more (node k.InitDeclarator (at 53) (Some 22) (more (node k.DeclaratorId (at 53) (Some 22) none) (more (node k.EqualInitializer (at 55) (Some 23) (more (node k.BracedInitList (at 57) (Some 24) (more (node k.IntegerLiteral (at 58) (Some 25) none) none)) none)) none))) none))) (more (node k.ExpressionStatement (at 62) (Some 31) (more (node k.AssignmentExpression (at 62) (Some 29) (more (node k.UnqualifiedId (at 62) (Some 28) none) (more (node k.UnqualifiedId (at 66) (Some 30) none) none))) none)) (more (node k.ReturnStatement (at 69) (Some 32) (more (node k.IntegerLiteral (at 76) (Some 33) none) none)) none))))) none))))
+no_copy_decls = (node k.ClassSpecifier (at 7) (Some 1)
+    (more (node k.ClassKey (at 0) (Some 0) none) (more
+    (node k.MemberSpecification (at 9) (Some 7) (more
+    (node k.MemberDeclaration (at 21) (Some 3) (more (node k.TypeSpecifierSeq (at 11) None
+    (more (node k.CvQualifier (at 11) (Some 3) none) (more (node k.SimpleTypeSpecifier (at 17) (Some 4) none) none)))
+    (more (node k.MemberDeclarator (at 21) (Some 5) (more (node k.DeclaratorId (at 21) (Some 5) none) none)) none))) none)) none)))
+    ∷ (node k.FunctionDefinition (at 31) (Some 9) (more (node k.TypeSpecifierSeq (at 27) None (more (node k.SimpleTypeSpecifier (at 27) (Some 9) none) none))
+    (more (node k.FunctionDeclarator (at 31) (Some 11)
+    (more (node k.DeclaratorId (at 31) (Some 10) none)
+    (more (node k.ParameterDeclarationClause (at 36) None none) (more (node k.FunctionQualifiers (at 38) None none) none))))
+    (more (node k.CompoundStatement (at 38) (Some 35)
+    (more (node k.SimpleDeclaration (at 42) (Some 14)
+    (more (node k.TypeSpecifierSeq (at 40) None (more (node k.TypeName (at 40) (Some 14) none) none))
+    (more (node k.InitDeclarator (at 42) (Some 15)
+    (more (node k.DeclaratorId (at 42) (Some 15) none)
+    (more (node k.EqualInitializer (at 44) (Some 16)
+    (more (node k.BracedInitList (at 46) (Some 17) (more (node k.IntegerLiteral (at 47) (Some 18) none) none)) none)) none))) none)))
+    (more (node k.SimpleDeclaration (at 53) (Some 21)
+    (more (node k.TypeSpecifierSeq (at 51) None (more (node k.TypeName (at 51) (Some 21) none) none))
+    (more (node k.InitDeclarator (at 53) (Some 22)
+    (more (node k.DeclaratorId (at 53) (Some 22) none)
+    (more (node k.EqualInitializer (at 55) (Some 23)
+    (more (node k.BracedInitList (at 57) (Some 24) (more (node k.IntegerLiteral (at 58) (Some 25) none) none)) none)) none))) none)))
+    (more (node k.ExpressionStatement (at 62) (Some 31)
+    (more (node k.AssignmentExpression (at 62) (Some 29)
+    (more (node k.UnqualifiedId (at 62) (Some 28) none) (more (node k.UnqualifiedId (at 66) (Some 30) none) none))) none))
+    (more (node k.ReturnStatement (at 69) (Some 32) (more (node k.IntegerLiteral (at 76) (Some 33) none) none)) none))))) none))))
     ∷ []
 
 --     struct S { int f(); }; int S::f() { return 1; } int S::f() { return 2; } int main() { return 0; }
@@ -550,10 +766,31 @@ defined_twice_tokens = token t.Key 0 6 0 (codes "struct")
     ∷ []
 
 abbrev pub defined_twice_decls : List Tree
-defined_twice_decls = (node k.ClassSpecifier (at 7) (Some 1) (more (node k.ClassKey (at 0) (Some 0) none) (more (node k.MemberSpecification (at 9) (Some 8) (more (node k.MemberDeclaration (at 15) (Some 3) (more (node k.TypeSpecifierSeq (at 11) None (more (node k.SimpleTypeSpecifier (at 11) (Some 3) none) none)) (more (node k.MemberDeclarator (at 15) (Some 4) (more (node k.FunctionDeclarator (at 15) (Some 5) (more (node k.DeclaratorId (at 15) (Some 4) none) (more (node k.ParameterDeclarationClause (at 17) None none) (more (node k.FunctionQualifiers (at 18) None none) none)))) none)) none))) none)) none)))
-    ∷ (node k.FunctionDefinition (at 30) (Some 10) (more (node k.TypeSpecifierSeq (at 23) None (more (node k.SimpleTypeSpecifier (at 23) (Some 10) none) none)) (more (node k.FunctionDeclarator (at 27) (Some 14) (more (node k.QualifiedDeclaratorId (at 27) (Some 13) (more (node k.TypeName (at 27) (Some 11) none) none)) (more (node k.ParameterDeclarationClause (at 32) None none) (more (node k.FunctionQualifiers (at 34) None none) none)))) (more (node k.CompoundStatement (at 34) (Some 20) (more (node k.ReturnStatement (at 36) (Some 17) (more (node k.IntegerLiteral (at 43) (Some 18) none) none)) none)) none))))
-    ∷ (node k.FunctionDefinition (at 55) (Some 21) (more (node k.TypeSpecifierSeq (at 48) None (more (node k.SimpleTypeSpecifier (at 48) (Some 21) none) none)) (more (node k.FunctionDeclarator (at 52) (Some 25) (more (node k.QualifiedDeclaratorId (at 52) (Some 24) (more (node k.TypeName (at 52) (Some 22) none) none)) (more (node k.ParameterDeclarationClause (at 57) None none) (more (node k.FunctionQualifiers (at 59) None none) none)))) (more (node k.CompoundStatement (at 59) (Some 31) (more (node k.ReturnStatement (at 61) (Some 28) (more (node k.IntegerLiteral (at 68) (Some 29) none) none)) none)) none))))
-    ∷ (node k.FunctionDefinition (at 77) (Some 32) (more (node k.TypeSpecifierSeq (at 73) None (more (node k.SimpleTypeSpecifier (at 73) (Some 32) none) none)) (more (node k.FunctionDeclarator (at 77) (Some 34) (more (node k.DeclaratorId (at 77) (Some 33) none) (more (node k.ParameterDeclarationClause (at 82) None none) (more (node k.FunctionQualifiers (at 84) None none) none)))) (more (node k.CompoundStatement (at 84) (Some 40) (more (node k.ReturnStatement (at 86) (Some 37) (more (node k.IntegerLiteral (at 93) (Some 38) none) none)) none)) none))))
+defined_twice_decls = (node k.ClassSpecifier (at 7) (Some 1)
+    (more (node k.ClassKey (at 0) (Some 0) none) (more
+    (node k.MemberSpecification (at 9) (Some 8) (more
+    (node k.MemberDeclaration (at 15) (Some 3) (more (node k.TypeSpecifierSeq (at 11) None (more (node k.SimpleTypeSpecifier (at 11) (Some 3) none) none))
+    (more (node k.MemberDeclarator (at 15) (Some 4) (more
+    (node k.FunctionDeclarator (at 15) (Some 5) (more (node k.DeclaratorId (at 15) (Some 4) none)
+    (more (node k.ParameterDeclarationClause (at 17) None none) (more (node k.FunctionQualifiers (at 18) None none) none)))) none)) none))) none)) none)))
+    ∷ (node k.FunctionDefinition (at 30) (Some 10) (more (node k.TypeSpecifierSeq (at 23) None (more (node k.SimpleTypeSpecifier (at 23) (Some 10) none) none))
+    (more (node k.FunctionDeclarator (at 27) (Some 14)
+    (more (node k.QualifiedDeclaratorId (at 27) (Some 13) (more (node k.TypeName (at 27) (Some 11) none) none))
+    (more (node k.ParameterDeclarationClause (at 32) None none) (more (node k.FunctionQualifiers (at 34) None none) none))))
+    (more (node k.CompoundStatement (at 34) (Some 20)
+    (more (node k.ReturnStatement (at 36) (Some 17) (more (node k.IntegerLiteral (at 43) (Some 18) none) none)) none)) none))))
+    ∷ (node k.FunctionDefinition (at 55) (Some 21) (more (node k.TypeSpecifierSeq (at 48) None (more (node k.SimpleTypeSpecifier (at 48) (Some 21) none) none))
+    (more (node k.FunctionDeclarator (at 52) (Some 25)
+    (more (node k.QualifiedDeclaratorId (at 52) (Some 24) (more (node k.TypeName (at 52) (Some 22) none) none))
+    (more (node k.ParameterDeclarationClause (at 57) None none) (more (node k.FunctionQualifiers (at 59) None none) none))))
+    (more (node k.CompoundStatement (at 59) (Some 31)
+    (more (node k.ReturnStatement (at 61) (Some 28) (more (node k.IntegerLiteral (at 68) (Some 29) none) none)) none)) none))))
+    ∷ (node k.FunctionDefinition (at 77) (Some 32) (more (node k.TypeSpecifierSeq (at 73) None (more (node k.SimpleTypeSpecifier (at 73) (Some 32) none) none))
+    (more (node k.FunctionDeclarator (at 77) (Some 34)
+    (more (node k.DeclaratorId (at 77) (Some 33) none)
+    (more (node k.ParameterDeclarationClause (at 82) None none) (more (node k.FunctionQualifiers (at 84) None none) none))))
+    (more (node k.CompoundStatement (at 84) (Some 40)
+    (more (node k.ReturnStatement (at 86) (Some 37) (more (node k.IntegerLiteral (at 93) (Some 38) none) none)) none)) none))))
     ∷ []
 
 --     struct S; S s; int main() { return 0; }
@@ -577,8 +814,14 @@ incomplete_object_tokens = token t.Key 0 6 0 (codes "struct")
 
 abbrev pub incomplete_object_decls : List Tree
 incomplete_object_decls = (node k.ClassDeclaration (at 7) (Some 1) (more (node k.ClassKey (at 0) (Some 0) none) none))
-    ∷ (node k.SimpleDeclaration (at 12) (Some 3) (more (node k.TypeSpecifierSeq (at 10) None (more (node k.TypeName (at 10) (Some 3) none) none)) (more (node k.InitDeclarator (at 12) (Some 4) (more (node k.DeclaratorId (at 12) (Some 4) none) none)) none)))
-    ∷ (node k.FunctionDefinition (at 19) (Some 6) (more (node k.TypeSpecifierSeq (at 15) None (more (node k.SimpleTypeSpecifier (at 15) (Some 6) none) none)) (more (node k.FunctionDeclarator (at 19) (Some 8) (more (node k.DeclaratorId (at 19) (Some 7) none) (more (node k.ParameterDeclarationClause (at 24) None none) (more (node k.FunctionQualifiers (at 26) None none) none)))) (more (node k.CompoundStatement (at 26) (Some 14) (more (node k.ReturnStatement (at 28) (Some 11) (more (node k.IntegerLiteral (at 35) (Some 12) none) none)) none)) none))))
+    ∷ (node k.SimpleDeclaration (at 12) (Some 3) (more (node k.TypeSpecifierSeq (at 10) None (more (node k.TypeName (at 10) (Some 3) none) none))
+    (more (node k.InitDeclarator (at 12) (Some 4) (more (node k.DeclaratorId (at 12) (Some 4) none) none)) none)))
+    ∷ (node k.FunctionDefinition (at 19) (Some 6) (more (node k.TypeSpecifierSeq (at 15) None (more (node k.SimpleTypeSpecifier (at 15) (Some 6) none) none))
+    (more (node k.FunctionDeclarator (at 19) (Some 8)
+    (more (node k.DeclaratorId (at 19) (Some 7) none)
+    (more (node k.ParameterDeclarationClause (at 24) None none) (more (node k.FunctionQualifiers (at 26) None none) none))))
+    (more (node k.CompoundStatement (at 26) (Some 14)
+    (more (node k.ReturnStatement (at 28) (Some 11) (more (node k.IntegerLiteral (at 35) (Some 12) none) none)) none)) none))))
     ∷ []
 
 --     int main() { int n = 1; auto f = []() { return n; }; return f(); }
@@ -615,5 +858,22 @@ not_captured_tokens = token t.Key 0 3 0 (codes "int")
     ∷ []
 
 abbrev pub not_captured_decls : List Tree
-not_captured_decls = (node k.FunctionDefinition (at 4) (Some 0) (more (node k.TypeSpecifierSeq (at 0) None (more (node k.SimpleTypeSpecifier (at 0) (Some 0) none) none)) (more (node k.FunctionDeclarator (at 4) (Some 2) (more (node k.DeclaratorId (at 4) (Some 1) none) (more (node k.ParameterDeclarationClause (at 9) None none) (more (node k.FunctionQualifiers (at 11) None none) none)))) (more (node k.CompoundStatement (at 11) (Some 28) (more (node k.SimpleDeclaration (at 17) (Some 5) (more (node k.TypeSpecifierSeq (at 13) None (more (node k.SimpleTypeSpecifier (at 13) (Some 5) none) none)) (more (node k.InitDeclarator (at 17) (Some 6) (more (node k.DeclaratorId (at 17) (Some 6) none) (more (node k.EqualInitializer (at 19) (Some 7) (more (node k.IntegerLiteral (at 21) (Some 8) none) none)) none))) none))) (more (node k.SimpleDeclaration (at 29) (Some 10) (more (node k.TypeSpecifierSeq (at 24) None (more (node k.SimpleTypeSpecifier (at 24) (Some 10) none) none)) (more (node k.InitDeclarator (at 29) (Some 11) (more (node k.DeclaratorId (at 29) (Some 11) none) (more (node k.EqualInitializer (at 31) (Some 12) (more (node k.Lambda (at 33) (Some 13) (more (node k.LambdaIntroducer (at 33) (Some 13) none) (more (node k.LambdaDeclarator (at 35) None (more (node k.ParameterDeclarationClause (at 36) None none) none)) (more (node k.CompoundStatement (at 38) (Some 21) (more (node k.ReturnStatement (at 40) (Some 18) (more (node k.UnqualifiedId (at 47) (Some 19) none) none)) none)) none)))) none)) none))) none))) (more (node k.ReturnStatement (at 53) (Some 23) (more (node k.FunctionCall (at 60) (Some 25) (more (node k.UnqualifiedId (at 60) (Some 24) none) none)) none)) none)))) none))))
+not_captured_decls = (node k.FunctionDefinition (at 4) (Some 0)
+    (more (node k.TypeSpecifierSeq (at 0) None (more (node k.SimpleTypeSpecifier (at 0) (Some 0) none) none))
+    (more (node k.FunctionDeclarator (at 4) (Some 2) (more (node k.DeclaratorId (at 4) (Some 1) none)
+    (more (node k.ParameterDeclarationClause (at 9) None none) (more (node k.FunctionQualifiers (at 11) None none) none))))
+    (more (node k.CompoundStatement (at 11) (Some 28)
+    (more (node k.SimpleDeclaration (at 17) (Some 5) (more (node k.TypeSpecifierSeq (at 13) None (more (node k.SimpleTypeSpecifier (at 13) (Some 5) none) none))
+    (more (node k.InitDeclarator (at 17) (Some 6) (more (node k.DeclaratorId (at 17) (Some 6) none)
+    (more (node k.EqualInitializer (at 19) (Some 7) (more (node k.IntegerLiteral (at 21) (Some 8) none) none)) none))) none)))
+    (more (node k.SimpleDeclaration (at 29) (Some 10)
+    (more (node k.TypeSpecifierSeq (at 24) None (more (node k.SimpleTypeSpecifier (at 24) (Some 10) none) none))
+    (more (node k.InitDeclarator (at 29) (Some 11) (more (node k.DeclaratorId (at 29) (Some 11) none)
+    (more (node k.EqualInitializer (at 31) (Some 12) (more
+    (node k.Lambda (at 33) (Some 13) (more (node k.LambdaIntroducer (at 33) (Some 13) none)
+    (more (node k.LambdaDeclarator (at 35) None (more (node k.ParameterDeclarationClause (at 36) None none) none))
+    (more (node k.CompoundStatement (at 38) (Some 21)
+    (more (node k.ReturnStatement (at 40) (Some 18) (more (node k.UnqualifiedId (at 47) (Some 19) none) none)) none)) none)))) none)) none))) none)))
+    (more (node k.ReturnStatement (at 53) (Some 23) (more
+    (node k.FunctionCall (at 60) (Some 25) (more (node k.UnqualifiedId (at 60) (Some 24) none) none)) none)) none)))) none))))
     ∷ []

@@ -58,8 +58,36 @@ tokens = token t.Key 0 3 0 (codes "int")
     ∷ []
 
 abbrev pub decls : List Tree
-decls = (node k.SimpleDeclaration (at 4) (Some 0) (more (node k.TypeSpecifierSeq (at 0) None (more (node k.SimpleTypeSpecifier (at 0) (Some 0) none) none)) (more (node k.InitDeclarator (at 4) (Some 1) (more (node k.DeclaratorId (at 4) (Some 1) none) none)) none)))
-    ∷ (node k.FunctionDefinition (at 11) (Some 3) (more (node k.TypeSpecifierSeq (at 7) None (more (node k.SimpleTypeSpecifier (at 7) (Some 3) none) none)) (more (node k.FunctionDeclarator (at 11) (Some 5) (more (node k.DeclaratorId (at 11) (Some 4) none) (more (node k.ParameterDeclarationClause (at 16) None none) (more (node k.FunctionQualifiers (at 18) None none) none)))) (more (node k.CompoundStatement (at 18) (Some 45) (more (node k.TryBlock (at 20) (Some 8) (more (node k.CompoundStatement (at 24) (Some 20) (more (node k.AtomicStatement (at 26) (Some 10) (more (node k.CompoundStatement (at 40) (Some 19) (more (node k.ExpressionStatement (at 42) (Some 15) (more (node k.AssignmentExpression (at 42) (Some 13) (more (node k.UnqualifiedId (at 42) (Some 12) none) (more (node k.IntegerLiteral (at 46) (Some 14) none) none))) none)) (more (node k.ExpressionStatement (at 49) (Some 18) (more (node k.ThrowExpression (at 49) (Some 16) (more (node k.IntegerLiteral (at 55) (Some 17) none) none)) none)) none))) none)) none)) (more (node k.Handler (at 62) (Some 21) (more (node k.ParameterDeclaration (at 73) None (more (node k.TypeSpecifierSeq (at 69) None (more (node k.SimpleTypeSpecifier (at 69) (Some 23) none) none)) (more (node k.DeclaratorId (at 73) (Some 24) none) none))) (more (node k.CompoundStatement (at 76) (Some 41) (more (node k.ExpressionStatement (at 78) (Some 33) (more (node k.FunctionCall (at 78) (Some 28) (more (node k.UnqualifiedId (at 78) (Some 27) none) (more (node k.BinaryExpression (at 86) (Some 30) (more (node k.CharacterLiteral (at 86) (Some 29) none) (more (node k.UnqualifiedId (at 92) (Some 31) none) none))) none))) none)) (more (node k.ExpressionStatement (at 96) (Some 40) (more (node k.FunctionCall (at 96) (Some 35) (more (node k.UnqualifiedId (at 96) (Some 34) none) (more (node k.BinaryExpression (at 104) (Some 37) (more (node k.CharacterLiteral (at 104) (Some 36) none) (more (node k.UnqualifiedId (at 110) (Some 38) none) none))) none))) none)) none))) none))) none))) (more (node k.ReturnStatement (at 116) (Some 42) (more (node k.IntegerLiteral (at 123) (Some 43) none) none)) none))) none))))
+decls = (node k.SimpleDeclaration (at 4) (Some 0) (more (node k.TypeSpecifierSeq (at 0) None (more (node k.SimpleTypeSpecifier (at 0) (Some 0) none) none))
+    (more (node k.InitDeclarator (at 4) (Some 1) (more (node k.DeclaratorId (at 4) (Some 1) none) none)) none)))
+    ∷ (node k.FunctionDefinition (at 11) (Some 3) (more (node k.TypeSpecifierSeq (at 7) None (more (node k.SimpleTypeSpecifier (at 7) (Some 3) none) none))
+    (more (node k.FunctionDeclarator (at 11) (Some 5)
+    (more (node k.DeclaratorId (at 11) (Some 4) none)
+    (more (node k.ParameterDeclarationClause (at 16) None none) (more (node k.FunctionQualifiers (at 18) None none) none))))
+    (more (node k.CompoundStatement (at 18) (Some 45)
+    (more (node k.TryBlock (at 20) (Some 8) (more
+    (node k.CompoundStatement (at 24) (Some 20) (more
+    (node k.AtomicStatement (at 26) (Some 10) (more
+    (node k.CompoundStatement (at 40) (Some 19) (more
+    (node k.ExpressionStatement (at 42) (Some 15)
+    (more (node k.AssignmentExpression (at 42) (Some 13)
+    (more (node k.UnqualifiedId (at 42) (Some 12) none) (more (node k.IntegerLiteral (at 46) (Some 14) none) none))) none))
+    (more (node k.ExpressionStatement (at 49) (Some 18)
+    (more (node k.ThrowExpression (at 49) (Some 16) (more (node k.IntegerLiteral (at 55) (Some 17) none) none)) none)) none))) none)) none))
+    (more (node k.Handler (at 62) (Some 21) (more
+    (node k.ParameterDeclaration (at 73) None (more (node k.TypeSpecifierSeq (at 69) None (more (node k.SimpleTypeSpecifier (at 69) (Some 23) none) none))
+    (more (node k.DeclaratorId (at 73) (Some 24) none) none)))
+    (more (node k.CompoundStatement (at 76) (Some 41)
+    (more (node k.ExpressionStatement (at 78) (Some 33)
+    (more (node k.FunctionCall (at 78) (Some 28) (more (node k.UnqualifiedId (at 78) (Some 27) none)
+    (more (node k.BinaryExpression (at 86) (Some 30)
+    (more (node k.CharacterLiteral (at 86) (Some 29) none) (more (node k.UnqualifiedId (at 92) (Some 31) none) none))) none))) none))
+    (more (node k.ExpressionStatement (at 96) (Some 40)
+    (more (node k.FunctionCall (at 96) (Some 35) (more (node k.UnqualifiedId (at 96) (Some 34) none)
+    (more (node k.BinaryExpression (at 104) (Some 37)
+    (more (node k.CharacterLiteral (at 104) (Some 36) none)
+    (more (node k.UnqualifiedId (at 110) (Some 38) none) none))) none))) none)) none))) none))) none)))
+    (more (node k.ReturnStatement (at 116) (Some 42) (more (node k.IntegerLiteral (at 123) (Some 43) none) none)) none))) none))))
     ∷ []
 
 abbrev pub text : List ℕ

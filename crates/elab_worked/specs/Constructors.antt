@@ -62,8 +62,37 @@ tokens = token t.Key 0 6 0 (codes "struct")
     ∷ []
 
 abbrev pub decls : List Tree
-decls = (node k.ClassSpecifier (at 7) (Some 1) (more (node k.ClassKey (at 0) (Some 0) none) (more (node k.MemberSpecification (at 9) (Some 18) (more (node k.MemberDeclaration (at 15) (Some 3) (more (node k.TypeSpecifierSeq (at 11) None (more (node k.SimpleTypeSpecifier (at 11) (Some 3) none) none)) (more (node k.MemberDeclarator (at 15) (Some 4) (more (node k.DeclaratorId (at 15) (Some 4) none) none)) none))) (more (node k.ConstructorDefinition (at 18) (Some 6) (more (node k.FunctionDeclarator (at 18) (Some 7) (more (node k.DeclaratorId (at 18) (Some 6) none) (more (node k.ParameterDeclarationClause (at 20) None (more (node k.ParameterDeclaration (at 24) None (more (node k.TypeSpecifierSeq (at 20) None (more (node k.SimpleTypeSpecifier (at 20) (Some 8) none) none)) (more (node k.DeclaratorId (at 24) (Some 9) none) none))) none)) (more (node k.FunctionQualifiers (at 27) None none) none)))) (more (node k.MemberInitializer (at 29) (Some 12) (more (node k.UnqualifiedId (at 31) (Some 14) none) none)) (more (node k.CompoundStatement (at 34) (Some 17) none) none)))) none))) none)))
-    ∷ (node k.ClassSpecifier (at 47) (Some 21) (more (node k.ClassKey (at 40) (Some 20) none) (more (node k.BaseSpecifier (at 51) (Some 23) none) (more (node k.MemberSpecification (at 53) (Some 48) (more (node k.MemberDeclaration (at 59) (Some 25) (more (node k.TypeSpecifierSeq (at 55) None (more (node k.SimpleTypeSpecifier (at 55) (Some 25) none) none)) (more (node k.MemberDeclarator (at 59) (Some 26) (more (node k.DeclaratorId (at 59) (Some 26) none) none)) none))) (more (node k.MemberDeclaration (at 66) (Some 28) (more (node k.TypeSpecifierSeq (at 62) None (more (node k.SimpleTypeSpecifier (at 62) (Some 28) none) none)) (more (node k.MemberDeclarator (at 66) (Some 29) (more (node k.DeclaratorId (at 66) (Some 29) none) none)) none))) (more (node k.ConstructorDefinition (at 69) (Some 31) (more (node k.FunctionDeclarator (at 69) (Some 32) (more (node k.DeclaratorId (at 69) (Some 31) none) (more (node k.ParameterDeclarationClause (at 71) None (more (node k.ParameterDeclaration (at 75) None (more (node k.TypeSpecifierSeq (at 71) None (more (node k.SimpleTypeSpecifier (at 71) (Some 33) none) none)) (more (node k.DeclaratorId (at 75) (Some 34) none) none))) none)) (more (node k.FunctionQualifiers (at 78) None none) none)))) (more (node k.MemberInitializer (at 80) (Some 37) (more (node k.UnqualifiedId (at 82) (Some 39) none) none)) (more (node k.BaseInitializer (at 86) (Some 42) (more (node k.IntegerLiteral (at 88) (Some 44) none) none)) (more (node k.CompoundStatement (at 91) (Some 47) none) none))))) none)))) none))))
+decls = (node k.ClassSpecifier (at 7) (Some 1) (more (node k.ClassKey (at 0) (Some 0) none)
+    (more (node k.MemberSpecification (at 9) (Some 18)
+    (more (node k.MemberDeclaration (at 15) (Some 3) (more (node k.TypeSpecifierSeq (at 11) None (more (node k.SimpleTypeSpecifier (at 11) (Some 3) none) none))
+    (more (node k.MemberDeclarator (at 15) (Some 4) (more (node k.DeclaratorId (at 15) (Some 4) none) none)) none)))
+    (more (node k.ConstructorDefinition (at 18) (Some 6)
+    (more (node k.FunctionDeclarator (at 18) (Some 7)
+    (more (node k.DeclaratorId (at 18) (Some 6) none)
+    (more (node k.ParameterDeclarationClause (at 20) None
+    (more (node k.ParameterDeclaration (at 24) None (more (node k.TypeSpecifierSeq (at 20) None (more (node k.SimpleTypeSpecifier (at 20) (Some 8) none) none))
+    (more (node k.DeclaratorId (at 24) (Some 9) none) none))) none)) (more (node k.FunctionQualifiers (at 27) None none) none))))
+    (more (node k.MemberInitializer (at 29) (Some 12) (more (node k.UnqualifiedId (at 31) (Some 14) none) none))
+    (more (node k.CompoundStatement (at 34) (Some 17) none) none)))) none))) none)))
+    ∷ (node k.ClassSpecifier (at 47) (Some 21) (more (node k.ClassKey (at 40) (Some 20) none)
+    (more (node k.BaseSpecifier (at 51) (Some 23) none)
+    (more (node k.MemberSpecification (at 53) (Some 48)
+    (more (node k.MemberDeclaration (at 59) (Some 25)
+    (more (node k.TypeSpecifierSeq (at 55) None (more (node k.SimpleTypeSpecifier (at 55) (Some 25) none) none))
+    (more (node k.MemberDeclarator (at 59) (Some 26) (more (node k.DeclaratorId (at 59) (Some 26) none) none)) none)))
+    (more (node k.MemberDeclaration (at 66) (Some 28)
+    (more (node k.TypeSpecifierSeq (at 62) None (more (node k.SimpleTypeSpecifier (at 62) (Some 28) none) none))
+    (more (node k.MemberDeclarator (at 66) (Some 29) (more (node k.DeclaratorId (at 66) (Some 29) none) none)) none)))
+    (more (node k.ConstructorDefinition (at 69) (Some 31)
+    (more (node k.FunctionDeclarator (at 69) (Some 32)
+    (more (node k.DeclaratorId (at 69) (Some 31) none)
+    (more (node k.ParameterDeclarationClause (at 71) None
+    (more (node k.ParameterDeclaration (at 75) None
+    (more (node k.TypeSpecifierSeq (at 71) None (more (node k.SimpleTypeSpecifier (at 71) (Some 33) none) none))
+    (more (node k.DeclaratorId (at 75) (Some 34) none) none))) none)) (more (node k.FunctionQualifiers (at 78) None none) none))))
+    (more (node k.MemberInitializer (at 80) (Some 37) (more (node k.UnqualifiedId (at 82) (Some 39) none) none))
+    (more (node k.BaseInitializer (at 86) (Some 42) (more (node k.IntegerLiteral (at 88) (Some 44) none) none))
+    (more (node k.CompoundStatement (at 91) (Some 47) none) none))))) none)))) none))))
     ∷ []
 
 abbrev pub text : List ℕ

@@ -61,7 +61,37 @@ tokens = token t.Key 0 3 0 (codes "int")
     ∷ []
 
 abbrev pub decls : List Tree
-decls = (node k.FunctionDefinition (at 4) (Some 0) (more (node k.TypeSpecifierSeq (at 0) None (more (node k.SimpleTypeSpecifier (at 0) (Some 0) none) none)) (more (node k.FunctionDeclarator (at 4) (Some 2) (more (node k.DeclaratorId (at 4) (Some 1) none) (more (node k.ParameterDeclarationClause (at 9) None none) (more (node k.FunctionQualifiers (at 11) None none) none)))) (more (node k.CompoundStatement (at 11) (Some 48) (more (node k.SimpleDeclaration (at 17) (Some 5) (more (node k.TypeSpecifierSeq (at 13) None (more (node k.SimpleTypeSpecifier (at 13) (Some 5) none) none)) (more (node k.InitDeclarator (at 17) (Some 6) (more (node k.DeclaratorId (at 17) (Some 6) none) (more (node k.EqualInitializer (at 19) (Some 7) (more (node k.IntegerLiteral (at 21) (Some 8) none) none)) none))) none))) (more (node k.SimpleDeclaration (at 29) (Some 10) (more (node k.TypeSpecifierSeq (at 24) None (more (node k.SimpleTypeSpecifier (at 24) (Some 10) none) none)) (more (node k.InitDeclarator (at 29) (Some 11) (more (node k.DeclaratorId (at 29) (Some 11) none) (more (node k.EqualInitializer (at 33) (Some 12) (more (node k.Lambda (at 35) (Some 13) (more (node k.LambdaIntroducer (at 35) (Some 13) (more (node k.CaptureDefault (at 36) (Some 14) none) none)) (more (node k.LambdaDeclarator (at 38) None (more (node k.ParameterDeclarationClause (at 39) None (more (node k.ParameterDeclaration (at 43) None (more (node k.TypeSpecifierSeq (at 39) None (more (node k.SimpleTypeSpecifier (at 39) (Some 17) none) none)) (more (node k.DeclaratorId (at 43) (Some 18) none) none))) none)) none)) (more (node k.CompoundStatement (at 46) (Some 28) (more (node k.ExpressionStatement (at 48) (Some 24) (more (node k.AssignmentExpression (at 48) (Some 22) (more (node k.UnqualifiedId (at 48) (Some 21) none) (more (node k.UnqualifiedId (at 53) (Some 23) none) none))) none)) (more (node k.ReturnStatement (at 56) (Some 25) (more (node k.UnqualifiedId (at 63) (Some 26) none) none)) none))) none)))) none)) none))) none))) (more (node k.AtomicStatement (at 69) (Some 30) (more (node k.CompoundStatement (at 85) (Some 37) (more (node k.ExpressionStatement (at 87) (Some 36) (more (node k.FunctionCall (at 87) (Some 33) (more (node k.UnqualifiedId (at 87) (Some 32) none) (more (node k.IntegerLiteral (at 91) (Some 34) none) none))) none)) none)) none)) (more (node k.ExpressionStatement (at 97) (Some 44) (more (node k.FunctionCall (at 97) (Some 39) (more (node k.UnqualifiedId (at 97) (Some 38) none) (more (node k.BinaryExpression (at 105) (Some 41) (more (node k.CharacterLiteral (at 105) (Some 40) none) (more (node k.UnqualifiedId (at 111) (Some 42) none) none))) none))) none)) (more (node k.ReturnStatement (at 115) (Some 45) (more (node k.IntegerLiteral (at 122) (Some 46) none) none)) none)))))) none))))
+decls = (node k.FunctionDefinition (at 4) (Some 0) (more (node k.TypeSpecifierSeq (at 0) None (more (node k.SimpleTypeSpecifier (at 0) (Some 0) none) none))
+    (more (node k.FunctionDeclarator (at 4) (Some 2) (more (node k.DeclaratorId (at 4) (Some 1) none)
+    (more (node k.ParameterDeclarationClause (at 9) None none) (more (node k.FunctionQualifiers (at 11) None none) none))))
+    (more (node k.CompoundStatement (at 11) (Some 48)
+    (more (node k.SimpleDeclaration (at 17) (Some 5) (more (node k.TypeSpecifierSeq (at 13) None (more (node k.SimpleTypeSpecifier (at 13) (Some 5) none) none))
+    (more (node k.InitDeclarator (at 17) (Some 6) (more (node k.DeclaratorId (at 17) (Some 6) none)
+    (more (node k.EqualInitializer (at 19) (Some 7) (more (node k.IntegerLiteral (at 21) (Some 8) none) none)) none))) none)))
+    (more (node k.SimpleDeclaration (at 29) (Some 10)
+    (more (node k.TypeSpecifierSeq (at 24) None (more (node k.SimpleTypeSpecifier (at 24) (Some 10) none) none))
+    (more (node k.InitDeclarator (at 29) (Some 11) (more (node k.DeclaratorId (at 29) (Some 11) none)
+    (more (node k.EqualInitializer (at 33) (Some 12) (more
+    (node k.Lambda (at 35) (Some 13) (more (node k.LambdaIntroducer (at 35) (Some 13) (more (node k.CaptureDefault (at 36) (Some 14) none) none))
+    (more (node k.LambdaDeclarator (at 38) None (more
+    (node k.ParameterDeclarationClause (at 39) None (more
+    (node k.ParameterDeclaration (at 43) None (more (node k.TypeSpecifierSeq (at 39) None (more (node k.SimpleTypeSpecifier (at 39) (Some 17) none) none))
+    (more (node k.DeclaratorId (at 43) (Some 18) none) none))) none)) none))
+    (more (node k.CompoundStatement (at 46) (Some 28)
+    (more (node k.ExpressionStatement (at 48) (Some 24)
+    (more (node k.AssignmentExpression (at 48) (Some 22)
+    (more (node k.UnqualifiedId (at 48) (Some 21) none) (more (node k.UnqualifiedId (at 53) (Some 23) none) none))) none))
+    (more (node k.ReturnStatement (at 56) (Some 25) (more (node k.UnqualifiedId (at 63) (Some 26) none) none)) none))) none)))) none)) none))) none)))
+    (more (node k.AtomicStatement (at 69) (Some 30) (more
+    (node k.CompoundStatement (at 85) (Some 37) (more
+    (node k.ExpressionStatement (at 87) (Some 36) (more
+    (node k.FunctionCall (at 87) (Some 33) (more (node k.UnqualifiedId (at 87) (Some 32) none)
+    (more (node k.IntegerLiteral (at 91) (Some 34) none) none))) none)) none)) none))
+    (more (node k.ExpressionStatement (at 97) (Some 44)
+    (more (node k.FunctionCall (at 97) (Some 39) (more (node k.UnqualifiedId (at 97) (Some 38) none)
+    (more (node k.BinaryExpression (at 105) (Some 41)
+    (more (node k.CharacterLiteral (at 105) (Some 40) none) (more (node k.UnqualifiedId (at 111) (Some 42) none) none))) none))) none))
+    (more (node k.ReturnStatement (at 115) (Some 45) (more (node k.IntegerLiteral (at 122) (Some 46) none) none)) none)))))) none))))
     ∷ []
 
 abbrev pub text : List ℕ

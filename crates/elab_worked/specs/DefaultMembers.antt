@@ -39,7 +39,22 @@ tokens = token t.Key 0 6 0 (codes "struct")
     ∷ []
 
 abbrev pub decls : List Tree
-decls = (node k.ClassSpecifier (at 7) (Some 1) (more (node k.ClassKey (at 0) (Some 0) none) (more (node k.MemberSpecification (at 9) (Some 25) (more (node k.MemberDeclaration (at 15) (Some 3) (more (node k.TypeSpecifierSeq (at 11) None (more (node k.SimpleTypeSpecifier (at 11) (Some 3) none) none)) (more (node k.MemberDeclarator (at 15) (Some 4) (more (node k.DeclaratorId (at 15) (Some 4) none) (more (node k.EqualInitializer (at 17) (Some 5) (more (node k.IntegerLiteral (at 19) (Some 6) none) none)) none))) none))) (more (node k.MemberDeclaration (at 26) (Some 8) (more (node k.TypeSpecifierSeq (at 22) None (more (node k.SimpleTypeSpecifier (at 22) (Some 8) none) none)) (more (node k.MemberDeclarator (at 26) (Some 9) (more (node k.DeclaratorId (at 26) (Some 9) none) (more (node k.EqualInitializer (at 28) (Some 10) (more (node k.UnqualifiedId (at 30) (Some 11) none) none)) none))) none))) (more (node k.ConstructorDefinition (at 33) (Some 13) (more (node k.FunctionDeclarator (at 33) (Some 14) (more (node k.DeclaratorId (at 33) (Some 13) none) (more (node k.ParameterDeclarationClause (at 35) None (more (node k.ParameterDeclaration (at 39) None (more (node k.TypeSpecifierSeq (at 35) None (more (node k.SimpleTypeSpecifier (at 35) (Some 15) none) none)) (more (node k.DeclaratorId (at 39) (Some 16) none) none))) none)) (more (node k.FunctionQualifiers (at 42) None none) none)))) (more (node k.MemberInitializer (at 44) (Some 19) (more (node k.UnqualifiedId (at 46) (Some 21) none) none)) (more (node k.CompoundStatement (at 49) (Some 24) none) none)))) none)))) none)))
+decls = (node k.ClassSpecifier (at 7) (Some 1) (more (node k.ClassKey (at 0) (Some 0) none)
+    (more (node k.MemberSpecification (at 9) (Some 25)
+    (more (node k.MemberDeclaration (at 15) (Some 3) (more (node k.TypeSpecifierSeq (at 11) None (more (node k.SimpleTypeSpecifier (at 11) (Some 3) none) none))
+    (more (node k.MemberDeclarator (at 15) (Some 4) (more (node k.DeclaratorId (at 15) (Some 4) none)
+    (more (node k.EqualInitializer (at 17) (Some 5) (more (node k.IntegerLiteral (at 19) (Some 6) none) none)) none))) none)))
+    (more (node k.MemberDeclaration (at 26) (Some 8) (more (node k.TypeSpecifierSeq (at 22) None (more (node k.SimpleTypeSpecifier (at 22) (Some 8) none) none))
+    (more (node k.MemberDeclarator (at 26) (Some 9) (more (node k.DeclaratorId (at 26) (Some 9) none)
+    (more (node k.EqualInitializer (at 28) (Some 10) (more (node k.UnqualifiedId (at 30) (Some 11) none) none)) none))) none)))
+    (more (node k.ConstructorDefinition (at 33) (Some 13)
+    (more (node k.FunctionDeclarator (at 33) (Some 14)
+    (more (node k.DeclaratorId (at 33) (Some 13) none)
+    (more (node k.ParameterDeclarationClause (at 35) None
+    (more (node k.ParameterDeclaration (at 39) None (more (node k.TypeSpecifierSeq (at 35) None (more (node k.SimpleTypeSpecifier (at 35) (Some 15) none) none))
+    (more (node k.DeclaratorId (at 39) (Some 16) none) none))) none)) (more (node k.FunctionQualifiers (at 42) None none) none))))
+    (more (node k.MemberInitializer (at 44) (Some 19) (more (node k.UnqualifiedId (at 46) (Some 21) none) none))
+    (more (node k.CompoundStatement (at 49) (Some 24) none) none)))) none)))) none)))
     ∷ []
 
 abbrev pub text : List ℕ

@@ -41,8 +41,26 @@ tokens = token t.Key 0 6 0 (codes "struct")
     ∷ []
 
 abbrev pub decls : List Tree
-decls = (node k.ClassSpecifier (at 7) (Some 1) (more (node k.ClassKey (at 0) (Some 0) none) (more (node k.MemberSpecification (at 9) (Some 8) (more (node k.DestructorDeclaration (at 11) (Some 3) (more (node k.FunctionDeclarator (at 11) (Some 5) (more (node k.DestructorId (at 11) (Some 4) none) (more (node k.ParameterDeclarationClause (at 14) None none) (more (node k.FunctionQualifiers (at 15) None none) none)))) none)) none)) none)))
-    ∷ (node k.ClassSpecifier (at 27) (Some 11) (more (node k.ClassKey (at 20) (Some 10) none) (more (node k.BaseSpecifier (at 31) (Some 13) none) (more (node k.MemberSpecification (at 33) (Some 27) (more (node k.MemberDeclaration (at 37) (Some 15) (more (node k.TypeSpecifierSeq (at 35) None (more (node k.TypeName (at 35) (Some 15) none) none)) (more (node k.MemberDeclarator (at 37) (Some 16) (more (node k.DeclaratorId (at 37) (Some 16) none) none)) none))) (more (node k.MemberDeclaration (at 42) (Some 18) (more (node k.TypeSpecifierSeq (at 40) None (more (node k.TypeName (at 40) (Some 18) none) none)) (more (node k.MemberDeclarator (at 42) (Some 19) (more (node k.DeclaratorId (at 42) (Some 19) none) none)) none))) (more (node k.DestructorDefinition (at 45) (Some 21) (more (node k.FunctionDeclarator (at 45) (Some 23) (more (node k.DestructorId (at 45) (Some 22) none) (more (node k.ParameterDeclarationClause (at 48) None none) (more (node k.FunctionQualifiers (at 50) None none) none)))) (more (node k.CompoundStatement (at 50) (Some 26) none) none))) none)))) none))))
+decls = (node k.ClassSpecifier (at 7) (Some 1) (more (node k.ClassKey (at 0) (Some 0) none)
+    (more (node k.MemberSpecification (at 9) (Some 8)
+    (more (node k.DestructorDeclaration (at 11) (Some 3)
+    (more (node k.FunctionDeclarator (at 11) (Some 5)
+    (more (node k.DestructorId (at 11) (Some 4) none)
+    (more (node k.ParameterDeclarationClause (at 14) None none) (more (node k.FunctionQualifiers (at 15) None none) none)))) none)) none)) none)))
+    ∷ (node k.ClassSpecifier (at 27) (Some 11) (more (node k.ClassKey (at 20) (Some 10) none)
+    (more (node k.BaseSpecifier (at 31) (Some 13) none)
+    (more (node k.MemberSpecification (at 33) (Some 27)
+    (more (node k.MemberDeclaration (at 37) (Some 15)
+    (more (node k.TypeSpecifierSeq (at 35) None (more (node k.TypeName (at 35) (Some 15) none) none))
+    (more (node k.MemberDeclarator (at 37) (Some 16) (more (node k.DeclaratorId (at 37) (Some 16) none) none)) none)))
+    (more (node k.MemberDeclaration (at 42) (Some 18)
+    (more (node k.TypeSpecifierSeq (at 40) None (more (node k.TypeName (at 40) (Some 18) none) none))
+    (more (node k.MemberDeclarator (at 42) (Some 19) (more (node k.DeclaratorId (at 42) (Some 19) none) none)) none)))
+    (more (node k.DestructorDefinition (at 45) (Some 21)
+    (more (node k.FunctionDeclarator (at 45) (Some 23)
+    (more (node k.DestructorId (at 45) (Some 22) none)
+    (more (node k.ParameterDeclarationClause (at 48) None none) (more (node k.FunctionQualifiers (at 50) None none) none))))
+    (more (node k.CompoundStatement (at 50) (Some 26) none) none))) none)))) none))))
     ∷ []
 
 abbrev pub text : List ℕ

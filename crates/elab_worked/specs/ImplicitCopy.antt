@@ -49,9 +49,38 @@ tokens = token t.Key 0 6 0 (codes "struct")
     ∷ []
 
 abbrev pub decls : List Tree
-decls = (node k.ClassSpecifier (at 7) (Some 1) (more (node k.ClassKey (at 0) (Some 0) none) (more (node k.MemberSpecification (at 9) (Some 10) (more (node k.ConstructorDeclaration (at 11) (Some 3) (more (node k.FunctionDeclarator (at 11) (Some 4) (more (node k.DeclaratorId (at 11) (Some 3) none) (more (node k.ParameterDeclarationClause (at 13) None (more (node k.ParameterDeclaration (at 13) None (more (node k.TypeSpecifierSeq (at 13) None (more (node k.CvQualifier (at 13) (Some 5) none) (more (node k.TypeName (at 19) (Some 6) none) none))) (more (node k.ReferenceDeclarator (at 20) (Some 7) (more (node k.OmittedId (at 21) None none) none)) none))) none)) (more (node k.FunctionQualifiers (at 22) None none) none)))) none)) none)) none)))
-    ∷ (node k.ClassSpecifier (at 34) (Some 13) (more (node k.ClassKey (at 27) (Some 12) none) (more (node k.MemberSpecification (at 36) (Some 21) (more (node k.MemberDeclaration (at 40) (Some 15) (more (node k.TypeSpecifierSeq (at 38) None (more (node k.TypeName (at 38) (Some 15) none) none)) (more (node k.MemberDeclarator (at 40) (Some 16) (more (node k.DeclaratorId (at 40) (Some 16) none) none)) none))) (more (node k.MemberDeclaration (at 47) (Some 18) (more (node k.TypeSpecifierSeq (at 43) None (more (node k.SimpleTypeSpecifier (at 43) (Some 18) none) none)) (more (node k.MemberDeclarator (at 47) (Some 19) (more (node k.DeclaratorId (at 47) (Some 19) none) none)) none))) none))) none)))
-    ∷ (node k.FunctionDefinition (at 58) (Some 23) (more (node k.TypeSpecifierSeq (at 53) None (more (node k.SimpleTypeSpecifier (at 53) (Some 23) none) none)) (more (node k.FunctionDeclarator (at 58) (Some 25) (more (node k.DeclaratorId (at 58) (Some 24) none) (more (node k.ParameterDeclarationClause (at 60) None (more (node k.ParameterDeclaration (at 63) None (more (node k.TypeSpecifierSeq (at 60) None (more (node k.TypeName (at 60) (Some 26) none) none)) (more (node k.ReferenceDeclarator (at 61) (Some 27) (more (node k.DeclaratorId (at 63) (Some 28) none) none)) none))) none)) (more (node k.FunctionQualifiers (at 66) None none) none)))) (more (node k.CompoundStatement (at 66) (Some 36) (more (node k.SimpleDeclaration (at 70) (Some 31) (more (node k.TypeSpecifierSeq (at 68) None (more (node k.TypeName (at 68) (Some 31) none) none)) (more (node k.InitDeclarator (at 70) (Some 32) (more (node k.DeclaratorId (at 70) (Some 32) none) (more (node k.EqualInitializer (at 72) (Some 33) (more (node k.UnqualifiedId (at 74) (Some 34) none) none)) none))) none))) none)) none))))
+decls = (node k.ClassSpecifier (at 7) (Some 1) (more (node k.ClassKey (at 0) (Some 0) none)
+    (more (node k.MemberSpecification (at 9) (Some 10)
+    (more (node k.ConstructorDeclaration (at 11) (Some 3)
+    (more (node k.FunctionDeclarator (at 11) (Some 4)
+    (more (node k.DeclaratorId (at 11) (Some 3) none)
+    (more (node k.ParameterDeclarationClause (at 13) None
+    (more (node k.ParameterDeclaration (at 13) None (more
+    (node k.TypeSpecifierSeq (at 13) None (more (node k.CvQualifier (at 13) (Some 5) none) (more (node k.TypeName (at 19) (Some 6) none) none)))
+    (more (node k.ReferenceDeclarator (at 20) (Some 7) (more (node k.OmittedId (at 21) None none) none)) none))) none))
+    (more (node k.FunctionQualifiers (at 22) None none) none)))) none)) none)) none)))
+    ∷ (node k.ClassSpecifier (at 34) (Some 13) (more (node k.ClassKey (at 27) (Some 12) none)
+    (more (node k.MemberSpecification (at 36) (Some 21)
+    (more (node k.MemberDeclaration (at 40) (Some 15)
+    (more (node k.TypeSpecifierSeq (at 38) None (more (node k.TypeName (at 38) (Some 15) none) none))
+    (more (node k.MemberDeclarator (at 40) (Some 16) (more (node k.DeclaratorId (at 40) (Some 16) none) none)) none)))
+    (more (node k.MemberDeclaration (at 47) (Some 18)
+    (more (node k.TypeSpecifierSeq (at 43) None (more (node k.SimpleTypeSpecifier (at 43) (Some 18) none) none))
+    (more (node k.MemberDeclarator (at 47) (Some 19) (more (node k.DeclaratorId (at 47) (Some 19) none) none)) none))) none))) none)))
+    ∷ (node k.FunctionDefinition (at 58) (Some 23) (more (node k.TypeSpecifierSeq (at 53) None (more (node k.SimpleTypeSpecifier (at 53) (Some 23) none) none))
+    (more (node k.FunctionDeclarator (at 58) (Some 25)
+    (more (node k.DeclaratorId (at 58) (Some 24) none)
+    (more (node k.ParameterDeclarationClause (at 60) None
+    (more (node k.ParameterDeclaration (at 63) None
+    (more (node k.TypeSpecifierSeq (at 60) None (more (node k.TypeName (at 60) (Some 26) none) none))
+    (more (node k.ReferenceDeclarator (at 61) (Some 27) (more (node k.DeclaratorId (at 63) (Some 28) none) none)) none))) none))
+    (more (node k.FunctionQualifiers (at 66) None none) none))))
+    (more (node k.CompoundStatement (at 66) (Some 36)
+    (more (node k.SimpleDeclaration (at 70) (Some 31)
+    (more (node k.TypeSpecifierSeq (at 68) None (more (node k.TypeName (at 68) (Some 31) none) none))
+    (more (node k.InitDeclarator (at 70) (Some 32)
+    (more (node k.DeclaratorId (at 70) (Some 32) none)
+    (more (node k.EqualInitializer (at 72) (Some 33) (more (node k.UnqualifiedId (at 74) (Some 34) none) none)) none))) none))) none)) none))))
     ∷ []
 
 abbrev pub text : List ℕ

@@ -88,7 +88,55 @@ tokens = token t.Key 0 3 0 (codes "int")
     ∷ []
 
 abbrev pub decls : List Tree
-decls = (node k.FunctionDefinition (at 4) (Some 0) (more (node k.TypeSpecifierSeq (at 0) None (more (node k.SimpleTypeSpecifier (at 0) (Some 0) none) none)) (more (node k.FunctionDeclarator (at 4) (Some 2) (more (node k.DeclaratorId (at 4) (Some 1) none) (more (node k.ParameterDeclarationClause (at 9) None none) (more (node k.FunctionQualifiers (at 11) None none) none)))) (more (node k.CompoundStatement (at 11) (Some 65) (more (node k.SimpleDeclaration (at 19) (Some 5) (more (node k.TypeSpecifierSeq (at 15) None (more (node k.SimpleTypeSpecifier (at 15) (Some 5) none) none)) (more (node k.InitDeclarator (at 19) (Some 6) (more (node k.DeclaratorId (at 19) (Some 6) none) (more (node k.EqualInitializer (at 21) (Some 7) (more (node k.IntegerLiteral (at 23) (Some 8) none) none)) none))) none))) (more (node k.SimpleDeclaration (at 33) (Some 10) (more (node k.TypeSpecifierSeq (at 28) None (more (node k.SimpleTypeSpecifier (at 28) (Some 10) none) none)) (more (node k.InitDeclarator (at 33) (Some 12) (more (node k.PointerDeclarator (at 31) (Some 11) (more (node k.DeclaratorId (at 33) (Some 12) none) none)) (more (node k.EqualInitializer (at 35) (Some 13) (more (node k.UnaryExpression (at 37) (Some 14) (more (node k.UnqualifiedId (at 38) (Some 15) none) none)) none)) none))) none))) (more (node k.SimpleDeclaration (at 49) (Some 17) (more (node k.TypeSpecifierSeq (at 43) None (more (node k.SimpleTypeSpecifier (at 43) (Some 17) none) none)) (more (node k.InitDeclarator (at 49) (Some 20) (more (node k.PointerDeclarator (at 46) (Some 18) (more (node k.PointerDeclarator (at 47) (Some 19) (more (node k.DeclaratorId (at 49) (Some 20) none) none)) none)) (more (node k.EqualInitializer (at 52) (Some 21) (more (node k.UnaryExpression (at 54) (Some 22) (more (node k.UnqualifiedId (at 55) (Some 23) none) none)) none)) none))) none))) (more (node k.ExpressionStatement (at 60) (Some 30) (more (node k.AssignmentExpression (at 60) (Some 28) (more (node k.UnaryExpression (at 60) (Some 25) (more (node k.UnaryExpression (at 61) (Some 26) (more (node k.UnqualifiedId (at 62) (Some 27) none) none)) none)) (more (node k.IntegerLiteral (at 67) (Some 29) none) none))) none)) (more (node k.ExpressionStatement (at 72) (Some 38) (more (node k.AssignmentExpression (at 72) (Some 33) (more (node k.UnaryExpression (at 72) (Some 31) (more (node k.UnqualifiedId (at 73) (Some 32) none) none)) (more (node k.BinaryExpression (at 77) (Some 36) (more (node k.UnaryExpression (at 77) (Some 34) (more (node k.UnqualifiedId (at 78) (Some 35) none) none)) (more (node k.IntegerLiteral (at 82) (Some 37) none) none))) none))) none)) (more (node k.SimpleDeclaration (at 98) (Some 39) (more (node k.TypeSpecifierSeq (at 87) None (more (node k.CvQualifier (at 87) (Some 39) none) (more (node k.SimpleTypeSpecifier (at 93) (Some 40) none) none))) (more (node k.InitDeclarator (at 98) (Some 42) (more (node k.PointerDeclarator (at 96) (Some 41) (more (node k.DeclaratorId (at 98) (Some 42) none) none)) (more (node k.EqualInitializer (at 100) (Some 43) (more (node k.UnaryExpression (at 102) (Some 44) (more (node k.UnaryExpression (at 103) (Some 45) (more (node k.UnqualifiedId (at 104) (Some 46) none) none)) none)) none)) none))) none))) (more (node k.SimpleDeclaration (at 114) (Some 48) (more (node k.TypeSpecifierSeq (at 109) None (more (node k.SimpleTypeSpecifier (at 109) (Some 48) none) none)) (more (node k.InitDeclarator (at 114) (Some 50) (more (node k.ReferenceDeclarator (at 112) (Some 49) (more (node k.DeclaratorId (at 114) (Some 50) none) none)) (more (node k.EqualInitializer (at 116) (Some 51) (more (node k.UnaryExpression (at 118) (Some 52) (more (node k.UnqualifiedId (at 119) (Some 53) none) none)) none)) none))) none))) (more (node k.ExpressionStatement (at 124) (Some 61) (more (node k.AssignmentExpression (at 124) (Some 56) (more (node k.UnqualifiedId (at 124) (Some 55) none) (more (node k.BinaryExpression (at 128) (Some 58) (more (node k.UnqualifiedId (at 128) (Some 57) none) (more (node k.UnaryExpression (at 132) (Some 59) (more (node k.UnqualifiedId (at 133) (Some 60) none) none)) none))) none))) none)) (more (node k.ReturnStatement (at 138) (Some 62) (more (node k.UnqualifiedId (at 145) (Some 63) none) none)) none)))))))))) none))))
+decls = (node k.FunctionDefinition (at 4) (Some 0) (more (node k.TypeSpecifierSeq (at 0) None (more (node k.SimpleTypeSpecifier (at 0) (Some 0) none) none))
+    (more (node k.FunctionDeclarator (at 4) (Some 2) (more (node k.DeclaratorId (at 4) (Some 1) none)
+    (more (node k.ParameterDeclarationClause (at 9) None none) (more (node k.FunctionQualifiers (at 11) None none) none))))
+    (more (node k.CompoundStatement (at 11) (Some 65)
+    (more (node k.SimpleDeclaration (at 19) (Some 5) (more (node k.TypeSpecifierSeq (at 15) None (more (node k.SimpleTypeSpecifier (at 15) (Some 5) none) none))
+    (more (node k.InitDeclarator (at 19) (Some 6) (more (node k.DeclaratorId (at 19) (Some 6) none)
+    (more (node k.EqualInitializer (at 21) (Some 7) (more (node k.IntegerLiteral (at 23) (Some 8) none) none)) none))) none)))
+    (more (node k.SimpleDeclaration (at 33) (Some 10)
+    (more (node k.TypeSpecifierSeq (at 28) None (more (node k.SimpleTypeSpecifier (at 28) (Some 10) none) none))
+    (more (node k.InitDeclarator (at 33) (Some 12) (more (node k.PointerDeclarator (at 31) (Some 11) (more (node k.DeclaratorId (at 33) (Some 12) none) none))
+    (more (node k.EqualInitializer (at 35) (Some 13) (more
+    (node k.UnaryExpression (at 37) (Some 14) (more (node k.UnqualifiedId (at 38) (Some 15) none) none)) none)) none))) none)))
+    (more (node k.SimpleDeclaration (at 49) (Some 17)
+    (more (node k.TypeSpecifierSeq (at 43) None (more (node k.SimpleTypeSpecifier (at 43) (Some 17) none) none))
+    (more (node k.InitDeclarator (at 49) (Some 20) (more
+    (node k.PointerDeclarator (at 46) (Some 18) (more
+    (node k.PointerDeclarator (at 47) (Some 19) (more (node k.DeclaratorId (at 49) (Some 20) none) none)) none))
+    (more (node k.EqualInitializer (at 52) (Some 21) (more
+    (node k.UnaryExpression (at 54) (Some 22) (more (node k.UnqualifiedId (at 55) (Some 23) none) none)) none)) none))) none)))
+    (more (node k.ExpressionStatement (at 60) (Some 30)
+    (more (node k.AssignmentExpression (at 60) (Some 28)
+    (more (node k.UnaryExpression (at 60) (Some 25) (more
+    (node k.UnaryExpression (at 61) (Some 26) (more (node k.UnqualifiedId (at 62) (Some 27) none) none)) none))
+    (more (node k.IntegerLiteral (at 67) (Some 29) none) none))) none))
+    (more (node k.ExpressionStatement (at 72) (Some 38)
+    (more (node k.AssignmentExpression (at 72) (Some 33)
+    (more (node k.UnaryExpression (at 72) (Some 31) (more (node k.UnqualifiedId (at 73) (Some 32) none) none))
+    (more (node k.BinaryExpression (at 77) (Some 36) (more (node k.UnaryExpression (at 77) (Some 34) (more (node k.UnqualifiedId (at 78) (Some 35) none) none))
+    (more (node k.IntegerLiteral (at 82) (Some 37) none) none))) none))) none))
+    (more (node k.SimpleDeclaration (at 98) (Some 39)
+    (more (node k.TypeSpecifierSeq (at 87) None (more (node k.CvQualifier (at 87) (Some 39) none)
+    (more (node k.SimpleTypeSpecifier (at 93) (Some 40) none) none)))
+    (more (node k.InitDeclarator (at 98) (Some 42) (more (node k.PointerDeclarator (at 96) (Some 41) (more (node k.DeclaratorId (at 98) (Some 42) none) none))
+    (more (node k.EqualInitializer (at 100) (Some 43)
+    (more (node k.UnaryExpression (at 102) (Some 44) (more
+    (node k.UnaryExpression (at 103) (Some 45) (more (node k.UnqualifiedId (at 104) (Some 46) none) none)) none)) none)) none))) none)))
+    (more (node k.SimpleDeclaration (at 114) (Some 48)
+    (more (node k.TypeSpecifierSeq (at 109) None (more (node k.SimpleTypeSpecifier (at 109) (Some 48) none) none))
+    (more (node k.InitDeclarator (at 114) (Some 50) (more
+    (node k.ReferenceDeclarator (at 112) (Some 49) (more (node k.DeclaratorId (at 114) (Some 50) none) none))
+    (more (node k.EqualInitializer (at 116) (Some 51)
+    (more (node k.UnaryExpression (at 118) (Some 52) (more (node k.UnqualifiedId (at 119) (Some 53) none) none)) none)) none))) none)))
+    (more (node k.ExpressionStatement (at 124) (Some 61)
+    (more (node k.AssignmentExpression (at 124) (Some 56)
+    (more (node k.UnqualifiedId (at 124) (Some 55) none)
+    (more (node k.BinaryExpression (at 128) (Some 58)
+    (more (node k.UnqualifiedId (at 128) (Some 57) none)
+    (more (node k.UnaryExpression (at 132) (Some 59) (more (node k.UnqualifiedId (at 133) (Some 60) none) none)) none))) none))) none))
+    (more (node k.ReturnStatement (at 138) (Some 62) (more (node k.UnqualifiedId (at 145) (Some 63) none) none)) none)))))))))) none))))
     ∷ []
 
 abbrev pub text : List ℕ

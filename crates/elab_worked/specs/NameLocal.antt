@@ -65,8 +65,38 @@ tokens = token t.Key 0 3 0 (codes "int")
     ∷ []
 
 abbrev pub decls : List Tree
-decls = (node k.FunctionDefinition (at 4) (Some 0) (more (node k.TypeSpecifierSeq (at 0) None (more (node k.SimpleTypeSpecifier (at 0) (Some 0) none) none)) (more (node k.FunctionDeclarator (at 4) (Some 2) (more (node k.DeclaratorId (at 4) (Some 1) none) (more (node k.ParameterDeclarationClause (at 6) None (more (node k.ParameterDeclaration (at 10) None (more (node k.TypeSpecifierSeq (at 6) None (more (node k.SimpleTypeSpecifier (at 6) (Some 3) none) none)) (more (node k.DeclaratorId (at 10) (Some 4) none) none))) none)) (more (node k.FunctionQualifiers (at 13) None none) none)))) (more (node k.CompoundStatement (at 13) (Some 33) (more (node k.SimpleDeclaration (at 21) (Some 7) (more (node k.TypeSpecifierSeq (at 17) None (more (node k.SimpleTypeSpecifier (at 17) (Some 7) none) none)) (more (node k.InitDeclarator (at 21) (Some 8) (more (node k.DeclaratorId (at 21) (Some 8) none) (more (node k.EqualInitializer (at 23) (Some 9) (more (node k.UnqualifiedId (at 25) (Some 10) none) none)) none))) none))) (more (node k.SimpleDeclaration (at 35) (Some 12) (more (node k.TypeSpecifierSeq (at 30) None (more (node k.SimpleTypeSpecifier (at 30) (Some 12) none) none)) (more (node k.InitDeclarator (at 35) (Some 14) (more (node k.ReferenceDeclarator (at 33) (Some 13) (more (node k.DeclaratorId (at 35) (Some 14) none) none)) (more (node k.EqualInitializer (at 37) (Some 15) (more (node k.UnqualifiedId (at 39) (Some 16) none) none)) none))) none))) (more (node k.SimpleDeclaration (at 54) (Some 18) (more (node k.TypeSpecifierSeq (at 44) None (more (node k.CvQualifier (at 44) (Some 18) none) (more (node k.SimpleTypeSpecifier (at 50) (Some 19) none) none))) (more (node k.InitDeclarator (at 54) (Some 20) (more (node k.DeclaratorId (at 54) (Some 20) none) (more (node k.EqualInitializer (at 56) (Some 21) (more (node k.BinaryExpression (at 58) (Some 23) (more (node k.UnqualifiedId (at 58) (Some 22) none) (more (node k.IntegerLiteral (at 62) (Some 24) none) none))) none)) none))) none))) (more (node k.ExpressionStatement (at 67) (Some 29) (more (node k.AssignmentExpression (at 67) (Some 27) (more (node k.UnqualifiedId (at 67) (Some 26) none) (more (node k.UnqualifiedId (at 71) (Some 28) none) none))) none)) (more (node k.ReturnStatement (at 76) (Some 30) (more (node k.UnqualifiedId (at 83) (Some 31) none) none)) none)))))) none))))
-    ∷ (node k.FunctionDefinition (at 92) (Some 34) (more (node k.TypeSpecifierSeq (at 88) None (more (node k.SimpleTypeSpecifier (at 88) (Some 34) none) none)) (more (node k.FunctionDeclarator (at 92) (Some 36) (more (node k.DeclaratorId (at 92) (Some 35) none) (more (node k.ParameterDeclarationClause (at 97) None none) (more (node k.FunctionQualifiers (at 99) None none) none)))) (more (node k.CompoundStatement (at 99) (Some 45) (more (node k.ReturnStatement (at 101) (Some 39) (more (node k.FunctionCall (at 108) (Some 41) (more (node k.UnqualifiedId (at 108) (Some 40) none) (more (node k.IntegerLiteral (at 110) (Some 42) none) none))) none)) none)) none))))
+decls = (node k.FunctionDefinition (at 4) (Some 0) (more (node k.TypeSpecifierSeq (at 0) None (more (node k.SimpleTypeSpecifier (at 0) (Some 0) none) none))
+    (more (node k.FunctionDeclarator (at 4) (Some 2) (more (node k.DeclaratorId (at 4) (Some 1) none)
+    (more (node k.ParameterDeclarationClause (at 6) None
+    (more (node k.ParameterDeclaration (at 10) None (more (node k.TypeSpecifierSeq (at 6) None (more (node k.SimpleTypeSpecifier (at 6) (Some 3) none) none))
+    (more (node k.DeclaratorId (at 10) (Some 4) none) none))) none)) (more (node k.FunctionQualifiers (at 13) None none) none))))
+    (more (node k.CompoundStatement (at 13) (Some 33)
+    (more (node k.SimpleDeclaration (at 21) (Some 7) (more (node k.TypeSpecifierSeq (at 17) None (more (node k.SimpleTypeSpecifier (at 17) (Some 7) none) none))
+    (more (node k.InitDeclarator (at 21) (Some 8) (more (node k.DeclaratorId (at 21) (Some 8) none)
+    (more (node k.EqualInitializer (at 23) (Some 9) (more (node k.UnqualifiedId (at 25) (Some 10) none) none)) none))) none)))
+    (more (node k.SimpleDeclaration (at 35) (Some 12)
+    (more (node k.TypeSpecifierSeq (at 30) None (more (node k.SimpleTypeSpecifier (at 30) (Some 12) none) none))
+    (more (node k.InitDeclarator (at 35) (Some 14) (more (node k.ReferenceDeclarator (at 33) (Some 13) (more (node k.DeclaratorId (at 35) (Some 14) none) none))
+    (more (node k.EqualInitializer (at 37) (Some 15) (more (node k.UnqualifiedId (at 39) (Some 16) none) none)) none))) none)))
+    (more (node k.SimpleDeclaration (at 54) (Some 18)
+    (more (node k.TypeSpecifierSeq (at 44) None (more (node k.CvQualifier (at 44) (Some 18) none)
+    (more (node k.SimpleTypeSpecifier (at 50) (Some 19) none) none)))
+    (more (node k.InitDeclarator (at 54) (Some 20) (more (node k.DeclaratorId (at 54) (Some 20) none)
+    (more (node k.EqualInitializer (at 56) (Some 21) (more
+    (node k.BinaryExpression (at 58) (Some 23) (more (node k.UnqualifiedId (at 58) (Some 22) none)
+    (more (node k.IntegerLiteral (at 62) (Some 24) none) none))) none)) none))) none)))
+    (more (node k.ExpressionStatement (at 67) (Some 29)
+    (more (node k.AssignmentExpression (at 67) (Some 27)
+    (more (node k.UnqualifiedId (at 67) (Some 26) none) (more (node k.UnqualifiedId (at 71) (Some 28) none) none))) none))
+    (more (node k.ReturnStatement (at 76) (Some 30) (more (node k.UnqualifiedId (at 83) (Some 31) none) none)) none)))))) none))))
+    ∷ (node k.FunctionDefinition (at 92) (Some 34) (more (node k.TypeSpecifierSeq (at 88) None (more (node k.SimpleTypeSpecifier (at 88) (Some 34) none) none))
+    (more (node k.FunctionDeclarator (at 92) (Some 36)
+    (more (node k.DeclaratorId (at 92) (Some 35) none)
+    (more (node k.ParameterDeclarationClause (at 97) None none) (more (node k.FunctionQualifiers (at 99) None none) none))))
+    (more (node k.CompoundStatement (at 99) (Some 45)
+    (more (node k.ReturnStatement (at 101) (Some 39)
+    (more (node k.FunctionCall (at 108) (Some 41)
+    (more (node k.UnqualifiedId (at 108) (Some 40) none) (more (node k.IntegerLiteral (at 110) (Some 42) none) none))) none)) none)) none))))
     ∷ []
 
 abbrev pub text : List ℕ

@@ -38,8 +38,22 @@ tokens = token t.Key 0 6 0 (codes "struct")
     ∷ []
 
 abbrev pub decls : List Tree
-decls = (node k.ClassSpecifier (at 7) (Some 1) (more (node k.ClassKey (at 0) (Some 0) none) (more (node k.MemberSpecification (at 9) (Some 12) (more (node k.MemberDeclaration (at 15) (Some 3) (more (node k.TypeSpecifierSeq (at 11) None (more (node k.SimpleTypeSpecifier (at 11) (Some 3) none) none)) (more (node k.MemberDeclarator (at 15) (Some 4) (more (node k.DeclaratorId (at 15) (Some 4) none) none)) none))) (more (node k.MemberDeclaration (at 22) (Some 6) (more (node k.TypeSpecifierSeq (at 18) None (more (node k.SimpleTypeSpecifier (at 18) (Some 6) none) none)) (more (node k.MemberDeclarator (at 22) (Some 7) (more (node k.FunctionDeclarator (at 22) (Some 8) (more (node k.DeclaratorId (at 22) (Some 7) none) (more (node k.ParameterDeclarationClause (at 26) None none) (more (node k.FunctionQualifiers (at 28) None (more (node k.CvQualifier (at 28) (Some 10) none) none)) none)))) none)) none))) none))) none)))
-    ∷ (node k.FunctionDefinition (at 45) (Some 14) (more (node k.TypeSpecifierSeq (at 38) None (more (node k.SimpleTypeSpecifier (at 38) (Some 14) none) none)) (more (node k.FunctionDeclarator (at 42) (Some 18) (more (node k.QualifiedDeclaratorId (at 42) (Some 17) (more (node k.TypeName (at 42) (Some 15) none) none)) (more (node k.ParameterDeclarationClause (at 49) None none) (more (node k.FunctionQualifiers (at 51) None (more (node k.CvQualifier (at 51) (Some 20) none) none)) none)))) (more (node k.CompoundStatement (at 57) (Some 25) (more (node k.ReturnStatement (at 59) (Some 22) (more (node k.UnqualifiedId (at 66) (Some 23) none) none)) none)) none))))
+decls = (node k.ClassSpecifier (at 7) (Some 1) (more (node k.ClassKey (at 0) (Some 0) none)
+    (more (node k.MemberSpecification (at 9) (Some 12)
+    (more (node k.MemberDeclaration (at 15) (Some 3) (more (node k.TypeSpecifierSeq (at 11) None (more (node k.SimpleTypeSpecifier (at 11) (Some 3) none) none))
+    (more (node k.MemberDeclarator (at 15) (Some 4) (more (node k.DeclaratorId (at 15) (Some 4) none) none)) none)))
+    (more (node k.MemberDeclaration (at 22) (Some 6) (more (node k.TypeSpecifierSeq (at 18) None (more (node k.SimpleTypeSpecifier (at 18) (Some 6) none) none))
+    (more (node k.MemberDeclarator (at 22) (Some 7) (more
+    (node k.FunctionDeclarator (at 22) (Some 8) (more (node k.DeclaratorId (at 22) (Some 7) none)
+    (more (node k.ParameterDeclarationClause (at 26) None none)
+    (more (node k.FunctionQualifiers (at 28) None (more (node k.CvQualifier (at 28) (Some 10) none) none)) none)))) none)) none))) none))) none)))
+    ∷ (node k.FunctionDefinition (at 45) (Some 14) (more (node k.TypeSpecifierSeq (at 38) None (more (node k.SimpleTypeSpecifier (at 38) (Some 14) none) none))
+    (more (node k.FunctionDeclarator (at 42) (Some 18)
+    (more (node k.QualifiedDeclaratorId (at 42) (Some 17) (more (node k.TypeName (at 42) (Some 15) none) none))
+    (more (node k.ParameterDeclarationClause (at 49) None none)
+    (more (node k.FunctionQualifiers (at 51) None (more (node k.CvQualifier (at 51) (Some 20) none) none)) none))))
+    (more (node k.CompoundStatement (at 57) (Some 25)
+    (more (node k.ReturnStatement (at 59) (Some 22) (more (node k.UnqualifiedId (at 66) (Some 23) none) none)) none)) none))))
     ∷ []
 
 abbrev pub text : List ℕ

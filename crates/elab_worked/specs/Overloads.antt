@@ -60,9 +60,41 @@ tokens = token t.Key 0 4 0 (codes "void")
     ∷ []
 
 abbrev pub decls : List Tree
-decls = (node k.FunctionDefinition (at 5) (Some 0) (more (node k.TypeSpecifierSeq (at 0) None (more (node k.SimpleTypeSpecifier (at 0) (Some 0) none) none)) (more (node k.FunctionDeclarator (at 5) (Some 2) (more (node k.DeclaratorId (at 5) (Some 1) none) (more (node k.ParameterDeclarationClause (at 7) None (more (node k.ParameterDeclaration (at 7) None (more (node k.TypeSpecifierSeq (at 7) None (more (node k.SimpleTypeSpecifier (at 7) (Some 3) none) none)) (more (node k.OmittedId (at 10) None none) none))) none)) (more (node k.FunctionQualifiers (at 12) None none) none)))) (more (node k.CompoundStatement (at 12) (Some 11) (more (node k.ExpressionStatement (at 14) (Some 10) (more (node k.FunctionCall (at 14) (Some 7) (more (node k.UnqualifiedId (at 14) (Some 6) none) (more (node k.CharacterLiteral (at 22) (Some 8) none) none))) none)) none)) none))))
-    ∷ (node k.FunctionDefinition (at 35) (Some 12) (more (node k.TypeSpecifierSeq (at 30) None (more (node k.SimpleTypeSpecifier (at 30) (Some 12) none) none)) (more (node k.FunctionDeclarator (at 35) (Some 14) (more (node k.DeclaratorId (at 35) (Some 13) none) (more (node k.ParameterDeclarationClause (at 37) None (more (node k.ParameterDeclaration (at 37) None (more (node k.TypeSpecifierSeq (at 37) None (more (node k.SimpleTypeSpecifier (at 37) (Some 15) none) none)) (more (node k.OmittedId (at 41) None none) none))) none)) (more (node k.FunctionQualifiers (at 43) None none) none)))) (more (node k.CompoundStatement (at 43) (Some 23) (more (node k.ExpressionStatement (at 45) (Some 22) (more (node k.FunctionCall (at 45) (Some 19) (more (node k.UnqualifiedId (at 45) (Some 18) none) (more (node k.CharacterLiteral (at 53) (Some 20) none) none))) none)) none)) none))))
-    ∷ (node k.FunctionDefinition (at 65) (Some 24) (more (node k.TypeSpecifierSeq (at 61) None (more (node k.SimpleTypeSpecifier (at 61) (Some 24) none) none)) (more (node k.FunctionDeclarator (at 65) (Some 26) (more (node k.DeclaratorId (at 65) (Some 25) none) (more (node k.ParameterDeclarationClause (at 70) None none) (more (node k.FunctionQualifiers (at 72) None none) none)))) (more (node k.CompoundStatement (at 72) (Some 47) (more (node k.ExpressionStatement (at 74) (Some 33) (more (node k.FunctionCall (at 74) (Some 30) (more (node k.UnqualifiedId (at 74) (Some 29) none) (more (node k.IntegerLiteral (at 76) (Some 31) none) none))) none)) (more (node k.ExpressionStatement (at 80) (Some 38) (more (node k.FunctionCall (at 80) (Some 35) (more (node k.UnqualifiedId (at 80) (Some 34) none) (more (node k.IntegerLiteral (at 82) (Some 36) none) none))) none)) (more (node k.ExpressionStatement (at 87) (Some 43) (more (node k.FunctionCall (at 87) (Some 40) (more (node k.UnqualifiedId (at 87) (Some 39) none) (more (node k.CharacterLiteral (at 89) (Some 41) none) none))) none)) (more (node k.ReturnStatement (at 95) (Some 44) (more (node k.IntegerLiteral (at 102) (Some 45) none) none)) none))))) none))))
+decls = (node k.FunctionDefinition (at 5) (Some 0) (more (node k.TypeSpecifierSeq (at 0) None (more (node k.SimpleTypeSpecifier (at 0) (Some 0) none) none))
+    (more (node k.FunctionDeclarator (at 5) (Some 2) (more (node k.DeclaratorId (at 5) (Some 1) none)
+    (more (node k.ParameterDeclarationClause (at 7) None
+    (more (node k.ParameterDeclaration (at 7) None (more (node k.TypeSpecifierSeq (at 7) None (more (node k.SimpleTypeSpecifier (at 7) (Some 3) none) none))
+    (more (node k.OmittedId (at 10) None none) none))) none)) (more (node k.FunctionQualifiers (at 12) None none) none))))
+    (more (node k.CompoundStatement (at 12) (Some 11)
+    (more (node k.ExpressionStatement (at 14) (Some 10)
+    (more (node k.FunctionCall (at 14) (Some 7) (more (node k.UnqualifiedId (at 14) (Some 6) none)
+    (more (node k.CharacterLiteral (at 22) (Some 8) none) none))) none)) none)) none))))
+    ∷ (node k.FunctionDefinition (at 35) (Some 12) (more (node k.TypeSpecifierSeq (at 30) None (more (node k.SimpleTypeSpecifier (at 30) (Some 12) none) none))
+    (more (node k.FunctionDeclarator (at 35) (Some 14)
+    (more (node k.DeclaratorId (at 35) (Some 13) none)
+    (more (node k.ParameterDeclarationClause (at 37) None
+    (more (node k.ParameterDeclaration (at 37) None
+    (more (node k.TypeSpecifierSeq (at 37) None (more (node k.SimpleTypeSpecifier (at 37) (Some 15) none) none))
+    (more (node k.OmittedId (at 41) None none) none))) none)) (more (node k.FunctionQualifiers (at 43) None none) none))))
+    (more (node k.CompoundStatement (at 43) (Some 23)
+    (more (node k.ExpressionStatement (at 45) (Some 22)
+    (more (node k.FunctionCall (at 45) (Some 19) (more (node k.UnqualifiedId (at 45) (Some 18) none)
+    (more (node k.CharacterLiteral (at 53) (Some 20) none) none))) none)) none)) none))))
+    ∷ (node k.FunctionDefinition (at 65) (Some 24) (more (node k.TypeSpecifierSeq (at 61) None (more (node k.SimpleTypeSpecifier (at 61) (Some 24) none) none))
+    (more (node k.FunctionDeclarator (at 65) (Some 26)
+    (more (node k.DeclaratorId (at 65) (Some 25) none)
+    (more (node k.ParameterDeclarationClause (at 70) None none) (more (node k.FunctionQualifiers (at 72) None none) none))))
+    (more (node k.CompoundStatement (at 72) (Some 47)
+    (more (node k.ExpressionStatement (at 74) (Some 33)
+    (more (node k.FunctionCall (at 74) (Some 30) (more (node k.UnqualifiedId (at 74) (Some 29) none)
+    (more (node k.IntegerLiteral (at 76) (Some 31) none) none))) none))
+    (more (node k.ExpressionStatement (at 80) (Some 38)
+    (more (node k.FunctionCall (at 80) (Some 35) (more (node k.UnqualifiedId (at 80) (Some 34) none)
+    (more (node k.IntegerLiteral (at 82) (Some 36) none) none))) none))
+    (more (node k.ExpressionStatement (at 87) (Some 43)
+    (more (node k.FunctionCall (at 87) (Some 40) (more (node k.UnqualifiedId (at 87) (Some 39) none)
+    (more (node k.CharacterLiteral (at 89) (Some 41) none) none))) none))
+    (more (node k.ReturnStatement (at 95) (Some 44) (more (node k.IntegerLiteral (at 102) (Some 45) none) none)) none))))) none))))
     ∷ []
 
 abbrev pub text : List ℕ

@@ -130,7 +130,71 @@ tokens = token t.Key 0 3 0 (codes "int")
     ∷ []
 
 abbrev pub decls : List Tree
-decls = (node k.FunctionDefinition (at 4) (Some 0) (more (node k.TypeSpecifierSeq (at 0) None (more (node k.SimpleTypeSpecifier (at 0) (Some 0) none) none)) (more (node k.FunctionDeclarator (at 4) (Some 2) (more (node k.DeclaratorId (at 4) (Some 1) none) (more (node k.ParameterDeclarationClause (at 9) None none) (more (node k.FunctionQualifiers (at 11) None none) none)))) (more (node k.CompoundStatement (at 11) (Some 108) (more (node k.SimpleDeclaration (at 19) (Some 5) (more (node k.TypeSpecifierSeq (at 15) None (more (node k.SimpleTypeSpecifier (at 15) (Some 5) none) none)) (more (node k.InitDeclarator (at 19) (Some 6) (more (node k.DeclaratorId (at 19) (Some 6) none) (more (node k.EqualInitializer (at 21) (Some 7) (more (node k.ParenthesizedExpression (at 23) (Some 8) (more (node k.IntegerLiteral (at 24) (Some 9) none) none)) none)) none))) none))) (more (node k.SimpleDeclaration (at 35) (Some 12) (more (node k.TypeSpecifierSeq (at 30) None (more (node k.SimpleTypeSpecifier (at 30) (Some 12) none) none)) (more (node k.InitDeclarator (at 35) (Some 14) (more (node k.PointerDeclarator (at 33) (Some 13) (more (node k.DeclaratorId (at 35) (Some 14) none) none)) (more (node k.EqualInitializer (at 37) (Some 15) (more (node k.ParenthesizedExpression (at 39) (Some 16) (more (node k.UnaryExpression (at 40) (Some 17) (more (node k.ParenthesizedExpression (at 41) (Some 18) (more (node k.UnqualifiedId (at 42) (Some 19) none) none)) none)) none)) none)) none))) none))) (more (node k.ExpressionStatement (at 49) (Some 36) (more (node k.AssignmentExpression (at 49) (Some 26) (more (node k.ParenthesizedExpression (at 49) (Some 23) (more (node k.UnqualifiedId (at 50) (Some 24) none) none)) (more (node k.ParenthesizedExpression (at 55) (Some 27) (more (node k.BinaryExpression (at 56) (Some 31) (more (node k.ParenthesizedExpression (at 56) (Some 28) (more (node k.IntegerLiteral (at 57) (Some 29) none) none)) (more (node k.ParenthesizedExpression (at 62) (Some 32) (more (node k.UnqualifiedId (at 63) (Some 33) none) none)) none))) none)) none))) none)) (more (node k.ExpressionStatement (at 70) (Some 43) (more (node k.PostfixIncrement (at 70) (Some 42) (more (node k.ParenthesizedExpression (at 70) (Some 37) (more (node k.ParenthesizedExpression (at 71) (Some 38) (more (node k.UnqualifiedId (at 72) (Some 39) none) none)) none)) none)) none)) (more (node k.SimpleDeclaration (at 85) (Some 44) (more (node k.TypeSpecifierSeq (at 81) None (more (node k.SimpleTypeSpecifier (at 81) (Some 44) none) none)) (more (node k.InitDeclarator (at 85) (Some 45) (more (node k.DeclaratorId (at 85) (Some 45) none) (more (node k.EqualInitializer (at 87) (Some 46) (more (node k.BinaryExpression (at 89) (Some 51) (more (node k.UnaryExpression (at 89) (Some 47) (more (node k.ParenthesizedExpression (at 90) (Some 48) (more (node k.UnqualifiedId (at 91) (Some 49) none) none)) none)) (more (node k.ParenthesizedExpression (at 96) (Some 52) (more (node k.BinaryExpression (at 97) (Some 57) (more (node k.UnaryExpression (at 97) (Some 53) (more (node k.ParenthesizedExpression (at 98) (Some 54) (more (node k.UnqualifiedId (at 99) (Some 55) none) none)) none)) (more (node k.ParenthesizedExpression (at 104) (Some 58) (more (node k.UnaryExpression (at 105) (Some 59) (more (node k.ParenthesizedExpression (at 106) (Some 60) (more (node k.IntegerLiteral (at 107) (Some 61) none) none)) none)) none)) none))) none)) none))) none)) none))) none))) (more (node k.IfStatement (at 115) (Some 66) (more (node k.BinaryExpression (at 119) (Some 73) (more (node k.ParenthesizedExpression (at 119) (Some 68) (more (node k.ParenthesizedExpression (at 120) (Some 69) (more (node k.UnqualifiedId (at 121) (Some 70) none) none)) none)) (more (node k.ParenthesizedExpression (at 127) (Some 74) (more (node k.UnqualifiedId (at 128) (Some 75) none) none)) none))) (more (node k.ExpressionStatement (at 132) (Some 83) (more (node k.AssignmentExpression (at 132) (Some 79) (more (node k.UnqualifiedId (at 132) (Some 78) none) (more (node k.ParenthesizedExpression (at 136) (Some 80) (more (node k.UnqualifiedId (at 137) (Some 81) none) none)) none))) none)) none))) (more (node k.SimpleDeclaration (at 148) (Some 84) (more (node k.TypeSpecifierSeq (at 143) None (more (node k.SimpleTypeSpecifier (at 143) (Some 84) none) none)) (more (node k.InitDeclarator (at 148) (Some 85) (more (node k.DeclaratorId (at 148) (Some 85) none) (more (node k.EqualInitializer (at 150) (Some 86) (more (node k.ParenthesizedExpression (at 152) (Some 87) (more (node k.UnqualifiedId (at 153) (Some 88) none) none)) none)) none))) none))) (more (node k.ReturnStatement (at 159) (Some 91) (more (node k.ParenthesizedExpression (at 166) (Some 92) (more (node k.BinaryExpression (at 167) (Some 99) (more (node k.ParenthesizedExpression (at 167) (Some 93) (more (node k.UnaryExpression (at 168) (Some 94) (more (node k.ParenthesizedExpression (at 169) (Some 95) (more (node k.UnqualifiedId (at 170) (Some 96) none) none)) none)) none)) (more (node k.CastExpression (at 176) (Some 100) (more (node k.TypeId (at 177) None (more (node k.TypeSpecifierSeq (at 177) None (more (node k.SimpleTypeSpecifier (at 177) (Some 101) none) none)) (more (node k.OmittedId (at 180) None none) none))) (more (node k.ParenthesizedExpression (at 181) (Some 103) (more (node k.UnqualifiedId (at 182) (Some 104) none) none)) none))) none))) none)) none)) none))))))))) none))))
+decls = (node k.FunctionDefinition (at 4) (Some 0) (more (node k.TypeSpecifierSeq (at 0) None (more (node k.SimpleTypeSpecifier (at 0) (Some 0) none) none))
+    (more (node k.FunctionDeclarator (at 4) (Some 2) (more (node k.DeclaratorId (at 4) (Some 1) none)
+    (more (node k.ParameterDeclarationClause (at 9) None none) (more (node k.FunctionQualifiers (at 11) None none) none))))
+    (more (node k.CompoundStatement (at 11) (Some 108)
+    (more (node k.SimpleDeclaration (at 19) (Some 5) (more (node k.TypeSpecifierSeq (at 15) None (more (node k.SimpleTypeSpecifier (at 15) (Some 5) none) none))
+    (more (node k.InitDeclarator (at 19) (Some 6) (more (node k.DeclaratorId (at 19) (Some 6) none)
+    (more (node k.EqualInitializer (at 21) (Some 7) (more
+    (node k.ParenthesizedExpression (at 23) (Some 8) (more (node k.IntegerLiteral (at 24) (Some 9) none) none)) none)) none))) none)))
+    (more (node k.SimpleDeclaration (at 35) (Some 12)
+    (more (node k.TypeSpecifierSeq (at 30) None (more (node k.SimpleTypeSpecifier (at 30) (Some 12) none) none))
+    (more (node k.InitDeclarator (at 35) (Some 14) (more (node k.PointerDeclarator (at 33) (Some 13) (more (node k.DeclaratorId (at 35) (Some 14) none) none))
+    (more (node k.EqualInitializer (at 37) (Some 15) (more
+    (node k.ParenthesizedExpression (at 39) (Some 16)
+    (more (node k.UnaryExpression (at 40) (Some 17) (more
+    (node k.ParenthesizedExpression (at 41) (Some 18) (more (node k.UnqualifiedId (at 42) (Some 19) none) none)) none)) none)) none)) none))) none)))
+    (more (node k.ExpressionStatement (at 49) (Some 36)
+    (more (node k.AssignmentExpression (at 49) (Some 26)
+    (more (node k.ParenthesizedExpression (at 49) (Some 23) (more (node k.UnqualifiedId (at 50) (Some 24) none) none))
+    (more (node k.ParenthesizedExpression (at 55) (Some 27)
+    (more (node k.BinaryExpression (at 56) (Some 31) (more
+    (node k.ParenthesizedExpression (at 56) (Some 28) (more (node k.IntegerLiteral (at 57) (Some 29) none) none))
+    (more (node k.ParenthesizedExpression (at 62) (Some 32) (more (node k.UnqualifiedId (at 63) (Some 33) none) none)) none))) none)) none))) none))
+    (more (node k.ExpressionStatement (at 70) (Some 43)
+    (more (node k.PostfixIncrement (at 70) (Some 42) (more
+    (node k.ParenthesizedExpression (at 70) (Some 37)
+    (more (node k.ParenthesizedExpression (at 71) (Some 38) (more (node k.UnqualifiedId (at 72) (Some 39) none) none)) none)) none)) none))
+    (more (node k.SimpleDeclaration (at 85) (Some 44)
+    (more (node k.TypeSpecifierSeq (at 81) None (more (node k.SimpleTypeSpecifier (at 81) (Some 44) none) none))
+    (more (node k.InitDeclarator (at 85) (Some 45) (more (node k.DeclaratorId (at 85) (Some 45) none)
+    (more (node k.EqualInitializer (at 87) (Some 46) (more
+    (node k.BinaryExpression (at 89) (Some 51) (more (node k.UnaryExpression (at 89) (Some 47)
+    (more (node k.ParenthesizedExpression (at 90) (Some 48) (more (node k.UnqualifiedId (at 91) (Some 49) none) none)) none))
+    (more (node k.ParenthesizedExpression (at 96) (Some 52)
+    (more (node k.BinaryExpression (at 97) (Some 57) (more
+    (node k.UnaryExpression (at 97) (Some 53) (more (node k.ParenthesizedExpression (at 98) (Some 54)
+    (more (node k.UnqualifiedId (at 99) (Some 55) none) none)) none))
+    (more (node k.ParenthesizedExpression (at 104) (Some 58)
+    (more (node k.UnaryExpression (at 105) (Some 59) (more
+    (node k.ParenthesizedExpression (at 106) (Some 60)
+    (more (node k.IntegerLiteral (at 107) (Some 61) none) none)) none)) none)) none))) none)) none))) none)) none))) none)))
+    (more (node k.IfStatement (at 115) (Some 66) (more
+    (node k.BinaryExpression (at 119) (Some 73) (more
+    (node k.ParenthesizedExpression (at 119) (Some 68)
+    (more (node k.ParenthesizedExpression (at 120) (Some 69) (more (node k.UnqualifiedId (at 121) (Some 70) none) none)) none))
+    (more (node k.ParenthesizedExpression (at 127) (Some 74) (more (node k.UnqualifiedId (at 128) (Some 75) none) none)) none)))
+    (more (node k.ExpressionStatement (at 132) (Some 83)
+    (more (node k.AssignmentExpression (at 132) (Some 79)
+    (more (node k.UnqualifiedId (at 132) (Some 78) none)
+    (more (node k.ParenthesizedExpression (at 136) (Some 80) (more (node k.UnqualifiedId (at 137) (Some 81) none) none)) none))) none)) none)))
+    (more (node k.SimpleDeclaration (at 148) (Some 84)
+    (more (node k.TypeSpecifierSeq (at 143) None (more (node k.SimpleTypeSpecifier (at 143) (Some 84) none) none))
+    (more (node k.InitDeclarator (at 148) (Some 85) (more (node k.DeclaratorId (at 148) (Some 85) none)
+    (more (node k.EqualInitializer (at 150) (Some 86)
+    (more (node k.ParenthesizedExpression (at 152) (Some 87) (more (node k.UnqualifiedId (at 153) (Some 88) none) none)) none)) none))) none)))
+    (more (node k.ReturnStatement (at 159) (Some 91) (more
+    (node k.ParenthesizedExpression (at 166) (Some 92)
+    (more (node k.BinaryExpression (at 167) (Some 99)
+    (more (node k.ParenthesizedExpression (at 167) (Some 93)
+    (more (node k.UnaryExpression (at 168) (Some 94) (more
+    (node k.ParenthesizedExpression (at 169) (Some 95) (more (node k.UnqualifiedId (at 170) (Some 96) none) none)) none)) none))
+    (more (node k.CastExpression (at 176) (Some 100) (more
+    (node k.TypeId (at 177) None (more (node k.TypeSpecifierSeq (at 177) None (more (node k.SimpleTypeSpecifier (at 177) (Some 101) none) none))
+    (more (node k.OmittedId (at 180) None none) none)))
+    (more (node k.ParenthesizedExpression (at 181) (Some 103)
+    (more (node k.UnqualifiedId (at 182) (Some 104) none) none)) none))) none))) none)) none)) none))))))))) none))))
     ∷ []
 
 abbrev pub text : List ℕ

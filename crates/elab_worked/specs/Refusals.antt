@@ -39,9 +39,30 @@ ambiguous_tokens = token t.Key 0 4 0 (codes "void")
     ∷ []
 
 abbrev pub ambiguous_decls : List Tree
-ambiguous_decls = (node k.FunctionDefinition (at 5) (Some 0) (more (node k.TypeSpecifierSeq (at 0) None (more (node k.SimpleTypeSpecifier (at 0) (Some 0) none) none)) (more (node k.FunctionDeclarator (at 5) (Some 2) (more (node k.DeclaratorId (at 5) (Some 1) none) (more (node k.ParameterDeclarationClause (at 7) None (more (node k.ParameterDeclaration (at 7) None (more (node k.TypeSpecifierSeq (at 7) None (more (node k.SimpleTypeSpecifier (at 7) (Some 3) none) none)) (more (node k.OmittedId (at 10) None none) none))) none)) (more (node k.FunctionQualifiers (at 12) None none) none)))) (more (node k.CompoundStatement (at 12) (Some 6) none) none))))
-    ∷ (node k.FunctionDefinition (at 20) (Some 7) (more (node k.TypeSpecifierSeq (at 15) None (more (node k.SimpleTypeSpecifier (at 15) (Some 7) none) none)) (more (node k.FunctionDeclarator (at 20) (Some 9) (more (node k.DeclaratorId (at 20) (Some 8) none) (more (node k.ParameterDeclarationClause (at 22) None (more (node k.ParameterDeclaration (at 22) None (more (node k.TypeSpecifierSeq (at 22) None (more (node k.SimpleTypeSpecifier (at 22) (Some 10) none) none)) (more (node k.OmittedId (at 26) None none) none))) none)) (more (node k.FunctionQualifiers (at 28) None none) none)))) (more (node k.CompoundStatement (at 28) (Some 13) none) none))))
-    ∷ (node k.FunctionDefinition (at 35) (Some 14) (more (node k.TypeSpecifierSeq (at 31) None (more (node k.SimpleTypeSpecifier (at 31) (Some 14) none) none)) (more (node k.FunctionDeclarator (at 35) (Some 16) (more (node k.DeclaratorId (at 35) (Some 15) none) (more (node k.ParameterDeclarationClause (at 40) None none) (more (node k.FunctionQualifiers (at 42) None none) none)))) (more (node k.CompoundStatement (at 42) (Some 27) (more (node k.ExpressionStatement (at 44) (Some 23) (more (node k.FunctionCall (at 44) (Some 20) (more (node k.UnqualifiedId (at 44) (Some 19) none) (more (node k.IntegerLiteral (at 46) (Some 21) none) none))) none)) (more (node k.ReturnStatement (at 51) (Some 24) (more (node k.IntegerLiteral (at 58) (Some 25) none) none)) none))) none))))
+ambiguous_decls = (node k.FunctionDefinition (at 5) (Some 0)
+    (more (node k.TypeSpecifierSeq (at 0) None (more (node k.SimpleTypeSpecifier (at 0) (Some 0) none) none))
+    (more (node k.FunctionDeclarator (at 5) (Some 2) (more (node k.DeclaratorId (at 5) (Some 1) none)
+    (more (node k.ParameterDeclarationClause (at 7) None
+    (more (node k.ParameterDeclaration (at 7) None (more (node k.TypeSpecifierSeq (at 7) None (more (node k.SimpleTypeSpecifier (at 7) (Some 3) none) none))
+    (more (node k.OmittedId (at 10) None none) none))) none)) (more (node k.FunctionQualifiers (at 12) None none) none))))
+    (more (node k.CompoundStatement (at 12) (Some 6) none) none))))
+    ∷ (node k.FunctionDefinition (at 20) (Some 7) (more (node k.TypeSpecifierSeq (at 15) None (more (node k.SimpleTypeSpecifier (at 15) (Some 7) none) none))
+    (more (node k.FunctionDeclarator (at 20) (Some 9)
+    (more (node k.DeclaratorId (at 20) (Some 8) none)
+    (more (node k.ParameterDeclarationClause (at 22) None
+    (more (node k.ParameterDeclaration (at 22) None
+    (more (node k.TypeSpecifierSeq (at 22) None (more (node k.SimpleTypeSpecifier (at 22) (Some 10) none) none))
+    (more (node k.OmittedId (at 26) None none) none))) none)) (more (node k.FunctionQualifiers (at 28) None none) none))))
+    (more (node k.CompoundStatement (at 28) (Some 13) none) none))))
+    ∷ (node k.FunctionDefinition (at 35) (Some 14) (more (node k.TypeSpecifierSeq (at 31) None (more (node k.SimpleTypeSpecifier (at 31) (Some 14) none) none))
+    (more (node k.FunctionDeclarator (at 35) (Some 16)
+    (more (node k.DeclaratorId (at 35) (Some 15) none)
+    (more (node k.ParameterDeclarationClause (at 40) None none) (more (node k.FunctionQualifiers (at 42) None none) none))))
+    (more (node k.CompoundStatement (at 42) (Some 27)
+    (more (node k.ExpressionStatement (at 44) (Some 23)
+    (more (node k.FunctionCall (at 44) (Some 20) (more (node k.UnqualifiedId (at 44) (Some 19) none)
+    (more (node k.IntegerLiteral (at 46) (Some 21) none) none))) none))
+    (more (node k.ReturnStatement (at 51) (Some 24) (more (node k.IntegerLiteral (at 58) (Some 25) none) none)) none))) none))))
     ∷ []
 
 --     int main() { break; return 0; }
@@ -60,7 +81,13 @@ bad_break_tokens = token t.Key 0 3 0 (codes "int")
     ∷ []
 
 abbrev pub bad_break_decls : List Tree
-bad_break_decls = (node k.FunctionDefinition (at 4) (Some 0) (more (node k.TypeSpecifierSeq (at 0) None (more (node k.SimpleTypeSpecifier (at 0) (Some 0) none) none)) (more (node k.FunctionDeclarator (at 4) (Some 2) (more (node k.DeclaratorId (at 4) (Some 1) none) (more (node k.ParameterDeclarationClause (at 9) None none) (more (node k.FunctionQualifiers (at 11) None none) none)))) (more (node k.CompoundStatement (at 11) (Some 10) (more (node k.BreakStatement (at 13) (Some 5) none) (more (node k.ReturnStatement (at 20) (Some 7) (more (node k.IntegerLiteral (at 27) (Some 8) none) none)) none))) none))))
+bad_break_decls = (node k.FunctionDefinition (at 4) (Some 0)
+    (more (node k.TypeSpecifierSeq (at 0) None (more (node k.SimpleTypeSpecifier (at 0) (Some 0) none) none))
+    (more (node k.FunctionDeclarator (at 4) (Some 2) (more (node k.DeclaratorId (at 4) (Some 1) none)
+    (more (node k.ParameterDeclarationClause (at 9) None none) (more (node k.FunctionQualifiers (at 11) None none) none))))
+    (more (node k.CompoundStatement (at 11) (Some 10)
+    (more (node k.BreakStatement (at 13) (Some 5) none)
+    (more (node k.ReturnStatement (at 20) (Some 7) (more (node k.IntegerLiteral (at 27) (Some 8) none) none)) none))) none))))
     ∷ []
 
 --     int main() { switch (1) { case 1: ; case 1: ; } return 0; }
@@ -91,7 +118,18 @@ bad_case_tokens = token t.Key 0 3 0 (codes "int")
     ∷ []
 
 abbrev pub bad_case_decls : List Tree
-bad_case_decls = (node k.FunctionDefinition (at 4) (Some 0) (more (node k.TypeSpecifierSeq (at 0) None (more (node k.SimpleTypeSpecifier (at 0) (Some 0) none) none)) (more (node k.FunctionDeclarator (at 4) (Some 2) (more (node k.DeclaratorId (at 4) (Some 1) none) (more (node k.ParameterDeclarationClause (at 9) None none) (more (node k.FunctionQualifiers (at 11) None none) none)))) (more (node k.CompoundStatement (at 11) (Some 22) (more (node k.SwitchStatement (at 13) (Some 5) (more (node k.IntegerLiteral (at 21) (Some 7) none) (more (node k.CompoundStatement (at 24) (Some 18) (more (node k.CaseStatement (at 26) (Some 10) (more (node k.IntegerLiteral (at 31) (Some 11) none) (more (node k.NullStatement (at 34) (Some 13) none) none))) (more (node k.CaseStatement (at 36) (Some 14) (more (node k.IntegerLiteral (at 41) (Some 15) none) (more (node k.NullStatement (at 44) (Some 17) none) none))) none))) none))) (more (node k.ReturnStatement (at 48) (Some 19) (more (node k.IntegerLiteral (at 55) (Some 20) none) none)) none))) none))))
+bad_case_decls = (node k.FunctionDefinition (at 4) (Some 0)
+    (more (node k.TypeSpecifierSeq (at 0) None (more (node k.SimpleTypeSpecifier (at 0) (Some 0) none) none))
+    (more (node k.FunctionDeclarator (at 4) (Some 2) (more (node k.DeclaratorId (at 4) (Some 1) none)
+    (more (node k.ParameterDeclarationClause (at 9) None none) (more (node k.FunctionQualifiers (at 11) None none) none))))
+    (more (node k.CompoundStatement (at 11) (Some 22)
+    (more (node k.SwitchStatement (at 13) (Some 5) (more (node k.IntegerLiteral (at 21) (Some 7) none)
+    (more (node k.CompoundStatement (at 24) (Some 18)
+    (more (node k.CaseStatement (at 26) (Some 10) (more (node k.IntegerLiteral (at 31) (Some 11) none)
+    (more (node k.NullStatement (at 34) (Some 13) none) none)))
+    (more (node k.CaseStatement (at 36) (Some 14) (more (node k.IntegerLiteral (at 41) (Some 15) none)
+    (more (node k.NullStatement (at 44) (Some 17) none) none))) none))) none)))
+    (more (node k.ReturnStatement (at 48) (Some 19) (more (node k.IntegerLiteral (at 55) (Some 20) none) none)) none))) none))))
     ∷ []
 
 --     int main() { try { } catch (int* p) { } return 0; }
@@ -119,7 +157,17 @@ bad_catch_tokens = token t.Key 0 3 0 (codes "int")
     ∷ []
 
 abbrev pub bad_catch_decls : List Tree
-bad_catch_decls = (node k.FunctionDefinition (at 4) (Some 0) (more (node k.TypeSpecifierSeq (at 0) None (more (node k.SimpleTypeSpecifier (at 0) (Some 0) none) none)) (more (node k.FunctionDeclarator (at 4) (Some 2) (more (node k.DeclaratorId (at 4) (Some 1) none) (more (node k.ParameterDeclarationClause (at 9) None none) (more (node k.FunctionQualifiers (at 11) None none) none)))) (more (node k.CompoundStatement (at 11) (Some 19) (more (node k.TryBlock (at 13) (Some 5) (more (node k.CompoundStatement (at 17) (Some 7) none) (more (node k.Handler (at 21) (Some 8) (more (node k.ParameterDeclaration (at 33) None (more (node k.TypeSpecifierSeq (at 28) None (more (node k.SimpleTypeSpecifier (at 28) (Some 10) none) none)) (more (node k.PointerDeclarator (at 31) (Some 11) (more (node k.DeclaratorId (at 33) (Some 12) none) none)) none))) (more (node k.CompoundStatement (at 36) (Some 15) none) none))) none))) (more (node k.ReturnStatement (at 40) (Some 16) (more (node k.IntegerLiteral (at 47) (Some 17) none) none)) none))) none))))
+bad_catch_decls = (node k.FunctionDefinition (at 4) (Some 0)
+    (more (node k.TypeSpecifierSeq (at 0) None (more (node k.SimpleTypeSpecifier (at 0) (Some 0) none) none))
+    (more (node k.FunctionDeclarator (at 4) (Some 2) (more (node k.DeclaratorId (at 4) (Some 1) none)
+    (more (node k.ParameterDeclarationClause (at 9) None none) (more (node k.FunctionQualifiers (at 11) None none) none))))
+    (more (node k.CompoundStatement (at 11) (Some 19)
+    (more (node k.TryBlock (at 13) (Some 5) (more (node k.CompoundStatement (at 17) (Some 7) none)
+    (more (node k.Handler (at 21) (Some 8) (more (node k.ParameterDeclaration (at 33) None
+    (more (node k.TypeSpecifierSeq (at 28) None (more (node k.SimpleTypeSpecifier (at 28) (Some 10) none) none))
+    (more (node k.PointerDeclarator (at 31) (Some 11) (more (node k.DeclaratorId (at 33) (Some 12) none) none)) none)))
+    (more (node k.CompoundStatement (at 36) (Some 15) none) none))) none)))
+    (more (node k.ReturnStatement (at 40) (Some 16) (more (node k.IntegerLiteral (at 47) (Some 17) none) none)) none))) none))))
     ∷ []
 
 --     void x; int main() { return 0; }
@@ -139,8 +187,15 @@ bad_declaration_tokens = token t.Key 0 4 0 (codes "void")
     ∷ []
 
 abbrev pub bad_declaration_decls : List Tree
-bad_declaration_decls = (node k.SimpleDeclaration (at 5) (Some 0) (more (node k.TypeSpecifierSeq (at 0) None (more (node k.SimpleTypeSpecifier (at 0) (Some 0) none) none)) (more (node k.InitDeclarator (at 5) (Some 1) (more (node k.DeclaratorId (at 5) (Some 1) none) none)) none)))
-    ∷ (node k.FunctionDefinition (at 12) (Some 3) (more (node k.TypeSpecifierSeq (at 8) None (more (node k.SimpleTypeSpecifier (at 8) (Some 3) none) none)) (more (node k.FunctionDeclarator (at 12) (Some 5) (more (node k.DeclaratorId (at 12) (Some 4) none) (more (node k.ParameterDeclarationClause (at 17) None none) (more (node k.FunctionQualifiers (at 19) None none) none)))) (more (node k.CompoundStatement (at 19) (Some 11) (more (node k.ReturnStatement (at 21) (Some 8) (more (node k.IntegerLiteral (at 28) (Some 9) none) none)) none)) none))))
+bad_declaration_decls = (node k.SimpleDeclaration (at 5) (Some 0)
+    (more (node k.TypeSpecifierSeq (at 0) None (more (node k.SimpleTypeSpecifier (at 0) (Some 0) none) none))
+    (more (node k.InitDeclarator (at 5) (Some 1) (more (node k.DeclaratorId (at 5) (Some 1) none) none)) none)))
+    ∷ (node k.FunctionDefinition (at 12) (Some 3) (more (node k.TypeSpecifierSeq (at 8) None (more (node k.SimpleTypeSpecifier (at 8) (Some 3) none) none))
+    (more (node k.FunctionDeclarator (at 12) (Some 5)
+    (more (node k.DeclaratorId (at 12) (Some 4) none)
+    (more (node k.ParameterDeclarationClause (at 17) None none) (more (node k.FunctionQualifiers (at 19) None none) none))))
+    (more (node k.CompoundStatement (at 19) (Some 11)
+    (more (node k.ReturnStatement (at 21) (Some 8) (more (node k.IntegerLiteral (at 28) (Some 9) none) none)) none)) none))))
     ∷ []
 
 --     const int x; int main() { return 0; }
@@ -161,8 +216,15 @@ bad_init_tokens = token t.Key 0 5 0 (codes "const")
     ∷ []
 
 abbrev pub bad_init_decls : List Tree
-bad_init_decls = (node k.SimpleDeclaration (at 10) (Some 0) (more (node k.TypeSpecifierSeq (at 0) None (more (node k.CvQualifier (at 0) (Some 0) none) (more (node k.SimpleTypeSpecifier (at 6) (Some 1) none) none))) (more (node k.InitDeclarator (at 10) (Some 2) (more (node k.DeclaratorId (at 10) (Some 2) none) none)) none)))
-    ∷ (node k.FunctionDefinition (at 17) (Some 4) (more (node k.TypeSpecifierSeq (at 13) None (more (node k.SimpleTypeSpecifier (at 13) (Some 4) none) none)) (more (node k.FunctionDeclarator (at 17) (Some 6) (more (node k.DeclaratorId (at 17) (Some 5) none) (more (node k.ParameterDeclarationClause (at 22) None none) (more (node k.FunctionQualifiers (at 24) None none) none)))) (more (node k.CompoundStatement (at 24) (Some 12) (more (node k.ReturnStatement (at 26) (Some 9) (more (node k.IntegerLiteral (at 33) (Some 10) none) none)) none)) none))))
+bad_init_decls = (node k.SimpleDeclaration (at 10) (Some 0)
+    (more (node k.TypeSpecifierSeq (at 0) None (more (node k.CvQualifier (at 0) (Some 0) none) (more (node k.SimpleTypeSpecifier (at 6) (Some 1) none) none)))
+    (more (node k.InitDeclarator (at 10) (Some 2) (more (node k.DeclaratorId (at 10) (Some 2) none) none)) none)))
+    ∷ (node k.FunctionDefinition (at 17) (Some 4) (more (node k.TypeSpecifierSeq (at 13) None (more (node k.SimpleTypeSpecifier (at 13) (Some 4) none) none))
+    (more (node k.FunctionDeclarator (at 17) (Some 6)
+    (more (node k.DeclaratorId (at 17) (Some 5) none)
+    (more (node k.ParameterDeclarationClause (at 22) None none) (more (node k.FunctionQualifiers (at 24) None none) none))))
+    (more (node k.CompoundStatement (at 24) (Some 12)
+    (more (node k.ReturnStatement (at 26) (Some 9) (more (node k.IntegerLiteral (at 33) (Some 10) none) none)) none)) none))))
     ∷ []
 
 --     long main() { return 0; }
@@ -179,7 +241,12 @@ bad_main_tokens = token t.Key 0 4 0 (codes "long")
     ∷ []
 
 abbrev pub bad_main_decls : List Tree
-bad_main_decls = (node k.FunctionDefinition (at 5) (Some 0) (more (node k.TypeSpecifierSeq (at 0) None (more (node k.SimpleTypeSpecifier (at 0) (Some 0) none) none)) (more (node k.FunctionDeclarator (at 5) (Some 2) (more (node k.DeclaratorId (at 5) (Some 1) none) (more (node k.ParameterDeclarationClause (at 10) None none) (more (node k.FunctionQualifiers (at 12) None none) none)))) (more (node k.CompoundStatement (at 12) (Some 8) (more (node k.ReturnStatement (at 14) (Some 5) (more (node k.IntegerLiteral (at 21) (Some 6) none) none)) none)) none))))
+bad_main_decls = (node k.FunctionDefinition (at 5) (Some 0)
+    (more (node k.TypeSpecifierSeq (at 0) None (more (node k.SimpleTypeSpecifier (at 0) (Some 0) none) none))
+    (more (node k.FunctionDeclarator (at 5) (Some 2) (more (node k.DeclaratorId (at 5) (Some 1) none)
+    (more (node k.ParameterDeclarationClause (at 10) None none) (more (node k.FunctionQualifiers (at 12) None none) none))))
+    (more (node k.CompoundStatement (at 12) (Some 8) (more
+    (node k.ReturnStatement (at 14) (Some 5) (more (node k.IntegerLiteral (at 21) (Some 6) none) none)) none)) none))))
     ∷ []
 
 --     int main() { int a = 1; return *a; }
@@ -202,7 +269,16 @@ bad_operand_tokens = token t.Key 0 3 0 (codes "int")
     ∷ []
 
 abbrev pub bad_operand_decls : List Tree
-bad_operand_decls = (node k.FunctionDefinition (at 4) (Some 0) (more (node k.TypeSpecifierSeq (at 0) None (more (node k.SimpleTypeSpecifier (at 0) (Some 0) none) none)) (more (node k.FunctionDeclarator (at 4) (Some 2) (more (node k.DeclaratorId (at 4) (Some 1) none) (more (node k.ParameterDeclarationClause (at 9) None none) (more (node k.FunctionQualifiers (at 11) None none) none)))) (more (node k.CompoundStatement (at 11) (Some 14) (more (node k.SimpleDeclaration (at 17) (Some 5) (more (node k.TypeSpecifierSeq (at 13) None (more (node k.SimpleTypeSpecifier (at 13) (Some 5) none) none)) (more (node k.InitDeclarator (at 17) (Some 6) (more (node k.DeclaratorId (at 17) (Some 6) none) (more (node k.EqualInitializer (at 19) (Some 7) (more (node k.IntegerLiteral (at 21) (Some 8) none) none)) none))) none))) (more (node k.ReturnStatement (at 24) (Some 10) (more (node k.UnaryExpression (at 31) (Some 11) (more (node k.UnqualifiedId (at 32) (Some 12) none) none)) none)) none))) none))))
+bad_operand_decls = (node k.FunctionDefinition (at 4) (Some 0)
+    (more (node k.TypeSpecifierSeq (at 0) None (more (node k.SimpleTypeSpecifier (at 0) (Some 0) none) none))
+    (more (node k.FunctionDeclarator (at 4) (Some 2) (more (node k.DeclaratorId (at 4) (Some 1) none)
+    (more (node k.ParameterDeclarationClause (at 9) None none) (more (node k.FunctionQualifiers (at 11) None none) none))))
+    (more (node k.CompoundStatement (at 11) (Some 14)
+    (more (node k.SimpleDeclaration (at 17) (Some 5) (more (node k.TypeSpecifierSeq (at 13) None (more (node k.SimpleTypeSpecifier (at 13) (Some 5) none) none))
+    (more (node k.InitDeclarator (at 17) (Some 6) (more (node k.DeclaratorId (at 17) (Some 6) none)
+    (more (node k.EqualInitializer (at 19) (Some 7) (more (node k.IntegerLiteral (at 21) (Some 8) none) none)) none))) none)))
+    (more (node k.ReturnStatement (at 24) (Some 10) (more
+    (node k.UnaryExpression (at 31) (Some 11) (more (node k.UnqualifiedId (at 32) (Some 12) none) none)) none)) none))) none))))
     ∷ []
 
 --     void f() { return 1; } int main() { return 0; }
@@ -228,8 +304,18 @@ bad_return_tokens = token t.Key 0 4 0 (codes "void")
     ∷ []
 
 abbrev pub bad_return_decls : List Tree
-bad_return_decls = (node k.FunctionDefinition (at 5) (Some 0) (more (node k.TypeSpecifierSeq (at 0) None (more (node k.SimpleTypeSpecifier (at 0) (Some 0) none) none)) (more (node k.FunctionDeclarator (at 5) (Some 2) (more (node k.DeclaratorId (at 5) (Some 1) none) (more (node k.ParameterDeclarationClause (at 7) None none) (more (node k.FunctionQualifiers (at 9) None none) none)))) (more (node k.CompoundStatement (at 9) (Some 8) (more (node k.ReturnStatement (at 11) (Some 5) (more (node k.IntegerLiteral (at 18) (Some 6) none) none)) none)) none))))
-    ∷ (node k.FunctionDefinition (at 27) (Some 9) (more (node k.TypeSpecifierSeq (at 23) None (more (node k.SimpleTypeSpecifier (at 23) (Some 9) none) none)) (more (node k.FunctionDeclarator (at 27) (Some 11) (more (node k.DeclaratorId (at 27) (Some 10) none) (more (node k.ParameterDeclarationClause (at 32) None none) (more (node k.FunctionQualifiers (at 34) None none) none)))) (more (node k.CompoundStatement (at 34) (Some 17) (more (node k.ReturnStatement (at 36) (Some 14) (more (node k.IntegerLiteral (at 43) (Some 15) none) none)) none)) none))))
+bad_return_decls = (node k.FunctionDefinition (at 5) (Some 0)
+    (more (node k.TypeSpecifierSeq (at 0) None (more (node k.SimpleTypeSpecifier (at 0) (Some 0) none) none))
+    (more (node k.FunctionDeclarator (at 5) (Some 2) (more (node k.DeclaratorId (at 5) (Some 1) none)
+    (more (node k.ParameterDeclarationClause (at 7) None none) (more (node k.FunctionQualifiers (at 9) None none) none))))
+    (more (node k.CompoundStatement (at 9) (Some 8) (more
+    (node k.ReturnStatement (at 11) (Some 5) (more (node k.IntegerLiteral (at 18) (Some 6) none) none)) none)) none))))
+    ∷ (node k.FunctionDefinition (at 27) (Some 9) (more (node k.TypeSpecifierSeq (at 23) None (more (node k.SimpleTypeSpecifier (at 23) (Some 9) none) none))
+    (more (node k.FunctionDeclarator (at 27) (Some 11)
+    (more (node k.DeclaratorId (at 27) (Some 10) none)
+    (more (node k.ParameterDeclarationClause (at 32) None none) (more (node k.FunctionQualifiers (at 34) None none) none))))
+    (more (node k.CompoundStatement (at 34) (Some 17)
+    (more (node k.ReturnStatement (at 36) (Some 14) (more (node k.IntegerLiteral (at 43) (Some 15) none) none)) none)) none))))
     ∷ []
 
 --     int main() { int x = 1; throw &x; }
@@ -252,7 +338,17 @@ bad_throw_tokens = token t.Key 0 3 0 (codes "int")
     ∷ []
 
 abbrev pub bad_throw_decls : List Tree
-bad_throw_decls = (node k.FunctionDefinition (at 4) (Some 0) (more (node k.TypeSpecifierSeq (at 0) None (more (node k.SimpleTypeSpecifier (at 0) (Some 0) none) none)) (more (node k.FunctionDeclarator (at 4) (Some 2) (more (node k.DeclaratorId (at 4) (Some 1) none) (more (node k.ParameterDeclarationClause (at 9) None none) (more (node k.FunctionQualifiers (at 11) None none) none)))) (more (node k.CompoundStatement (at 11) (Some 14) (more (node k.SimpleDeclaration (at 17) (Some 5) (more (node k.TypeSpecifierSeq (at 13) None (more (node k.SimpleTypeSpecifier (at 13) (Some 5) none) none)) (more (node k.InitDeclarator (at 17) (Some 6) (more (node k.DeclaratorId (at 17) (Some 6) none) (more (node k.EqualInitializer (at 19) (Some 7) (more (node k.IntegerLiteral (at 21) (Some 8) none) none)) none))) none))) (more (node k.ExpressionStatement (at 24) (Some 13) (more (node k.ThrowExpression (at 24) (Some 10) (more (node k.UnaryExpression (at 30) (Some 11) (more (node k.UnqualifiedId (at 31) (Some 12) none) none)) none)) none)) none))) none))))
+bad_throw_decls = (node k.FunctionDefinition (at 4) (Some 0)
+    (more (node k.TypeSpecifierSeq (at 0) None (more (node k.SimpleTypeSpecifier (at 0) (Some 0) none) none))
+    (more (node k.FunctionDeclarator (at 4) (Some 2) (more (node k.DeclaratorId (at 4) (Some 1) none)
+    (more (node k.ParameterDeclarationClause (at 9) None none) (more (node k.FunctionQualifiers (at 11) None none) none))))
+    (more (node k.CompoundStatement (at 11) (Some 14)
+    (more (node k.SimpleDeclaration (at 17) (Some 5) (more (node k.TypeSpecifierSeq (at 13) None (more (node k.SimpleTypeSpecifier (at 13) (Some 5) none) none))
+    (more (node k.InitDeclarator (at 17) (Some 6) (more (node k.DeclaratorId (at 17) (Some 6) none)
+    (more (node k.EqualInitializer (at 19) (Some 7) (more (node k.IntegerLiteral (at 21) (Some 8) none) none)) none))) none)))
+    (more (node k.ExpressionStatement (at 24) (Some 13)
+    (more (node k.ThrowExpression (at 24) (Some 10) (more
+    (node k.UnaryExpression (at 30) (Some 11) (more (node k.UnqualifiedId (at 31) (Some 12) none) none)) none)) none)) none))) none))))
     ∷ []
 
 --     int main() { const int a = 1; a = 2; return 0; }
@@ -279,7 +375,19 @@ const_target_tokens = token t.Key 0 3 0 (codes "int")
     ∷ []
 
 abbrev pub const_target_decls : List Tree
-const_target_decls = (node k.FunctionDefinition (at 4) (Some 0) (more (node k.TypeSpecifierSeq (at 0) None (more (node k.SimpleTypeSpecifier (at 0) (Some 0) none) none)) (more (node k.FunctionDeclarator (at 4) (Some 2) (more (node k.DeclaratorId (at 4) (Some 1) none) (more (node k.ParameterDeclarationClause (at 9) None none) (more (node k.FunctionQualifiers (at 11) None none) none)))) (more (node k.CompoundStatement (at 11) (Some 18) (more (node k.SimpleDeclaration (at 23) (Some 5) (more (node k.TypeSpecifierSeq (at 13) None (more (node k.CvQualifier (at 13) (Some 5) none) (more (node k.SimpleTypeSpecifier (at 19) (Some 6) none) none))) (more (node k.InitDeclarator (at 23) (Some 7) (more (node k.DeclaratorId (at 23) (Some 7) none) (more (node k.EqualInitializer (at 25) (Some 8) (more (node k.IntegerLiteral (at 27) (Some 9) none) none)) none))) none))) (more (node k.ExpressionStatement (at 30) (Some 14) (more (node k.AssignmentExpression (at 30) (Some 12) (more (node k.UnqualifiedId (at 30) (Some 11) none) (more (node k.IntegerLiteral (at 34) (Some 13) none) none))) none)) (more (node k.ReturnStatement (at 37) (Some 15) (more (node k.IntegerLiteral (at 44) (Some 16) none) none)) none)))) none))))
+const_target_decls = (node k.FunctionDefinition (at 4) (Some 0)
+    (more (node k.TypeSpecifierSeq (at 0) None (more (node k.SimpleTypeSpecifier (at 0) (Some 0) none) none))
+    (more (node k.FunctionDeclarator (at 4) (Some 2) (more (node k.DeclaratorId (at 4) (Some 1) none)
+    (more (node k.ParameterDeclarationClause (at 9) None none) (more (node k.FunctionQualifiers (at 11) None none) none))))
+    (more (node k.CompoundStatement (at 11) (Some 18)
+    (more (node k.SimpleDeclaration (at 23) (Some 5) (more
+    (node k.TypeSpecifierSeq (at 13) None (more (node k.CvQualifier (at 13) (Some 5) none) (more (node k.SimpleTypeSpecifier (at 19) (Some 6) none) none)))
+    (more (node k.InitDeclarator (at 23) (Some 7) (more (node k.DeclaratorId (at 23) (Some 7) none)
+    (more (node k.EqualInitializer (at 25) (Some 8) (more (node k.IntegerLiteral (at 27) (Some 9) none) none)) none))) none)))
+    (more (node k.ExpressionStatement (at 30) (Some 14)
+    (more (node k.AssignmentExpression (at 30) (Some 12)
+    (more (node k.UnqualifiedId (at 30) (Some 11) none) (more (node k.IntegerLiteral (at 34) (Some 13) none) none))) none))
+    (more (node k.ReturnStatement (at 37) (Some 15) (more (node k.IntegerLiteral (at 44) (Some 16) none) none)) none)))) none))))
     ∷ []
 
 --     int main() { switch (1) { case 0: int x = 1; case 1: ; } return 0; }
@@ -314,7 +422,21 @@ jump_past_init_tokens = token t.Key 0 3 0 (codes "int")
     ∷ []
 
 abbrev pub jump_past_init_decls : List Tree
-jump_past_init_decls = (node k.FunctionDefinition (at 4) (Some 0) (more (node k.TypeSpecifierSeq (at 0) None (more (node k.SimpleTypeSpecifier (at 0) (Some 0) none) none)) (more (node k.FunctionDeclarator (at 4) (Some 2) (more (node k.DeclaratorId (at 4) (Some 1) none) (more (node k.ParameterDeclarationClause (at 9) None none) (more (node k.FunctionQualifiers (at 11) None none) none)))) (more (node k.CompoundStatement (at 11) (Some 26) (more (node k.SwitchStatement (at 13) (Some 5) (more (node k.IntegerLiteral (at 21) (Some 7) none) (more (node k.CompoundStatement (at 24) (Some 22) (more (node k.CaseStatement (at 26) (Some 10) (more (node k.IntegerLiteral (at 31) (Some 11) none) (more (node k.SimpleDeclaration (at 38) (Some 13) (more (node k.TypeSpecifierSeq (at 34) None (more (node k.SimpleTypeSpecifier (at 34) (Some 13) none) none)) (more (node k.InitDeclarator (at 38) (Some 14) (more (node k.DeclaratorId (at 38) (Some 14) none) (more (node k.EqualInitializer (at 40) (Some 15) (more (node k.IntegerLiteral (at 42) (Some 16) none) none)) none))) none))) none))) (more (node k.CaseStatement (at 45) (Some 18) (more (node k.IntegerLiteral (at 50) (Some 19) none) (more (node k.NullStatement (at 53) (Some 21) none) none))) none))) none))) (more (node k.ReturnStatement (at 57) (Some 23) (more (node k.IntegerLiteral (at 64) (Some 24) none) none)) none))) none))))
+jump_past_init_decls = (node k.FunctionDefinition (at 4) (Some 0)
+    (more (node k.TypeSpecifierSeq (at 0) None (more (node k.SimpleTypeSpecifier (at 0) (Some 0) none) none))
+    (more (node k.FunctionDeclarator (at 4) (Some 2) (more (node k.DeclaratorId (at 4) (Some 1) none)
+    (more (node k.ParameterDeclarationClause (at 9) None none) (more (node k.FunctionQualifiers (at 11) None none) none))))
+    (more (node k.CompoundStatement (at 11) (Some 26)
+    (more (node k.SwitchStatement (at 13) (Some 5) (more (node k.IntegerLiteral (at 21) (Some 7) none)
+    (more (node k.CompoundStatement (at 24) (Some 22)
+    (more (node k.CaseStatement (at 26) (Some 10) (more (node k.IntegerLiteral (at 31) (Some 11) none)
+    (more (node k.SimpleDeclaration (at 38) (Some 13)
+    (more (node k.TypeSpecifierSeq (at 34) None (more (node k.SimpleTypeSpecifier (at 34) (Some 13) none) none))
+    (more (node k.InitDeclarator (at 38) (Some 14) (more (node k.DeclaratorId (at 38) (Some 14) none)
+    (more (node k.EqualInitializer (at 40) (Some 15) (more (node k.IntegerLiteral (at 42) (Some 16) none) none)) none))) none))) none)))
+    (more (node k.CaseStatement (at 45) (Some 18) (more (node k.IntegerLiteral (at 50) (Some 19) none)
+    (more (node k.NullStatement (at 53) (Some 21) none) none))) none))) none)))
+    (more (node k.ReturnStatement (at 57) (Some 23) (more (node k.IntegerLiteral (at 64) (Some 24) none) none)) none))) none))))
     ∷ []
 
 --     int main() { char a[1] = {300}; return 0; }
@@ -341,7 +463,17 @@ narrowing_tokens = token t.Key 0 3 0 (codes "int")
     ∷ []
 
 abbrev pub narrowing_decls : List Tree
-narrowing_decls = (node k.FunctionDefinition (at 4) (Some 0) (more (node k.TypeSpecifierSeq (at 0) None (more (node k.SimpleTypeSpecifier (at 0) (Some 0) none) none)) (more (node k.FunctionDeclarator (at 4) (Some 2) (more (node k.DeclaratorId (at 4) (Some 1) none) (more (node k.ParameterDeclarationClause (at 9) None none) (more (node k.FunctionQualifiers (at 11) None none) none)))) (more (node k.CompoundStatement (at 11) (Some 18) (more (node k.SimpleDeclaration (at 18) (Some 5) (more (node k.TypeSpecifierSeq (at 13) None (more (node k.SimpleTypeSpecifier (at 13) (Some 5) none) none)) (more (node k.InitDeclarator (at 18) (Some 6) (more (node k.ArrayDeclarator (at 18) (Some 7) (more (node k.DeclaratorId (at 18) (Some 6) none) (more (node k.IntegerLiteral (at 20) (Some 8) none) none))) (more (node k.EqualInitializer (at 23) (Some 10) (more (node k.BracedInitList (at 25) (Some 11) (more (node k.IntegerLiteral (at 26) (Some 12) none) none)) none)) none))) none))) (more (node k.ReturnStatement (at 32) (Some 15) (more (node k.IntegerLiteral (at 39) (Some 16) none) none)) none))) none))))
+narrowing_decls = (node k.FunctionDefinition (at 4) (Some 0)
+    (more (node k.TypeSpecifierSeq (at 0) None (more (node k.SimpleTypeSpecifier (at 0) (Some 0) none) none))
+    (more (node k.FunctionDeclarator (at 4) (Some 2) (more (node k.DeclaratorId (at 4) (Some 1) none)
+    (more (node k.ParameterDeclarationClause (at 9) None none) (more (node k.FunctionQualifiers (at 11) None none) none))))
+    (more (node k.CompoundStatement (at 11) (Some 18)
+    (more (node k.SimpleDeclaration (at 18) (Some 5) (more (node k.TypeSpecifierSeq (at 13) None (more (node k.SimpleTypeSpecifier (at 13) (Some 5) none) none))
+    (more (node k.InitDeclarator (at 18) (Some 6) (more
+    (node k.ArrayDeclarator (at 18) (Some 7) (more (node k.DeclaratorId (at 18) (Some 6) none) (more (node k.IntegerLiteral (at 20) (Some 8) none) none)))
+    (more (node k.EqualInitializer (at 23) (Some 10) (more
+    (node k.BracedInitList (at 25) (Some 11) (more (node k.IntegerLiteral (at 26) (Some 12) none) none)) none)) none))) none)))
+    (more (node k.ReturnStatement (at 32) (Some 15) (more (node k.IntegerLiteral (at 39) (Some 16) none) none)) none))) none))))
     ∷ []
 
 --     int main() { int* p = 1; return 0; }
@@ -364,7 +496,15 @@ no_conversion_tokens = token t.Key 0 3 0 (codes "int")
     ∷ []
 
 abbrev pub no_conversion_decls : List Tree
-no_conversion_decls = (node k.FunctionDefinition (at 4) (Some 0) (more (node k.TypeSpecifierSeq (at 0) None (more (node k.SimpleTypeSpecifier (at 0) (Some 0) none) none)) (more (node k.FunctionDeclarator (at 4) (Some 2) (more (node k.DeclaratorId (at 4) (Some 1) none) (more (node k.ParameterDeclarationClause (at 9) None none) (more (node k.FunctionQualifiers (at 11) None none) none)))) (more (node k.CompoundStatement (at 11) (Some 14) (more (node k.SimpleDeclaration (at 18) (Some 5) (more (node k.TypeSpecifierSeq (at 13) None (more (node k.SimpleTypeSpecifier (at 13) (Some 5) none) none)) (more (node k.InitDeclarator (at 18) (Some 7) (more (node k.PointerDeclarator (at 16) (Some 6) (more (node k.DeclaratorId (at 18) (Some 7) none) none)) (more (node k.EqualInitializer (at 20) (Some 8) (more (node k.IntegerLiteral (at 22) (Some 9) none) none)) none))) none))) (more (node k.ReturnStatement (at 25) (Some 11) (more (node k.IntegerLiteral (at 32) (Some 12) none) none)) none))) none))))
+no_conversion_decls = (node k.FunctionDefinition (at 4) (Some 0)
+    (more (node k.TypeSpecifierSeq (at 0) None (more (node k.SimpleTypeSpecifier (at 0) (Some 0) none) none))
+    (more (node k.FunctionDeclarator (at 4) (Some 2) (more (node k.DeclaratorId (at 4) (Some 1) none)
+    (more (node k.ParameterDeclarationClause (at 9) None none) (more (node k.FunctionQualifiers (at 11) None none) none))))
+    (more (node k.CompoundStatement (at 11) (Some 14)
+    (more (node k.SimpleDeclaration (at 18) (Some 5) (more (node k.TypeSpecifierSeq (at 13) None (more (node k.SimpleTypeSpecifier (at 13) (Some 5) none) none))
+    (more (node k.InitDeclarator (at 18) (Some 7) (more (node k.PointerDeclarator (at 16) (Some 6) (more (node k.DeclaratorId (at 18) (Some 7) none) none))
+    (more (node k.EqualInitializer (at 20) (Some 8) (more (node k.IntegerLiteral (at 22) (Some 9) none) none)) none))) none)))
+    (more (node k.ReturnStatement (at 25) (Some 11) (more (node k.IntegerLiteral (at 32) (Some 12) none) none)) none))) none))))
     ∷ []
 
 --     int main() { std::tx_exception<int> e; return 0; }
@@ -389,7 +529,17 @@ no_default_tokens = token t.Key 0 3 0 (codes "int")
     ∷ []
 
 abbrev pub no_default_decls : List Tree
-no_default_decls = (node k.FunctionDefinition (at 4) (Some 0) (more (node k.TypeSpecifierSeq (at 0) None (more (node k.SimpleTypeSpecifier (at 0) (Some 0) none) none)) (more (node k.FunctionDeclarator (at 4) (Some 2) (more (node k.DeclaratorId (at 4) (Some 1) none) (more (node k.ParameterDeclarationClause (at 9) None none) (more (node k.FunctionQualifiers (at 11) None none) none)))) (more (node k.CompoundStatement (at 11) (Some 16) (more (node k.SimpleDeclaration (at 36) (Some 5) (more (node k.TypeSpecifierSeq (at 13) None (more (node k.TxException (at 13) (Some 7) (more (node k.TypeId (at 31) None (more (node k.TypeSpecifierSeq (at 31) None (more (node k.SimpleTypeSpecifier (at 31) (Some 9) none) none)) (more (node k.OmittedId (at 34) None none) none))) none)) none)) (more (node k.InitDeclarator (at 36) (Some 11) (more (node k.DeclaratorId (at 36) (Some 11) none) none)) none))) (more (node k.ReturnStatement (at 39) (Some 13) (more (node k.IntegerLiteral (at 46) (Some 14) none) none)) none))) none))))
+no_default_decls = (node k.FunctionDefinition (at 4) (Some 0)
+    (more (node k.TypeSpecifierSeq (at 0) None (more (node k.SimpleTypeSpecifier (at 0) (Some 0) none) none))
+    (more (node k.FunctionDeclarator (at 4) (Some 2) (more (node k.DeclaratorId (at 4) (Some 1) none)
+    (more (node k.ParameterDeclarationClause (at 9) None none) (more (node k.FunctionQualifiers (at 11) None none) none))))
+    (more (node k.CompoundStatement (at 11) (Some 16)
+    (more (node k.SimpleDeclaration (at 36) (Some 5) (more
+    (node k.TypeSpecifierSeq (at 13) None (more (node k.TxException (at 13) (Some 7)
+    (more (node k.TypeId (at 31) None (more (node k.TypeSpecifierSeq (at 31) None (more (node k.SimpleTypeSpecifier (at 31) (Some 9) none) none))
+    (more (node k.OmittedId (at 34) None none) none))) none)) none))
+    (more (node k.InitDeclarator (at 36) (Some 11) (more (node k.DeclaratorId (at 36) (Some 11) none) none)) none)))
+    (more (node k.ReturnStatement (at 39) (Some 13) (more (node k.IntegerLiteral (at 46) (Some 14) none) none)) none))) none))))
     ∷ []
 
 --     enum class E { a }; int main() { return E::b == E::a; }
@@ -419,8 +569,17 @@ no_member_tokens = token t.Key 0 4 0 (codes "enum")
     ∷ []
 
 abbrev pub no_member_decls : List Tree
-no_member_decls = (node k.EnumSpecifier (at 11) (Some 2) (more (node k.ClassKey (at 5) (Some 1) none) (more (node k.EnumeratorDefinition (at 15) (Some 4) none) none)))
-    ∷ (node k.FunctionDefinition (at 24) (Some 7) (more (node k.TypeSpecifierSeq (at 20) None (more (node k.SimpleTypeSpecifier (at 20) (Some 7) none) none)) (more (node k.FunctionDeclarator (at 24) (Some 9) (more (node k.DeclaratorId (at 24) (Some 8) none) (more (node k.ParameterDeclarationClause (at 29) None none) (more (node k.FunctionQualifiers (at 31) None none) none)))) (more (node k.CompoundStatement (at 31) (Some 21) (more (node k.ReturnStatement (at 33) (Some 12) (more (node k.BinaryExpression (at 40) (Some 16) (more (node k.QualifiedId (at 40) (Some 15) (more (node k.TypeName (at 40) (Some 13) none) none)) (more (node k.QualifiedId (at 48) (Some 19) (more (node k.TypeName (at 48) (Some 17) none) none)) none))) none)) none)) none))))
+no_member_decls = (node k.EnumSpecifier (at 11) (Some 2)
+    (more (node k.ClassKey (at 5) (Some 1) none) (more (node k.EnumeratorDefinition (at 15) (Some 4) none) none)))
+    ∷ (node k.FunctionDefinition (at 24) (Some 7) (more (node k.TypeSpecifierSeq (at 20) None (more (node k.SimpleTypeSpecifier (at 20) (Some 7) none) none))
+    (more (node k.FunctionDeclarator (at 24) (Some 9)
+    (more (node k.DeclaratorId (at 24) (Some 8) none)
+    (more (node k.ParameterDeclarationClause (at 29) None none) (more (node k.FunctionQualifiers (at 31) None none) none))))
+    (more (node k.CompoundStatement (at 31) (Some 21)
+    (more (node k.ReturnStatement (at 33) (Some 12)
+    (more (node k.BinaryExpression (at 40) (Some 16)
+    (more (node k.QualifiedId (at 40) (Some 15) (more (node k.TypeName (at 40) (Some 13) none) none))
+    (more (node k.QualifiedId (at 48) (Some 19) (more (node k.TypeName (at 48) (Some 17) none) none)) none))) none)) none)) none))))
     ∷ []
 
 --     int f(int a) { return a; } int main() { return f(); }
@@ -450,8 +609,21 @@ no_viable_tokens = token t.Key 0 3 0 (codes "int")
     ∷ []
 
 abbrev pub no_viable_decls : List Tree
-no_viable_decls = (node k.FunctionDefinition (at 4) (Some 0) (more (node k.TypeSpecifierSeq (at 0) None (more (node k.SimpleTypeSpecifier (at 0) (Some 0) none) none)) (more (node k.FunctionDeclarator (at 4) (Some 2) (more (node k.DeclaratorId (at 4) (Some 1) none) (more (node k.ParameterDeclarationClause (at 6) None (more (node k.ParameterDeclaration (at 10) None (more (node k.TypeSpecifierSeq (at 6) None (more (node k.SimpleTypeSpecifier (at 6) (Some 3) none) none)) (more (node k.DeclaratorId (at 10) (Some 4) none) none))) none)) (more (node k.FunctionQualifiers (at 13) None none) none)))) (more (node k.CompoundStatement (at 13) (Some 10) (more (node k.ReturnStatement (at 15) (Some 7) (more (node k.UnqualifiedId (at 22) (Some 8) none) none)) none)) none))))
-    ∷ (node k.FunctionDefinition (at 31) (Some 11) (more (node k.TypeSpecifierSeq (at 27) None (more (node k.SimpleTypeSpecifier (at 27) (Some 11) none) none)) (more (node k.FunctionDeclarator (at 31) (Some 13) (more (node k.DeclaratorId (at 31) (Some 12) none) (more (node k.ParameterDeclarationClause (at 36) None none) (more (node k.FunctionQualifiers (at 38) None none) none)))) (more (node k.CompoundStatement (at 38) (Some 21) (more (node k.ReturnStatement (at 40) (Some 16) (more (node k.FunctionCall (at 47) (Some 18) (more (node k.UnqualifiedId (at 47) (Some 17) none) none)) none)) none)) none))))
+no_viable_decls = (node k.FunctionDefinition (at 4) (Some 0)
+    (more (node k.TypeSpecifierSeq (at 0) None (more (node k.SimpleTypeSpecifier (at 0) (Some 0) none) none))
+    (more (node k.FunctionDeclarator (at 4) (Some 2) (more (node k.DeclaratorId (at 4) (Some 1) none)
+    (more (node k.ParameterDeclarationClause (at 6) None
+    (more (node k.ParameterDeclaration (at 10) None (more (node k.TypeSpecifierSeq (at 6) None (more (node k.SimpleTypeSpecifier (at 6) (Some 3) none) none))
+    (more (node k.DeclaratorId (at 10) (Some 4) none) none))) none)) (more (node k.FunctionQualifiers (at 13) None none) none))))
+    (more (node k.CompoundStatement (at 13) (Some 10)
+    (more (node k.ReturnStatement (at 15) (Some 7) (more (node k.UnqualifiedId (at 22) (Some 8) none) none)) none)) none))))
+    ∷ (node k.FunctionDefinition (at 31) (Some 11) (more (node k.TypeSpecifierSeq (at 27) None (more (node k.SimpleTypeSpecifier (at 27) (Some 11) none) none))
+    (more (node k.FunctionDeclarator (at 31) (Some 13)
+    (more (node k.DeclaratorId (at 31) (Some 12) none)
+    (more (node k.ParameterDeclarationClause (at 36) None none) (more (node k.FunctionQualifiers (at 38) None none) none))))
+    (more (node k.CompoundStatement (at 38) (Some 21)
+    (more (node k.ReturnStatement (at 40) (Some 16)
+    (more (node k.FunctionCall (at 47) (Some 18) (more (node k.UnqualifiedId (at 47) (Some 17) none) none)) none)) none)) none))))
     ∷ []
 
 --     int main() { int x = 1; return x(); }
@@ -475,7 +647,16 @@ not_callable_tokens = token t.Key 0 3 0 (codes "int")
     ∷ []
 
 abbrev pub not_callable_decls : List Tree
-not_callable_decls = (node k.FunctionDefinition (at 4) (Some 0) (more (node k.TypeSpecifierSeq (at 0) None (more (node k.SimpleTypeSpecifier (at 0) (Some 0) none) none)) (more (node k.FunctionDeclarator (at 4) (Some 2) (more (node k.DeclaratorId (at 4) (Some 1) none) (more (node k.ParameterDeclarationClause (at 9) None none) (more (node k.FunctionQualifiers (at 11) None none) none)))) (more (node k.CompoundStatement (at 11) (Some 15) (more (node k.SimpleDeclaration (at 17) (Some 5) (more (node k.TypeSpecifierSeq (at 13) None (more (node k.SimpleTypeSpecifier (at 13) (Some 5) none) none)) (more (node k.InitDeclarator (at 17) (Some 6) (more (node k.DeclaratorId (at 17) (Some 6) none) (more (node k.EqualInitializer (at 19) (Some 7) (more (node k.IntegerLiteral (at 21) (Some 8) none) none)) none))) none))) (more (node k.ReturnStatement (at 24) (Some 10) (more (node k.FunctionCall (at 31) (Some 12) (more (node k.UnqualifiedId (at 31) (Some 11) none) none)) none)) none))) none))))
+not_callable_decls = (node k.FunctionDefinition (at 4) (Some 0)
+    (more (node k.TypeSpecifierSeq (at 0) None (more (node k.SimpleTypeSpecifier (at 0) (Some 0) none) none))
+    (more (node k.FunctionDeclarator (at 4) (Some 2) (more (node k.DeclaratorId (at 4) (Some 1) none)
+    (more (node k.ParameterDeclarationClause (at 9) None none) (more (node k.FunctionQualifiers (at 11) None none) none))))
+    (more (node k.CompoundStatement (at 11) (Some 15)
+    (more (node k.SimpleDeclaration (at 17) (Some 5) (more (node k.TypeSpecifierSeq (at 13) None (more (node k.SimpleTypeSpecifier (at 13) (Some 5) none) none))
+    (more (node k.InitDeclarator (at 17) (Some 6) (more (node k.DeclaratorId (at 17) (Some 6) none)
+    (more (node k.EqualInitializer (at 19) (Some 7) (more (node k.IntegerLiteral (at 21) (Some 8) none) none)) none))) none)))
+    (more (node k.ReturnStatement (at 24) (Some 10) (more
+    (node k.FunctionCall (at 31) (Some 12) (more (node k.UnqualifiedId (at 31) (Some 11) none) none)) none)) none))) none))))
     ∷ []
 
 --     int n = 2; int a[n]; int main() { return 0; }
@@ -503,9 +684,20 @@ not_constant_tokens = token t.Key 0 3 0 (codes "int")
     ∷ []
 
 abbrev pub not_constant_decls : List Tree
-not_constant_decls = (node k.SimpleDeclaration (at 4) (Some 0) (more (node k.TypeSpecifierSeq (at 0) None (more (node k.SimpleTypeSpecifier (at 0) (Some 0) none) none)) (more (node k.InitDeclarator (at 4) (Some 1) (more (node k.DeclaratorId (at 4) (Some 1) none) (more (node k.EqualInitializer (at 6) (Some 2) (more (node k.IntegerLiteral (at 8) (Some 3) none) none)) none))) none)))
-    ∷ (node k.SimpleDeclaration (at 15) (Some 5) (more (node k.TypeSpecifierSeq (at 11) None (more (node k.SimpleTypeSpecifier (at 11) (Some 5) none) none)) (more (node k.InitDeclarator (at 15) (Some 6) (more (node k.ArrayDeclarator (at 15) (Some 7) (more (node k.DeclaratorId (at 15) (Some 6) none) (more (node k.UnqualifiedId (at 17) (Some 8) none) none))) none)) none)))
-    ∷ (node k.FunctionDefinition (at 25) (Some 11) (more (node k.TypeSpecifierSeq (at 21) None (more (node k.SimpleTypeSpecifier (at 21) (Some 11) none) none)) (more (node k.FunctionDeclarator (at 25) (Some 13) (more (node k.DeclaratorId (at 25) (Some 12) none) (more (node k.ParameterDeclarationClause (at 30) None none) (more (node k.FunctionQualifiers (at 32) None none) none)))) (more (node k.CompoundStatement (at 32) (Some 19) (more (node k.ReturnStatement (at 34) (Some 16) (more (node k.IntegerLiteral (at 41) (Some 17) none) none)) none)) none))))
+not_constant_decls = (node k.SimpleDeclaration (at 4) (Some 0)
+    (more (node k.TypeSpecifierSeq (at 0) None (more (node k.SimpleTypeSpecifier (at 0) (Some 0) none) none))
+    (more (node k.InitDeclarator (at 4) (Some 1) (more (node k.DeclaratorId (at 4) (Some 1) none)
+    (more (node k.EqualInitializer (at 6) (Some 2) (more (node k.IntegerLiteral (at 8) (Some 3) none) none)) none))) none)))
+    ∷ (node k.SimpleDeclaration (at 15) (Some 5) (more (node k.TypeSpecifierSeq (at 11) None (more (node k.SimpleTypeSpecifier (at 11) (Some 5) none) none))
+    (more (node k.InitDeclarator (at 15) (Some 6)
+    (more (node k.ArrayDeclarator (at 15) (Some 7)
+    (more (node k.DeclaratorId (at 15) (Some 6) none) (more (node k.UnqualifiedId (at 17) (Some 8) none) none))) none)) none)))
+    ∷ (node k.FunctionDefinition (at 25) (Some 11) (more (node k.TypeSpecifierSeq (at 21) None (more (node k.SimpleTypeSpecifier (at 21) (Some 11) none) none))
+    (more (node k.FunctionDeclarator (at 25) (Some 13)
+    (more (node k.DeclaratorId (at 25) (Some 12) none)
+    (more (node k.ParameterDeclarationClause (at 30) None none) (more (node k.FunctionQualifiers (at 32) None none) none))))
+    (more (node k.CompoundStatement (at 32) (Some 19)
+    (more (node k.ReturnStatement (at 34) (Some 16) (more (node k.IntegerLiteral (at 41) (Some 17) none) none)) none)) none))))
     ∷ []
 
 --     int main() { 1 = 2; return 0; }
@@ -526,7 +718,15 @@ not_lvalue_tokens = token t.Key 0 3 0 (codes "int")
     ∷ []
 
 abbrev pub not_lvalue_decls : List Tree
-not_lvalue_decls = (node k.FunctionDefinition (at 4) (Some 0) (more (node k.TypeSpecifierSeq (at 0) None (more (node k.SimpleTypeSpecifier (at 0) (Some 0) none) none)) (more (node k.FunctionDeclarator (at 4) (Some 2) (more (node k.DeclaratorId (at 4) (Some 1) none) (more (node k.ParameterDeclarationClause (at 9) None none) (more (node k.FunctionQualifiers (at 11) None none) none)))) (more (node k.CompoundStatement (at 11) (Some 12) (more (node k.ExpressionStatement (at 13) (Some 8) (more (node k.AssignmentExpression (at 13) (Some 6) (more (node k.IntegerLiteral (at 13) (Some 5) none) (more (node k.IntegerLiteral (at 17) (Some 7) none) none))) none)) (more (node k.ReturnStatement (at 20) (Some 9) (more (node k.IntegerLiteral (at 27) (Some 10) none) none)) none))) none))))
+not_lvalue_decls = (node k.FunctionDefinition (at 4) (Some 0)
+    (more (node k.TypeSpecifierSeq (at 0) None (more (node k.SimpleTypeSpecifier (at 0) (Some 0) none) none))
+    (more (node k.FunctionDeclarator (at 4) (Some 2) (more (node k.DeclaratorId (at 4) (Some 1) none)
+    (more (node k.ParameterDeclarationClause (at 9) None none) (more (node k.FunctionQualifiers (at 11) None none) none))))
+    (more (node k.CompoundStatement (at 11) (Some 12)
+    (more (node k.ExpressionStatement (at 13) (Some 8)
+    (more (node k.AssignmentExpression (at 13) (Some 6)
+    (more (node k.IntegerLiteral (at 13) (Some 5) none) (more (node k.IntegerLiteral (at 17) (Some 7) none) none))) none))
+    (more (node k.ReturnStatement (at 20) (Some 9) (more (node k.IntegerLiteral (at 27) (Some 10) none) none)) none))) none))))
     ∷ []
 
 --     void f(const std::tx_exception<int*>& e); int main() { return 0; }
@@ -558,8 +758,24 @@ not_trivially_copyable_tokens = token t.Key 0 4 0 (codes "void")
     ∷ []
 
 abbrev pub not_trivially_copyable_decls : List Tree
-not_trivially_copyable_decls = (node k.SimpleDeclaration (at 5) (Some 0) (more (node k.TypeSpecifierSeq (at 0) None (more (node k.SimpleTypeSpecifier (at 0) (Some 0) none) none)) (more (node k.InitDeclarator (at 5) (Some 1) (more (node k.FunctionDeclarator (at 5) (Some 2) (more (node k.DeclaratorId (at 5) (Some 1) none) (more (node k.ParameterDeclarationClause (at 7) None (more (node k.ParameterDeclaration (at 38) None (more (node k.TypeSpecifierSeq (at 7) None (more (node k.CvQualifier (at 7) (Some 3) none) (more (node k.TxException (at 13) (Some 6) (more (node k.TypeId (at 31) None (more (node k.TypeSpecifierSeq (at 31) None (more (node k.SimpleTypeSpecifier (at 31) (Some 8) none) none)) (more (node k.PointerDeclarator (at 34) (Some 9) (more (node k.OmittedId (at 35) None none) none)) none))) none)) none))) (more (node k.ReferenceDeclarator (at 36) (Some 11) (more (node k.DeclaratorId (at 38) (Some 12) none) none)) none))) none)) (more (node k.FunctionQualifiers (at 40) None none) none)))) none)) none)))
-    ∷ (node k.FunctionDefinition (at 46) (Some 15) (more (node k.TypeSpecifierSeq (at 42) None (more (node k.SimpleTypeSpecifier (at 42) (Some 15) none) none)) (more (node k.FunctionDeclarator (at 46) (Some 17) (more (node k.DeclaratorId (at 46) (Some 16) none) (more (node k.ParameterDeclarationClause (at 51) None none) (more (node k.FunctionQualifiers (at 53) None none) none)))) (more (node k.CompoundStatement (at 53) (Some 23) (more (node k.ReturnStatement (at 55) (Some 20) (more (node k.IntegerLiteral (at 62) (Some 21) none) none)) none)) none))))
+not_trivially_copyable_decls = (node k.SimpleDeclaration (at 5) (Some 0)
+    (more (node k.TypeSpecifierSeq (at 0) None (more (node k.SimpleTypeSpecifier (at 0) (Some 0) none) none))
+    (more (node k.InitDeclarator (at 5) (Some 1) (more
+    (node k.FunctionDeclarator (at 5) (Some 2) (more (node k.DeclaratorId (at 5) (Some 1) none)
+    (more (node k.ParameterDeclarationClause (at 7) None
+    (more (node k.ParameterDeclaration (at 38) None (more
+    (node k.TypeSpecifierSeq (at 7) None (more (node k.CvQualifier (at 7) (Some 3) none)
+    (more (node k.TxException (at 13) (Some 6) (more (node k.TypeId (at 31) None
+    (more (node k.TypeSpecifierSeq (at 31) None (more (node k.SimpleTypeSpecifier (at 31) (Some 8) none) none))
+    (more (node k.PointerDeclarator (at 34) (Some 9) (more (node k.OmittedId (at 35) None none) none)) none))) none)) none)))
+    (more (node k.ReferenceDeclarator (at 36) (Some 11) (more (node k.DeclaratorId (at 38) (Some 12) none) none)) none))) none))
+    (more (node k.FunctionQualifiers (at 40) None none) none)))) none)) none)))
+    ∷ (node k.FunctionDefinition (at 46) (Some 15) (more (node k.TypeSpecifierSeq (at 42) None (more (node k.SimpleTypeSpecifier (at 42) (Some 15) none) none))
+    (more (node k.FunctionDeclarator (at 46) (Some 17)
+    (more (node k.DeclaratorId (at 46) (Some 16) none)
+    (more (node k.ParameterDeclarationClause (at 51) None none) (more (node k.FunctionQualifiers (at 53) None none) none))))
+    (more (node k.CompoundStatement (at 53) (Some 23)
+    (more (node k.ReturnStatement (at 55) (Some 20) (more (node k.IntegerLiteral (at 62) (Some 21) none) none)) none)) none))))
     ∷ []
 
 --     int& r; int main() { return 0; }
@@ -580,8 +796,16 @@ out_of_profile_tokens = token t.Key 0 3 0 (codes "int")
     ∷ []
 
 abbrev pub out_of_profile_decls : List Tree
-out_of_profile_decls = (node k.SimpleDeclaration (at 5) (Some 0) (more (node k.TypeSpecifierSeq (at 0) None (more (node k.SimpleTypeSpecifier (at 0) (Some 0) none) none)) (more (node k.InitDeclarator (at 5) (Some 2) (more (node k.ReferenceDeclarator (at 3) (Some 1) (more (node k.DeclaratorId (at 5) (Some 2) none) none)) none)) none)))
-    ∷ (node k.FunctionDefinition (at 12) (Some 4) (more (node k.TypeSpecifierSeq (at 8) None (more (node k.SimpleTypeSpecifier (at 8) (Some 4) none) none)) (more (node k.FunctionDeclarator (at 12) (Some 6) (more (node k.DeclaratorId (at 12) (Some 5) none) (more (node k.ParameterDeclarationClause (at 17) None none) (more (node k.FunctionQualifiers (at 19) None none) none)))) (more (node k.CompoundStatement (at 19) (Some 12) (more (node k.ReturnStatement (at 21) (Some 9) (more (node k.IntegerLiteral (at 28) (Some 10) none) none)) none)) none))))
+out_of_profile_decls = (node k.SimpleDeclaration (at 5) (Some 0)
+    (more (node k.TypeSpecifierSeq (at 0) None (more (node k.SimpleTypeSpecifier (at 0) (Some 0) none) none))
+    (more (node k.InitDeclarator (at 5) (Some 2) (more
+    (node k.ReferenceDeclarator (at 3) (Some 1) (more (node k.DeclaratorId (at 5) (Some 2) none) none)) none)) none)))
+    ∷ (node k.FunctionDefinition (at 12) (Some 4) (more (node k.TypeSpecifierSeq (at 8) None (more (node k.SimpleTypeSpecifier (at 8) (Some 4) none) none))
+    (more (node k.FunctionDeclarator (at 12) (Some 6)
+    (more (node k.DeclaratorId (at 12) (Some 5) none)
+    (more (node k.ParameterDeclarationClause (at 17) None none) (more (node k.FunctionQualifiers (at 19) None none) none))))
+    (more (node k.CompoundStatement (at 19) (Some 12)
+    (more (node k.ReturnStatement (at 21) (Some 9) (more (node k.IntegerLiteral (at 28) (Some 10) none) none)) none)) none))))
     ∷ []
 
 --     int main() { int x = 1; long x = 2; return 0; }
@@ -608,7 +832,19 @@ redeclared_tokens = token t.Key 0 3 0 (codes "int")
     ∷ []
 
 abbrev pub redeclared_decls : List Tree
-redeclared_decls = (node k.FunctionDefinition (at 4) (Some 0) (more (node k.TypeSpecifierSeq (at 0) None (more (node k.SimpleTypeSpecifier (at 0) (Some 0) none) none)) (more (node k.FunctionDeclarator (at 4) (Some 2) (more (node k.DeclaratorId (at 4) (Some 1) none) (more (node k.ParameterDeclarationClause (at 9) None none) (more (node k.FunctionQualifiers (at 11) None none) none)))) (more (node k.CompoundStatement (at 11) (Some 18) (more (node k.SimpleDeclaration (at 17) (Some 5) (more (node k.TypeSpecifierSeq (at 13) None (more (node k.SimpleTypeSpecifier (at 13) (Some 5) none) none)) (more (node k.InitDeclarator (at 17) (Some 6) (more (node k.DeclaratorId (at 17) (Some 6) none) (more (node k.EqualInitializer (at 19) (Some 7) (more (node k.IntegerLiteral (at 21) (Some 8) none) none)) none))) none))) (more (node k.SimpleDeclaration (at 29) (Some 10) (more (node k.TypeSpecifierSeq (at 24) None (more (node k.SimpleTypeSpecifier (at 24) (Some 10) none) none)) (more (node k.InitDeclarator (at 29) (Some 11) (more (node k.DeclaratorId (at 29) (Some 11) none) (more (node k.EqualInitializer (at 31) (Some 12) (more (node k.IntegerLiteral (at 33) (Some 13) none) none)) none))) none))) (more (node k.ReturnStatement (at 36) (Some 15) (more (node k.IntegerLiteral (at 43) (Some 16) none) none)) none)))) none))))
+redeclared_decls = (node k.FunctionDefinition (at 4) (Some 0)
+    (more (node k.TypeSpecifierSeq (at 0) None (more (node k.SimpleTypeSpecifier (at 0) (Some 0) none) none))
+    (more (node k.FunctionDeclarator (at 4) (Some 2) (more (node k.DeclaratorId (at 4) (Some 1) none)
+    (more (node k.ParameterDeclarationClause (at 9) None none) (more (node k.FunctionQualifiers (at 11) None none) none))))
+    (more (node k.CompoundStatement (at 11) (Some 18)
+    (more (node k.SimpleDeclaration (at 17) (Some 5) (more (node k.TypeSpecifierSeq (at 13) None (more (node k.SimpleTypeSpecifier (at 13) (Some 5) none) none))
+    (more (node k.InitDeclarator (at 17) (Some 6) (more (node k.DeclaratorId (at 17) (Some 6) none)
+    (more (node k.EqualInitializer (at 19) (Some 7) (more (node k.IntegerLiteral (at 21) (Some 8) none) none)) none))) none)))
+    (more (node k.SimpleDeclaration (at 29) (Some 10)
+    (more (node k.TypeSpecifierSeq (at 24) None (more (node k.SimpleTypeSpecifier (at 24) (Some 10) none) none))
+    (more (node k.InitDeclarator (at 29) (Some 11) (more (node k.DeclaratorId (at 29) (Some 11) none)
+    (more (node k.EqualInitializer (at 31) (Some 12) (more (node k.IntegerLiteral (at 33) (Some 13) none) none)) none))) none)))
+    (more (node k.ReturnStatement (at 36) (Some 15) (more (node k.IntegerLiteral (at 43) (Some 16) none) none)) none)))) none))))
     ∷ []
 
 --     void f() transaction_safe; void f() {} int main() { return 0; }
@@ -637,9 +873,23 @@ safety_differs_tokens = token t.Key 0 4 0 (codes "void")
     ∷ []
 
 abbrev pub safety_differs_decls : List Tree
-safety_differs_decls = (node k.SimpleDeclaration (at 5) (Some 0) (more (node k.TypeSpecifierSeq (at 0) None (more (node k.SimpleTypeSpecifier (at 0) (Some 0) none) none)) (more (node k.InitDeclarator (at 5) (Some 1) (more (node k.FunctionDeclarator (at 5) (Some 2) (more (node k.DeclaratorId (at 5) (Some 1) none) (more (node k.ParameterDeclarationClause (at 7) None none) (more (node k.FunctionQualifiers (at 9) None (more (node k.TxQualifier (at 9) (Some 4) none) none)) none)))) none)) none)))
-    ∷ (node k.FunctionDefinition (at 32) (Some 6) (more (node k.TypeSpecifierSeq (at 27) None (more (node k.SimpleTypeSpecifier (at 27) (Some 6) none) none)) (more (node k.FunctionDeclarator (at 32) (Some 8) (more (node k.DeclaratorId (at 32) (Some 7) none) (more (node k.ParameterDeclarationClause (at 34) None none) (more (node k.FunctionQualifiers (at 36) None none) none)))) (more (node k.CompoundStatement (at 36) (Some 11) none) none))))
-    ∷ (node k.FunctionDefinition (at 43) (Some 12) (more (node k.TypeSpecifierSeq (at 39) None (more (node k.SimpleTypeSpecifier (at 39) (Some 12) none) none)) (more (node k.FunctionDeclarator (at 43) (Some 14) (more (node k.DeclaratorId (at 43) (Some 13) none) (more (node k.ParameterDeclarationClause (at 48) None none) (more (node k.FunctionQualifiers (at 50) None none) none)))) (more (node k.CompoundStatement (at 50) (Some 20) (more (node k.ReturnStatement (at 52) (Some 17) (more (node k.IntegerLiteral (at 59) (Some 18) none) none)) none)) none))))
+safety_differs_decls = (node k.SimpleDeclaration (at 5) (Some 0)
+    (more (node k.TypeSpecifierSeq (at 0) None (more (node k.SimpleTypeSpecifier (at 0) (Some 0) none) none))
+    (more (node k.InitDeclarator (at 5) (Some 1) (more
+    (node k.FunctionDeclarator (at 5) (Some 2) (more (node k.DeclaratorId (at 5) (Some 1) none)
+    (more (node k.ParameterDeclarationClause (at 7) None none)
+    (more (node k.FunctionQualifiers (at 9) None (more (node k.TxQualifier (at 9) (Some 4) none) none)) none)))) none)) none)))
+    ∷ (node k.FunctionDefinition (at 32) (Some 6) (more (node k.TypeSpecifierSeq (at 27) None (more (node k.SimpleTypeSpecifier (at 27) (Some 6) none) none))
+    (more (node k.FunctionDeclarator (at 32) (Some 8)
+    (more (node k.DeclaratorId (at 32) (Some 7) none)
+    (more (node k.ParameterDeclarationClause (at 34) None none) (more (node k.FunctionQualifiers (at 36) None none) none))))
+    (more (node k.CompoundStatement (at 36) (Some 11) none) none))))
+    ∷ (node k.FunctionDefinition (at 43) (Some 12) (more (node k.TypeSpecifierSeq (at 39) None (more (node k.SimpleTypeSpecifier (at 39) (Some 12) none) none))
+    (more (node k.FunctionDeclarator (at 43) (Some 14)
+    (more (node k.DeclaratorId (at 43) (Some 13) none)
+    (more (node k.ParameterDeclarationClause (at 48) None none) (more (node k.FunctionQualifiers (at 50) None none) none))))
+    (more (node k.CompoundStatement (at 50) (Some 20)
+    (more (node k.ReturnStatement (at 52) (Some 17) (more (node k.IntegerLiteral (at 59) (Some 18) none) none)) none)) none))))
     ∷ []
 
 --     int f(); long f(); int main() { return 0; }
@@ -666,9 +916,22 @@ type_differs_tokens = token t.Key 0 3 0 (codes "int")
     ∷ []
 
 abbrev pub type_differs_decls : List Tree
-type_differs_decls = (node k.SimpleDeclaration (at 4) (Some 0) (more (node k.TypeSpecifierSeq (at 0) None (more (node k.SimpleTypeSpecifier (at 0) (Some 0) none) none)) (more (node k.InitDeclarator (at 4) (Some 1) (more (node k.FunctionDeclarator (at 4) (Some 2) (more (node k.DeclaratorId (at 4) (Some 1) none) (more (node k.ParameterDeclarationClause (at 6) None none) (more (node k.FunctionQualifiers (at 7) None none) none)))) none)) none)))
-    ∷ (node k.SimpleDeclaration (at 14) (Some 5) (more (node k.TypeSpecifierSeq (at 9) None (more (node k.SimpleTypeSpecifier (at 9) (Some 5) none) none)) (more (node k.InitDeclarator (at 14) (Some 6) (more (node k.FunctionDeclarator (at 14) (Some 7) (more (node k.DeclaratorId (at 14) (Some 6) none) (more (node k.ParameterDeclarationClause (at 16) None none) (more (node k.FunctionQualifiers (at 17) None none) none)))) none)) none)))
-    ∷ (node k.FunctionDefinition (at 23) (Some 10) (more (node k.TypeSpecifierSeq (at 19) None (more (node k.SimpleTypeSpecifier (at 19) (Some 10) none) none)) (more (node k.FunctionDeclarator (at 23) (Some 12) (more (node k.DeclaratorId (at 23) (Some 11) none) (more (node k.ParameterDeclarationClause (at 28) None none) (more (node k.FunctionQualifiers (at 30) None none) none)))) (more (node k.CompoundStatement (at 30) (Some 18) (more (node k.ReturnStatement (at 32) (Some 15) (more (node k.IntegerLiteral (at 39) (Some 16) none) none)) none)) none))))
+type_differs_decls = (node k.SimpleDeclaration (at 4) (Some 0)
+    (more (node k.TypeSpecifierSeq (at 0) None (more (node k.SimpleTypeSpecifier (at 0) (Some 0) none) none))
+    (more (node k.InitDeclarator (at 4) (Some 1) (more
+    (node k.FunctionDeclarator (at 4) (Some 2) (more (node k.DeclaratorId (at 4) (Some 1) none)
+    (more (node k.ParameterDeclarationClause (at 6) None none) (more (node k.FunctionQualifiers (at 7) None none) none)))) none)) none)))
+    ∷ (node k.SimpleDeclaration (at 14) (Some 5) (more (node k.TypeSpecifierSeq (at 9) None (more (node k.SimpleTypeSpecifier (at 9) (Some 5) none) none))
+    (more (node k.InitDeclarator (at 14) (Some 6)
+    (more (node k.FunctionDeclarator (at 14) (Some 7)
+    (more (node k.DeclaratorId (at 14) (Some 6) none)
+    (more (node k.ParameterDeclarationClause (at 16) None none) (more (node k.FunctionQualifiers (at 17) None none) none)))) none)) none)))
+    ∷ (node k.FunctionDefinition (at 23) (Some 10) (more (node k.TypeSpecifierSeq (at 19) None (more (node k.SimpleTypeSpecifier (at 19) (Some 10) none) none))
+    (more (node k.FunctionDeclarator (at 23) (Some 12)
+    (more (node k.DeclaratorId (at 23) (Some 11) none)
+    (more (node k.ParameterDeclarationClause (at 28) None none) (more (node k.FunctionQualifiers (at 30) None none) none))))
+    (more (node k.CompoundStatement (at 30) (Some 18)
+    (more (node k.ReturnStatement (at 32) (Some 15) (more (node k.IntegerLiteral (at 39) (Some 16) none) none)) none)) none))))
     ∷ []
 
 --     int main() { long q = 2; return qq; }
@@ -690,5 +953,13 @@ unknown_name_tokens = token t.Key 0 3 0 (codes "int")
     ∷ []
 
 abbrev pub unknown_name_decls : List Tree
-unknown_name_decls = (node k.FunctionDefinition (at 4) (Some 0) (more (node k.TypeSpecifierSeq (at 0) None (more (node k.SimpleTypeSpecifier (at 0) (Some 0) none) none)) (more (node k.FunctionDeclarator (at 4) (Some 2) (more (node k.DeclaratorId (at 4) (Some 1) none) (more (node k.ParameterDeclarationClause (at 9) None none) (more (node k.FunctionQualifiers (at 11) None none) none)))) (more (node k.CompoundStatement (at 11) (Some 13) (more (node k.SimpleDeclaration (at 18) (Some 5) (more (node k.TypeSpecifierSeq (at 13) None (more (node k.SimpleTypeSpecifier (at 13) (Some 5) none) none)) (more (node k.InitDeclarator (at 18) (Some 6) (more (node k.DeclaratorId (at 18) (Some 6) none) (more (node k.EqualInitializer (at 20) (Some 7) (more (node k.IntegerLiteral (at 22) (Some 8) none) none)) none))) none))) (more (node k.ReturnStatement (at 25) (Some 10) (more (node k.UnqualifiedId (at 32) (Some 11) none) none)) none))) none))))
+unknown_name_decls = (node k.FunctionDefinition (at 4) (Some 0)
+    (more (node k.TypeSpecifierSeq (at 0) None (more (node k.SimpleTypeSpecifier (at 0) (Some 0) none) none))
+    (more (node k.FunctionDeclarator (at 4) (Some 2) (more (node k.DeclaratorId (at 4) (Some 1) none)
+    (more (node k.ParameterDeclarationClause (at 9) None none) (more (node k.FunctionQualifiers (at 11) None none) none))))
+    (more (node k.CompoundStatement (at 11) (Some 13)
+    (more (node k.SimpleDeclaration (at 18) (Some 5) (more (node k.TypeSpecifierSeq (at 13) None (more (node k.SimpleTypeSpecifier (at 13) (Some 5) none) none))
+    (more (node k.InitDeclarator (at 18) (Some 6) (more (node k.DeclaratorId (at 18) (Some 6) none)
+    (more (node k.EqualInitializer (at 20) (Some 7) (more (node k.IntegerLiteral (at 22) (Some 8) none) none)) none))) none)))
+    (more (node k.ReturnStatement (at 25) (Some 10) (more (node k.UnqualifiedId (at 32) (Some 11) none) none)) none))) none))))
     ∷ []

@@ -32,7 +32,17 @@ tokens = token t.Key 0 3 0 (codes "int")
     ∷ []
 
 abbrev pub decls : List Tree
-decls = (node k.FunctionDefinition (at 4) (Some 0) (more (node k.TypeSpecifierSeq (at 0) None (more (node k.SimpleTypeSpecifier (at 0) (Some 0) none) none)) (more (node k.FunctionDeclarator (at 4) (Some 2) (more (node k.DeclaratorId (at 4) (Some 1) none) (more (node k.ParameterDeclarationClause (at 9) None none) (more (node k.FunctionQualifiers (at 11) None none) none)))) (more (node k.CompoundStatement (at 11) (Some 19) (more (node k.ExpressionStatement (at 13) (Some 15) (more (node k.FunctionCall (at 13) (Some 6) (more (node k.UnqualifiedId (at 13) (Some 5) none) (more (node k.BinaryExpression (at 21) (Some 8) (more (node k.CharacterLiteral (at 21) (Some 7) none) (more (node k.ParenthesizedExpression (at 27) (Some 9) (more (node k.BinaryExpression (at 28) (Some 11) (more (node k.IntegerLiteral (at 28) (Some 10) none) (more (node k.IntegerLiteral (at 42) (Some 12) none) none))) none)) none))) none))) none)) (more (node k.ReturnStatement (at 48) (Some 16) (more (node k.IntegerLiteral (at 55) (Some 17) none) none)) none))) none))))
+decls = (node k.FunctionDefinition (at 4) (Some 0) (more (node k.TypeSpecifierSeq (at 0) None (more (node k.SimpleTypeSpecifier (at 0) (Some 0) none) none))
+    (more (node k.FunctionDeclarator (at 4) (Some 2) (more (node k.DeclaratorId (at 4) (Some 1) none)
+    (more (node k.ParameterDeclarationClause (at 9) None none) (more (node k.FunctionQualifiers (at 11) None none) none))))
+    (more (node k.CompoundStatement (at 11) (Some 19)
+    (more (node k.ExpressionStatement (at 13) (Some 15)
+    (more (node k.FunctionCall (at 13) (Some 6) (more (node k.UnqualifiedId (at 13) (Some 5) none)
+    (more (node k.BinaryExpression (at 21) (Some 8) (more (node k.CharacterLiteral (at 21) (Some 7) none)
+    (more (node k.ParenthesizedExpression (at 27) (Some 9)
+    (more (node k.BinaryExpression (at 28) (Some 11) (more (node k.IntegerLiteral (at 28) (Some 10) none)
+    (more (node k.IntegerLiteral (at 42) (Some 12) none) none))) none)) none))) none))) none))
+    (more (node k.ReturnStatement (at 48) (Some 16) (more (node k.IntegerLiteral (at 55) (Some 17) none) none)) none))) none))))
     ∷ []
 
 abbrev pub text : List ℕ

@@ -36,18 +36,23 @@ module _ (e : Exec) where
   schedule_wanted = wanted_given Schedule (schedule_file e.options.picker)
 
   -- not all objects were read
-  pub ends_at_objects : (old mid new : HostState) (u : Unread) (a : Answer) → StopsReading old objects_wanted mid u → HaltsAmong objects_wanted u mid new a → Ends (wants_of e) (DecidesOn e) old new a
-  ends_at_objects old mid new u a s h = halted_ends (wants_of e) (DecidesOn e) old mid new u a (halted_before old mid new objects_wanted (input_wanted ++ schedule_wanted) u a (s, h))
+  pub ends_at_objects : (old mid new : HostState) (u : Unread) (a : Answer) → StopsReading old objects_wanted mid u → HaltsAmong objects_wanted u mid new a
+      → Ends (wants_of e) (DecidesOn e) old new a
+  ends_at_objects old mid new u a s h = halted_ends (wants_of e) (DecidesOn e) old mid new u a
+      (halted_before old mid new objects_wanted (input_wanted ++ schedule_wanted) u a (s, h))
 
   -- the input was not read
-  pub ends_at_input : (old first mid new : HostState) (objects : List (List ℕ)) (u : Unread) (a : Answer) → ReadsWithin old objects_wanted objects first → StopsReading first input_wanted mid u → HaltsAmong input_wanted u mid new a
+  pub ends_at_input : (old first mid new : HostState) (objects : List (List ℕ)) (u : Unread) (a : Answer) → ReadsWithin old objects_wanted objects first
+      → StopsReading first input_wanted mid u → HaltsAmong input_wanted u mid new a
       → Ends (wants_of e) (DecidesOn e) old new a
   ends_at_input old first mid new objects u a reads s h =
       halted_ends (wants_of e) (DecidesOn e) old mid new (behind (length objects_wanted) u) a
-      (halted_behind old first mid new objects_wanted (input_wanted ++ schedule_wanted) objects u a reads (halted_before first mid new input_wanted schedule_wanted u a (s, h)))
+      (halted_behind old first mid new objects_wanted (input_wanted ++ schedule_wanted) objects u a reads
+      (halted_before first mid new input_wanted schedule_wanted u a (s, h)))
 
   -- the schedule was not read
-  pub ends_at_schedule : (old first second mid new : HostState) (objects inputs : List (List ℕ)) (u : Unread) (a : Answer) → ReadsWithin old objects_wanted objects first → ReadsWithin first input_wanted inputs second
+  pub ends_at_schedule : (old first second mid new : HostState) (objects inputs : List (List ℕ)) (u : Unread) (a : Answer)
+      → ReadsWithin old objects_wanted objects first → ReadsWithin first input_wanted inputs second
       → StopsReading second schedule_wanted mid u → HaltsAmong schedule_wanted u mid new a → Ends (wants_of e) (DecidesOn e) old new a
   ends_at_schedule old first second mid new objects inputs u a reads also s h =
       halted_ends (wants_of e) (DecidesOn e) old mid new (behind (length objects_wanted) (behind (length input_wanted) u)) a
@@ -55,7 +60,8 @@ module _ (e : Exec) where
       (halted_behind first second mid new input_wanted schedule_wanted inputs u a also (s, h)))
 
   -- the texts that were read in three parts
-  whole : (old first : HostState) (objects : List (List ℕ)) (input schedule : List ℕ) → ReadsWithin old objects_wanted objects first → (input_file e ≡ None → input ≡ []) → (schedule_file e.options.picker ≡ None → schedule ≡ [])
+  whole : (old first : HostState) (objects : List (List ℕ)) (input schedule : List ℕ) → ReadsWithin old objects_wanted objects first
+      → (input_file e ≡ None → input ≡ []) → (schedule_file e.options.picker ≡ None → schedule ≡ [])
       → AreTexts e (objects ++ (bytes_of (input_file e) input ++ bytes_of (schedule_file e.options.picker) schedule)) objects input schedule
   whole old first objects input schedule reads no_input no_schedule = record {
     texts_are = refl;
@@ -65,14 +71,19 @@ module _ (e : Exec) where
   }
 
   -- all files were read, and what is decided on their texts is written
-  pub ends_read : (old first second mid new : HostState) (objects : List (List ℕ)) (input schedule : List ℕ) (d : Result Decision AllocError) (a : Answer) → ReadsWithin old objects_wanted objects first
-      → ReadsWithin first input_wanted (bytes_of (input_file e) input) second → ReadsWithin second schedule_wanted (bytes_of (schedule_file e.options.picker) schedule) mid → (input_file e ≡ None → input ≡ [])
-      → (schedule_file e.options.picker ≡ None → schedule ≡ []) → IfOk d (λ x. Decides e objects input schedule x.answer (map written_of x.writes.items)) → Settles mid new d a → Ends (wants_of e) (DecidesOn e) old new a
+  pub ends_read : (old first second mid new : HostState) (objects : List (List ℕ)) (input schedule : List ℕ) (d : Result Decision AllocError) (a : Answer)
+      → ReadsWithin old objects_wanted objects first
+      → ReadsWithin first input_wanted (bytes_of (input_file e) input) second
+      → ReadsWithin second schedule_wanted (bytes_of (schedule_file e.options.picker) schedule) mid → (input_file e ≡ None → input ≡ [])
+      → (schedule_file e.options.picker ≡ None → schedule ≡ []) → IfOk d (λ x. Decides e objects input schedule x.answer (map written_of x.writes.items))
+      → Settles mid new d a → Ends (wants_of e) (DecidesOn e) old new a
   ends_read old first second mid new objects input schedule d a reads also last no_input no_schedule decides settles =
       let inputs = bytes_of (input_file e) input in
       let schedules = bytes_of (schedule_file e.options.picker) schedule in
       let texts_are = whole old first objects input schedule reads no_input no_schedule in
       ends_settled (wants_of e) (DecidesOn e) old mid new (objects ++ (inputs ++ schedules)) d a
-      (reads_append old first mid objects_wanted (input_wanted ++ schedule_wanted) objects (inputs ++ schedules) reads (reads_append first second mid input_wanted schedule_wanted inputs schedules also last))
-      (IfOk-weaker d (λ x. Decides e objects input schedule x.answer (map written_of x.writes.items)) (λ x. DecidesOn e (objects ++ (inputs ++ schedules)) x.answer (map written_of x.writes.items))
+      (reads_append old first mid objects_wanted (input_wanted ++ schedule_wanted) objects (inputs ++ schedules) reads
+      (reads_append first second mid input_wanted schedule_wanted inputs schedules also last))
+      (IfOk-weaker d (λ x. Decides e objects input schedule x.answer (map written_of x.writes.items))
+      (λ x. DecidesOn e (objects ++ (inputs ++ schedules)) x.answer (map written_of x.writes.items))
       (λ x h. record { objects = objects; input = input; schedule = schedule; texts_are = texts_are; decides = h }) decides) settles

@@ -18,7 +18,8 @@ can_pick (Round slot) entries h below = h
 can_pick Clash entries h below = tt
 can_pick (File name) entries h below = below
 
-pub name_at : (names : List (String Global)) (i : ℕ) (name : String Global) → slice_get names i ≡ Some name → slice_get (map string_bytes names) i ≡ Some (string_bytes name)
+pub name_at : (names : List (String Global)) (i : ℕ) (name : String Global) → slice_get names i ≡ Some name
+    → slice_get (map string_bytes names) i ≡ Some (string_bytes name)
 name_at names i name e = slice_get-map string_bytes names i ∙ ap (option_map string_bytes) e
 
 abbrev answered : Status → Ran Here → Answer

@@ -89,13 +89,17 @@ pub data RunsObjects (o : RunOptions) (objects : List ObjectView) (input entries
 
 -- the objects are read
 pub data DecidesTexts (e : Exec) (texts : List (List ℕ)) (input entries : List ℕ) (a : Answer) (writes : List Written) : Type 0 where
-  bad_object : (index at : ℕ) (name : List ℕ) → FirstWrong texts index at → slice_get (object_files e) index ≡ Some name → Refuses 11 (bad_object_line name at) Refused a writes → DecidesTexts e texts input entries a writes
-  are_objects : (objects : List ObjectView) → SpellAll texts objects → DecidesObjects e.options objects input entries a writes → DecidesTexts e texts input entries a writes
+  bad_object : (index at : ℕ) (name : List ℕ) → FirstWrong texts index at → slice_get (object_files e) index ≡ Some name
+      → Refuses 11 (bad_object_line name at) Refused a writes → DecidesTexts e texts input entries a writes
+  are_objects : (objects : List ObjectView) → SpellAll texts objects → DecidesObjects e.options objects input entries a writes
+      → DecidesTexts e texts input entries a writes
 
 -- the schedule is read: a run looks at its first entries alone
 pub data Decides (e : Exec) (texts : List (List ℕ)) (input schedule : List ℕ) (a : Answer) (writes : List Written) : Type 0 where
-  bad_schedule : (line : ℕ) → IsFirstBad schedule line → Refuses 10 (bad_schedule_line (schedule_name e.options.picker) line) BadSchedule a writes → Decides e texts input schedule a writes
-  scheduled : (entries : List ℕ) → Says schedule entries → DecidesTexts e texts input (take most_entries entries) a writes → Decides e texts input schedule a writes
+  bad_schedule : (line : ℕ) → IsFirstBad schedule line → Refuses 10 (bad_schedule_line (schedule_name e.options.picker) line) BadSchedule a writes
+      → Decides e texts input schedule a writes
+  scheduled : (entries : List ℕ) → Says schedule entries → DecidesTexts e texts input (take most_entries entries) a writes
+      → Decides e texts input schedule a writes
 
 -- ---- the command
 

@@ -23,7 +23,8 @@ use Rattle.fold_events.proofs.Steady.{may_replace, replacing, steady, all_steady
 
 -- What is known where a node folds to a word
 
-literal_or_word : (o : Option ℕ) (t : Typ) (place : At) (tree : Tree) (w : ℕ) → integer_word tree ≡ None → integer_word (literal_or o t place tree) ≡ Some w → o ≡ Some w
+literal_or_word : (o : Option ℕ) (t : Typ) (place : At) (tree : Tree) (w : ℕ) → integer_word tree ≡ None → integer_word (literal_or o t place tree) ≡ Some w
+    → o ≡ Some w
 literal_or_word None t place tree w n e = absurd cc
 literal_or_word (Some u) t place tree w n e = ap Some (cond_some _ u w e).1
 
@@ -35,7 +36,8 @@ mapped_word : (P : Type 0) (f : ℕ → ℕ) (o : Option ℕ) (w : ℕ) → opti
 mapped_word P f None w e g = absurd cc
 mapped_word P f (Some u) w e g = g u refl cc
 
-two_operands : (P : Type 0) (op : BinOp) (kind : IntKind) (o q : Option ℕ) (w : ℕ) → operator_word op kind (both_words o q) ≡ Some w → ((x y : ℕ) → o ≡ Some x → q ≡ Some y → value_word (applied op kind x y) ≡ Some w → P) → P
+two_operands : (P : Type 0) (op : BinOp) (kind : IntKind) (o q : Option ℕ) (w : ℕ) → operator_word op kind (both_words o q) ≡ Some w
+    → ((x y : ℕ) → o ≡ Some x → q ≡ Some y → value_word (applied op kind x y) ≡ Some w → P) → P
 two_operands P op kind None q w e g = absurd cc
 two_operands P op kind (Some x) None w e g = absurd cc
 two_operands P op kind (Some x) (Some y) w e g = g x y refl refl e
@@ -65,7 +67,8 @@ module _ (p : Program) where
       chain {m} here g = (m, g)
       chain (step e f) g = let h = chain f g in (h.0 + 1, step e h.1)
 
-  finished : (h : Here) (k : List Frame) (r : Result ℤ ArithTrap) (w : ℕ) → value_word r ≡ Some w → finish r h (λ (z : ℤ). give p h (word_of z) k) k ≡ give p h w k
+  finished : (h : Here) (k : List Frame) (r : Result ℤ ArithTrap) (w : ℕ) → value_word r ≡ Some w
+      → finish r h (λ (z : ℤ). give p h (word_of z) k) k ≡ give p h w k
   finished h k (Ok z) w e = let s : word_of z ≡ w = cc in ap (λ (u : ℕ). give p h u k) s
   finished h k (Err trap) w e = absurd cc
 
@@ -76,7 +79,8 @@ module _ (p : Program) where
   module _ (v : ℕ → Bool) where
     taken_comes : (b c d : Bool) (t : Typ) (chosen other own : Tree) (w : ℕ) → integer_word own ≡ None
         → (integer_word (steady v chosen) ≡ Some w → Comes chosen w) → (integer_word (steady v other) ≡ Some w → Comes other w)
-        → integer_word (unwrap_or (replacing t (cond b (cond c (Some (steady v other)) None) (cond d (Some (steady v chosen)) None))) own) ≡ Some w → Comes (cond b other chosen) w
+        → integer_word (unwrap_or (replacing t (cond b (cond c (Some (steady v other)) None) (cond d (Some (steady v chosen)) None))) own) ≡ Some w
+        → Comes (cond b other chosen) w
     taken_comes true true d t chosen other own w n f g e = if_so (may_replace t (steady v other)) e
       where
         if_so : (b : Bool) → integer_word (unwrap_or (cond b (Some (steady v other)) None) own) ≡ Some w → Comes other w
@@ -91,11 +95,14 @@ module _ (p : Program) where
     taken_comes false c false t chosen other own w n f g e = absurd cc
 
     chosen_comes : (t : Typ) (cat : Cat) (place : At) (test chosen other own : Tree) (w : ℕ) (o : Option ℕ) → integer_word own ≡ None
-        → ((u : ℕ) → o ≡ Some u → Comes test u) → (integer_word (steady v chosen) ≡ Some w → Comes chosen w) → (integer_word (steady v other) ≡ Some w → Comes other w)
-        → integer_word (unwrap_or (replacing t (taken_by v t cat o (steady v chosen) (steady v other))) own) ≡ Some w → Comes (node Conditional t cat place (more test (more chosen (more other none)))) w
+        → ((u : ℕ) → o ≡ Some u → Comes test u) → (integer_word (steady v chosen) ≡ Some w → Comes chosen w)
+        → (integer_word (steady v other) ≡ Some w → Comes other w)
+        → integer_word (unwrap_or (replacing t (taken_by v t cat o (steady v chosen) (steady v other))) own) ≡ Some w
+        → Comes (node Conditional t cat place (more test (more chosen (more other none)))) w
     chosen_comes t cat place test chosen other own w None n r f g e = absurd cc
     chosen_comes t cat place test chosen other own w (Some u) n r f g e = λ h way k x.
-        stepped refl (followed (r u refl h value (Choose way chosen other ∷ k) 0) (stepped refl (taken_comes (u == 0) _ _ t chosen other own w n f g e h way k 0)))
+        stepped refl (followed (r u refl h value (Choose way chosen other ∷ k) 0)
+        (stepped refl (taken_comes (u == 0) _ _ t chosen other own w n f g e h way k 0)))
 
     mutual
       pub word_comes : (t : Tree) (w : ℕ) → integer_word (steady v t) ≡ Some w → Comes t w
@@ -107,22 +114,27 @@ module _ (p : Program) where
       word_comes (node Conditional t cat place (more a none)) w e = absurd cc
       word_comes (node Conditional t cat place (more a (more b none))) w e = absurd cc
       word_comes (node Conditional t cat place (more test (more chosen (more other none)))) w e =
-          chosen_comes t cat place test chosen other _ w (integer_word (steady v test)) refl (λ u i. word_comes test u i) (λ i. word_comes chosen w i) (λ i. word_comes other w i) e
+          chosen_comes t cat place test chosen other _ w (integer_word (steady v test)) refl (λ u i. word_comes test u i) (λ i. word_comes chosen w i)
+          (λ i. word_comes other w i) e
       word_comes (node Conditional t cat place (more a (more b (more c (more d ts))))) w e = absurd cc
       word_comes (node kind t cat place kids) w e = absurd cc
 
-      pub constant_comes : (kind : TKind) (t : Typ) (cat : Cat) (place : At) (kids : Trees) (w : ℕ) → constant kind t cat (all_steady v kids) ≡ Some w → Comes (node kind t cat place kids) w
+      pub constant_comes : (kind : TKind) (t : Typ) (cat : Cat) (place : At) (kids : Trees) (w : ℕ) → constant kind t cat (all_steady v kids) ≡ Some w
+          → Comes (node kind t cat place kids) w
       constant_comes (Convert to) t cat place none w e = absurd (let i : None ≡ Some w = guarded _ None w e in cc)
       constant_comes (Convert to) t cat place (more a none) w e =
           mapped_word (Comes (node (Convert to) t cat place (more a none)) w) (converted to) (integer_word (steady v a)) w (guarded _ _ w e)
-          (λ u i f h way k x. stepped refl (subst (λ z. Quietly (give p h 0 (Run value a ∷ Converts to ∷ k)) (give p h z k)) f (word_comes a u i h value (Converts to ∷ k) 0)))
+          (λ u i f h way k x. stepped refl (subst (λ z. Quietly (give p h 0 (Run value a ∷ Converts to ∷ k)) (give p h z k)) f
+          (word_comes a u i h value (Converts to ∷ k) 0)))
       constant_comes (Convert to) t cat place (more a (more b ts)) w e = absurd (let i : None ≡ Some w = guarded _ None w e in cc)
       constant_comes (Binary op kind) t cat place none w e = absurd (let i : None ≡ Some w = guarded _ None w e in cc)
       constant_comes (Binary op kind) t cat place (more a none) w e = absurd (let i : None ≡ Some w = guarded _ None w e in cc)
       constant_comes (Binary op kind) t cat place (more a (more b none)) w e =
-          two_operands (Comes (node (Binary op kind) t cat place (more a (more b none))) w) op kind (integer_word (steady v a)) (integer_word (steady v b)) w (guarded _ _ w e)
+          two_operands (Comes (node (Binary op kind) t cat place (more a (more b none))) w) op kind (integer_word (steady v a)) (integer_word (steady v b)) w
+          (guarded _ _ w e)
           (λ m n f g i h way k x. stepped refl (followed (word_comes a m f h value (Right op kind b ∷ k) 0) (stepped refl
-          (subst (λ z. Quietly (give p h 0 (Run value b ∷ Apply op kind m ∷ k)) z) (finished h k (applied op kind m n) w i) (word_comes b n g h value (Apply op kind m ∷ k) 0)))))
+          (subst (λ z. Quietly (give p h 0 (Run value b ∷ Apply op kind m ∷ k)) z) (finished h k (applied op kind m n) w i)
+          (word_comes b n g h value (Apply op kind m ∷ k) 0)))))
       constant_comes (Binary op kind) t cat place (more a (more b (more c ts))) w e = absurd (let i : None ≡ Some w = guarded _ None w e in cc)
       constant_comes Comma t cat place none w e = absurd (let i : None ≡ Some w = guarded _ None w e in cc)
       constant_comes Comma t cat place (more a none) w e = absurd (let i : None ≡ Some w = guarded _ None w e in cc)

@@ -1,5 +1,6 @@
 -- Where a thread leaves out silent steps of another one, a replay costs no more.
-use Rattle.std.proofs.Common.{ℕ, ℤ, pos, negsuc, zero, suc, ◌≡◌, ◌==◌, ◌+◌, ◌≤◌, Bool, true, false, cond, refl, ap, sym, ◌∙◌, subst, List, [], ◌∷◌, Option, Some, None, arith}
+use Rattle.std.proofs.Common.{ℕ, ℤ, pos, negsuc, zero, suc, ◌≡◌, ◌==◌, ◌+◌, ◌≤◌, Bool, true, false, cond, refl, ap, sym, ◌∙◌, subst, List, [], ◌∷◌, Option}
+use Rattle.std.proofs.Common.{Some, None, arith}
 use Rattle.std.specs.Prelude.{◌||◌, nat_lt}
 use Rattle.std.proofs.lemmas.Bool.{true≢false}
 use Rattle.tx_events.specs.declared.End.{End}
@@ -8,19 +9,23 @@ use Rattle.tx_events.specs.declared.Trap.TheVariants.{BadAddress, TooManyThreads
 use Rattle.tx_events.specs.declared.BlockKind.{BlockKind}
 use Rattle.tx_events.specs.declared.BlockKind.TheVariants.{NoExcept, Commit, Cancel}
 use Rattle.tx_events.specs.declared.Event.{Event}
-use Rattle.tx_events.specs.declared.Event.TheVariants.{Silent, Load, Store, Out, Inp, Spawn, Join, BeginAtomic, EndAtomic, Raise, BeginSync, EndSync, Done, Stop}
+use Rattle.tx_events.specs.declared.Event.TheVariants.{Silent, Load, Store, Out, Inp, Spawn, Join, BeginAtomic, EndAtomic, Raise, BeginSync, EndSync, Done}
+use Rattle.tx_events.specs.declared.Event.TheVariants.{Stop}
 use Rattle.tx_events.specs.declared.Reply.{Reply}
 use Rattle.tx_events.specs.declared.Reply.TheVariants.{Nothing, Loaded, Byte, Id}
 use Rattle.tx_events.specs.Thread.{Thread, is_silent}
 use Rattle.tx_events.specs.Memory.{update, MemoryLayout, can_access, load, store}
-use Rattle.tx_events.specs.Alone.{Inner, inner_load, inner_store, inner_by, leave, raise, newest, begin, BlockStep, Goes, Leaves, Halts, Never, Inside, at_start, goes_on, is_over}
-use Rattle.tx_events.specs.World.{Alive, alive, World, Step, Replays, EventStep, BlockEffect, Joins, target, goes, ends, byte_of, SilentSteps, none, one_more, only_first}
+use Rattle.tx_events.specs.Alone.{Inner, inner_load, inner_store, inner_by, leave, raise, newest, begin, BlockStep, Goes, Leaves, Halts, Never, Inside}
+use Rattle.tx_events.specs.Alone.{at_start, goes_on, is_over}
+use Rattle.tx_events.specs.World.{Alive, alive, World, Step, Replays, EventStep, BlockEffect, Joins, target, goes, ends, byte_of, SilentSteps, none, one_more}
+use Rattle.tx_events.specs.World.{only_first}
 use Rattle.tx_events.specs.Same.{with_threads}
 use Rattle.tx_events.specs.Simulation.{Path, here, step}
 use Rattle.src_mean.specs.Cost.{silent_cost, inside_cost, event_cost, step_cost, cost}
 use Rattle.fold_events.specs.Lagging.{Lags}
 
-module _ {S T : Type 0} (a : Thread S) (b : Thread T) (shown : S → T) (next : (s : S) → b.next (shown s) ≡ a.next s) (on : (s : S) (reply : Reply) → Lags a shown (a.after s reply) (b.after (shown s) reply))
+module _ {S T : Type 0} (a : Thread S) (b : Thread T) (shown : S → T) (next : (s : S) → b.next (shown s) ≡ a.next s)
+    (on : (s : S) (reply : Reply) → Lags a shown (a.after s reply) (b.after (shown s) reply))
     (kid : (s : S) (number func : ℕ) (arg : ℤ) → Lags a shown (a.child s number func arg) (b.child (shown s) number func arg)) where
   abbrev pub Same : S → T → Type 0
   Same s r = Lags a shown s r
@@ -76,7 +81,12 @@ module _ {S T : Type 0} (a : Thread S) (b : Thread T) (shown : S → T) (next : 
       let m = arrived h f in
       let n = moved q m.to m.same e in
       let k = appended m.silents n.silents in
-      record { to = n.to; silents = k.0; short = both (silent_cost k.0) (silent_cost m.silents) (silent_cost n.silents) (silent_cost f) k.1 m.short n.short; same = n.same }
+      record {
+        to = n.to;
+        silents = k.0;
+        short = both (silent_cost k.0) (silent_cost m.silents) (silent_cost n.silents) (silent_cost f) k.1 m.short n.short;
+        same = n.same;
+      }
     where
       both : (k x y n : ℕ) → k ≡ x + y → x ≤ n → y ≤ 1 → k ≤ n + 1
       both k x y n e f g = omega (arith, e, f, g)
@@ -96,22 +106,27 @@ module _ {S T : Type 0} (a : Thread S) (b : Thread T) (shown : S → T) (next : 
   same_either true i r e h = (r, refl, h)
   same_either false i r e h = refl
 
-  same_leave : (i : Inner S) (r : T) (m : ℕ → ℕ) (cs : List (ℕ → ℕ)) → Same (a.after i.state Nothing) (b.after r Nothing) → SameTook (leave a i m cs) (leave b (with_state i r) m cs)
+  same_leave : (i : Inner S) (r : T) (m : ℕ → ℕ) (cs : List (ℕ → ℕ)) → Same (a.after i.state Nothing) (b.after r Nothing)
+      → SameTook (leave a i m cs) (leave b (with_state i r) m cs)
   same_leave i r m [] h = tt
   same_leave i r m (c ∷ []) h = (b.after r Nothing, refl, h)
   same_leave i r m (c ∷ d ∷ cs) h = (b.after r Nothing, refl, h)
 
-  same_raise : (i : Inner S) (r : T) (kind : BlockKind) (can : Bool) → Same (a.after i.state Nothing) (b.after r Nothing) → SameTook (raise a i kind can) (raise b (with_state i r) kind can)
+  same_raise : (i : Inner S) (r : T) (kind : BlockKind) (can : Bool) → Same (a.after i.state Nothing) (b.after r Nothing)
+      → SameTook (raise a i kind can) (raise b (with_state i r) kind can)
   same_raise i r NoExcept can h = refl
   same_raise i r Commit can h = same_leave i r i.memory i.copies h
   same_raise i r Cancel true h = same_leave i r (newest i.copies i.memory) i.copies h
   same_raise i r Cancel false h = refl
 
   module _ (p : MemoryLayout) where
-    same_took : (i : Inner S) (r : T) (e : Event) → is_silent e ≡ false → ((x : Reply) → Same (a.after i.state x) (b.after r x)) → SameTook (inner_by a p i e) (inner_by b p (with_state i r) e)
+    same_took : (i : Inner S) (r : T) (e : Event) → is_silent e ≡ false → ((x : Reply) → Same (a.after i.state x) (b.after r x))
+        → SameTook (inner_by a p i e) (inner_by b p (with_state i r) e)
     same_took i r Silent loud h = absurd (true≢false loud)
-    same_took i r (Load addr size vol) loud h = same_either (can_access p addr size) (inner_load a i addr size) (b.after r (Loaded (load i.memory addr size))) (Trapped BadAddress) (h (Loaded (load i.memory addr size)))
-    same_took i r (Store addr size value vol) loud h = same_either (can_access p addr size) (inner_store a i addr size value) (b.after r Nothing) (Trapped BadAddress) (h Nothing)
+    same_took i r (Load addr size vol) loud h = same_either (can_access p addr size) (inner_load a i addr size) (b.after r (Loaded (load i.memory addr size)))
+        (Trapped BadAddress) (h (Loaded (load i.memory addr size)))
+    same_took i r (Store addr size value vol) loud h =
+        same_either (can_access p addr size) (inner_store a i addr size value) (b.after r Nothing) (Trapped BadAddress) (h Nothing)
     same_took i r (BeginAtomic kind) loud h = (b.after r Nothing, refl, h Nothing)
     same_took i r EndAtomic loud h = same_leave i r i.memory i.copies (h Nothing)
     same_took i r (Raise kind can) loud h = same_raise i r kind can (h Nothing)
@@ -124,12 +139,14 @@ module _ {S T : Type 0} (a : Thread S) (b : Thread T) (shown : S → T) (next : 
     same_took i r (Join id) loud h = tt
     same_took i r Done loud h = tt
 
-    inside_silents : {j : Inner T} (i : Inner S) {r q : T} (f : Inside b p j (with_state i r)) (g : SilentSteps b r q) → (k : Inside b p j (with_state i q)) × (inside_cost k ≡ inside_cost f + silent_cost g)
+    inside_silents : {j : Inner T} (i : Inner S) {r q : T} (f : Inside b p j (with_state i r)) (g : SilentSteps b r q) → (k : Inside b p j (with_state i q))
+        × (inside_cost k ≡ inside_cost f + silent_cost g)
     inside_silents i f none = (f, plus_zero (inside_cost f))
       where
         plus_zero : (n : ℕ) → n ≡ n + 0
         plus_zero n = omega arith
-    inside_silents i f (one_more {r = q} g e) = let k = inside_silents i f g in (goes_on k.0 (ap (inner_by b p (with_state i q)) e), one_longer (inside_cost k.0) (inside_cost f) (silent_cost g) k.1)
+    inside_silents i f (one_more {r = q} g e) = let k = inside_silents i f g in
+        (goes_on k.0 (ap (inner_by b p (with_state i q)) e), one_longer (inside_cost k.0) (inside_cost f) (silent_cost g) k.1)
       where
         one_longer : (k m n : ℕ) → k ≡ m + n → k + 1 ≡ m + (n + 1)
         one_longer k m n e = omega (arith, e)
@@ -140,7 +157,8 @@ module _ {S T : Type 0} (a : Thread S) (b : Thread T) (shown : S → T) (next : 
       short : inside_cost run ≤ n
       same : Same i.state to
 
-    ran_silent : (r : T) (m : ℕ → ℕ) (j : Inner S) (n : ℕ) → Ran r m j n → a.next j.state ≡ Silent → Ran r m (record j { state = a.after j.state Nothing }) (n + 1)
+    ran_silent : (r : T) (m : ℕ → ℕ) (j : Inner S) (n : ℕ) → Ran r m j n → a.next j.state ≡ Silent
+        → Ran r m (record j { state = a.after j.state Nothing }) (n + 1)
     ran_silent r m j n h e =
         let g = moved j.state h.to h.same e in
         let k = inside_silents j h.run g.silents in
@@ -149,7 +167,8 @@ module _ {S T : Type 0} (a : Thread S) (b : Thread T) (shown : S → T) (next : 
         both : (k x y n : ℕ) → k ≡ x + y → x ≤ n → y ≤ 1 → k ≤ n + 1
         both k x y n e f g = omega (arith, e, f, g)
 
-    ran_took : (r : T) (m : ℕ → ℕ) (j : Inner S) (k : Inner S) (n : ℕ) (h : Ran r m j n) (y : BlockStep S) → y ≡ Goes k → SameTook y (inner_by b p (with_state j h.to) (b.next h.to)) → Ran r m k (n + 1)
+    ran_took : (r : T) (m : ℕ → ℕ) (j : Inner S) (k : Inner S) (n : ℕ) (h : Ran r m j n) (y : BlockStep S) → y ≡ Goes k
+        → SameTook y (inner_by b p (with_state j h.to) (b.next h.to)) → Ran r m k (n + 1)
     ran_took r m j k n h (Goes i) e t =
         let same : i ≡ k = cc in
         subst (λ z. Ran r m z (n + 1)) same (record { to = t.0; run = goes_on h.run t.1; short = one_longer (inside_cost h.run) n h.short; same = t.2 })
@@ -160,13 +179,16 @@ module _ {S T : Type 0} (a : Thread S) (b : Thread T) (shown : S → T) (next : 
     ran_took r m j k n h (Halts x) e t = absurd cc
     ran_took r m j k n h Never e t = absurd cc
 
-    ran_loud : (r : T) (m : ℕ → ℕ) (j k : Inner S) (n : ℕ) (h : Ran r m j n) (v : Event) → a.next j.state ≡ v → is_silent v ≡ false → inner_by a p j v ≡ Goes k → Ran r m k (n + 1)
+    ran_loud : (r : T) (m : ℕ → ℕ) (j k : Inner S) (n : ℕ) (h : Ran r m j n) (v : Event) → a.next j.state ≡ v → is_silent v ≡ false → inner_by a p j v ≡ Goes k
+        → Ran r m k (n + 1)
     ran_loud r m j k n h v i loud e =
         let same = shows j.state h.to h.same (ap is_silent i ∙ loud) in
-        ran_took r m j k n h (inner_by a p j v) e (subst (λ z. SameTook (inner_by a p j v) (inner_by b p (with_state j h.to) z)) (sym (seen j.state h.to same ∙ i)) (same_took j h.to v loud (on_from j.state h.to same)))
+        ran_took r m j k n h (inner_by a p j v) e (subst (λ z. SameTook (inner_by a p j v) (inner_by b p (with_state j h.to) z))
+        (sym (seen j.state h.to same ∙ i)) (same_took j h.to v loud (on_from j.state h.to same)))
 
     ran_event : (r : T) (m : ℕ → ℕ) (j k : Inner S) (n : ℕ) (h : Ran r m j n) (v : Event) → a.next j.state ≡ v → inner_by a p j v ≡ Goes k → Ran r m k (n + 1)
-    ran_event r m j k n h Silent i e = let same : record j { state = a.after j.state Nothing } ≡ k = cc in subst (λ z. Ran r m z (n + 1)) same (ran_silent r m j n h i)
+    ran_event r m j k n h Silent i e = let same : record j { state = a.after j.state Nothing } ≡ k = cc in
+        subst (λ z. Ran r m z (n + 1)) same (ran_silent r m j n h i)
     ran_event r m j k n h (Load addr size vol) i e = ran_loud r m j k n h (Load addr size vol) i refl e
     ran_event r m j k n h (Store addr size value vol) i e = ran_loud r m j k n h (Store addr size value vol) i refl e
     ran_event r m j k n h (BeginAtomic kind) i e = ran_loud r m j k n h (BeginAtomic kind) i refl e
@@ -196,7 +218,8 @@ module _ {S T : Type 0} (a : Thread S) (b : Thread T) (shown : S → T) (next : 
     abbrev pub Pairs : (ℕ → Option (Alive S)) → (ℕ → Option (Alive T)) → Type 0
     Pairs us vs = (u : ℕ) → SameThread (us u) (vs u)
 
-    pairs_update : (us : ℕ → Option (Alive S)) (vs : ℕ → Option (Alive T)) (t : ℕ) (x : Alive S) (y : Alive T) → Pairs us vs → y.ended ≡ x.ended → Same x.state y.state → Pairs (update us t (Some x)) (update vs t (Some y))
+    pairs_update : (us : ℕ → Option (Alive S)) (vs : ℕ → Option (Alive T)) (t : ℕ) (x : Alive S) (y : Alive T) → Pairs us vs → y.ended ≡ x.ended
+        → Same x.state y.state → Pairs (update us t (Some x)) (update vs t (Some y))
     pairs_update us vs t x y h e s u = elim (u == t) as (λ c. SameThread (cond c (Some x) (us u)) (cond c (Some y) (vs u))) [ true ↦ (e, s) | false ↦ h u ]
 
     -- what thread t does there, and what it costs at most
@@ -224,12 +247,21 @@ module _ {S T : Type 0} (a : Thread S) (b : Thread T) (shown : S → T) (next : 
       is : Joins t (with_threads w vs) r q (with_threads v threads)
       pairs : Pairs v.threads threads
 
-    joined : (t : ℕ) (w : World S) (vs : ℕ → Option (Alive T)) (s : S) (r : T) (o : Option (Alive S)) (q : Option (Alive T)) (v : World S) → SameThread o q → Pairs w.threads vs → Same s r → Joins t w s o v → Joined t w vs r q v
-    joined t w vs s r None None v h ps same is = let l = led v (ends w (Trapped BadJoin)) (ends (with_threads w vs) (Trapped BadJoin)) is (record { threads = vs; is = refl; pairs = ps }) in record { threads = l.threads; is = l.is; pairs = l.pairs }
+    joined : (t : ℕ) (w : World S) (vs : ℕ → Option (Alive T)) (s : S) (r : T) (o : Option (Alive S)) (q : Option (Alive T)) (v : World S) → SameThread o q
+        → Pairs w.threads vs → Same s r → Joins t w s o v → Joined t w vs r q v
+    joined t w vs s r None None v h ps same is = let l =
+        led v (ends w (Trapped BadJoin)) (ends (with_threads w vs) (Trapped BadJoin)) is (record { threads = vs; is = refl; pairs = ps }) in
+        record { threads = l.threads; is = l.is; pairs = l.pairs }
     joined t w vs s r None (Some y) v h ps same is = absurd h
     joined t w vs s r (Some x) None v h ps same is = absurd h
     joined t w vs s r (Some x) (Some y) v h ps same is =
-        let l = led v (goes t w s) (goes t (with_threads w vs) r) (is.1) (record { threads = update vs t (alive r); is = refl; pairs = pairs_update w.threads vs t (record { state = s; ended = false }) (record { state = r; ended = false }) ps refl same }) in
+        let l = led v (goes t w s) (goes t (with_threads w vs) r) (is.1)
+        (record {
+          threads = update vs t (alive r);
+          is = refl;
+          pairs =
+              pairs_update w.threads vs t (record { state = s; ended = false }) (record { state = r; ended = false }) ps refl same;
+        }) in
         record { threads = l.threads; is = (h.0 ∙ is.0, l.is); pairs = l.pairs }
 
     same_target : (t : ℕ) (id : ℤ) (us : ℕ → Option (Alive S)) (vs : ℕ → Option (Alive T)) → Pairs us vs → SameThread (target t id us) (target t id vs)
@@ -241,15 +273,22 @@ module _ {S T : Type 0} (a : Thread S) (b : Thread T) (shown : S → T) (next : 
       is : BlockEffect t (with_threads w vs) z (with_threads v threads)
       pairs : Pairs v.threads threads
 
-    landed : (t : ℕ) (w : World S) (vs : ℕ → Option (Alive T)) (y : BlockStep S) (z : BlockStep T) (v : World S) → Pairs w.threads vs → SameTook y z → BlockEffect t w y v → Landed t w vs z v
+    landed : (t : ℕ) (w : World S) (vs : ℕ → Option (Alive T)) (y : BlockStep S) (z : BlockStep T) (v : World S) → Pairs w.threads vs → SameTook y z
+        → BlockEffect t w y v → Landed t w vs z v
     landed t w vs (Goes i) z v ps h is = absurd is
     landed t w vs Never z v ps h is = absurd is
     landed t w vs (Halts e) z v ps h is =
         let l = led v (ends w e) (ends (with_threads w vs) e) is (record { threads = vs; is = refl; pairs = ps }) in
         subst (λ q. Landed t w vs q v) (sym h) (record { threads = l.threads; is = l.is; pairs = l.pairs })
     landed t w vs (Leaves s m) z v ps h is =
-        let l = led v (record w { memory = m; threads = update w.threads t (alive s) }) (record (with_threads w vs) { memory = m; threads = update vs t (alive h.0) }) is
-        (record { threads = update vs t (alive h.0); is = refl; pairs = pairs_update w.threads vs t (record { state = s; ended = false }) (record { state = h.0; ended = false }) ps refl h.2 }) in
+        let l = led v (record w { memory = m; threads = update w.threads t (alive s) })
+        (record (with_threads w vs) { memory = m; threads = update vs t (alive h.0) }) is
+        (record {
+          threads = update vs t (alive h.0);
+          is = refl;
+          pairs =
+              pairs_update w.threads vs t (record { state = s; ended = false }) (record { state = h.0; ended = false }) ps refl h.2;
+        }) in
         subst (λ q. Landed t w vs q v) (sym h.1) (record { threads = l.threads; is = l.is; pairs = l.pairs })
 
     is_landed : (t : ℕ) (w : World T) (y : BlockStep T) (v : World T) → BlockEffect t w y v → is_over y ≡ true
@@ -292,27 +331,40 @@ module _ {S T : Type 0} (a : Thread S) (b : Thread T) (shown : S → T) (next : 
 
     module _ (t : ℕ) (w : World S) (vs : ℕ → Option (Alive T)) (ps : Pairs w.threads vs) (s : S) (r : T) (same : r ≡ shown s) where
       -- the thread goes on with this state
-      one : (q : S) (u : T) (c : Bool) → Same q u → Pairs (update w.threads t (Some (record { state = q; ended = c }))) (update vs t (Some (record { state = u; ended = c })))
+      one : (q : S) (u : T) (c : Bool) → Same q u → Pairs (update w.threads t (Some (record { state = q; ended = c })))
+          (update vs t (Some (record { state = u; ended = c })))
       one q u c h = pairs_update w.threads vs t (record { state = q; ended = c }) (record { state = u; ended = c }) ps refl h
 
-      one_on : (reply : Reply) (c : Bool) → Pairs (update w.threads t (Some (record { state = a.after s reply; ended = c }))) (update vs t (Some (record { state = b.after r reply; ended = c })))
+      one_on : (reply : Reply) (c : Bool) → Pairs (update w.threads t (Some (record { state = a.after s reply; ended = c })))
+          (update vs t (Some (record { state = b.after r reply; ended = c })))
       one_on reply c = one (a.after s reply) (b.after r reply) c (on_from s r same reply)
 
       kid_from : (number func : ℕ) (arg : ℤ) → Same (a.child s number func arg) (b.child r number func arg)
       kid_from number func arg = subst (λ z. Same (a.child s number func arg) (b.child z number func arg)) (sym same) (kid s number func arg)
 
-      block : (kind : BlockKind) (v : World S) (d : EventStep a p t w s (BeginAtomic kind) v) → Does t w vs r (BeginAtomic kind) v (event_cost a p t w s (BeginAtomic kind) v d)
+      block : (kind : BlockKind) (v : World S) (d : EventStep a p t w s (BeginAtomic kind) v)
+          → Does t w vs r (BeginAtomic kind) v (event_cost a p t w s (BeginAtomic kind) v d)
       block kind v d =
           let i = d.1.last in
           let e = a.next i.state in
           let h = ran (b.after r Nothing) w.memory (on_from s r same Nothing) d.1.run in
           let loud = loud_last e t w i v d.2 in
           let q = shows i.state h.to h.same loud in
-          let took = subst (λ z. SameTook (inner_by a p i e) (inner_by b p (with_state i h.to) z)) (sym (seen i.state h.to q)) (same_took i h.to e loud (on_from i.state h.to q)) in
+          let took = subst (λ z. SameTook (inner_by a p i e) (inner_by b p (with_state i h.to) z)) (sym (seen i.state h.to q))
+          (same_took i h.to e loud (on_from i.state h.to q)) in
           let last = landed t w vs (inner_by a p i e) (inner_by b p (with_state i h.to) (b.next h.to)) v ps took d.2 in
           record {
             threads = last.threads;
-            does = (d.0, record { last = with_state i h.to; run = h.run; over = is_landed t (with_threads w vs) (inner_by b p (with_state i h.to) (b.next h.to)) (with_threads v last.threads) last.is }, last.is);
+            does = (
+              d.0,
+              record {
+                last = with_state i h.to;
+                run = h.run;
+                over = is_landed t (with_threads w vs) (inner_by b p (with_state i h.to) (b.next h.to))
+                    (with_threads v last.threads) last.is;
+              },
+              last.is,
+            );
             pairs = last.pairs;
             short = longer (inside_cost h.run) (inside_cost d.1.run) h.short;
           }
@@ -330,40 +382,53 @@ module _ {S T : Type 0} (a : Thread S) (b : Thread T) (shown : S → T) (next : 
       does_event (BeginAtomic kind) v d = block kind v d
       does_event (Load addr size vol) v d =
           let x = Loaded (load w.memory addr size) in
-          let l = led v (cond (can_access p addr size) (goes t w (a.after s x)) (ends w (Trapped BadAddress))) (cond (can_access p addr size) (goes t (with_threads w vs) (b.after r x)) (ends (with_threads w vs) (Trapped BadAddress))) d
-          (either_leads (can_access p addr size) (goes t w (a.after s x)) (ends w (Trapped BadAddress)) (goes t (with_threads w vs) (b.after r x)) (ends (with_threads w vs) (Trapped BadAddress))
+          let l = led v (cond (can_access p addr size) (goes t w (a.after s x)) (ends w (Trapped BadAddress)))
+          (cond (can_access p addr size) (goes t (with_threads w vs) (b.after r x)) (ends (with_threads w vs) (Trapped BadAddress))) d
+          (either_leads (can_access p addr size) (goes t w (a.after s x)) (ends w (Trapped BadAddress)) (goes t (with_threads w vs) (b.after r x))
+          (ends (with_threads w vs) (Trapped BadAddress))
           (record { threads = update vs t (alive (b.after r x)); is = refl; pairs = one_on x false }) (record { threads = vs; is = refl; pairs = ps })) in
           record { threads = l.threads; does = l.is; pairs = l.pairs; short = once }
       does_event (Store addr size value vol) v d =
           let m = store w.memory addr size value in
           let x = record w { memory = m; threads = update w.threads t (alive (a.after s Nothing)) } in
           let y = record (with_threads w vs) { memory = m; threads = update vs t (alive (b.after r Nothing)) } in
-          let l = led v (cond (can_access p addr size) x (ends w (Trapped BadAddress))) (cond (can_access p addr size) y (ends (with_threads w vs) (Trapped BadAddress))) d
+          let l = led v (cond (can_access p addr size) x (ends w (Trapped BadAddress)))
+          (cond (can_access p addr size) y (ends (with_threads w vs) (Trapped BadAddress))) d
           (either_leads (can_access p addr size) x (ends w (Trapped BadAddress)) y (ends (with_threads w vs) (Trapped BadAddress))
-          (record { threads = update vs t (alive (b.after r Nothing)); is = refl; pairs = one_on Nothing false }) (record { threads = vs; is = refl; pairs = ps })) in
+          (record { threads = update vs t (alive (b.after r Nothing)); is = refl; pairs = one_on Nothing false })
+          (record { threads = vs; is = refl; pairs = ps })) in
           record { threads = l.threads; does = l.is; pairs = l.pairs; short = once }
       does_event (Out c) v d =
           let l = led v _ _ d (record { threads = update vs t (alive (b.after r Nothing)); is = refl; pairs = one_on Nothing false }) in
           record { threads = l.threads; does = l.is; pairs = l.pairs; short = once }
       does_event Inp v d =
-          let l = led v _ _ d (record { threads = update vs t (alive (b.after r (Byte (byte_of w.input)))); is = refl; pairs = one_on (Byte (byte_of w.input)) false }) in
+          let l = led v _ _ d (record {
+            threads = update vs t (alive (b.after r (Byte (byte_of w.input))));
+            is = refl;
+            pairs = one_on
+                (Byte (byte_of w.input)) false;
+          }) in
           record { threads = l.threads; does = l.is; pairs = l.pairs; short = once }
       does_event (Spawn g x) v d =
           let n = w.started in
           let id = Id (pos n) in
           let y = record w { started = n + 1; threads = update (update w.threads n (alive (a.child s n g x))) t (alive (a.after s id)) } in
           let z = record (with_threads w vs) { started = n + 1; threads = update (update vs n (alive (b.child r n g x))) t (alive (b.after r id)) } in
-          let l = led v (cond (nat_lt n p.limit) y (ends w (Trapped TooManyThreads))) (cond (nat_lt n p.limit) z (ends (with_threads w vs) (Trapped TooManyThreads))) d
+          let l = led v (cond (nat_lt n p.limit) y (ends w (Trapped TooManyThreads)))
+          (cond (nat_lt n p.limit) z (ends (with_threads w vs) (Trapped TooManyThreads))) d
           (either_leads (nat_lt n p.limit) y (ends w (Trapped TooManyThreads)) z (ends (with_threads w vs) (Trapped TooManyThreads))
           (record {
             threads = update (update vs n (alive (b.child r n g x))) t (alive (b.after r id));
             is = refl;
-            pairs = pairs_update (update w.threads n (alive (a.child s n g x))) (update vs n (alive (b.child r n g x))) t (record { state = a.after s id; ended = false }) (record { state = b.after r id; ended = false })
-                (pairs_update w.threads vs n (record { state = a.child s n g x; ended = false }) (record { state = b.child r n g x; ended = false }) ps refl (kid_from n g x)) refl (on_from s r same id);
+            pairs = pairs_update (update w.threads n (alive (a.child s n g x))) (update vs n (alive (b.child r n g x))) t
+                (record { state = a.after s id; ended = false }) (record { state = b.after r id; ended = false })
+                (pairs_update w.threads vs n (record { state = a.child s n g x; ended = false }) (record { state = b.child r n g x; ended = false }) ps refl
+                (kid_from n g x)) refl (on_from s r same id);
           }) (record { threads = vs; is = refl; pairs = ps })) in
           record { threads = l.threads; does = l.is; pairs = l.pairs; short = once }
       does_event (Join id) v d =
-          let l = joined t w vs (a.after s Nothing) (b.after r Nothing) (target t id w.threads) (target t id vs) v (same_target t id w.threads vs ps) ps (on_from s r same Nothing) d in
+          let l = joined t w vs (a.after s Nothing) (b.after r Nothing) (target t id w.threads) (target t id vs) v (same_target t id w.threads vs ps) ps
+          (on_from s r same Nothing) d in
           record { threads = l.threads; does = l.is; pairs = l.pairs; short = once }
       does_event BeginSync v d =
           let l = led v _ _ d.1 (record { threads = update vs t (alive (b.after r Nothing)); is = refl; pairs = one_on Nothing false }) in
@@ -372,7 +437,12 @@ module _ {S T : Type 0} (a : Thread S) (b : Thread T) (shown : S → T) (next : 
           let l = led v _ _ d (record { threads = update vs t (alive (b.after r Nothing)); is = refl; pairs = one_on Nothing false }) in
           record { threads = l.threads; does = l.is; pairs = l.pairs; short = once }
       does_event Done v d =
-          let l = led v _ _ d (record { threads = update vs t (Some (record { state = b.after r Nothing; ended = true })); is = refl; pairs = one_on Nothing true }) in
+          let l = led v _ _ d (record {
+            threads = update vs t (Some (record { state = b.after r Nothing; ended = true }));
+            is = refl;
+            pairs =
+                one_on Nothing true;
+          }) in
           record { threads = l.threads; does = l.is; pairs = l.pairs; short = once }
       does_event (Stop e) v d =
           let l = led v (ends w e) (ends (with_threads w vs) e) d (record { threads = vs; is = refl; pairs = ps }) in
@@ -392,7 +462,8 @@ module _ {S T : Type 0} (a : Thread S) (b : Thread T) (shown : S → T) (next : 
       pairs : Pairs v.threads threads
       short : step_cost b p t (with_threads w vs) (with_threads v threads) steps ≤ n
 
-    stepped : (t : ℕ) (w : World S) (vs : ℕ → Option (Alive T)) → Pairs w.threads vs → (v : World S) (d : Step a p t w v) → Stepped t w vs v (step_cost a p t w v d)
+    stepped : (t : ℕ) (w : World S) (vs : ℕ → Option (Alive T)) → Pairs w.threads vs → (v : World S) (d : Step a p t w v)
+        → Stepped t w vs v (step_cost a p t w v d)
     stepped t w vs ps v d =
         let y = partner (w.threads t) (vs t) (ps t) d.from d.is in
         let g = arrived y.2 d.silents in
@@ -404,7 +475,8 @@ module _ {S T : Type 0} (a : Thread S) (b : Thread T) (shown : S → T) (next : 
           threads = m.threads;
           steps = record { going = d.going; from = y.0; before = g.to; is = y.1; silents = g.silents; does = m.does };
           pairs = m.pairs;
-          short = both (silent_cost g.silents) (event_cost b p t (with_threads w vs) g.to (b.next g.to) (with_threads v m.threads) m.does) (silent_cost d.silents) (event_cost a p t w d.before e v d.does) g.short m.short;
+          short = both (silent_cost g.silents) (event_cost b p t (with_threads w vs) g.to (b.next g.to) (with_threads v m.threads) m.does)
+              (silent_cost d.silents) (event_cost a p t w d.before e v d.does) g.short m.short;
         }
       where
         both : (x y m n : ℕ) → x ≤ m → y ≤ n → x + y ≤ m + n
@@ -416,8 +488,15 @@ module _ {S T : Type 0} (a : Thread S) (b : Thread T) (shown : S → T) (next : 
       pub pairs : Pairs v.threads threads
       pub short : cost b p (with_threads w vs) order (with_threads v threads) replays ≤ n
 
-    pub cheaper : (order : List ℕ) (w v : World S) (vs : ℕ → Option (Alive T)) → Pairs w.threads vs → (h : Replays a p w order v) → Cheaper w vs order v (cost a p w order v h)
-    cheaper [] w v vs ps h = record { threads = vs; replays = ap (λ z. with_threads z vs) h; pairs = subst (λ z. Pairs z.threads vs) (sym h) ps; short = omega arith }
+    pub cheaper : (order : List ℕ) (w v : World S) (vs : ℕ → Option (Alive T)) → Pairs w.threads vs → (h : Replays a p w order v)
+        → Cheaper w vs order v (cost a p w order v h)
+    cheaper [] w v vs ps h = record {
+      threads = vs;
+      replays = ap (λ z. with_threads z vs) h;
+      pairs = subst (λ z. Pairs z.threads vs) (sym h) ps;
+      short =
+          omega arith;
+    }
     cheaper (t ∷ order) w v vs ps h =
         let o = stepped t w vs ps h.0 h.1 in
         let r = cheaper order h.0 v o.threads o.pairs h.2 in
@@ -425,7 +504,9 @@ module _ {S T : Type 0} (a : Thread S) (b : Thread T) (shown : S → T) (next : 
           threads = r.threads;
           replays = (with_threads h.0 o.threads, o.steps, r.replays);
           pairs = r.pairs;
-          short = both (step_cost b p t (with_threads w vs) (with_threads h.0 o.threads) o.steps) (cost b p (with_threads h.0 o.threads) order (with_threads v r.threads) r.replays) (step_cost a p t w h.0 h.1) (cost a p h.0 order v h.2) o.short r.short;
+          short = both (step_cost b p t (with_threads w vs) (with_threads h.0 o.threads) o.steps)
+              (cost b p (with_threads h.0 o.threads) order (with_threads v r.threads) r.replays) (step_cost a p t w h.0 h.1)
+              (cost a p h.0 order v h.2) o.short r.short;
         }
       where
         both : (x y m n : ℕ) → x ≤ m → y ≤ n → x + y ≤ m + n

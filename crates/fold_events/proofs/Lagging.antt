@@ -31,7 +31,8 @@ module _ {S T : Type 0} (a : Thread S) (shown : S → T) where
   clash e f = true≢false (sym (ap is_silent e) ∙ f)
 
   -- silent steps at the front are those of each way to an event
-  past : {n : ℕ} {s q t : S} {replies : List Reply} → Path a n s q → (f : Reaches a s replies t) → is_silent (a.next t) ≡ false → (g : Reaches a q replies t) × (steps a g ≤ steps a f)
+  past : {n : ℕ} {s q t : S} {replies : List Reply} → Path a n s q → (f : Reaches a s replies t) → is_silent (a.next t) ≡ false → (g : Reaches a q replies t)
+      × (steps a g ≤ steps a f)
   past here f l = (f, omega arith)
   past (step e p) at_once l = absurd (clash e l)
   past (step e p) (silently i f) l =
@@ -42,7 +43,8 @@ module _ {S T : Type 0} (a : Thread S) (shown : S → T) where
       less n k e = omega (arith, e)
   past (step e p) (answered i k f) l = absurd (clash e i)
 
-  module _ (b : Thread T) (next : (s : S) → b.next (shown s) ≡ a.next s) (on : (s : S) (reply : Reply) → Lags a shown (a.after s reply) (b.after (shown s) reply)) where
+  module _ (b : Thread T) (next : (s : S) → b.next (shown s) ≡ a.next s)
+      (on : (s : S) (reply : Reply) → Lags a shown (a.after s reply) (b.after (shown s) reply)) where
     -- the second comes to an event, in at most so many steps
     record Arrives (r : T) (replies : List Reply) (e : Event) (n : ℕ) : Type 0 where
       at : T
@@ -62,14 +64,21 @@ module _ {S T : Type 0} (a : Thread S) (shown : S → T) where
     on_from : (s : S) (r : T) → r ≡ shown s → (reply : Reply) → Lags a shown (a.after s reply) (b.after r reply)
     on_from s r e reply = subst (λ z. Lags a shown (a.after s reply) (b.after z reply)) (sym e) (on s reply)
 
-    there_from : (n : ℕ) {s q : S} {r : T} {replies : List Reply} (f : Reaches a s replies q) → is_silent (a.next q) ≡ false → steps a f < n → r ≡ shown s → Arrives r replies (a.next q) (steps a f)
+    there_from : (n : ℕ) {s q : S} {r : T} {replies : List Reply} (f : Reaches a s replies q) → is_silent (a.next q) ≡ false → steps a f < n → r ≡ shown s
+        → Arrives r replies (a.next q) (steps a f)
     there_from zero f l h e = absurd (omega (arith, h))
     there_from (suc n) {s} {r = r} at_once l h e = record { at = r; reaches = at_once; is = seen s r e; within = omega arith }
     there_from (suc n) {s} {r = r} (silently i f) l h e =
         let lag = on_from s r e Nothing in
         let g = past lag.path f l in
         let w = there_from n g.0 l (still n (steps a g.0) (steps a f) g.1 h) lag.is in
-        record { at = w.at; reaches = silently (seen s r e ∙ i) w.reaches; is = w.is; within = one_more (steps b w.reaches) (steps a g.0) (steps a f) w.within g.1 }
+        record {
+          at = w.at;
+          reaches = silently (seen s r e ∙ i) w.reaches;
+          is = w.is;
+          within =
+              one_more (steps b w.reaches) (steps a g.0) (steps a f) w.within g.1;
+        }
     there_from (suc n) {s} {r = r} (answered {reply = reply} i x f) l h e =
         let lag = on_from s r e reply in
         let g = past lag.path f l in
@@ -81,7 +90,8 @@ module _ {S T : Type 0} (a : Thread S) (shown : S → T) where
           within = one_more (steps b w.reaches) (steps a g.0) (steps a f) w.within g.1;
         }
 
-    there : {s q : S} {r : T} {replies : List Reply} (f : Reaches a s replies q) → is_silent (a.next q) ≡ false → Lags a shown s r → Arrives r replies (a.next q) (steps a f)
+    there : {s q : S} {r : T} {replies : List Reply} (f : Reaches a s replies q) → is_silent (a.next q) ≡ false → Lags a shown s r
+        → Arrives r replies (a.next q) (steps a f)
     there f l lag =
         let g = past lag.path f l in
         let w = there_from (steps a g.0 + 1) g.0 l (omega arith) lag.is in

@@ -26,26 +26,34 @@ module _ (v : ℕ → Bool) (p : Program) where
   shown = program_shown v p
 
   children_kept : SameChildren (source p) (source shown) (main_state p) (main_state shown)
-  children_kept = λ s r thread address arg d e f g h. same_from v p (begins p thread address arg) (begins shown thread address arg) (begins_kept v p thread address arg)
+  children_kept = λ s r thread address arg d e f g h. same_from v p (begins p thread address arg) (begins shown thread address arg)
+      (begins_kept v p thread address arg)
 
-  replays_kept : (layout : MemoryLayout) (memory : ℕ → ℕ) (input order : List ℕ) (w : World State) (h : Replayed p layout memory input order w) → CostsAtMost shown layout memory input order w (cost_of p layout memory input order w h)
+  replays_kept : (layout : MemoryLayout) (memory : ℕ → ℕ) (input order : List ℕ) (w : World State) (h : Replayed p layout memory input order w)
+      → CostsAtMost shown layout memory input order w (cost_of p layout memory input order w h)
   replays_kept layout memory input order w h =
-      let c = cheaper (source p) (source shown) (state_shown v) (λ z. refl) (after_kept v p) (λ s number func arg. shown_at v p (begins_kept v p number func arg)) layout order
+      let c = cheaper (source p) (source shown) (state_shown v) (λ z. refl) (after_kept v p)
+      (λ s number func arg. shown_at v p (begins_kept v p number func arg)) layout order
       (first_world memory input (main_state p)) w (only_first (main_state shown))
-      (firsts (source p) (source shown) (state_shown v) (λ z. refl) (after_kept v p) (λ s number func arg. shown_at v p (begins_kept v p number func arg)) layout (main_state p) (main_state shown) (shown_at v p (main_kept v p))) h in
+      (firsts (source p) (source shown) (state_shown v) (λ z. refl) (after_kept v p)
+      (λ s number func arg. shown_at v p (begins_kept v p number func arg)) layout (main_state p) (main_state shown) (shown_at v p (main_kept v p))) h in
       record { threads = c.threads; replay = c.replays; within = c.short }
 
-  replays_back : (layout : MemoryLayout) (memory : ℕ → ℕ) (input order : List ℕ) (w : World State) → layout.limit ≤ THREAD_LIMIT → Replayed shown layout memory input order w → IsReplay p layout memory input order w
+  replays_back : (layout : MemoryLayout) (memory : ℕ → ℕ) (input order : List ℕ) (w : World State) → layout.limit ≤ THREAD_LIMIT
+      → Replayed shown layout memory input order w → IsReplay p layout memory input order w
   replays_back layout memory input order w few h =
-      let turned = same_events_turn (source p) (source shown) (main_state p) (main_state shown) (same_from v p (main_state p) (main_state shown) (main_kept v p)) in
+      let turned = same_events_turn (source p) (source shown) (main_state p) (main_state shown)
+      (same_from v p (main_state p) (main_state shown) (main_kept v p)) in
       let children = same_children_turn (source p) (source shown) (main_state p) (main_state shown) children_kept in
       let r = starts_lift (source shown) (source p) (main_state shown) (main_state p) layout children turned few memory input order w h in
       record { threads = r.0; replay = r.1 }
 
   pub shown_keeps : Keeps p shown
   shown_keeps = record {
-    functions = λ thread number words main. same_from v p (calls p thread number words main) (calls shown thread number words main) (calls_kept v p thread number words main);
-    functions_cost = λ thread number words main. no_more_from v p (calls p thread number words main) (calls shown thread number words main) (calls_kept v p thread number words main);
+    functions = λ thread number words main. same_from v p (calls p thread number words main) (calls shown thread number words main)
+        (calls_kept v p thread number words main);
+    functions_cost = λ thread number words main. no_more_from v p (calls p thread number words main) (calls shown thread number words main)
+        (calls_kept v p thread number words main);
     threads = λ thread address arg. same_from v p (begins p thread address arg) (begins shown thread address arg) (begins_kept v p thread address arg);
     threads_cost = λ thread address arg. no_more_from v p (begins p thread address arg) (begins shown thread address arg) (begins_kept v p thread address arg);
     main = same_from v p (main_state p) (main_state shown) (main_kept v p);

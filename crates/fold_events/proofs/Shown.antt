@@ -4,7 +4,10 @@ use Rattle.std.specs.Prelude.{option_map}
 use Rattle.cpp_tree.specs.Trees.{Tree, node, Trees, none, more}
 use Rattle.src_mean.specs.Linked.{Func, Program}
 use Rattle.src_mean.specs.Exceptions.{Exception}
-use Rattle.src_mean.specs.Frames.{Waiting, Here, Exit, throws, returns, breaks, continues, Owner, same_owner, Frame, Run, Then, Right, Choose, AssignTo, UpdateAt, UpdateOld, CopyTo, CopyBy, From, Words, Object, Slot, Pointer, Called, Full, Keeps, Scope, Waits, InitAt, Cleans, Due, Parts, Each, Items, Test, Body, Step, Picks, Compares, Switches, Opens, Within, Closes, Throws, Fills, Filled, Tries, Trying, Takes, Handling, Starts, State, at, blocks_of, handled, puts, puts_some, waiting}
+use Rattle.src_mean.specs.Frames.{Waiting, Here, Exit, throws, returns, breaks, continues, Owner, same_owner, Frame, Run, Then, Right, Choose, AssignTo}
+use Rattle.src_mean.specs.Frames.{UpdateAt, UpdateOld, CopyTo, CopyBy, From, Words, Object, Slot, Pointer, Called, Full, Keeps, Scope, Waits, InitAt, Cleans}
+use Rattle.src_mean.specs.Frames.{Due, Parts, Each, Items, Test, Body, Step, Picks, Compares, Switches, Opens, Within, Closes, Throws, Fills, Filled, Tries}
+use Rattle.src_mean.specs.Frames.{Trying, Takes, Handling, Starts, State, at, blocks_of, handled, puts, puts_some, waiting}
 use Rattle.src_mean.specs.Source.{leave, leave_call, try_first, is_throw}
 use Rattle.fold_events.proofs.Steady.{steady, all_steady, steady_catches, steady_catch}
 
@@ -91,7 +94,8 @@ module _ (v : ℕ → Bool) where
   handled_shown (f ∷ k) = handled_shown k
 
   put_shown : (b : Bool) (o : Owner) (always : Bool) (w : Waiting) (ws : List Waiting) (k l m : List Frame) → l ≡ frames_shown v m
-      → cond b (Scope o always (waiting_shown v w ∷ waitings_shown v ws) ∷ frames_shown v k) (Scope o always (waitings_shown v ws) ∷ l) ≡ frames_shown v (cond b (Scope o always (w ∷ ws) ∷ k) (Scope o always ws ∷ m))
+      → cond b (Scope o always (waiting_shown v w ∷ waitings_shown v ws) ∷ frames_shown v k) (Scope o always (waitings_shown v ws) ∷ l)
+      ≡ frames_shown v (cond b (Scope o always (w ∷ ws) ∷ k) (Scope o always ws ∷ m))
   put_shown true o always w ws k l m e = refl
   put_shown false o always w ws k l m e = ap (λ z. Scope o always (waitings_shown v ws) ∷ z) e
 
@@ -100,24 +104,28 @@ module _ (v : ℕ → Bool) where
   puts_shown owner w (Scope o always ws ∷ k) = put_shown (same_owner owner o) o always w ws k _ _ (puts_shown owner w k)
   puts_shown owner w (f ∷ k) = ap (λ z. frame_shown v f ∷ z) (puts_shown owner w k)
 
-  pub puts_some_shown : (owner : Owner) (address : Tree) (destroys : Trees) (k : List Frame) → puts_some owner (steady v address) (all_steady v destroys) (frames_shown v k) ≡ frames_shown v (puts_some owner address destroys k)
+  pub puts_some_shown : (owner : Owner) (address : Tree) (destroys : Trees) (k : List Frame)
+      → puts_some owner (steady v address) (all_steady v destroys) (frames_shown v k) ≡ frames_shown v (puts_some owner address destroys k)
   puts_some_shown owner address none k = refl
   puts_some_shown owner address (more d ds) k = puts_shown owner (record { address = address; destroys = more d ds }) k
 
-  pub waiting_kept : (address : Tree) (destroys : Trees) (ws : List Waiting) → waiting (steady v address) (all_steady v destroys) (waitings_shown v ws) ≡ waitings_shown v (waiting address destroys ws)
+  pub waiting_kept : (address : Tree) (destroys : Trees) (ws : List Waiting)
+      → waiting (steady v address) (all_steady v destroys) (waitings_shown v ws) ≡ waitings_shown v (waiting address destroys ws)
   waiting_kept address none ws = refl
   waiting_kept address (more d ds) ws = refl
 
   -- Leaving
 
-  leave_call_shown : (x : Exit) (h caller : Here) (stops : Bool) (k : List Frame) → leave_call x (here_shown v h) (here_shown v caller) stops (frames_shown v k) ≡ state_shown v (leave_call x h caller stops k)
+  leave_call_shown : (x : Exit) (h caller : Here) (stops : Bool) (k : List Frame)
+      → leave_call x (here_shown v h) (here_shown v caller) stops (frames_shown v k) ≡ state_shown v (leave_call x h caller stops k)
   leave_call_shown (throws e) h caller true k = refl
   leave_call_shown (throws e) h caller false k = refl
   leave_call_shown (returns w) h caller stops k = refl
   leave_call_shown breaks h caller stops k = refl
   leave_call_shown continues h caller stops k = refl
 
-  try_first_shown : (h : Here) (e : Exception) (handlers : Trees) (s r : State) (k : List Frame) → r ≡ state_shown v s → try_first (here_shown v h) e (steady_catches v handlers) r (frames_shown v k) ≡ state_shown v (try_first h e handlers s k)
+  try_first_shown : (h : Here) (e : Exception) (handlers : Trees) (s r : State) (k : List Frame) → r ≡ state_shown v s
+      → try_first (here_shown v h) e (steady_catches v handlers) r (frames_shown v k) ≡ state_shown v (try_first h e handlers s k)
   try_first_shown h e none s r k i = i
   try_first_shown h e (more (node kind t cat place kids) others) s r k i = refl
 

@@ -43,7 +43,8 @@ replacing t None = None
 replacing t (Some u) = cond (may_replace t u) (Some u) None
 
 abbrev pub steady_node : (volatile : ℕ → Bool) → TKind → Typ → Cat → At → Trees → Tree
-steady_node volatile kind t cat at kids = literal_or (constant kind t cat kids) t at (unwrap_or (replacing t (taken volatile kind t cat kids)) (node kind t cat at kids))
+steady_node volatile kind t cat at kids = literal_or (constant kind t cat kids) t at
+    (unwrap_or (replacing t (taken volatile kind t cat kids)) (node kind t cat at kids))
 
 abbrev mutual
   pub steady : (volatile : ℕ → Bool) → Tree → Tree
@@ -90,7 +91,8 @@ module _ (v : ℕ → Bool) where
   mark_kept (node (Convert to) t cat at kids) = literal_marked (constant (Convert to) t cat (all_steady v kids)) t at _ refl
   mark_kept (node (Binary op kind) t cat at kids) = literal_marked (constant (Binary op kind) t cat (all_steady v kids)) t at _ refl
   mark_kept (node Comma t cat at kids) = literal_marked (constant Comma t cat (all_steady v kids)) t at _ refl
-  mark_kept (node Conditional t cat at kids) = replaced_marked (taken v Conditional t cat (all_steady v kids)) t (node Conditional t cat at (all_steady v kids)) refl
+  mark_kept (node Conditional t cat at kids) = replaced_marked (taken v Conditional t cat (all_steady v kids)) t
+      (node Conditional t cat at (all_steady v kids)) refl
   mark_kept (node kind t cat at kids) = refl
 
   literal_typed : (o : Option ℕ) (t : Typ) (at : At) (tree : Tree) → typ_in tree ≡ t → typ_in (literal_or o t at tree) ≡ t
@@ -107,7 +109,8 @@ module _ (v : ℕ → Bool) where
 
   node_typed : (kind : TKind) (t : Typ) (cat : Cat) (at : At) (kids : Trees) → typ_in (steady_node v kind t cat at kids) ≡ t
   node_typed kind t cat at kids =
-      literal_typed (constant kind t cat kids) t at (unwrap_or (replacing t (taken v kind t cat kids)) (node kind t cat at kids)) (replaced_typed (taken v kind t cat kids) t (node kind t cat at kids) refl)
+      literal_typed (constant kind t cat kids) t at (unwrap_or (replacing t (taken v kind t cat kids)) (node kind t cat at kids))
+      (replaced_typed (taken v kind t cat kids) t (node kind t cat at kids) refl)
 
   pub typ_kept : (t : Tree) → typ_in (steady v t) ≡ typ_in t
   typ_kept (node kind t cat at kids) = node_typed kind t cat at (cond (is_try kind) (steady_try v kids) (all_steady v kids))

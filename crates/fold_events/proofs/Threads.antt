@@ -8,14 +8,19 @@ use Rattle.cpp_tree.specs.tx_events.Same.{SameEvents, StepsWithin}
 use Rattle.cpp_tree.specs.Trees.{Tree, node, none, more}
 use Rattle.src_mean.specs.Linked.{Program}
 use Rattle.src_mean.specs.Exceptions.{catches}
-use Rattle.src_mean.specs.Frames.{Here, throws, returns, pointer, Frame, Run, Then, Gives, Leaves, Loads, Loaded, Replied, StoreTo, Converts, Right, Apply, Choose, AssignTo, UpdateAt, UpdateOld, UpdateBy, CopyTo, CopyBy, From, Words, Object, Slot, Pointer, Passes, Called, Full, Keeps, Scope, Waits, InitAt, Cleans, Due, Destroys, Parts, Each, Items, Test, Body, Step, Picks, Compares, Switches, Opens, Within, Closes, Throws, Fills, Filled, Tries, Trying, Takes, Taking, Handling, Returning, Starts, Halted, Ended, State, at}
-use Rattle.src_mean.specs.Source.{source, give, converted, applied, plus, finish, run_items, compare, case_word, from_label, is_case, enter, first_end, with_temporaries, begins, main_state, empty_stack, reply_word}
+use Rattle.src_mean.specs.Frames.{Here, throws, returns, pointer, Frame, Run, Then, Gives, Leaves, Loads, Loaded, Replied, StoreTo, Converts, Right, Apply}
+use Rattle.src_mean.specs.Frames.{Choose, AssignTo, UpdateAt, UpdateOld, UpdateBy, CopyTo, CopyBy, From, Words, Object, Slot, Pointer, Passes, Called, Full}
+use Rattle.src_mean.specs.Frames.{Keeps, Scope, Waits, InitAt, Cleans, Due, Destroys, Parts, Each, Items, Test, Body, Step, Picks, Compares, Switches, Opens}
+use Rattle.src_mean.specs.Frames.{Within, Closes, Throws, Fills, Filled, Tries, Trying, Takes, Taking, Handling, Returning, Starts, Halted, Ended, State, at}
+use Rattle.src_mean.specs.Source.{source, give, converted, applied, plus, finish, run_items, compare, case_word, from_label, is_case, enter, first_end}
+use Rattle.src_mean.specs.Source.{with_temporaries, begins, main_state, empty_stack, reply_word}
 use Rattle.fold_events.specs.Lagging.{Lags}
 use Rattle.fold_events.specs.Keeping.{calls}
 use Rattle.fold_events.proofs.Lagging.{same_events, no_more_steps}
 use Rattle.fold_events.proofs.Steady.{steady}
 use Rattle.fold_events.proofs.Shown.{here_shown, frames_shown, state_shown, func_shown, program_shown, either_shown, puts_some_shown, waiting_kept, leave_shown}
-use Rattle.fold_events.proofs.Calls.{enter_shown, next_word_shown, call_shown, call_slot_shown, destroy_shown, take_field_shown, fill_field_shown, compare_shown, handle_shown}
+use Rattle.fold_events.proofs.Calls.{enter_shown, next_word_shown, call_shown, call_slot_shown, destroy_shown, take_field_shown, fill_field_shown}
+use Rattle.fold_events.proofs.Calls.{compare_shown, handle_shown}
 use Rattle.fold_events.proofs.Nodes.{Follows, shown_at, run_kept}
 
 module _ (v : ℕ → Bool) (p : Program) where
@@ -26,11 +31,13 @@ module _ (v : ℕ → Bool) (p : Program) where
   steady_either true t u = refl
   steady_either false t u = refl
 
-  finish_kept : (h : Here) (r : Result ℤ ArithTrap) (f g : ℤ → State) (k : List Frame) → ((z : ℤ) → Follows v p (f z) (g z)) → Follows v p (finish r h f k) (finish r (here_shown v h) g (frames_shown v k))
+  finish_kept : (h : Here) (r : Result ℤ ArithTrap) (f g : ℤ → State) (k : List Frame) → ((z : ℤ) → Follows v p (f z) (g z))
+      → Follows v p (finish r h f k) (finish r (here_shown v h) g (frames_shown v k))
   finish_kept h (Ok z) f g k e = e z
   finish_kept h (Err trap) f g k e = shown_at v p refl
 
-  first_end_shown : (main : Bool) (h : Here) (w : ℕ) (k : List Frame) → first_end main (here_shown v h) w (frames_shown v k) ≡ state_shown v (first_end main h w k)
+  first_end_shown : (main : Bool) (h : Here) (w : ℕ) (k : List Frame)
+      → first_end main (here_shown v h) w (frames_shown v k) ≡ state_shown v (first_end main h w k)
   first_end_shown true h w k = refl
   first_end_shown false h w k = refl
 
@@ -47,7 +54,8 @@ module _ (v : ℕ → Bool) (p : Program) where
   give_kept h w (Converts kind ∷ k) = give_kept h (converted kind w) k
   give_kept h w (Right op kind t ∷ k) = shown_at v p refl
   give_kept h w (Apply op kind left ∷ k) = finish_kept h (applied op kind left w) _ _ k (λ z. give_kept h (word_of z) k)
-  give_kept h w (Choose way chosen other ∷ k) = shown_at v p (ap (λ z. at Silent (here_shown v h) (Run way z ∷ frames_shown v k)) (steady_either (w == 0) other chosen))
+  give_kept h w (Choose way chosen other ∷ k) = shown_at v p
+      (ap (λ z. at Silent (here_shown v h) (Run way z ∷ frames_shown v k)) (steady_either (w == 0) other chosen))
   give_kept h w (AssignTo kind marked t ∷ k) = shown_at v p refl
   give_kept h w (UpdateAt c t ∷ k) = shown_at v p refl
   give_kept h w (UpdateOld c address t ∷ k) = shown_at v p refl
@@ -66,15 +74,18 @@ module _ (v : ℕ → Bool) (p : Program) where
   give_kept h w (Scope owner true ws ∷ k) = shown_at v p refl
   give_kept h w (Scope owner false ws ∷ k) = shown_at v p refl
   give_kept h w (Full outer ∷ k) = shown_at v p refl
-  give_kept h w (Keeps address destroys ∷ k) = shown_at v p (ap (λ z. at Silent (with_temporaries (here_shown v h) z) (Gives w ∷ frames_shown v k)) (waiting_kept v address destroys h.temporaries))
-  give_kept h w (Waits owner address destroys ∷ k) = shown_at v p (ap (λ z. at Silent (here_shown v h) (Gives w ∷ z)) (puts_some_shown v owner address destroys k))
+  give_kept h w (Keeps address destroys ∷ k) = shown_at v p
+      (ap (λ z. at Silent (with_temporaries (here_shown v h) z) (Gives w ∷ frames_shown v k)) (waiting_kept v address destroys h.temporaries))
+  give_kept h w (Waits owner address destroys ∷ k) = shown_at v p
+      (ap (λ z. at Silent (here_shown v h) (Gives w ∷ z)) (puts_some_shown v owner address destroys k))
   give_kept h w (InitAt init destroys ∷ k) = shown_at v p refl
   give_kept h w (Cleans [] ∷ k) = give_kept h w k
   give_kept h w (Cleans (z ∷ zs) ∷ k) = shown_at v p refl
   give_kept h w (Due none ∷ k) = give_kept h w k
   give_kept h w (Due (more t ts) ∷ k) = shown_at v p (destroy_shown v p h w t ts k)
   give_kept h w (Destroys number address stride zero ∷ k) = give_kept h w k
-  give_kept h w (Destroys number address stride (suc n) ∷ k) = shown_at v p (enter_shown v p h (plus address (n * stride) ∷ []) (p.func number) (Destroys number address stride n ∷ k))
+  give_kept h w (Destroys number address stride (suc n) ∷ k) =
+      shown_at v p (enter_shown v p h (plus address (n * stride) ∷ []) (p.func number) (Destroys number address stride n ∷ k))
   give_kept h w (Parts none target source ∷ k) = give_kept h w k
   give_kept h w (Parts (more t ts) target source ∷ k) = shown_at v p refl
   give_kept h w (Each init destroys stride zero target source ∷ k) = give_kept h w k
@@ -86,7 +97,8 @@ module _ (v : ℕ → Bool) (p : Program) where
   give_kept h w (Step test body step ∷ k) = shown_at v p refl
   give_kept h w (Picks items ∷ k) = shown_at v p (compare_shown v p h w items items k)
   give_kept h w (Compares z label ts items ∷ k) =
-      shown_at v p (either_shown v (case_word label == z) _ _ (run_items h ts k) (compare h z (from_label is_case ts) items k) refl (compare_shown v p h z ts items k))
+      shown_at v p (either_shown v (case_word label == z) _ _ (run_items h ts k) (compare h z (from_label is_case ts) items k) refl
+      (compare_shown v p h z ts items k))
   give_kept h w (Switches ∷ k) = give_kept h 0 k
   give_kept h w (Returning ∷ k) = shown_at v p (leave_shown v h (returns w) k)
   give_kept h w (Opens block body ∷ k) = shown_at v p refl
@@ -98,7 +110,8 @@ module _ (v : ℕ → Bool) (p : Program) where
   give_kept h w (Filled t from offset kind others bytes ∷ k) = shown_at v p refl
   give_kept h w (Tries handlers ∷ k) = give_kept h 0 k
   give_kept h w (Trying e (node kind t cat place kids) others ∷ k) =
-      shown_at v p (either_shown v (catches p.classes t e.typ) _ _ _ _ (handle_shown v p h e (node kind t cat place kids) k) (leave_shown v h (throws e) (Tries others ∷ k)))
+      shown_at v p (either_shown v (catches p.classes t e.typ) _ _ _ _ (handle_shown v p h e (node kind t cat place kids) k)
+      (leave_shown v h (throws e) (Tries others ∷ k)))
   give_kept h w (Takes e base none ∷ k) = give_kept h 0 k
   give_kept h w (Takes e base (more field others) ∷ k) = shown_at v p (take_field_shown v p h e base field others k)
   give_kept h w (Taking e base offset kind ∷ k) = shown_at v p refl

@@ -2,8 +2,10 @@
 use Rattle.std.proofs.Common.{◌≡◌, Bool, true, false, ◌&&◌, ◌==◌, ℕ, List, [], ◌∷◌, refl, sym, ap, eqb-true}
 use Rattle.std.proofs.lemmas.Bool.{and_parts}
 use Rattle.cpp_tree.specs.tx_ints.declared.kinds.IntKind.{IntKind}
-use Rattle.cpp_tree.specs.tx_ints.declared.kinds.IntKind.TheVariants.{Bool as BoolKind, Char, SChar, UChar, Short, UShort, Int, UInt, Long, ULong, LLong, ULLong}
-use Rattle.cpp_tree.specs.cpp_types.Typ.{Typ, typ, Form, void, int, enum, null, ptr, ref, array, func, class, closure, tx_ex, Signature, signature, Typs, none, more}
+use Rattle.cpp_tree.specs.tx_ints.declared.kinds.IntKind.TheVariants.{Bool as BoolKind, Char, SChar, UChar, Short, UShort, Int, UInt, Long, ULong, LLong}
+use Rattle.cpp_tree.specs.tx_ints.declared.kinds.IntKind.TheVariants.{ULLong}
+use Rattle.cpp_tree.specs.cpp_types.Typ.{Typ, typ, Form, void, int, enum, null, ptr, ref, array, func, class, closure, tx_ex, Signature, signature, Typs, none}
+use Rattle.cpp_tree.specs.cpp_types.Typ.{more}
 use Rattle.cpp_tree.specs.cpp_types.Equal.{flag_eq, name_eq, kind_eq, typ_eq, form_eq, signature_eq, typs_eq}
 
 flag_same : (a b : Bool) → flag_eq a b ≡ true → a ≡ b
@@ -34,7 +36,8 @@ kind_same _ _ h = absurd cc
 
 mutual
   pub typ_same : (s t : Typ) → typ_eq s t ≡ true → s ≡ t
-  typ_same (typ f c v) (typ g d w) h = let p = and_parts (flag_eq c d && flag_eq v w) (form_eq f g) h in let q = and_parts (flag_eq c d) (flag_eq v w) p.0 in let e = form_same f g p.1 in let i = flag_same c d q.0 in let j = flag_same v w q.1 in cc
+  typ_same (typ f c v) (typ g d w) h = let p = and_parts (flag_eq c d && flag_eq v w) (form_eq f g) h in let q = and_parts (flag_eq c d) (flag_eq v w) p.0 in
+      let e = form_same f g p.1 in let i = flag_same c d q.0 in let j = flag_same v w q.1 in cc
 
   form_same : (f g : Form) → form_eq f g ≡ true → f ≡ g
   form_same void void h = refl
@@ -51,7 +54,8 @@ mutual
   form_same _ _ h = absurd cc
 
   signature_same : (s t : Signature) → signature_eq s t ≡ true → s ≡ t
-  signature_same (signature ps r s) (signature qs q t) h = let p = and_parts (flag_eq s t && typ_eq r q) (typs_eq ps qs) h in let o = and_parts (flag_eq s t) (typ_eq r q) p.0 in let e = typs_same ps qs p.1 in let i = flag_same s t o.0 in let j = typ_same r q o.1 in cc
+  signature_same (signature ps r s) (signature qs q t) h = let p = and_parts (flag_eq s t && typ_eq r q) (typs_eq ps qs) h in let o =
+      and_parts (flag_eq s t) (typ_eq r q) p.0 in let e = typs_same ps qs p.1 in let i = flag_same s t o.0 in let j = typ_same r q o.1 in cc
 
   typs_same : (s t : Typs) → typs_eq s t ≡ true → s ≡ t
   typs_same none none h = refl

@@ -24,4 +24,5 @@ abbrev mutual
 
 -- so in all bodies of a program
 pub record DeclaresPlainly (p : TypedProgram) : Type 0 where
-  pub bodies : (u n : ℕ) (x : TypedUnit) (f : Func) (body : Tree) → slice_get p.units u ≡ Some x → slice_get x.funcs n ≡ Some f → f.body ≡ Some body → declares_plainly body ≡ true
+  pub bodies : (u n : ℕ) (x : TypedUnit) (f : Func) (body : Tree) → slice_get p.units u ≡ Some x → slice_get x.funcs n ≡ Some f → f.body ≡ Some body
+      → declares_plainly body ≡ true

@@ -28,7 +28,8 @@ calls p thread number words main = enter (empty_stack thread) words (p.func numb
 abbrev pub Replayed : Program → MemoryLayout → (memory : ℕ → ℕ) → (input order : List ℕ) → World State → Type 0
 Replayed p layout memory input order v = Replays (source p) layout (first_world memory input (main_state p)) order v
 
-abbrev pub cost_of : (p : Program) (layout : MemoryLayout) (memory : ℕ → ℕ) (input order : List ℕ) (v : World State) → Replayed p layout memory input order v → ℕ
+abbrev pub cost_of : (p : Program) (layout : MemoryLayout) (memory : ℕ → ℕ) (input order : List ℕ) (v : World State) → Replayed p layout memory input order v
+    → ℕ
 cost_of p layout memory input order v replay = cost (source p) layout (first_world memory input (main_state p)) order v replay
 
 -- and to this world but for the states of its threads
@@ -45,8 +46,10 @@ pub record CostsAtMost (p : Program) (layout : MemoryLayout) (memory : ℕ → �
 -- Each function has the same events, as has the whole program with all threads that it starts; up to each event a thread has taken no more steps.
 -- So each replay of the one is a replay of the other, in the same order, whole blocks included, and costs no more.
 pub record Keeps (p q : Program) : Type 0 where
-  pub functions : (thread number : ℕ) (words : List ℕ) (main : Bool) → SameEvents (source p) (source q) (calls p thread number words main) (calls q thread number words main)
-  pub functions_cost : (thread number : ℕ) (words : List ℕ) (main : Bool) → StepsWithin (source p) (source q) 1 0 (calls p thread number words main) (calls q thread number words main)
+  pub functions : (thread number : ℕ) (words : List ℕ) (main : Bool)
+      → SameEvents (source p) (source q) (calls p thread number words main) (calls q thread number words main)
+  pub functions_cost : (thread number : ℕ) (words : List ℕ) (main : Bool)
+      → StepsWithin (source p) (source q) 1 0 (calls p thread number words main) (calls q thread number words main)
   pub threads : (thread address : ℕ) (arg : ℤ) → SameEvents (source p) (source q) (begins p thread address arg) (begins q thread address arg)
   pub threads_cost : (thread address : ℕ) (arg : ℤ) → StepsWithin (source p) (source q) 1 0 (begins p thread address arg) (begins q thread address arg)
   pub main : SameEvents (source p) (source q) (main_state p) (main_state q)
@@ -54,4 +57,5 @@ pub record Keeps (p q : Program) : Type 0 where
   pub children : SameChildren (source p) (source q) (main_state p) (main_state q)
   pub replays : (layout : MemoryLayout) (memory : ℕ → ℕ) (input order : List ℕ) (v : World State) (replay : Replayed p layout memory input order v)
       → CostsAtMost q layout memory input order v (cost_of p layout memory input order v replay)
-  pub back : (layout : MemoryLayout) (memory : ℕ → ℕ) (input order : List ℕ) (v : World State) → layout.limit ≤ THREAD_LIMIT → Replayed q layout memory input order v → IsReplay p layout memory input order v
+  pub back : (layout : MemoryLayout) (memory : ℕ → ℕ) (input order : List ℕ) (v : World State) → layout.limit ≤ THREAD_LIMIT
+      → Replayed q layout memory input order v → IsReplay p layout memory input order v

@@ -1,5 +1,6 @@
 -- What places of lists and addresses find.
-use Rattle.std.proofs.Common.{ℕ, zero, suc, ◌≡◌, ◌+◌, ◌-◌, ◌*◌, ◌/◌, ◌%◌, ◌<◌, ◌≤◌, ◌==◌, Bool, true, false, cond, refl, ap, sym, ◌∙◌, List, [], ◌∷◌, length, Option, Some, None, arith}
+use Rattle.std.proofs.Common.{ℕ, zero, suc, ◌≡◌, ◌+◌, ◌-◌, ◌*◌, ◌/◌, ◌%◌, ◌<◌, ◌≤◌, ◌==◌, Bool, true, false, cond, refl, ap, sym, ◌∙◌, List, [], ◌∷◌, length}
+use Rattle.std.proofs.Common.{Option, Some, None, arith}
 use Rattle.std.specs.Prelude.{slice_get, ◌&&◌, nat_le, nat_eq, if◌then◌else◌, option_and_then, option_map}
 use Rattle.std.specs.List.{list_all}
 use Rattle.std.proofs.lemmas.Bool.{and_parts, eqb-true, leb-true, eq-eqb}
@@ -37,7 +38,8 @@ chosen test x n rest e go = by_test (test x) refl e
     by_test true is e = ap test (sym (same_some x n e)) ∙ is
     by_test false is e = go e
 
-chosen_holds : {X : Type 0} (good : X → Bool) (b : Bool) (x n : X) (rest : Option X) → good x ≡ true → cond b (Some x) rest ≡ Some n → (rest ≡ Some n → good n ≡ true) → good n ≡ true
+chosen_holds : {X : Type 0} (good : X → Bool) (b : Bool) (x n : X) (rest : Option X) → good x ≡ true → cond b (Some x) rest ≡ Some n
+    → (rest ≡ Some n → good n ≡ true) → good n ≡ true
 chosen_holds good true x n rest h e go = ap good (sym (same_some x n e)) ∙ h
 chosen_holds good false x n rest h e go = go e
 
@@ -50,7 +52,8 @@ class_is test [] n e = absurd cc
 class_is test (d ∷ ds) n e = chosen test d.class n (first_class test ds) e (class_is test ds n)
 
 -- what holds of each class that is defined holds of the first one
-pub class_holds : (test good : ℕ → Bool) (ds : List Definition) (n : ℕ) → list_all (λ (d : Definition). good d.class) ds ≡ true → first_class test ds ≡ Some n → good n ≡ true
+pub class_holds : (test good : ℕ → Bool) (ds : List Definition) (n : ℕ) → list_all (λ (d : Definition). good d.class) ds ≡ true → first_class test ds ≡ Some n
+    → good n ≡ true
 class_holds test good [] n h e = absurd cc
 class_holds test good (d ∷ ds) n h e =
     let both = and_parts (good d.class) (list_all (λ (d : Definition). good d.class) ds) h in
@@ -117,7 +120,8 @@ number_is start a n e = by_test (nat_le start a && nat_eq ((a - start) % 16) 0) 
 
 pub number_of : (start a n : ℕ) → a ≡ start + 16 * n → number_at start a ≡ Some n
 number_of start a n e =
-    ap (λ b. if b && nat_eq ((a - start) % 16) 0 then Some ((a - start) / 16) else None) (leb start a n e) ∙ (ap (λ b. if b then Some ((a - start) / 16) else None) (eq-eqb ((a - start) % 16) 0 (whole start a n e)) ∙ ap Some (part start a n e))
+    ap (λ b. if b && nat_eq ((a - start) % 16) 0 then Some ((a - start) / 16) else None) (leb start a n e)
+    ∙ (ap (λ b. if b then Some ((a - start) / 16) else None) (eq-eqb ((a - start) % 16) 0 (whole start a n e)) ∙ ap Some (part start a n e))
   where
     leb : (start a n : ℕ) → a ≡ start + 16 * n → nat_le start a ≡ true
     leb start a n e = grind (arith, e)
@@ -136,7 +140,8 @@ pub record Hit (base a n : ℕ) (ds : List Def) (go : Def × ℕ → Option ℕ)
   pub there : slice_get ds at ≡ Some def
   pub found : go (def, at) ≡ Some n
 
-pub numbered_found : (base a n : ℕ) (ds : List Def) (go : Def × ℕ → Option ℕ) → option_and_then go (numbered 0 (λ i. base + 16 * i) a ds) ≡ Some n → Hit base a n ds go
+pub numbered_found : (base a n : ℕ) (ds : List Def) (go : Def × ℕ → Option ℕ) → option_and_then go (numbered 0 (λ i. base + 16 * i) a ds) ≡ Some n
+    → Hit base a n ds go
 numbered_found base a n ds go e = by_number (number_at base a) refl
   where
     missed : ((k : ℕ) → a ≡ base + 16 * k → ⊥) → Hit base a n ds go
@@ -155,7 +160,9 @@ numbered_found base a n ds go e = by_number (number_at base a) refl
         none_some k h = absurd cc
     by_number (Some k) is =
         let place = number_is base a k is in
-        by_def k place (slice_get ds k) refl (ap (option_and_then go) (sym (numbered_hit base 0 k a ds (place ∙ ap (λ z. base + 16 * z) (own k)) ∙ ap (λ z. option_map (λ d. (d, z)) (slice_get ds k)) (sym (own k)))) ∙ e)
+        by_def k place (slice_get ds k) refl (ap (option_and_then go)
+        (sym (numbered_hit base 0 k a ds (place ∙ ap (λ z. base + 16 * z) (own k)) ∙ ap (λ z. option_map (λ d. (d, z)) (slice_get ds k)) (sym (own k))))
+        ∙ e)
       where
         own : (k : ℕ) → k ≡ 0 + k
         own k = omega arith

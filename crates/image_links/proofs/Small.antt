@@ -1,10 +1,12 @@
 -- The addresses of a program that agrees with an image are numbers of 64 bits.
-use Rattle.std.proofs.Common.{ℕ, zero, suc, ◌≡◌, ◌+◌, ◌*◌, ◌^◌, ◌<◌, ◌≤◌, Bool, true, false, cond, refl, subst, List, [], ◌∷◌, length, Option, Some, None, arith, map}
+use Rattle.std.proofs.Common.{ℕ, zero, suc, ◌≡◌, ◌+◌, ◌*◌, ◌^◌, ◌<◌, ◌≤◌, Bool, true, false, cond, refl, subst, List, [], ◌∷◌, length, Option, Some, None}
+use Rattle.std.proofs.Common.{arith, map}
 use Rattle.std.specs.Prelude.{slice_get, unwrap_or, option_map, option_and_then}
 use Rattle.tx_code.specs.Images.{ImageView}
 use Rattle.cpp_tree.specs.Units.{Func as UnitFunc, Global}
 use Rattle.cpp_layout.specs.Layout.{next_multiple}
-use Rattle.src_mean.specs.Links.{Def, kept_funcs, kept_classes, kept_globals, number_in, number_if, number_of_symbol, same_def, def_of_func, def_of_global, func_at, global_at, global_size, global_offsets, globals_end, class_name}
+use Rattle.src_mean.specs.Links.{Def, kept_funcs, kept_classes, kept_globals, number_in, number_if, number_of_symbol, same_def, def_of_func, def_of_global}
+use Rattle.src_mean.specs.Links.{func_at, global_at, global_size, global_offsets, globals_end, class_name}
 use Rattle.src_bind.specs.Tables.{Given, CanBind, typed, linked_of}
 use Rattle.src_bind.proofs.Stay.{end_within}
 use Rattle.symbolic_source.specs.Small.{IsSmall}
@@ -42,7 +44,8 @@ module _ (i : ImageView) (g : Given) (h : agrees i g ≡ true) (can : CanBind (t
   global_within : (u n : ℕ) → (linked_of g).global u n ≤ 1114112
   global_within u n = by_global (global_at (typed g) u n)
     where
-      by_offset : (o : Option ℕ) (k : ℕ) → slice_get (global_offsets 0 (map (global_size (typed g)) (kept_globals (typed g)))) k ≡ o → 65536 + unwrap_or o 0 ≤ 1114112
+      by_offset : (o : Option ℕ) (k : ℕ) → slice_get (global_offsets 0 (map (global_size (typed g)) (kept_globals (typed g)))) k ≡ o
+          → 65536 + unwrap_or o 0 ≤ 1114112
       by_offset None k e = omega arith
       by_offset (Some o) k e =
           let w = offset_within 0 (map (global_size (typed g)) (kept_globals (typed g))) k o e in
@@ -52,14 +55,18 @@ module _ (i : ImageView) (g : Given) (h : agrees i g ≡ true) (can : CanBind (t
           most : (o end : ℕ) → o ≤ end → end ≤ 1048576 → 65536 + o ≤ 1114112
           most o end w r = omega (arith, w, r)
 
-      by_global : (o : Option Global) → 65536 + unwrap_or (option_and_then (λ (x : Global). slice_get (global_offsets 0 (map (global_size (typed g)) (kept_globals (typed g)))) (number_in (def_of_global u n x) (kept_globals (typed g)))) o) 0 ≤ 1114112
+      by_global : (o : Option Global) → 65536 + unwrap_or
+          (option_and_then (λ (x : Global). slice_get (global_offsets 0 (map (global_size (typed g)) (kept_globals (typed g))))
+          (number_in (def_of_global u n x) (kept_globals (typed g)))) o) 0 ≤ 1114112
       by_global None = omega arith
-      by_global (Some x) = by_offset (slice_get (global_offsets 0 (map (global_size (typed g)) (kept_globals (typed g)))) (number_in (def_of_global u n x) (kept_globals (typed g)))) (number_in (def_of_global u n x) (kept_globals (typed g))) refl
+      by_global (Some x) = by_offset (slice_get (global_offsets 0 (map (global_size (typed g)) (kept_globals (typed g))))
+          (number_in (def_of_global u n x) (kept_globals (typed g)))) (number_in (def_of_global u n x) (kept_globals (typed g))) refl
 
   table_within : (c : ℕ) → (linked_of g).table c ≤ 2 ^ 41 + 16 * 4294967295
   table_within c =
       let w = number_within (record { unit = 0; place = 0; symbol = class_name (typed g).classes c; internal = false }) (kept_classes (typed g)) in
-      most (number_in (record { unit = 0; place = 0; symbol = class_name (typed g).classes c; internal = false }) (kept_classes (typed g))) (length (kept_classes (typed g))) (length i.classes) w (classes_counted i g h) (classes_few i g h)
+      most (number_in (record { unit = 0; place = 0; symbol = class_name (typed g).classes c; internal = false }) (kept_classes (typed g)))
+      (length (kept_classes (typed g))) (length i.classes) w (classes_counted i g h) (classes_few i g h)
     where
       most : (n m l : ℕ) → n ≤ m → l ≡ m → l ≤ 4294967295 → 2 ^ 41 + 16 * n ≤ 2 ^ 41 + 16 * 4294967295
       most n m l w c f = omega (arith, w, c, f)
@@ -70,7 +77,8 @@ module _ (i : ImageView) (g : Given) (h : agrees i g ≡ true) (can : CanBind (t
       few : (m : ℕ) → m ≤ length (kept_funcs (typed g)) → m ≤ 4294967295
       few m l = let c = funcs_counted i g h in let f = funcs_few i g h in omega (arith, l, c, f)
 
-      by_test : (b : Bool) → number_if b (number_in (record { unit = 0; place = 0; symbol = symbol; internal = false }) (kept_funcs (typed g))) ≡ Some n → n ≤ 4294967295
+      by_test : (b : Bool) → number_if b (number_in (record { unit = 0; place = 0; symbol = symbol; internal = false }) (kept_funcs (typed g))) ≡ Some n
+          → n ≤ 4294967295
       by_test true e =
           let same : number_in (record { unit = 0; place = 0; symbol = symbol; internal = false }) (kept_funcs (typed g)) ≡ n = cc in
           subst (λ z. z ≤ 4294967295) same (few _ (number_within (record { unit = 0; place = 0; symbol = symbol; internal = false }) (kept_funcs (typed g))))

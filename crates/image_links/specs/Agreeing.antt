@@ -1,5 +1,6 @@
 -- An image and a linked program agree: equal numbers, sizes, addresses and slots.
-use Rattle.std.specs.Prelude.{ℕ, suc, ◌==◌, ◌≡◌, ◌^◌, Bool, true, false, nat_le, ◌&&◌, List, [], ◌∷◌, length, Option, Some, None, is_some, slice_get, option_and_then, unwrap_or, option_map}
+use Rattle.std.specs.Prelude.{ℕ, suc, ◌==◌, ◌≡◌, ◌^◌, Bool, true, false, nat_le, ◌&&◌, List, [], ◌∷◌, length, Option, Some, None, is_some, slice_get}
+use Rattle.std.specs.Prelude.{option_and_then, unwrap_or, option_map}
 use Rattle.std.specs.List.{list_all}
 use Rattle.std.specs.Option.{option_map_or}
 use Rattle.std.specs.Global.{Vec}
@@ -33,7 +34,8 @@ same_funcs p n (f ∷ fs) = same_func f (p.func n) && same_funcs p (suc n) fs
 
 -- the symbols that the slots of a kept class name, by the class's number
 abbrev pub symbols_of : Given → ℕ → List (Option (Vec ℕ))
-symbols_of g d = unwrap_or (option_and_then (λ (c : Def). option_map (λ (row : Vec (Option (Vec ℕ))). row.items) (slice_get g.choices.symbols.items c.place)) (slice_get (kept_classes (typed g)) d)) []
+symbols_of g d = unwrap_or (option_and_then (λ (c : Def). option_map (λ (row : Vec (Option (Vec ℕ))). row.items) (slice_get g.choices.symbols.items c.place))
+    (slice_get (kept_classes (typed g)) d)) []
 
 module _ (i : ImageView) (g : Given) where
   abbrev pub program : Program
@@ -72,7 +74,8 @@ module _ (i : ImageView) (g : Given) where
 
   -- equal numbers of functions and of classes, which have 32 bits
   abbrev pub counts_agree : Bool
-  counts_agree = ((length i.funcs == length (kept_funcs (typed g))) && nat_le (length i.funcs) 4294967295) && ((length i.classes == length (kept_classes (typed g))) && nat_le (length i.classes) 4294967295)
+  counts_agree = ((length i.funcs == length (kept_funcs (typed g))) && nat_le (length i.funcs) 4294967295)
+      && ((length i.classes == length (kept_classes (typed g))) && nat_le (length i.classes) 4294967295)
 
   abbrev pub agrees : Bool
   agrees = counts_agree && (same_funcs program 0 i.funcs && (units_agree (typed g).units && (threads_agree && main_agrees)))
@@ -89,7 +92,9 @@ linked_book i g notes typs = book_of i (linked_of g) (typed g) notes typs
 pub record Linked (i : ImageView) (g : Given) (b : Bounds) (notes : ℕ → Bool → List Note) (typs : ℕ → Bool → List Typ) : Type 0 where
   pub links : Links (linked_of g) (names_of i) b (linked_book i g notes typs)
   pub main : Begins (linked_of g) (names_of i) (linked_book i g notes typs) 0 (linked_of g).main []
-  pub threads : (id a n word : ℕ) → (id == 0) ≡ false → (linked_of g).pointed a thread_signature ≡ Some n → Begins (linked_of g) (names_of i) (linked_book i g notes typs) id n (word ∷ [])
+  pub threads : (id a n word : ℕ) → (id == 0) ≡ false → (linked_of g).pointed a thread_signature ≡ Some n
+      → Begins (linked_of g) (names_of i) (linked_book i g notes typs) id n (word ∷ [])
 
 abbrev pub AreLinked : ImageView → Given → Type 0
-AreLinked i g = (b : Bounds) (notes : ℕ → Bool → List Note) (typs : ℕ → Bool → List Typ) → AllChecked i (linked_of g) b (linked_book i g notes typs) → Linked i g b notes typs
+AreLinked i g = (b : Bounds) (notes : ℕ → Bool → List Note) (typs : ℕ → Bool → List Typ) → AllChecked i (linked_of g) b (linked_book i g notes typs)
+    → Linked i g b notes typs

@@ -143,7 +143,16 @@ module _ (i : ImageView) (p : Program) (t : TypedProgram) where
 
   abbrev pub book_of : (notes : ℕ → Bool → List Note) → (typs : ℕ → Bool → List Typ) → Book
   book_of notes typs = record {
-    held = λ n safe. record { number = n; safe = safe; func = func_of p n; body = body_of n safe; rows = (body_of n safe).rows; notes = notes n safe; table = table_of (func_of p n).unit (typs n safe) };
+    held = λ n safe. record {
+      number = n;
+      safe = safe;
+      func = func_of p n;
+      body = body_of n safe;
+      rows = (body_of n safe).rows;
+      notes = notes n safe;
+      table =
+          table_of (func_of p n).unit (typs n safe);
+    };
     gives = λ n. func_gives i n;
     takes = λ n. func_takes p n;
     stops = λ n. (func_of p n).stops;

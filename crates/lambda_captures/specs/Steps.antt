@@ -12,7 +12,8 @@ use Rattle.elab_init.specs.cpp_tree.Typing.{form_in}
 use Rattle.elab_init.specs.elab_ctx.Ctx.{Ctx, Capture}
 use Rattle.elab_init.specs.elab_ctx.Steps.{and_then, check, spelling}
 use Rattle.elab_init.specs.elab_rules.Types.{Parameter}
-use Rattle.elab_init.specs.elab_rules.Lambdas.{Otherwise, captured_as, copies_closure, is_captured, capture_used, capture_this, adds, explicit_variable, Scan, declaring, scanned, scanned_all}
+use Rattle.elab_init.specs.elab_rules.Lambdas.{Otherwise, captured_as, copies_closure, is_captured, capture_used, capture_this, adds, explicit_variable, Scan}
+use Rattle.elab_init.specs.elab_rules.Lambdas.{declaring, scanned, scanned_all}
 
 -- Names
 
@@ -45,7 +46,8 @@ with_capture xs variable by_ref t at = xs ++ record { variable = variable; by_re
 
 -- a variable whose type is known
 abbrev pub capture_typed : Ctx → List Capture → At → ℕ → Bool → Typ → Result (List Capture) ElabFault
-capture_typed c xs at i by_ref t = and_then (check at OutOfProfile (by_ref || copies_closure c (form_in (referred t)))) (λ y. Ok (with_capture xs (Some i) by_ref (captured_as by_ref t) at))
+capture_typed c xs at i by_ref t = and_then (check at OutOfProfile (by_ref || copies_closure c (form_in (referred t))))
+    (λ y. Ok (with_capture xs (Some i) by_ref (captured_as by_ref t) at))
 
 -- what is named is captured, unless that is done
 abbrev pub capture_once : Ctx → Bool → List Capture → At → Option ℕ → Result (List Capture) ElabFault

@@ -1,5 +1,6 @@
 -- Ascending lists of names.
-use Rattle.std.proofs.Common.{Bool, true, false, ◌≡◌, ◌<◌, ◌≤◌, ℕ, suc, zero, ◌+◌, List, [], ◌∷◌, map, length, refl, sym, ap, ◌∙◌, arith, Option, Some, ◌&&◌, ◌||◌, get_or, cond, unwrap_or, nat_lt, add-one}
+use Rattle.std.proofs.Common.{Bool, true, false, ◌≡◌, ◌<◌, ◌≤◌, ℕ, suc, zero, ◌+◌, List, [], ◌∷◌, map, length, refl, sym, ap, ◌∙◌, arith, Option, Some, ◌&&◌}
+use Rattle.std.proofs.Common.{◌||◌, get_or, cond, unwrap_or, nat_lt, add-one}
 use borrow.Author.Tests.{ltb-true, ltb-false}
 use Rattle.std.specs.Prelude.{slice_index_or}
 use Rattle.std.specs.List.{list_all, position_from, AllByRecursion, Contains, dedup, dedup_from}
@@ -79,7 +80,8 @@ tail_ascends x [] h = refl
 tail_ascends x (y ∷ ys) h = and_right _ _ h
 
 -- a name stands at one place alone
-pub position_at : (all : List (List ℕ)) (n i : ℕ) (name : List ℕ) → ascends bytes_lt all ≡ true → i < length all → get_or all i [] ≡ name → position_from (bytes_eq name) n all ≡ Some (n + i)
+pub position_at : (all : List (List ℕ)) (n i : ℕ) (name : List ℕ) → ascends bytes_lt all ≡ true → i < length all → get_or all i [] ≡ name
+    → position_from (bytes_eq name) n all ≡ Some (n + i)
 position_at [] n i name h l e = absurd (omega arith)
 position_at (x ∷ xs) n zero name h l e = rw (← e, equals_itself x) (ap (λ k. Some k) (omega arith))
 position_at (x ∷ xs) n (suc i) name h l e =
@@ -119,7 +121,8 @@ items_at (v ∷ vs) (suc i) d l = items_at vs i d (omega arith)
 abbrev pub items_cmp : Vec ℕ → Vec ℕ → Ordering
 items_cmp x y = slice_cmp nat_cmp x.items y.items
 
-heads : (v : Vec ℕ) (vs : List (Vec ℕ)) → AllByRecursion (λ y. items_cmp v y ≡ Less) vs → IsStrictlySortedBy items_cmp vs → ascends_from bytes_lt v.items (map bytes_of vs) ≡ true
+heads : (v : Vec ℕ) (vs : List (Vec ℕ)) → AllByRecursion (λ y. items_cmp v y ≡ Less) vs → IsStrictlySortedBy items_cmp vs
+    → ascends_from bytes_lt v.items (map bytes_of vs) ≡ true
 unfolding IsStrictlySortedBy
 heads v [] a s = refl
 heads v (w ∷ vs) a s = rw (ap is_lt a.0) (heads w vs s.0 s.1)
@@ -143,7 +146,8 @@ items_equiv = on_equiv (λ (x : Vec ℕ). x.items) nat_list_eq_equiv
 pub ties : (x y : Vec ℕ) → items_eq x y ≡ eq_by_cmp items_cmp x y
 ties x y = sym (is_eq-slice_cmp x.items y.items)
 
-pub listed_in : (vs : List (Vec ℕ)) (v : Vec ℕ) (i : ℕ) (d : Vec ℕ) → i < length vs → items_eq v (slice_index_or vs i d) ≡ true → is_listed (map bytes_of vs) v.items ≡ true
+pub listed_in : (vs : List (Vec ℕ)) (v : Vec ℕ) (i : ℕ) (d : Vec ℕ) → i < length vs → items_eq v (slice_index_or vs i d) ≡ true
+    → is_listed (map bytes_of vs) v.items ≡ true
 listed_in [] v i d l e = absurd (omega arith)
 listed_in (w ∷ vs) v zero d l e = rw e refl
 listed_in (w ∷ vs) v (suc i) d l e = or_right (bytes_eq v.items w.items) _ (listed_in vs v i d (omega arith) e)
@@ -153,7 +157,8 @@ dedup_lists vs v h =
     let a = Any-dedup items_equiv vs v h in
     listed_in (dedup items_eq vs) v a.0 a.1 a.2 (ap (items_eq v) a.3 ∙ a.4)
 
-pub all_of : (all : List (List ℕ)) (vs : List (Vec ℕ)) → ((v : Vec ℕ) → Contains vs v → is_listed all v.items ≡ true) → list_all (is_listed all) (map bytes_of vs) ≡ true
+pub all_of : (all : List (List ℕ)) (vs : List (Vec ℕ)) → ((v : Vec ℕ) → Contains vs v → is_listed all v.items ≡ true)
+    → list_all (is_listed all) (map bytes_of vs) ≡ true
 all_of all [] f = refl
 all_of all (v ∷ vs) f = rw (f v (0, omega arith, refl)) (all_of all vs (λ w c. f w (suc c.0, omega (arith, c.1), c.2)))
 
@@ -161,7 +166,8 @@ rest_shorter : (v : Vec ℕ) (vs : List (Vec ℕ)) → length (dedup_from items_
 rest_shorter v [] = omega arith
 rest_shorter v (w ∷ vs) = by (items_eq w v) (rest_shorter v vs) (rest_shorter w vs)
   where
-    by : (t : Bool) → length (dedup_from items_eq v vs) ≤ suc (length vs) → length (dedup_from items_eq w vs) ≤ suc (length vs) → length (cond t (dedup_from items_eq v vs) (v ∷ dedup_from items_eq w vs)) ≤ suc (suc (length vs))
+    by : (t : Bool) → length (dedup_from items_eq v vs) ≤ suc (length vs) → length (dedup_from items_eq w vs) ≤ suc (length vs)
+        → length (cond t (dedup_from items_eq v vs) (v ∷ dedup_from items_eq w vs)) ≤ suc (suc (length vs))
     by true a b = omega arith
     by false a b = omega arith
 
@@ -199,13 +205,15 @@ equal_is Greater h = cc
 is_equal : (a : List ℕ) → slice_cmp nat_cmp a a ≡ Equal
 is_equal a = equal_is _ (is_eq-slice_cmp a a ∙ equals_itself a)
 
-pub found : (vs : List (Vec ℕ)) (name : List ℕ) (i : ℕ) → ascends bytes_lt (map bytes_of vs) ≡ true → i < length vs → ((d : Vec ℕ) → slice_cmp nat_cmp (slice_index_or vs i d).items name ≡ Equal) → (d : Vec ℕ) → i ≡ rank_of (map bytes_of vs) name
+pub found : (vs : List (Vec ℕ)) (name : List ℕ) (i : ℕ) → ascends bytes_lt (map bytes_of vs) ≡ true → i < length vs
+    → ((d : Vec ℕ) → slice_cmp nat_cmp (slice_index_or vs i d).items name ≡ Equal) → (d : Vec ℕ) → i ≡ rank_of (map bytes_of vs) name
 found vs name i h l e d =
     let long = length-map vs bytes_of in
     sym (rank_at (map bytes_of vs) i name h (omega (arith, long)) (items_at vs i d l ∙ exact_bytes _ _ (e d)))
 
 pub not_missed : (vs : List (Vec ℕ)) (name : List ℕ) (i : ℕ) → ascends bytes_lt (map bytes_of vs) ≡ true → is_listed (map bytes_of vs) name ≡ true
-    → (IsNonDecreasingBy (λ y. ordering_index (slice_cmp nat_cmp y.items name)) vs → IsPartitionPoint (λ y. slice_cmp nat_cmp y.items name ≡ Less) (λ y. slice_cmp nat_cmp y.items name ≡ Greater) vs i)
+    → (IsNonDecreasingBy (λ y. ordering_index (slice_cmp nat_cmp y.items name)) vs
+    → IsPartitionPoint (λ y. slice_cmp nat_cmp y.items name ≡ Less) (λ y. slice_cmp nat_cmp y.items name ≡ Greater) vs i)
     → (d : Vec ℕ) → ⊥
 not_missed vs name i h l f d =
     let long = length-map vs bytes_of in
@@ -215,7 +223,10 @@ not_missed vs name i h l f d =
     let same : slice_cmp nat_cmp (slice_index_or vs w.0 d).items name ≡ Equal = rw at (is_equal name) in
     by (nat_lt w.0 i) refl p same w.1.within
   where
-    by : (t : Bool) → nat_lt (where_listed (map bytes_of vs) name l).0 i ≡ t → IsPartitionPoint (λ (y : Vec ℕ). slice_cmp nat_cmp y.items name ≡ Less) (λ (y : Vec ℕ). slice_cmp nat_cmp y.items name ≡ Greater) vs i
-        → slice_cmp nat_cmp (slice_index_or vs (where_listed (map bytes_of vs) name l).0 d).items name ≡ Equal → (where_listed (map bytes_of vs) name l).0 < length (map bytes_of vs) → ⊥
+    by : (t : Bool) → nat_lt (where_listed (map bytes_of vs) name l).0 i ≡ t
+        → IsPartitionPoint (λ (y : Vec ℕ). slice_cmp nat_cmp y.items name ≡ Less) (λ (y : Vec ℕ). slice_cmp nat_cmp y.items name ≡ Greater) vs i
+        → slice_cmp nat_cmp (slice_index_or vs (where_listed (map bytes_of vs) name l).0 d).items name ≡ Equal
+        → (where_listed (map bytes_of vs) name l).0 < length (map bytes_of vs) → ⊥
     by true e p same within = let less = p.0 (where_listed (map bytes_of vs) name l).0 d (omega arith) (ltb-true _ _ e) in cc
-    by false e p same within = let long = length-map vs bytes_of in let more = p.1 (where_listed (map bytes_of vs) name l).0 d (ltb-false _ _ e) (omega (arith, within, long)) in cc
+    by false e p same within = let long = length-map vs bytes_of in let more =
+        p.1 (where_listed (map bytes_of vs) name l).0 d (ltb-false _ _ e) (omega (arith, within, long)) in cc

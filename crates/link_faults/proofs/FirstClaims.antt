@@ -1,5 +1,6 @@
 -- A dispute among claims is one with the first claim of the symbol.
-use Rattle.std.proofs.Common.{Bool, true, false, ◌≡◌, ◌<◌, ℕ, suc, zero, List, [], ◌∷◌, ◌++◌, length, refl, sym, ap, ◌∙◌, arith, Option, Some, None, ◌&&◌, ◌||◌, not, nat_eq, cond, slice_get, slice_set, inl, inr, ◌≢◌, length-set}
+use Rattle.std.proofs.Common.{Bool, true, false, ◌≡◌, ◌<◌, ℕ, suc, zero, List, [], ◌∷◌, ◌++◌, length, refl, sym, ap, ◌∙◌, arith, Option, Some, None, ◌&&◌, ◌||◌}
+use Rattle.std.proofs.Common.{not, nat_eq, cond, slice_get, slice_set, inl, inr, ◌≢◌, length-set}
 use Rattle.std.specs.Prelude.{◌⊎◌}
 use Rattle.std.specs.List.{list_any}
 use borrow.Author.Tests.{eqb-true, eqb-false, eq-eqb}
@@ -27,12 +28,14 @@ pub first_passes : {A : Type 0} (t p : A → Bool) (xs : List A) (x : A) → fir
 first_passes t p [] x e = cc
 first_passes {A} t p (y ∷ ys) x e = by (t y) refl e (first_passes t p ys x)
   where
-    by : (b : Bool) → t y ≡ b → cond b (Some y) (first_of t ys) ≡ Some x → (first_of t ys ≡ Some x → (p x ≡ true → list_any p ys ≡ true) × (t x ≡ true)) → (p x ≡ true → list_any p (y ∷ ys) ≡ true) × (t x ≡ true)
+    by : (b : Bool) → t y ≡ b → cond b (Some y) (first_of t ys) ≡ Some x → (first_of t ys ≡ Some x → (p x ≡ true → list_any p ys ≡ true) × (t x ≡ true))
+        → (p x ≡ true → list_any p (y ∷ ys) ≡ true) × (t x ≡ true)
     by true h e f = let same : y ≡ x = cc in (λ g. or_left (p y) _ (ap p same ∙ g), ap t (sym same) ∙ h)
     by false h e f = (λ g. or_right (p y) _ ((f e).0 g), (f e).1)
 
 -- three claims of one symbol: where the second disputes with the third, the first disputes with one of the two
-middle : (xa fa ca : Bool) (x f c : ℕ) → (fa || ca || not (nat_eq f c)) ≡ true → ((xa || fa || not (nat_eq x f)) ≡ true) ⊎ ((xa || ca || not (nat_eq x c)) ≡ true)
+middle : (xa fa ca : Bool) (x f c : ℕ) → (fa || ca || not (nat_eq f c)) ≡ true → ((xa || fa || not (nat_eq x f)) ≡ true)
+    ⊎ ((xa || ca || not (nat_eq x c)) ≡ true)
 middle true fa ca x f c h = inl refl
 middle false true ca x f c h = inl refl
 middle false false true x f c h = inr refl
@@ -42,7 +45,8 @@ middle false false false x f c h = by (nat_eq x f) refl
     by true e = inr (ap (λ z. not (nat_eq z c)) (eqb-true x f e) ∙ h)
     by false e = inl (ap not e)
 
-clash_among : (xs : List Claim) (x c : Claim) (k : ℕ) → c.symbol ≡ k → nat_eq x.symbol k ≡ true → clashes (first_of (is_of c.symbol) xs) c ≡ true → (list_any (disputes k x) xs || clashes (Some x) c) ≡ true
+clash_among : (xs : List Claim) (x c : Claim) (k : ℕ) → c.symbol ≡ k → nat_eq x.symbol k ≡ true → clashes (first_of (is_of c.symbol) xs) c ≡ true
+    → (list_any (disputes k x) xs || clashes (Some x) c) ≡ true
 clash_among xs x c k same e h = by (first_of (is_of c.symbol) xs) refl h
   where
     by : (o : Option Claim) → first_of (is_of c.symbol) xs ≡ o → clashes o c ≡ true → (list_any (disputes k x) xs || clashes (Some x) c) ≡ true
@@ -78,7 +82,8 @@ both false false true f h = refl
 both false false false true h = sym (h refl)
 both false false false false h = refl
 
-pub more_disputes : (claims : List Claim) (c : Claim) (k : ℕ) → is_disputed (claims ++ c ∷ []) k ≡ (is_disputed claims k || (nat_eq c.symbol k && clashes (first_of (is_of c.symbol) claims) c))
+pub more_disputes : (claims : List Claim) (c : Claim) (k : ℕ)
+    → is_disputed (claims ++ c ∷ []) k ≡ (is_disputed claims k || (nat_eq c.symbol k && clashes (first_of (is_of c.symbol) claims) c))
 more_disputes [] c k = by (nat_eq c.symbol k)
   where
     by : (b : Bool) → false ≡ (b && false)
@@ -90,8 +95,10 @@ more_disputes (x ∷ xs) c k =
   where
     by : (e : Bool) → nat_eq c.symbol k ≡ e → (s : Bool) → nat_eq x.symbol c.symbol ≡ s
         → ((list_any (disputes k x) xs || (disputes k x c || false)) || (is_disputed xs k || (nat_eq c.symbol k && clashes (first_of (is_of c.symbol) xs) c)))
-        ≡ ((list_any (disputes k x) xs || is_disputed xs k) || (nat_eq c.symbol k && clashes (cond (nat_eq x.symbol c.symbol) (Some x) (first_of (is_of c.symbol) xs)) c))
-    by false e s g = rw e (apart (list_any (disputes k x) xs) (nat_eq x.symbol k) (clashes (Some x) c) (is_disputed xs k) (clashes (first_of (is_of c.symbol) xs) c) (clashes (cond (nat_eq x.symbol c.symbol) (Some x) (first_of (is_of c.symbol) xs)) c))
+        ≡ ((list_any (disputes k x) xs || is_disputed xs k)
+        || (nat_eq c.symbol k && clashes (cond (nat_eq x.symbol c.symbol) (Some x) (first_of (is_of c.symbol) xs)) c))
+    by false e s g = rw e (apart (list_any (disputes k x) xs) (nat_eq x.symbol k) (clashes (Some x) c) (is_disputed xs k)
+        (clashes (first_of (is_of c.symbol) xs) c) (clashes (cond (nat_eq x.symbol c.symbol) (Some x) (first_of (is_of c.symbol) xs)) c))
     by true e false g =
         let same : c.symbol ≡ k = eqb-true c.symbol k e in
         let n : nat_eq x.symbol k ≡ false = rw same at g in
@@ -99,7 +106,8 @@ more_disputes (x ∷ xs) c k =
     by true e true g =
         let same : c.symbol ≡ k = eqb-true c.symbol k e in
         let n : nat_eq x.symbol k ≡ true = rw same at g in
-        rw (e, g, n) (both (list_any (disputes k x) xs) (clashes (Some x) c) (is_disputed xs k) (clashes (first_of (is_of c.symbol) xs) c) (clash_among xs x c k same n))
+        rw (e, g, n) (both (list_any (disputes k x) xs) (clashes (Some x) c) (is_disputed xs k) (clashes (first_of (is_of c.symbol) xs) c)
+        (clash_among xs x c k same n))
 
 pub same_least : (p q : ℕ → Bool) → ((k : ℕ) → p k ≡ q k) → (o : Option ℕ) → IsLeast p o → IsLeast q o
 same_least p q s None h = record { none = λ k. sym (s k) ∙ h.none k }
@@ -116,11 +124,15 @@ and_false false = refl
 pub one_symbol : (k : ℕ) → IsLeast (λ j. nat_eq k j) (Some k)
 one_symbol k = record { holds = eq-eqb k k refl; least = λ j e. let same : k ≡ j = eqb-true k j e in omega arith }
 
-pub least_with : (claims : List Claim) (c : Claim) (first : Option Claim) (r : Option ℕ) → first ≡ first_of (is_of c.symbol) claims → clashes first c ≡ true → IsLeast (λ k. is_disputed claims k || nat_eq c.symbol k) r → IsLeast (is_disputed (claims ++ c ∷ [])) r
-least_with claims c first r e t h = same_least _ (is_disputed (claims ++ c ∷ [])) (λ k. sym (more_disputes claims c k ∙ rw (← e, t) (ap (λ b. is_disputed claims k || b) (and_true (nat_eq c.symbol k))))) r h
+pub least_with : (claims : List Claim) (c : Claim) (first : Option Claim) (r : Option ℕ) → first ≡ first_of (is_of c.symbol) claims → clashes first c ≡ true
+    → IsLeast (λ k. is_disputed claims k || nat_eq c.symbol k) r → IsLeast (is_disputed (claims ++ c ∷ [])) r
+least_with claims c first r e t h = same_least _ (is_disputed (claims ++ c ∷ []))
+    (λ k. sym (more_disputes claims c k ∙ rw (← e, t) (ap (λ b. is_disputed claims k || b) (and_true (nat_eq c.symbol k))))) r h
 
-pub least_without : (claims : List Claim) (c : Claim) (first : Option Claim) (r : Option ℕ) → first ≡ first_of (is_of c.symbol) claims → clashes first c ≡ false → IsLeast (is_disputed claims) r → IsLeast (is_disputed (claims ++ c ∷ [])) r
-least_without claims c first r e t h = same_least (is_disputed claims) (is_disputed (claims ++ c ∷ [])) (λ k. sym (more_disputes claims c k ∙ rw (← e, t, and_false (nat_eq c.symbol k)) (or_false (is_disputed claims k)))) r h
+pub least_without : (claims : List Claim) (c : Claim) (first : Option Claim) (r : Option ℕ) → first ≡ first_of (is_of c.symbol) claims → clashes first c ≡ false
+    → IsLeast (is_disputed claims) r → IsLeast (is_disputed (claims ++ c ∷ [])) r
+least_without claims c first r e t h = same_least (is_disputed claims) (is_disputed (claims ++ c ∷ []))
+    (λ k. sym (more_disputes claims c k ∙ rw (← e, t, and_false (nat_eq c.symbol k)) (or_false (is_disputed claims k)))) r h
 
 -- ---- the first claims
 
@@ -128,7 +140,8 @@ pub first_goes_on : {A : Type 0} (t : A → Bool) (xs : List A) (c x : A) → fi
 first_goes_on t [] c x e = cc
 first_goes_on {A} t (y ∷ ys) c x e = by (t y) e (first_goes_on t ys c x)
   where
-    by : (b : Bool) → cond b (Some y) (first_of t ys) ≡ Some x → (first_of t ys ≡ Some x → first_of t (ys ++ c ∷ []) ≡ Some x) → cond b (Some y) (first_of t (ys ++ c ∷ [])) ≡ Some x
+    by : (b : Bool) → cond b (Some y) (first_of t ys) ≡ Some x → (first_of t ys ≡ Some x → first_of t (ys ++ c ∷ []) ≡ Some x)
+        → cond b (Some y) (first_of t (ys ++ c ∷ [])) ≡ Some x
     by true e f = e
     by false e f = f e
 
@@ -136,7 +149,8 @@ pub first_is_last : {A : Type 0} (t : A → Bool) (xs : List A) (c : A) → firs
 first_is_last t [] c e = refl
 first_is_last {A} t (y ∷ ys) c e = by (t y) e (first_is_last t ys c)
   where
-    by : (b : Bool) → cond b (Some y) (first_of t ys) ≡ None → (first_of t ys ≡ None → first_of t (ys ++ c ∷ []) ≡ cond (t c) (Some c) None) → cond b (Some y) (first_of t (ys ++ c ∷ [])) ≡ cond (t c) (Some c) None
+    by : (b : Bool) → cond b (Some y) (first_of t ys) ≡ None → (first_of t ys ≡ None → first_of t (ys ++ c ∷ []) ≡ cond (t c) (Some c) None)
+        → cond b (Some y) (first_of t (ys ++ c ∷ [])) ≡ cond (t c) (Some c) None
     by true e f = cc
     by false e f = f e
 
@@ -144,7 +158,8 @@ pub first_skips : {A : Type 0} (t : A → Bool) (xs : List A) (c : A) → t c �
 first_skips t [] c e = rw e refl
 first_skips t (y ∷ ys) c e = ap (λ o. cond (t y) (Some y) o) (first_skips t ys c e)
 
-pub seen : (claims : List Claim) (first : List (Option Claim)) (c f : Claim) → slice_get first c.symbol ≡ Some (Some f) → AreFirst claims first → AreFirst (claims ++ c ∷ []) first
+pub seen : (claims : List Claim) (first : List (Option Claim)) (c f : Claim) → slice_get first c.symbol ≡ Some (Some f) → AreFirst claims first
+    → AreFirst (claims ++ c ∷ []) first
 seen claims first c f e h k l = by (nat_eq c.symbol k) refl
   where
     by : (b : Bool) → nat_eq c.symbol k ≡ b → slice_get first k ≡ Some (first_of (is_of k) (claims ++ c ∷ []))
@@ -172,7 +187,8 @@ get_set_other (y ∷ ys) (suc i) (suc j) x n = get_set_other ys i j x (λ e. n (
 pub inside : {A : Type 0} (a b : A) → Some a ≡ Some b → a ≡ b
 inside a b e = cc
 
-pub noted : (claims : List Claim) (first : List (Option Claim)) (c : Claim) → c.symbol < length first → slice_get first c.symbol ≡ Some None → AreFirst claims first → AreFirst (claims ++ c ∷ []) (slice_set first c.symbol (Some c))
+pub noted : (claims : List Claim) (first : List (Option Claim)) (c : Claim) → c.symbol < length first → slice_get first c.symbol ≡ Some None
+    → AreFirst claims first → AreFirst (claims ++ c ∷ []) (slice_set first c.symbol (Some c))
 noted claims first c w e h k l = by (nat_eq c.symbol k) refl
   where
     by : (b : Bool) → nat_eq c.symbol k ≡ b → slice_get (slice_set first c.symbol (Some c)) k ≡ Some (first_of (is_of k) (claims ++ c ∷ []))

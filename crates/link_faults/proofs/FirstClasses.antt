@@ -1,5 +1,6 @@
 -- The table of the first classes.
-use Rattle.std.proofs.Common.{Bool, true, false, ◌≡◌, ◌<◌, ◌≢◌, ℕ, suc, zero, ◌+◌, List, [], ◌∷◌, ◌++◌, map, take, length, refl, sym, ap, ◌∙◌, arith, Option, Some, None, ◌&&◌, ◌||◌, not, nat_eq, cond, slice_get, slice_set, add-one, IfSome}
+use Rattle.std.proofs.Common.{Bool, true, false, ◌≡◌, ◌<◌, ◌≢◌, ℕ, suc, zero, ◌+◌, List, [], ◌∷◌, ◌++◌, map, take, length, refl, sym, ap, ◌∙◌, arith, Option}
+use Rattle.std.proofs.Common.{Some, None, ◌&&◌, ◌||◌, not, nat_eq, cond, slice_get, slice_set, add-one, IfSome}
 use Rattle.std.specs.List.{All}
 use Rattle.std.specs.Option.{option_map}
 use borrow.Author.Tests.{eqb-true, eqb-false}
@@ -16,7 +17,8 @@ take_next [] i l = absurd (omega arith)
 take_next (v ∷ vs) zero l = refl
 take_next (v ∷ vs) (suc i) l = ap (λ ws. v ∷ ws) (take_next vs i (omega arith))
 
-pub seen_class : (views : List RankedView) (i j : ℕ) (name : ℕ) (first : List (Option ℕ)) → (view_at views i).name ≡ name → i < length views → slice_get first name ≡ Some (Some j) → AreFirstClasses views i first → AreFirstClasses views (i + 1) first
+pub seen_class : (views : List RankedView) (i j : ℕ) (name : ℕ) (first : List (Option ℕ)) → (view_at views i).name ≡ name → i < length views
+    → slice_get first name ≡ Some (Some j) → AreFirstClasses views i first → AreFirstClasses views (i + 1) first
 seen_class views i j name first n l e h k o g = rw (add-one, take_next views i l) (by (nat_eq (view_at views i).name k) refl)
   where
     by : (b : Bool) → nat_eq (view_at views i).name k ≡ b → option_map (view_at views) o ≡ first_of (has_rank k) (take i views ++ view_at views i ∷ [])
@@ -31,7 +33,8 @@ seen_class views i j name first n l e h k o g = rw (add-one, take_next views i l
 none_is : {A B : Type 0} (f : A → B) (r : Option B) → option_map f None ≡ r → r ≡ None
 none_is f r e = sym e
 
-pub noted_class : (views : List RankedView) (i : ℕ) (name : ℕ) (first : List (Option ℕ)) → name < length first → (view_at views i).name ≡ name → i < length views → slice_get first name ≡ Some None → AreFirstClasses views i first → AreFirstClasses views (i + 1) (slice_set first name (Some i))
+pub noted_class : (views : List RankedView) (i : ℕ) (name : ℕ) (first : List (Option ℕ)) → name < length first → (view_at views i).name ≡ name
+    → i < length views → slice_get first name ≡ Some None → AreFirstClasses views i first → AreFirstClasses views (i + 1) (slice_set first name (Some i))
 noted_class views i name first w n l e h k o g = rw (add-one, take_next views i l) (by (nat_eq (view_at views i).name k) refl)
   where
     by : (b : Bool) → nat_eq (view_at views i).name k ≡ b → option_map (view_at views) o ≡ first_of (has_rank k) (take i views ++ view_at views i ∷ [])
@@ -40,7 +43,8 @@ noted_class views i name first w n l e h k o g = rw (add-one, take_next views i 
         let at : slice_get first k ≡ Some None = rw same at e in
         let is : o ≡ Some i = inside o (Some i) (sym g ∙ get_set_same first name k (Some i) same w) in
         let was : first_of (has_rank k) (take i views) ≡ None = none_is (view_at views) _ (h k None at) in
-        ap (option_map (view_at views)) is ∙ sym (first_is_last (has_rank k) (take i views) (view_at views i) was ∙ ap (λ b. cond b (Some (view_at views i)) None) q)
+        ap (option_map (view_at views)) is ∙ sym (first_is_last (has_rank k) (take i views) (view_at views i) was ∙ ap
+        (λ b. cond b (Some (view_at views i)) None) q)
     by false q =
         let apart : name ≢ k = λ s. eqb-false (view_at views i).name k q (n ∙ s) in
         let at : slice_get first k ≡ Some o = sym (get_set_other first name k (Some i) apart) ∙ g in
@@ -51,7 +55,8 @@ name_within [] n i h l = absurd (omega arith)
 name_within (c ∷ cs) n zero h l = h 0 c (omega arith)
 name_within (c ∷ cs) n (suc i) h l = name_within cs n i (λ k d m. h (suc k) d (omega arith)) (omega arith)
 
-pub within_at : (first : List (Option ℕ)) (n k : ℕ) (o : Option ℕ) → All (λ (o : Option ℕ). IfSome o (λ j. j < n)) first → slice_get first k ≡ Some o → IfSome o (λ j. j < n)
+pub within_at : (first : List (Option ℕ)) (n k : ℕ) (o : Option ℕ) → All (λ (o : Option ℕ). IfSome o (λ j. j < n)) first → slice_get first k ≡ Some o
+    → IfSome o (λ j. j < n)
 within_at [] n k o h e = cc
 within_at (p ∷ ps) n zero o h e = let same : p ≡ o = inside p o e in rw (← same) (h 0 p (omega arith))
 within_at (p ∷ ps) n (suc k) o h e = within_at ps n k o (λ j d m. h (suc j) d (omega arith)) e
@@ -61,4 +66,6 @@ pub class_step : (views : List RankedView) (i : ℕ) (name : ℕ) (o r : Option 
     → IsLeast (λ k. is_disputed_class (take i views) k || (nat_eq name k && disputed)) r → IsLeast (is_disputed_class (take (i + 1) views)) r
 class_step views i name o r disputed l n d f h =
     rw (add-one, take_next views i l)
-    (same_least _ (is_disputed_class (take i views ++ view_at views i ∷ [])) (λ k. sym (more_differ (λ (v : RankedView). v.name) (λ a b. not (is_same_class a b)) classes_spread (take i views) (view_at views i) k ∙ rw (← n, ← f, ← d) refl)) r h)
+    (same_least _ (is_disputed_class (take i views ++ view_at views i ∷ []))
+    (λ k. sym (more_differ (λ (v : RankedView). v.name) (λ a b. not (is_same_class a b)) classes_spread (take i views) (view_at views i) k ∙ rw
+    (← n, ← f, ← d) refl)) r h)

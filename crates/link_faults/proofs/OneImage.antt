@@ -17,13 +17,15 @@ not_among x xs h = by (is_listed xs x) refl
     by false e = refl
 
 -- one that is among a list and not its head comes after the head
-after_head : (x y : List ℕ) (ys : List (List ℕ)) → ascends_from bytes_lt y ys ≡ true → (bytes_eq x y || is_listed ys x) ≡ true → bytes_eq x y ≡ false → bytes_lt y x ≡ true
+after_head : (x y : List ℕ) (ys : List (List ℕ)) → ascends_from bytes_lt y ys ≡ true → (bytes_eq x y || is_listed ys x) ≡ true → bytes_eq x y ≡ false
+    → bytes_lt y x ≡ true
 after_head x y ys h e n = let l : is_listed ys x ≡ true = rw n at e in let w = where_listed ys x l in rw (← w.1.is) (head_below y ys w.0 h w.1.within)
 
 first_listed : (x : List ℕ) (xs : List (List ℕ)) → is_listed (x ∷ xs) x ≡ true
 first_listed x xs = rw (equals_itself x) refl
 
-same_heads : (x y : List ℕ) (xs ys : List (List ℕ)) → ascends_from bytes_lt x xs ≡ true → ascends_from bytes_lt y ys ≡ true → ((n : List ℕ) → is_listed (x ∷ xs) n ≡ is_listed (y ∷ ys) n) → x ≡ y
+same_heads : (x y : List ℕ) (xs ys : List (List ℕ)) → ascends_from bytes_lt x xs ≡ true → ascends_from bytes_lt y ys ≡ true
+    → ((n : List ℕ) → is_listed (x ∷ xs) n ≡ is_listed (y ∷ ys) n) → x ≡ y
 same_heads x y xs ys h g s = by (bytes_eq x y) refl (bytes_eq y x) refl
   where
     by : (b : Bool) → bytes_eq x y ≡ b → (c : Bool) → bytes_eq y x ≡ c → x ≡ y
@@ -35,7 +37,8 @@ same_heads x y xs ys h g s = by (bytes_eq x y) refl (bytes_eq y x) refl
         let n : bytes_lt x y ≡ false = not_above y x below in
         cc
 
-same_tails : (x : List ℕ) (xs ys : List (List ℕ)) → ascends_from bytes_lt x xs ≡ true → ascends_from bytes_lt x ys ≡ true → ((n : List ℕ) → is_listed (x ∷ xs) n ≡ is_listed (x ∷ ys) n) → (n : List ℕ) → is_listed xs n ≡ is_listed ys n
+same_tails : (x : List ℕ) (xs ys : List (List ℕ)) → ascends_from bytes_lt x xs ≡ true → ascends_from bytes_lt x ys ≡ true
+    → ((n : List ℕ) → is_listed (x ∷ xs) n ≡ is_listed (x ∷ ys) n) → (n : List ℕ) → is_listed xs n ≡ is_listed ys n
 same_tails x xs ys h g s n = by (bytes_eq n x) refl (s n)
   where
     by : (b : Bool) → bytes_eq n x ≡ b → (bytes_eq n x || is_listed xs n) ≡ (bytes_eq n x || is_listed ys n) → is_listed xs n ≡ is_listed ys n

@@ -1,5 +1,6 @@
 -- What globals take, whatever their order.
-use Rattle.std.proofs.Common.{Bool, true, false, ◌≡◌, ◌≤◌, ℕ, ◌+◌, List, [], ◌∷◌, ◌++◌, map, filter, length, refl, sym, ap, ◌∙◌, arith, not, nat_lt, cond, if◌then◌else◌}
+use Rattle.std.proofs.Common.{Bool, true, false, ◌≡◌, ◌≤◌, ℕ, ◌+◌, List, [], ◌∷◌, ◌++◌, map, filter, length, refl, sym, ap, ◌∙◌, arith, not, nat_lt, cond}
+use Rattle.std.proofs.Common.{if◌then◌else◌}
 use Rattle.std.specs.List.{list_all, sum_by, flat_map}
 use borrow.Author.Tests.{ltb-true}
 use Rattle.tx_code.specs.declared.object.Object.{Object}
@@ -22,9 +23,11 @@ end_of_append : (start : ℕ) (ds es : List GlobalDef) → end_of start (ds ++ e
 end_of_append start [] es = refl
 end_of_append start (d ∷ ds) es = end_of_append (start + rounded d.global.size) ds es
 
-end_of_globals : (start at : ℕ) (o : ObjectView) (gs : List GlobalView) → end_of start (map (global_def at o) gs) ≡ start + sum_by (λ (g : GlobalView). rounded g.size) gs
+end_of_globals : (start at : ℕ) (o : ObjectView) (gs : List GlobalView)
+    → end_of start (map (global_def at o) gs) ≡ start + sum_by (λ (g : GlobalView). rounded g.size) gs
 end_of_globals start at o [] = omega arith
-end_of_globals start at o (g ∷ gs) = end_of_globals (start + rounded g.size) at o gs ∙ (let c = sum_cons (λ (g : GlobalView). rounded g.size) g gs in omega (arith, c))
+end_of_globals start at o (g ∷ gs) = end_of_globals (start + rounded g.size) at o gs
+    ∙ (let c = sum_cons (λ (g : GlobalView). rounded g.size) g gs in omega (arith, c))
 
 sum_append : (f : GlobalView → ℕ) (xs ys : List GlobalView) → sum_by f (xs ++ ys) ≡ sum_by f xs + sum_by f ys
 sum_append f [] ys = omega arith
@@ -39,7 +42,8 @@ sum_parts f p [] = omega arith
 sum_parts f p (x ∷ xs) = by (p x) (sum_parts f p xs)
   where
     by : (b : Bool) → sum_by f (filter (λ x. not (p x)) xs) + sum_by f (filter p xs) ≡ sum_by f xs
-        → sum_by f (cond (not b) (x ∷ filter (λ x. not (p x)) xs) (filter (λ x. not (p x)) xs)) + sum_by f (cond b (x ∷ filter p xs) (filter p xs)) ≡ sum_by f (x ∷ xs)
+        → sum_by f (cond (not b) (x ∷ filter (λ x. not (p x)) xs) (filter (λ x. not (p x)) xs)) + sum_by f (cond b (x ∷ filter p xs) (filter p xs))
+        ≡ sum_by f (x ∷ xs)
     by true e = let a = sum_cons f x (filter p xs) in let b = sum_cons f x xs in omega (arith, e, a, b)
     by false e = let a = sum_cons f x (filter (λ x. not (p x)) xs) in let b = sum_cons f x xs in omega (arith, e, a, b)
 
@@ -48,14 +52,17 @@ sum_defined [] = refl
 sum_defined (g ∷ gs) = by (is_defined_global (global_view g)) (sum_defined gs) ∙ sym (sum_cons placed_size g gs)
   where
     by : (b : Bool) → sum_by (λ (g : GlobalView). rounded g.size) (filter is_defined_global (map global_view gs)) ≡ sum_by placed_size gs
-        → sum_by (λ (g : GlobalView). rounded g.size) (cond b (global_view g ∷ filter is_defined_global (map global_view gs)) (filter is_defined_global (map global_view gs))) ≡ (if b then rounded g.size else 0) + sum_by placed_size gs
+        → sum_by (λ (g : GlobalView). rounded g.size)
+        (cond b (global_view g ∷ filter is_defined_global (map global_view gs)) (filter is_defined_global (map global_view gs)))
+        ≡ (if b then rounded g.size else 0) + sum_by placed_size gs
     by true e = let a = sum_cons (λ (g : GlobalView). rounded g.size) (global_view g) (filter is_defined_global (map global_view gs)) in omega (arith, e, a)
     by false e = omega (arith, e)
 
 placed_sum : (o : Object) → sum_by (λ (g : GlobalView). rounded g.size) (placed_globals (object_view o)) ≡ size_in o
 placed_sum o =
     let v = object_view o in
-    sum_append (λ (g : GlobalView). rounded g.size) (filter (λ g. not (is_string v g)) (filter is_defined_global v.globals)) (filter (is_string v) (filter is_defined_global v.globals))
+    sum_append (λ (g : GlobalView). rounded g.size) (filter (λ g. not (is_string v g)) (filter is_defined_global v.globals))
+    (filter (is_string v) (filter is_defined_global v.globals))
     ∙ sum_parts (λ (g : GlobalView). rounded g.size) (is_string v) (filter is_defined_global v.globals)
     ∙ sum_defined o.globals.items
 
@@ -69,7 +76,8 @@ all_placed start at (o ∷ os) =
 
 -- ---- an object has no more globals than names
 
-above : (n : ℕ) (g : GlobalView) (gs : List GlobalView) → ascends_from (λ (a b : GlobalView). nat_lt a.symbol b.symbol) g gs ≡ true → list_all (global_fits n) (g ∷ gs) ≡ true → g.symbol + length (g ∷ gs) ≤ n
+above : (n : ℕ) (g : GlobalView) (gs : List GlobalView) → ascends_from (λ (a b : GlobalView). nat_lt a.symbol b.symbol) g gs ≡ true
+    → list_all (global_fits n) (g ∷ gs) ≡ true → g.symbol + length (g ∷ gs) ≤ n
 above n g [] h l = let s = ltb-true g.symbol n (global_symbol n g (and_left (global_fits n g) _ l)) in omega (arith, s)
 above n g (k ∷ ks) h l =
     let less = ltb-true g.symbol k.symbol (and_left _ _ h) in

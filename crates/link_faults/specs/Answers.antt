@@ -31,7 +31,8 @@ Faulty os (OdrDiffers symbol) = NoneOf (is_twice os) × Least (is_different os) 
 Faulty os (Undefined symbol) = NoneOf (is_twice os) × NoneOf (is_different os) × Least (is_undefined os) symbol.items
 Faulty os (UnsafeSymbol symbol) = NoneOf (is_twice os) × NoneOf (is_different os) × NoneOf (is_undefined os) × Least (is_unsafe os) symbol.items
 Faulty os NoMain = NoneOf (is_twice os) × NoneOf (is_different os) × NoneOf (is_undefined os) × NoneOf (is_unsafe os) × (has_main os ≡ false)
-Faulty os (Globals size) = NoneOf (is_twice os) × NoneOf (is_different os) × NoneOf (is_undefined os) × NoneOf (is_unsafe os) × (has_main os ≡ true) × (size ≡ size_of_globals os) × (GLOBALS_LIMIT < size)
+Faulty os (Globals size) = NoneOf (is_twice os) × NoneOf (is_different os) × NoneOf (is_undefined os) × NoneOf (is_unsafe os) × (has_main os ≡ true)
+    × (size ≡ size_of_globals os) × (GLOBALS_LIMIT < size)
 Faulty os Memory = Unit {0}
 
 -- no fault but for the size of the globals

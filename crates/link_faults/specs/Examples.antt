@@ -4,7 +4,17 @@ use Rattle.tx_code.specs.Objects.{FuncView, ObjectView}
 use Rattle.tx_code.specs.Linked.{no_body}
 
 abbrev pub func : (symbol ty linkage flags text : ℕ) → FuncView
-func symbol ty linkage flags text = record { symbol = symbol; ty = ty; linkage = linkage; flags = flags; text = text; frame = 16; plain = Some no_body; safe = None }
+func symbol ty linkage flags text = record {
+  symbol = symbol;
+  ty = ty;
+  linkage = linkage;
+  flags = flags;
+  text = text;
+  frame = 16;
+  plain = Some no_body;
+  safe =
+      None;
+}
 
 abbrev pub of_funcs : List (List ℕ) → List FuncView → ObjectView
 of_funcs names funcs = record { version = 1; names = names; source = None; classes = []; globals = []; funcs = funcs }
@@ -25,7 +35,25 @@ abbrev pub other_inline_definer : ObjectView
 other_inline_definer = of_funcs (codes "g()" ∷ codes "inline void g(){return;}" ∷ codes "void()" ∷ []) (func 0 2 2 3 2 ∷ [])
 
 abbrev pub class_s : (names : List (List ℕ)) (size : ℕ) (slots : List ℕ) → ObjectView
-class_s names size slots = record { version = 1; names = names; source = None; classes = record { name = 0; size = size; align = size; base = 0; pointer = 4294967295; text = 3; members = record { name = 1; offset = 0; ty = 2 } ∷ []; slots = slots } ∷ []; globals = []; funcs = [] }
+class_s names size slots = record {
+  version = 1;
+  names = names;
+  source = None;
+  classes =
+      record {
+        name = 0;
+        size = size;
+        align = size;
+        base = 0;
+        pointer = 4294967295;
+        text = 3;
+        members = record { name = 1; offset = 0; ty = 2 } ∷ [];
+        slots =
+            slots;
+      } ∷ [];
+  globals = [];
+  funcs = [];
+}
 
 -- `struct S { int a; }`
 abbrev pub int_class : ObjectView
@@ -39,7 +67,15 @@ abbrev pub slot_user : ObjectView
 slot_user = class_s (codes "S" ∷ codes "a" ∷ codes "int" ∷ codes "struct S{int a;}" ∷ codes "g()" ∷ []) 4 (5 ∷ 0 ∷ [])
 
 abbrev pub global_x : (ty : List ℕ) (linkage defined size : ℕ) → ObjectView
-global_x ty linkage defined size = record { version = 1; names = codes "x" ∷ ty ∷ []; source = None; classes = []; globals = record { symbol = 0; ty = 1; linkage = linkage; defined = defined; size = size; cells = [] } ∷ []; funcs = [] }
+global_x ty linkage defined size = record {
+  version = 1;
+  names = codes "x" ∷ ty ∷ [];
+  source = None;
+  classes = [];
+  globals =
+      record { symbol = 0; ty = 1; linkage = linkage; defined = defined; size = size; cells = [] } ∷ [];
+  funcs = [];
+}
 
 -- `char x[9];`
 abbrev pub global_definer : ObjectView

@@ -29,10 +29,28 @@ text_in o zero = None
 text_in o (suc text) = Some (name_in o text)
 
 abbrev pub func_entry : ObjectView → FuncView → Entry
-func_entry o f = record { symbol = name_in o f.symbol; ty = name_in o f.ty; linkage = f.linkage; defined = is_defined f; text = text_in o f.text; wanted_safe = is_wanted_safe f; safe = has_safe f }
+func_entry o f = record {
+  symbol = name_in o f.symbol;
+  ty = name_in o f.ty;
+  linkage = f.linkage;
+  defined = is_defined f;
+  text = text_in o f.text;
+  wanted_safe =
+      is_wanted_safe f;
+  safe = has_safe f;
+}
 
 abbrev pub global_entry : ObjectView → GlobalView → Entry
-global_entry o g = record { symbol = name_in o g.symbol; ty = name_in o g.ty; linkage = g.linkage; defined = is_defined_global g; text = None; wanted_safe = false; safe = false }
+global_entry o g = record {
+  symbol = name_in o g.symbol;
+  ty = name_in o g.ty;
+  linkage = g.linkage;
+  defined = is_defined_global g;
+  text = None;
+  wanted_safe =
+      false;
+  safe = false;
+}
 
 abbrev pub funcs_of : ObjectView → List Entry
 funcs_of o = map (func_entry o) o.funcs
@@ -105,7 +123,16 @@ abbrev pub member_record : ObjectView → ObjMember → MemberRecord
 member_record o m = record { name = name_in o m.name; offset = m.offset; ty = name_in o m.ty }
 
 abbrev pub class_record : ObjectView → ClassView → ClassRecord
-class_record o c = record { name = name_in o c.name; size = c.size; align = c.align; base = text_in o c.base; pointer = c.pointer; text = name_in o c.text; members = map (member_record o) c.members; slots = map (text_in o) c.slots }
+class_record o c = record {
+  name = name_in o c.name;
+  size = c.size;
+  align = c.align;
+  base = text_in o c.base;
+  pointer = c.pointer;
+  text = name_in o c.text;
+  members = map (member_record o) c.members;
+  slots = map (text_in o) c.slots;
+}
 
 abbrev pub classes_of : ObjectView → List ClassRecord
 classes_of o = map (class_record o) o.classes
@@ -122,14 +149,16 @@ same_or_none (Some a) (Some b) = bytes_eq a b
 same_or_none a b = false
 
 abbrev pub same_class : ClassRecord → ClassRecord → Bool
-same_class a b = nat_eq a.size b.size && nat_eq a.align b.align && same_or_none a.base b.base && nat_eq a.pointer b.pointer && bytes_eq a.text b.text && pointwise same_member a.members b.members && pointwise same_or_none a.slots b.slots
+same_class a b = nat_eq a.size b.size && nat_eq a.align b.align && same_or_none a.base b.base && nat_eq a.pointer b.pointer && bytes_eq a.text b.text
+    && pointwise same_member a.members b.members && pointwise same_or_none a.slots b.slots
 
 abbrev pub classes_differ : List ℕ → ClassRecord → ClassRecord → Bool
 classes_differ name a b = bytes_eq a.name name && bytes_eq b.name name && not (same_class a b)
 
 -- class records of one name, definition texts of one inline function, or types of one symbol that is internal in neither object
 abbrev pub is_different : List ObjectView → List ℕ → Bool
-is_different os symbol = any_two (classes_differ symbol) (class_records os) || any_two (texts_differ symbol) (func_entries os) || any_two (types_differ symbol) (func_entries os) || any_two (types_differ symbol) (global_entries os)
+is_different os symbol = any_two (classes_differ symbol) (class_records os) || any_two (texts_differ symbol) (func_entries os)
+    || any_two (types_differ symbol) (func_entries os) || any_two (types_differ symbol) (global_entries os)
 
 -- ---- undefined (C++14 3.2)
 
@@ -165,7 +194,8 @@ abbrev pub has_unlisted : List ℕ → ObjectView → Bool
 has_unlisted symbol o = list_any (has_unlisted_slot o symbol) o.classes || list_any (has_unlisted_cell o symbol) o.globals
 
 abbrev pub is_undefined : List ObjectView → List ℕ → Bool
-is_undefined os symbol = list_any (is_missing (func_entries os) symbol) (func_entries os) || list_any (is_missing (global_entries os) symbol) (global_entries os) || list_any (has_unlisted symbol) os
+is_undefined os symbol = list_any (is_missing (func_entries os) symbol) (func_entries os)
+    || list_any (is_missing (global_entries os) symbol) (global_entries os) || list_any (has_unlisted symbol) os
 
 -- ---- unsafe (the TS, [dcl.attr.tx] and [expr.call])
 

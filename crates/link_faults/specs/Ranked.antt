@@ -6,4 +6,13 @@ use Rattle.link_faults.specs.Faults.{Entry, is_main}
 use Rattle.link_faults.specs.Ranks.{rank_of}
 
 abbrev pub ranked : (all : List (List ℕ)) → Entry → RankedEntry
-ranked all e = record { symbol = rank_of all e.symbol; ty = rank_of all e.ty; linkage = e.linkage; defined = e.defined; text = option_map (rank_of all) e.text; wanted_safe = e.wanted_safe; safe = e.safe; main = is_main e }
+ranked all e = record {
+  symbol = rank_of all e.symbol;
+  ty = rank_of all e.ty;
+  linkage = e.linkage;
+  defined = e.defined;
+  text = option_map (rank_of all) e.text;
+  wanted_safe = e.wanted_safe;
+  safe = e.safe;
+  main = is_main e;
+}

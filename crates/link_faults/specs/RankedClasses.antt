@@ -22,10 +22,30 @@ pub record RankedView : Type 0 where
   pub slots : List (Option ℕ)
 
 abbrev pub view_of : RankedClass → RankedView
-view_of c = record { name = c.name; size = c.size; align = c.align; base = c.base; pointer = c.pointer; text = c.text; members = c.members.items; slots = c.slots.items }
+view_of c = record {
+  name = c.name;
+  size = c.size;
+  align = c.align;
+  base = c.base;
+  pointer = c.pointer;
+  text = c.text;
+  members = c.members.items;
+  slots =
+      c.slots.items;
+}
 
 abbrev pub ranked_class : List (List ℕ) → ClassRecord → RankedView
-ranked_class all r = record { name = rank_of all r.name; size = r.size; align = r.align; base = option_map (rank_of all) r.base; pointer = r.pointer; text = rank_of all r.text; members = map (ranked_member all) r.members; slots = map (option_map (rank_of all)) r.slots }
+ranked_class all r = record {
+  name = rank_of all r.name;
+  size = r.size;
+  align = r.align;
+  base = option_map (rank_of all) r.base;
+  pointer = r.pointer;
+  text =
+      rank_of all r.text;
+  members = map (ranked_member all) r.members;
+  slots = map (option_map (rank_of all)) r.slots;
+}
 
 abbrev pub IsRankedClass : List (List ℕ) → ClassRecord → RankedClass → Type 0
 IsRankedClass all r c = view_of c ≡ ranked_class all r
@@ -35,7 +55,8 @@ is_same_member a b = nat_eq a.name b.name && nat_eq a.offset b.offset && nat_eq 
 
 -- but for the name
 abbrev pub is_same_class : RankedView → RankedView → Bool
-is_same_class a b = nat_eq a.size b.size && nat_eq a.align b.align && option_eq nat_eq a.base b.base && nat_eq a.pointer b.pointer && nat_eq a.text b.text && pointwise is_same_member a.members b.members && pointwise (option_eq nat_eq) a.slots b.slots
+is_same_class a b = nat_eq a.size b.size && nat_eq a.align b.align && option_eq nat_eq a.base b.base && nat_eq a.pointer b.pointer && nat_eq a.text b.text
+    && pointwise is_same_member a.members b.members && pointwise (option_eq nat_eq) a.slots b.slots
 
 -- two classes of this name that are not the same
 abbrev pub are_different : ℕ → RankedView → RankedView → Bool

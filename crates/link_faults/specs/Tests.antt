@@ -28,4 +28,5 @@ is_listed_member all m = is_listed all m.name && is_listed all m.ty
 
 -- the names of a class are listed
 abbrev pub is_listed_class : (all : List (List ℕ)) → ClassRecord → Bool
-is_listed_class all r = is_listed all r.name && is_listed_option all r.base && is_listed all r.text && list_all (is_listed_member all) r.members && list_all (is_listed_option all) r.slots
+is_listed_class all r = is_listed all r.name && is_listed_option all r.base && is_listed all r.text && list_all (is_listed_member all) r.members
+    && list_all (is_listed_option all) r.slots

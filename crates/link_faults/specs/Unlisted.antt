@@ -37,7 +37,8 @@ abbrev pub misses_slots : List (List ℕ) → ObjectView → (rank : ℕ) → Cl
 misses_slots all o rank c = list_any (misses_slot all o rank) c.slots
 
 abbrev pub misses_cell : List (List ℕ) → ObjectView → (rank : ℕ) → ObjCell → Bool
-misses_cell all o rank c = nat_eq (rank_below all o c.symbol) rank && (if nat_eq c.what 2 then is_unlisted (func_symbols o) c.symbol else is_unlisted (global_symbols o) c.symbol)
+misses_cell all o rank c = nat_eq (rank_below all o c.symbol) rank
+    && (if nat_eq c.what 2 then is_unlisted (func_symbols o) c.symbol else is_unlisted (global_symbols o) c.symbol)
 
 abbrev pub misses_cells : List (List ℕ) → ObjectView → (rank : ℕ) → GlobalView → Bool
 misses_cells all o rank g = list_any (misses_cell all o rank) g.cells

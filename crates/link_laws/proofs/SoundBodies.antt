@@ -15,7 +15,8 @@ use Rattle.tx_code.specs.Renaming.{Numbering, renamed, renamed_row, renamed_body
 use Rattle.tx_code.specs.Linked.{named_types}
 use Rattle.tx_code.specs.Meaning.{covers}
 use Rattle.tx_code.specs.Shapes.{Shape, Table, Among, here, there, Reaches, enters, falls, lands, landed, moves, outgoing, targets}
-use Rattle.tx_code.specs.Sound.{Signature, SoundBody, closes_right, edge_right, entry, exception_right, inside_right, is_edge, is_known, is_last, left_at, names_right, outside_right, passes, row_is_known, row_lies, row_names_right, target_lies}
+use Rattle.tx_code.specs.Sound.{Signature, SoundBody, closes_right, edge_right, entry, exception_right, inside_right, is_edge, is_known, is_last, left_at}
+use Rattle.tx_code.specs.Sound.{names_right, outside_right, passes, row_is_known, row_lies, row_names_right, target_lies}
 use Rattle.tx_code.proofs.ReachedIndexes.{and_left, and_right, all_at}
 
 -- what names stand for in an object, and their numbers in an image; of types only those that pass the test
@@ -47,17 +48,161 @@ record Alike (x y : Table) (a b : Instr) : Type 0 where
   closes : (s : Shape) → closes_right b s ≡ closes_right a s
   left : (d : ℕ) → left_at b d ≡ left_at a d
 
-alike : (x y : Table) (r : Numbering) (t : ℕ → Bool) → Same x y r t → (a : Instr) → names_right x a ≡ true → list_all t (named_types a) ≡ true → Alike x y a (renamed r a)
-alike x y r t e (GlobalAddr s) n m = record { out = λ own q. refl; leads = λ i. refl; lies = λ k. refl; last = refl; known = refl; names = e.global s n; words = refl; exceptions = λ q. refl; inside = λ h. h; outside = refl; closes = λ q. refl; left = λ d. refl }
-alike x y r t e (FuncAddr s) n m = record { out = λ own q. refl; leads = λ i. refl; lies = λ k. refl; last = refl; known = refl; names = e.func s n; words = refl; exceptions = λ q. refl; inside = λ h. h; outside = refl; closes = λ q. refl; left = λ d. refl }
-alike x y r t e (ClassAddr s) n m = record { out = λ own q. refl; leads = λ i. refl; lies = λ k. refl; last = refl; known = refl; names = e.class s n; words = refl; exceptions = λ q. refl; inside = λ h. h; outside = refl; closes = λ q. refl; left = λ d. refl }
-alike x y r t e (Call s w) n m = record { out = λ own q. ap (λ (k : ℕ). moves w k q) (e.gives s n); leads = λ i. refl; lies = λ k. refl; last = refl; known = refl; names = e.func s n; words = ap (nat_eq w) (e.takes s n); exceptions = λ q. refl; inside = λ h. h; outside = refl; closes = λ q. refl; left = λ d. refl }
-alike x y r t e (TCall s w) n m = record { out = λ own q. ap (λ (k : ℕ). moves w k q) (e.gives s n); leads = λ i. refl; lies = λ k. refl; last = refl; known = refl; names = e.func s n; words = ap (nat_eq w) (e.takes s n); exceptions = λ q. refl; inside = λ h. e.safe s n h; outside = refl; closes = λ q. refl; left = λ d. refl }
-alike x y r t e (CallIndirect ty w) n m = record { out = λ own q. ap (λ (k : ℕ). moves (suc w) k q) (e.type_gives ty (and_left (t ty) true m)); leads = λ i. refl; lies = λ k. refl; last = refl; known = refl; names = e.ty ty (and_left (t ty) true m); words = ap (nat_eq w) (e.type_takes ty (and_left (t ty) true m)); exceptions = λ q. refl; inside = λ h. h; outside = refl; closes = λ q. refl; left = λ d. refl }
-alike x y r t e (TCallIndirect ty w) n m = record { out = λ own q. ap (λ (k : ℕ). moves (suc w) k q) (e.type_gives ty (and_left (t ty) true m)); leads = λ i. refl; lies = λ k. refl; last = refl; known = refl; names = e.ty ty (and_left (t ty) true m); words = ap (nat_eq w) (e.type_takes ty (and_left (t ty) true m)); exceptions = λ q. refl; inside = λ h. h; outside = refl; closes = λ q. refl; left = λ d. refl }
-alike x y r t e (Slot c w) n m = record { out = λ own q. refl; leads = λ i. refl; lies = λ k. refl; last = refl; known = refl; names = e.slot c w n; words = refl; exceptions = λ q. refl; inside = λ h. h; outside = refl; closes = λ q. refl; left = λ d. refl }
-alike x y r t e (NewException ty) n m = record { out = λ own q. refl; leads = λ i. refl; lies = λ k. refl; last = refl; known = refl; names = e.ty ty (and_left (t ty) true m); words = refl; exceptions = λ q. refl; inside = λ h. h; outside = refl; closes = λ q. refl; left = λ d. refl }
-alike x y r t e a n m = record { out = λ own q. refl; leads = λ i. refl; lies = λ k. refl; last = refl; known = refl; names = refl; words = refl; exceptions = λ q. refl; inside = λ h. h; outside = refl; closes = λ q. refl; left = λ d. refl }
+alike : (x y : Table) (r : Numbering) (t : ℕ → Bool) → Same x y r t → (a : Instr) → names_right x a ≡ true → list_all t (named_types a) ≡ true
+    → Alike x y a (renamed r a)
+alike x y r t e (GlobalAddr s) n m = record {
+  out = λ own q. refl;
+  leads = λ i. refl;
+  lies = λ k. refl;
+  last = refl;
+  known = refl;
+  names = e.global s n;
+  words =
+      refl;
+  exceptions = λ q. refl;
+  inside = λ h. h;
+  outside = refl;
+  closes = λ q. refl;
+  left = λ d. refl;
+}
+alike x y r t e (FuncAddr s) n m = record {
+  out = λ own q. refl;
+  leads = λ i. refl;
+  lies = λ k. refl;
+  last = refl;
+  known = refl;
+  names = e.func s n;
+  words =
+      refl;
+  exceptions = λ q. refl;
+  inside = λ h. h;
+  outside = refl;
+  closes = λ q. refl;
+  left = λ d. refl;
+}
+alike x y r t e (ClassAddr s) n m = record {
+  out = λ own q. refl;
+  leads = λ i. refl;
+  lies = λ k. refl;
+  last = refl;
+  known = refl;
+  names = e.class s n;
+  words =
+      refl;
+  exceptions = λ q. refl;
+  inside = λ h. h;
+  outside = refl;
+  closes = λ q. refl;
+  left = λ d. refl;
+}
+alike x y r t e (Call s w) n m = record {
+  out = λ own q. ap (λ (k : ℕ). moves w k q) (e.gives s n);
+  leads = λ i. refl;
+  lies = λ k. refl;
+  last = refl;
+  known =
+      refl;
+  names = e.func s n;
+  words = ap (nat_eq w) (e.takes s n);
+  exceptions = λ q. refl;
+  inside = λ h. h;
+  outside = refl;
+  closes = λ q. refl;
+  left =
+      λ d. refl;
+}
+alike x y r t e (TCall s w) n m = record {
+  out = λ own q. ap (λ (k : ℕ). moves w k q) (e.gives s n);
+  leads = λ i. refl;
+  lies = λ k. refl;
+  last = refl;
+  known =
+      refl;
+  names = e.func s n;
+  words = ap (nat_eq w) (e.takes s n);
+  exceptions = λ q. refl;
+  inside = λ h. e.safe s n h;
+  outside = refl;
+  closes = λ q. refl;
+  left = λ d. refl;
+}
+alike x y r t e (CallIndirect ty w) n m = record {
+  out = λ own q. ap (λ (k : ℕ). moves (suc w) k q) (e.type_gives ty (and_left (t ty) true m));
+  leads =
+      λ i. refl;
+  lies = λ k. refl;
+  last = refl;
+  known = refl;
+  names = e.ty ty (and_left (t ty) true m);
+  words =
+      ap (nat_eq w) (e.type_takes ty (and_left (t ty) true m));
+  exceptions = λ q. refl;
+  inside = λ h. h;
+  outside = refl;
+  closes = λ q. refl;
+  left = λ d. refl;
+}
+alike x y r t e (TCallIndirect ty w) n m = record {
+  out = λ own q. ap (λ (k : ℕ). moves (suc w) k q) (e.type_gives ty (and_left (t ty) true m));
+  leads =
+      λ i. refl;
+  lies = λ k. refl;
+  last = refl;
+  known = refl;
+  names = e.ty ty (and_left (t ty) true m);
+  words =
+      ap (nat_eq w) (e.type_takes ty (and_left (t ty) true m));
+  exceptions = λ q. refl;
+  inside = λ h. h;
+  outside = refl;
+  closes = λ q. refl;
+  left = λ d. refl;
+}
+alike x y r t e (Slot c w) n m = record {
+  out = λ own q. refl;
+  leads = λ i. refl;
+  lies = λ k. refl;
+  last = refl;
+  known = refl;
+  names = e.slot c w n;
+  words =
+      refl;
+  exceptions = λ q. refl;
+  inside = λ h. h;
+  outside = refl;
+  closes = λ q. refl;
+  left = λ d. refl;
+}
+alike x y r t e (NewException ty) n m = record {
+  out = λ own q. refl;
+  leads = λ i. refl;
+  lies = λ k. refl;
+  last = refl;
+  known = refl;
+  names = e.ty ty
+      (and_left (t ty) true m);
+  words = refl;
+  exceptions = λ q. refl;
+  inside = λ h. h;
+  outside = refl;
+  closes = λ q. refl;
+  left = λ d. refl;
+}
+alike x y r t e a n m = record {
+  out = λ own q. refl;
+  leads = λ i. refl;
+  lies = λ k. refl;
+  last = refl;
+  known = refl;
+  names = refl;
+  words = refl;
+  exceptions =
+      λ q. refl;
+  inside = λ h. h;
+  outside = refl;
+  closes = λ q. refl;
+  left = λ d. refl;
+}
 
 -- ---- mapped lists
 
@@ -79,7 +224,8 @@ among_back f [] m = nowhere m
 among_back f (x ∷ xs) here = (x, (here, refl))
 among_back f (x ∷ xs) (there m) = let r = among_back f xs m in (r.0, (there r.1.0, r.1.1))
 
-all_mapped : {A B : Type 0} (f : A → B) (p : B → Bool) (q : A → Bool) (xs : List A) → ((i : ℕ) (a : A) → slice_get xs i ≡ Some a → q a ≡ true → p (f a) ≡ true) → list_all q xs ≡ true → list_all p (map f xs) ≡ true
+all_mapped : {A B : Type 0} (f : A → B) (p : B → Bool) (q : A → Bool) (xs : List A) → ((i : ℕ) (a : A) → slice_get xs i ≡ Some a → q a ≡ true → p (f a) ≡ true)
+    → list_all q xs ≡ true → list_all p (map f xs) ≡ true
 all_mapped f p q [] h l = refl
 all_mapped f p q (x ∷ xs) h l = rw (h zero x refl (and_left (q x) _ l), all_mapped f p q xs (λ i a e. h (suc i) a e) (and_right (q x) _ l)) refl
 
@@ -94,10 +240,12 @@ pub record Named (x : Table) (t : ℕ → Bool) (b : BodyView) : Type 0 where
   pub names : list_all (names_right x) b.code ≡ true
   pub types : list_all (λ a. list_all t (named_types a)) b.code ≡ true
 
-alike_at : (x y : Table) (r : Numbering) (t : ℕ → Bool) (b : BodyView) → Same x y r t → Named x t b → (i : ℕ) (a : Instr) → slice_get b.code i ≡ Some a → Alike x y a (renamed r a)
+alike_at : (x y : Table) (r : Numbering) (t : ℕ → Bool) (b : BodyView) → Same x y r t → Named x t b → (i : ℕ) (a : Instr) → slice_get b.code i ≡ Some a
+    → Alike x y a (renamed r a)
 alike_at x y r t b e n i a g = alike x y r t e a (all_at (names_right x) b.code i a n.names g) (all_at (λ c. list_all t (named_types c)) b.code i a n.types g)
 
-back : (x y : Table) (r : Numbering) (t : ℕ → Bool) (b : BodyView) → Same x y r t → Named x t b → (own : ℕ) (first : Shape) {i : ℕ} {s : Shape} → Reaches y own (renamed_body r b) first i s → Reaches x own b first i s
+back : (x y : Table) (r : Numbering) (t : ℕ → Bool) (b : BodyView) → Same x y r t → Named x t b → (own : ℕ) (first : Shape) {i : ℕ} {s : Shape}
+    → Reaches y own (renamed_body r b) first i s → Reaches x own b first i s
 back x y r t b same named own first enters = enters
 back x y r t b same named own first (falls {i} {j} {s} h e m) =
     let g = get_back (renamed r) b.code i e.instr e.is in
@@ -111,7 +259,8 @@ back x y r t b same named own first (lands {i} {s} h e q m c) =
     let made : outgoing x own g.0 s ≡ Some e.next = sym (k.out own s) ∙ ap (λ (c : Instr). outgoing y own c s) g.1.1 ∙ e.makes in
     let w = among_back (renamed_row r) b.rows m in
     let cov : covers w.0 i ≡ true = ap (λ (p : Row). covers p i) w.1.1 ∙ c in
-    subst (λ (p : Row). Reaches x own b first p.target (landed p.what p.depth s.opens s.handlers)) w.1.1 (lands (back x y r t b same named own first h) (record { instr = g.0; is = g.1.0; next = e.next; makes = made }) w.0 w.1.0 cov)
+    subst (λ (p : Row). Reaches x own b first p.target (landed p.what p.depth s.opens s.handlers)) w.1.1
+    (lands (back x y r t b same named own first h) (record { instr = g.0; is = g.1.0; next = e.next; makes = made }) w.0 w.1.0 cov)
 
 row_known : (r : Numbering) (q : Row) → row_is_known q ≡ true → row_is_known (renamed_row r q) ≡ true
 row_known r q h = by (nat_eq q.what 1) h
@@ -120,28 +269,32 @@ row_known r q h = by (nat_eq q.what 1) h
     by true g = g
     by false g = g
 
-row_names : (x y : Table) (r : Numbering) (t : ℕ → Bool) → Same x y r t → (q : Row) → list_all t (named_by_row q) ≡ true → row_names_right y (renamed_row r q) ≡ true
+row_names : (x y : Table) (r : Numbering) (t : ℕ → Bool) → Same x y r t → (q : Row) → list_all t (named_by_row q) ≡ true
+    → row_names_right y (renamed_row r q) ≡ true
 row_names x y r t e q h = by (nat_eq q.what 1) h
   where
     by : (b : Bool) → list_all t (cond b (q.ty ∷ []) []) ≡ true → (not b || y.is_type (cond b (r.ty q.ty) q.ty)) ≡ true
     by true g = e.ty q.ty (and_left (t q.ty) true g)
     by false g = refl
 
-last_instr : (x y : Table) (r : Numbering) (t : ℕ → Bool) (b : BodyView) → Same x y r t → Named x t b → (i : ℕ) → option_map_or is_last (slice_get b.code i) false ≡ true → option_map_or is_last (slice_get (map (renamed r) b.code) i) false ≡ true
+last_instr : (x y : Table) (r : Numbering) (t : ℕ → Bool) (b : BodyView) → Same x y r t → Named x t b → (i : ℕ)
+    → option_map_or is_last (slice_get b.code i) false ≡ true → option_map_or is_last (slice_get (map (renamed r) b.code) i) false ≡ true
 last_instr x y r t b same named i h = rw (get_map (renamed r) b.code i) (by (slice_get b.code i) refl h)
   where
     by : (o : Option Instr) → slice_get b.code i ≡ o → option_map_or is_last o false ≡ true → option_map_or is_last (option_map (renamed r) o) false ≡ true
     by None e g = g
     by (Some a) e g = (alike_at x y r t b same named i a e).last ∙ g
 
-pub sound_body : (x y : Table) (r : Numbering) (t : ℕ → Bool) (g : Signature) (safe : Bool) (b : BodyView) → Same x y r t → list_all (λ a. list_all t (named_types a)) b.code ≡ true → list_all (λ q. list_all t (named_by_row q)) b.rows ≡ true
+pub sound_body : (x y : Table) (r : Numbering) (t : ℕ → Bool) (g : Signature) (safe : Bool) (b : BodyView) → Same x y r t
+    → list_all (λ a. list_all t (named_types a)) b.code ≡ true → list_all (λ q. list_all t (named_by_row q)) b.rows ≡ true
     → SoundBody x g safe b → SoundBody y g safe (renamed_body r b)
 sound_body x y r t g safe b same types row_types h =
     let named : Named x t b = record { names = h.names; types = types } in
     let long : length (map (renamed r) b.code) ≡ length b.code = length-map b.code (renamed r) in
     record {
       filled = ap (nat_lt 0) long ∙ h.filled;
-      targets = rw long (all_mapped (renamed r) (target_lies (length b.code)) (target_lies (length b.code)) b.code (λ i a e l. (alike_at x y r t b same named i a e).lies (length b.code) ∙ l) h.targets);
+      targets = rw long (all_mapped (renamed r) (target_lies (length b.code)) (target_lies (length b.code)) b.code
+          (λ i a e l. (alike_at x y r t b same named i a e).lies (length b.code) ∙ l) h.targets);
       rows = rw long (all_mapped (renamed_row r) (row_lies (length b.code)) (row_lies (length b.code)) b.rows (λ i q e l. l) h.rows);
       last = rw long (last_instr x y r t b same named (length b.code - 1) h.last);
       known = all_mapped (renamed r) is_known is_known b.code (λ i a e l. (alike_at x y r t b same named i a e).known ∙ l) h.known;
@@ -150,7 +303,8 @@ sound_body x y r t g safe b same types row_types h =
       rows_names = all_mapped (renamed_row r) (row_names_right y) (λ q. list_all t (named_by_row q)) b.rows (λ i q e l. row_names x y r t same q l) row_types;
       one_shape = λ i s u p q. h.one_shape i s u (back x y r t b same named g.gives (entry g) p) (back x y r t b same named g.gives (entry g) q);
       operands = λ i s a p e. let w = get_back (renamed r) b.code i a e in let k = alike_at x y r t b same named i w.0 w.1.0 in
-          ap is_some (ap (λ (c : Instr). outgoing y g.gives c s) (sym w.1.1) ∙ k.out g.gives s) ∙ h.operands i s w.0 (back x y r t b same named g.gives (entry g) p) w.1.0;
+          ap is_some (ap (λ (c : Instr). outgoing y g.gives c s) (sym w.1.1) ∙ k.out g.gives s)
+          ∙ h.operands i s w.0 (back x y r t b same named g.gives (entry g) p) w.1.0;
       words = λ i s a p e. let w = get_back (renamed r) b.code i a e in let k = alike_at x y r t b same named i w.0 w.1.0 in
           ap (passes y) (sym w.1.1) ∙ k.words ∙ h.words i s w.0 (back x y r t b same named g.gives (entry g) p) w.1.0;
       exceptions = λ i s a p e. let w = get_back (renamed r) b.code i a e in let k = alike_at x y r t b same named i w.0 w.1.0 in
@@ -162,9 +316,14 @@ sound_body x y r t g safe b same types row_types h =
       closes = λ i s a p e. let w = get_back (renamed r) b.code i a e in let k = alike_at x y r t b same named i w.0 w.1.0 in
           ap (λ (c : Instr). closes_right c s) (sym w.1.1) ∙ k.closes s ∙ h.closes i s w.0 (back x y r t b same named g.gives (entry g) p) w.1.0;
       edges = λ i s q p m c. let w = among_back (renamed_row r) b.rows m in
-          ap (λ (v : Row). edge_right v.what s.opens) (sym w.1.1) ∙ h.edges i s w.0 (back x y r t b same named g.gives (entry g) p) w.1.0 (ap (λ (v : Row). covers v i) w.1.1 ∙ c);
-      covered = λ i s p. ap (λ (v : Bool). is_empty s.opens || v) (any_mapped (renamed_row r) (λ (v : Row). is_edge v && covers v i) (λ (v : Row). is_edge v && covers v i) b.rows (λ v. refl)) ∙ h.covered i s (back x y r t b same named g.gives (entry g) p);
-      depths = λ i s a q p e m c. let w = get_back (renamed r) b.code i a e in let k = alike_at x y r t b same named i w.0 w.1.0 in let z = among_back (renamed_row r) b.rows m in
-          ap (λ (v : Row). nat_le v.depth (left_at a s.depth)) (sym z.1.1) ∙ ap (λ (d : ℕ). nat_le z.0.depth d) (ap (λ (c : Instr). left_at c s.depth) (sym w.1.1) ∙ k.left s.depth)
+          ap (λ (v : Row). edge_right v.what s.opens) (sym w.1.1)
+          ∙ h.edges i s w.0 (back x y r t b same named g.gives (entry g) p) w.1.0 (ap (λ (v : Row). covers v i) w.1.1 ∙ c);
+      covered = λ i s p. ap (λ (v : Bool). is_empty s.opens || v)
+          (any_mapped (renamed_row r) (λ (v : Row). is_edge v && covers v i) (λ (v : Row). is_edge v && covers v i) b.rows (λ v. refl))
+          ∙ h.covered i s (back x y r t b same named g.gives (entry g) p);
+      depths = λ i s a q p e m c. let w = get_back (renamed r) b.code i a e in let k = alike_at x y r t b same named i w.0 w.1.0 in let z =
+          among_back (renamed_row r) b.rows m in
+          ap (λ (v : Row). nat_le v.depth (left_at a s.depth)) (sym z.1.1)
+          ∙ ap (λ (d : ℕ). nat_le z.0.depth d) (ap (λ (c : Instr). left_at c s.depth) (sym w.1.1) ∙ k.left s.depth)
           ∙ h.depths i s w.0 z.0 (back x y r t b same named g.gives (entry g) p) w.1.0 z.1.0 (ap (λ (v : Row). covers v i) z.1.1 ∙ c);
     }

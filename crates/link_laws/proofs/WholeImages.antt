@@ -1,5 +1,6 @@
 -- What the type `Image` keeps holds of each image that objects link to.
-use Rattle.std.proofs.Common.{Bool, true, false, ◌≡◌, ◌<◌, ◌≤◌, ℕ, suc, zero, ◌+◌, ◌%◌, List, [], ◌∷◌, ◌++◌, map, filter, length, refl, ap, ◌∙◌, arith, Option, Some, None, ◌&&◌, nat_eq, nat_lt, nat_le, cond, slice_get, unwrap_or, length-append, codes, eq-eqb}
+use Rattle.std.proofs.Common.{Bool, true, false, ◌≡◌, ◌<◌, ◌≤◌, ℕ, suc, zero, ◌+◌, ◌%◌, List, [], ◌∷◌, ◌++◌, map, filter, length, refl, ap, ◌∙◌, arith, Option}
+use Rattle.std.proofs.Common.{Some, None, ◌&&◌, nat_eq, nat_lt, nat_le, cond, slice_get, unwrap_or, length-append, codes, eq-eqb}
 use Rattle.std.specs.List.{All, flat_map, list_all, position_from}
 use Rattle.std.specs.Option.{option_map}
 use Rattle.std.specs.Str.{bytes_eq}
@@ -9,7 +10,9 @@ use Rattle.std.proofs.lemmas.List.{length-map}
 use Rattle.tx_code.specs.Objects.{ObjectView, FuncView}
 use Rattle.tx_code.specs.WellFormed.{ascends, ascends_from, is_defined, func_fits, is_multiple, IsObject}
 use Rattle.tx_code.specs.Images.{ImageView, size_fits, main_type, is_main, slot_fits, slots_fit}
-use Rattle.tx_code.specs.Linked.{absent, FuncDef, GlobalDef, ClassDef, func_def, func_defs, kept_after, kept_funcs, kept_classes, repeats, or_else, or_none, func_number, is_own, defines, name_in, image_func, image_class, is_main_def, func_symbol, global_defs, rounded, end_of, ImageOf}
+use Rattle.tx_code.specs.Linked.{absent, FuncDef, GlobalDef, ClassDef, func_def, func_defs, kept_after, kept_funcs, kept_classes, repeats, or_else, or_none}
+use Rattle.tx_code.specs.Linked.{func_number, is_own, defines, name_in, image_func, image_class, is_main_def, func_symbol, global_defs, rounded, end_of}
+use Rattle.tx_code.specs.Linked.{ImageOf}
 use Rattle.link_faults.specs.Ranks.{names_of}
 use Rattle.link_faults.proofs.Ascending.{and_left, and_right}
 use Rattle.link_faults.proofs.ListedEntries.{and_both, func_symbol as func_symbol_fits}
@@ -36,12 +39,25 @@ pub position_found : {A : Type 0} (t : A → Bool) (n : ℕ) (xs : List A) (i : 
 position_found t n [] i e = cc
 position_found {A} t n (x ∷ xs) i e = by (t x) refl e (position_found t (n + 1) xs i)
   where
-    by : (b : Bool) → t x ≡ b → cond b (Some n) (position_from t (n + 1) xs) ≡ Some i → (position_from t (n + 1) xs ≡ Some i → (k : ℕ) × ((y : A) × FoundAt t (n + 1) xs i k y)) → (k : ℕ) × ((y : A) × FoundAt t n (x ∷ xs) i k y)
+    by : (b : Bool) → t x ≡ b → cond b (Some n) (position_from t (n + 1) xs) ≡ Some i
+        → (position_from t (n + 1) xs ≡ Some i → (k : ℕ) × ((y : A) × FoundAt t (n + 1) xs i k y)) → (k : ℕ) × ((y : A) × FoundAt t n (x ∷ xs) i k y)
     by true f g h = (0, (x, record { index = (let s : n ≡ i = inside_number n i g in omega (arith, s)); within = omega arith; is = refl; passes = f }))
       where
         inside_number : (a b : ℕ) → Some a ≡ Some b → a ≡ b
         inside_number a b q = cc
-    by false f g h = let r = h g in (suc r.0, (r.1.0, record { index = (let s = r.1.1.index in omega (arith, s)); within = (let w = r.1.1.within in omega (arith, w)); is = r.1.1.is; passes = r.1.1.passes }))
+    by false f g h = let r = h g in (
+      suc r.0,
+      (
+        r.1.0,
+        record {
+          index = (let s = r.1.1.index in omega (arith, s));
+          within = (let w = r.1.1.within in omega (arith, w));
+          is = r.1.1.is;
+          passes =
+              r.1.1.passes;
+        },
+      ),
+    )
 
 pub get_map : {A B : Type 0} (f : A → B) (xs : List A) (i : ℕ) → slice_get (map f xs) i ≡ option_map f (slice_get xs i)
 get_map f [] i = refl
@@ -53,12 +69,14 @@ get_map f (x ∷ xs) (suc i) = get_map f xs i
 main_passes : (d : FuncDef) → is_main_def d ≡ true → bytes_eq (name_in d.object d.func.ty) main_type ≡ true
 main_passes d e = and_right (nat_eq d.func.linkage 0 && bytes_eq (func_symbol d) (codes "main()")) _ e
 
-pub main_starts : (os : List ObjectView) (types : List (List ℕ)) (main : ℕ) → position_from is_main_def 0 (kept_funcs os) ≡ Some main → is_main (map (image_func os types) (kept_funcs os)) main ≡ true
+pub main_starts : (os : List ObjectView) (types : List (List ℕ)) (main : ℕ) → position_from is_main_def 0 (kept_funcs os) ≡ Some main
+    → is_main (map (image_func os types) (kept_funcs os)) main ≡ true
 main_starts os types main e =
     let r = position_found is_main_def 0 (kept_funcs os) main e in
     let i : main ≡ r.0 = let s = r.1.1.index in omega (arith, s) in
     let at : slice_get (map (image_func os types) (kept_funcs os)) main ≡ Some (image_func os types r.1.0) =
-    get_map (image_func os types) (kept_funcs os) main ∙ ap (λ k. option_map (image_func os types) (slice_get (kept_funcs os) k)) i ∙ ap (option_map (image_func os types)) r.1.1.is in
+    get_map (image_func os types) (kept_funcs os) main ∙ ap (λ k. option_map (image_func os types) (slice_get (kept_funcs os) k)) i
+    ∙ ap (option_map (image_func os types)) r.1.1.is in
     rw at (main_passes r.1.0 r.1.1.passes)
 
 -- ---- slots
@@ -73,9 +91,12 @@ either_within n (Some k) b h g = h
 
 slot_within : (os : List ObjectView) (at : ℕ) (o : ObjectView) (slot : ℕ) → slot_fits (length (kept_funcs os)) (or_none (func_number os at o) slot) ≡ true
 slot_within os at o zero = refl
-slot_within os at o (suc name) = either_within (length (kept_funcs os)) (position_from (is_own at name) 0 (kept_funcs os)) (position_from (defines (name_in o name)) 0 (kept_funcs os)) (number_within (is_own at name) (kept_funcs os) _ refl) (number_within (defines (name_in o name)) (kept_funcs os) _ refl)
+slot_within os at o (suc name) = either_within (length (kept_funcs os)) (position_from (is_own at name) 0 (kept_funcs os))
+    (position_from (defines (name_in o name)) 0 (kept_funcs os)) (number_within (is_own at name) (kept_funcs os) _ refl)
+    (number_within (defines (name_in o name)) (kept_funcs os) _ refl)
 
-slots_within : (os : List ObjectView) (at : ℕ) (o : ObjectView) (slots : List ℕ) → list_all (slot_fits (length (kept_funcs os))) (map (or_none (func_number os at o)) slots) ≡ true
+slots_within : (os : List ObjectView) (at : ℕ) (o : ObjectView) (slots : List ℕ)
+    → list_all (slot_fits (length (kept_funcs os))) (map (or_none (func_number os at o)) slots) ≡ true
 slots_within os at o [] = refl
 slots_within os at o (s ∷ ss) = and_both _ _ (slot_within os at o s) (slots_within os at o ss)
 
@@ -89,7 +110,8 @@ kept_fewer : (kept ds : List FuncDef) → length (kept_after kept ds) ≤ length
 kept_fewer kept [] = omega arith
 kept_fewer kept (d ∷ ds) = by (repeats kept d) (λ ks. kept_fewer ks ds)
   where
-    by : (b : Bool) → ((ks : List FuncDef) → length (kept_after ks ds) ≤ length ks + length ds) → length (kept_after (cond b kept (kept ++ d ∷ [])) ds) ≤ length kept + length (d ∷ ds)
+    by : (b : Bool) → ((ks : List FuncDef) → length (kept_after ks ds) ≤ length ks + length ds)
+        → length (kept_after (cond b kept (kept ++ d ∷ [])) ds) ≤ length kept + length (d ∷ ds)
     by true f = let r = f kept in omega (arith, r)
     by false f = let r = f (kept ++ d ∷ []) in let l = length-append kept (d ∷ []) in omega (arith, r, l)
 
@@ -101,14 +123,16 @@ filter_shorter {A} p (x ∷ xs) = by (p x) (filter_shorter p xs)
     by true r = omega (arith, r)
     by false r = omega (arith, r)
 
-above : (v n : ℕ) (f : FuncView) (fs : List FuncView) → ascends_from (λ (a b : FuncView). nat_lt a.symbol b.symbol) f fs ≡ true → list_all (func_fits v n) (f ∷ fs) ≡ true → f.symbol + length (f ∷ fs) ≤ n
+above : (v n : ℕ) (f : FuncView) (fs : List FuncView) → ascends_from (λ (a b : FuncView). nat_lt a.symbol b.symbol) f fs ≡ true
+    → list_all (func_fits v n) (f ∷ fs) ≡ true → f.symbol + length (f ∷ fs) ≤ n
 above v n f [] h l = let s = ltb-true f.symbol n (func_symbol_fits v n f (and_left (func_fits v n f) _ l)) in omega (arith, s)
 above v n f (k ∷ ks) h l =
     let less = ltb-true f.symbol k.symbol (and_left _ _ h) in
     let rest = above v n k ks (and_right (nat_lt f.symbol k.symbol) _ h) (and_right (func_fits v n f) _ l) in
     omega (arith, less, rest)
 
-few_funcs : (v n : ℕ) (fs : List FuncView) → ascends (λ (a b : FuncView). nat_lt a.symbol b.symbol) fs ≡ true → list_all (func_fits v n) fs ≡ true → length fs ≤ n
+few_funcs : (v n : ℕ) (fs : List FuncView) → ascends (λ (a b : FuncView). nat_lt a.symbol b.symbol) fs ≡ true → list_all (func_fits v n) fs ≡ true
+    → length fs ≤ n
 few_funcs v n [] h l = omega arith
 few_funcs v n (f ∷ fs) h l = let a = above v n f fs h l in omega (arith, a)
 
@@ -132,7 +156,8 @@ few_defs at (o ∷ os) (some i h) =
 pub few_kept : (os : List ObjectView) → AllObjects os → length (kept_funcs os) ≤ length (flat_map names_of os)
 few_kept os h = let a = kept_fewer [] (func_defs 0 os) in let b = few_defs 0 os h in omega (arith, a, b)
 
-pub number_bounded : (os : List ObjectView) (at : ℕ) (o : ObjectView) (n : ℕ) → length (kept_funcs os) ≤ 4294967295 → unwrap_or (func_number os at o n) absent ≤ 4294967295
+pub number_bounded : (os : List ObjectView) (at : ℕ) (o : ObjectView) (n : ℕ) → length (kept_funcs os) ≤ 4294967295
+    → unwrap_or (func_number os at o n) absent ≤ 4294967295
 number_bounded os at o n few = by (func_number os at o n) (slot_within os at o (suc n))
   where
     by : (r : Option ℕ) → slot_fits (length (kept_funcs os)) r ≡ true → unwrap_or r absent ≤ 4294967295

@@ -1,5 +1,6 @@
 -- The types of an image are the names that bodies name as types.
-use Rattle.std.proofs.Common.{Bool, true, false, ◌≡◌, ◌≢◌, ◌<◌, ◌≤◌, ℕ, suc, ◌+◌, List, [], ◌∷◌, ◌++◌, map, filter, length, refl, sym, ap, ◌∙◌, arith, Some, None, ◌&&◌, ◌||◌, nat_eq, cond, slice_get, slice_set, get_or, length-set}
+use Rattle.std.proofs.Common.{Bool, true, false, ◌≡◌, ◌≢◌, ◌<◌, ◌≤◌, ℕ, suc, ◌+◌, List, [], ◌∷◌, ◌++◌, map, filter, length, refl, sym, ap, ◌∙◌, arith, Some}
+use Rattle.std.proofs.Common.{None, ◌&&◌, ◌||◌, nat_eq, cond, slice_get, slice_set, get_or, length-set}
 use Rattle.std.specs.List.{list_all, list_any, position_from}
 use Rattle.std.specs.Str.{bytes_eq}
 use borrow.Author.Tests.{eqb-true}
@@ -27,13 +28,22 @@ pub adds_none : (marks : List Bool) → Adds [] marks marks
 adds_none marks = record { marks = λ before h. rw (append_nil before) h; long = refl }
 
 pub adds_more : (xs ys : List ℕ) (old mid new : List Bool) → Adds xs old mid → Adds ys mid new → Adds (xs ++ ys) old new
-adds_more xs ys old mid new a b = record { marks = λ before h. rw (← append_assoc before xs ys) (b.marks (before ++ xs) (a.marks before h)); long = b.long ∙ a.long }
+adds_more xs ys old mid new a b = record {
+  marks = λ before h. rw (← append_assoc before xs ys) (b.marks (before ++ xs) (a.marks before h));
+  long = b.long
+      ∙ a.long;
+}
 
 pub adds_one : (marks : List Bool) (rank : ℕ) → rank < length marks → Adds (rank ∷ []) marks (slice_set marks rank true)
 adds_one marks rank l = record { marks = λ before h. marked_one before marks rank l h; long = length-set marks rank true }
 
 pub adds_beyond : (marks : List Bool) (rank : ℕ) → length marks ≤ rank → Adds (rank ∷ []) marks marks
-adds_beyond marks rank l = record { marks = λ before h k w. h k w ∙ sym (ap (λ b. Some b) (any_of_append (λ s. nat_eq s k) before (rank ∷ []) ∙ (let n : rank ≢ k = omega arith in rw (unequal rank k n) (or_no (is_symbol before k))))); long = refl }
+adds_beyond marks rank l = record {
+  marks = λ before h k w. h k w ∙ sym
+      (ap (λ b. Some b) (any_of_append (λ s. nat_eq s k) before (rank ∷ []) ∙
+      (let n : rank ≢ k = omega arith in rw (unequal rank k n) (or_no (is_symbol before k)))));
+  long = refl;
+}
   where
     or_no : (a : Bool) → (a || (false || false)) ≡ a
     or_no true = refl
@@ -48,7 +58,8 @@ adds_beyond marks rank l = record { marks = λ before h k w. h k w ∙ sym (ap (
 
 -- ---- the marked names
 
-pub marked_snoc : (ns : List (List ℕ)) (n : List ℕ) (ms : List Bool) (b : Bool) → slice_get ms (length ns) ≡ Some b → marked (ns ++ n ∷ []) ms ≡ marked ns ms ++ cond b (n ∷ []) []
+pub marked_snoc : (ns : List (List ℕ)) (n : List ℕ) (ms : List Bool) (b : Bool) → slice_get ms (length ns) ≡ Some b
+    → marked (ns ++ n ∷ []) ms ≡ marked ns ms ++ cond b (n ∷ []) []
 marked_snoc [] n [] b e = cc
 marked_snoc [] n (m ∷ ms) b e = let s : m ≡ b = inside_bool m b e in rw s (by b)
   where
@@ -61,11 +72,13 @@ marked_snoc [] n (m ∷ ms) b e = let s : m ≡ b = inside_bool m b e in rw s (b
 marked_snoc (x ∷ xs) n [] b e = cc
 marked_snoc (x ∷ xs) n (m ∷ ms) b e = by m (marked_snoc xs n ms b e)
   where
-    by : (c : Bool) → marked (xs ++ n ∷ []) ms ≡ marked xs ms ++ cond b (n ∷ []) [] → cond c (x ∷ marked (xs ++ n ∷ []) ms) (marked (xs ++ n ∷ []) ms) ≡ cond c (x ∷ marked xs ms) (marked xs ms) ++ cond b (n ∷ []) []
+    by : (c : Bool) → marked (xs ++ n ∷ []) ms ≡ marked xs ms ++ cond b (n ∷ []) []
+        → cond c (x ∷ marked (xs ++ n ∷ []) ms) (marked (xs ++ n ∷ []) ms) ≡ cond c (x ∷ marked xs ms) (marked xs ms) ++ cond b (n ∷ []) []
     by true f = ap (λ ys. x ∷ ys) f
     by false f = f
 
-marked_is_filter : (q : List ℕ → Bool) (ns : List (List ℕ)) (ms : List Bool) → ((k : ℕ) → k < length ns → slice_get ms k ≡ Some (q (get_or ns k []))) → marked ns ms ≡ filter q ns
+marked_is_filter : (q : List ℕ → Bool) (ns : List (List ℕ)) (ms : List Bool) → ((k : ℕ) → k < length ns → slice_get ms k ≡ Some (q (get_or ns k [])))
+    → marked ns ms ≡ filter q ns
 marked_is_filter q [] ms h = refl
 marked_is_filter q (n ∷ ns) [] h = let e = h 0 (omega arith) in cc
 marked_is_filter q (n ∷ ns) (m ∷ ms) h =
@@ -126,7 +139,8 @@ any_filter q ty (n ∷ ns) = by (bytes_eq ty n) refl (q n) refl (any_filter q ty
 -- ---- by names
 
 -- the marks are those of the ranks of these names
-mark_by_name : (all : List (List ℕ)) (mentions : List (List ℕ)) → ascends bytes_lt all ≡ true → list_all (is_listed all) mentions ≡ true → (name : List ℕ) → is_listed all name ≡ true
+mark_by_name : (all : List (List ℕ)) (mentions : List (List ℕ)) → ascends bytes_lt all ≡ true → list_all (is_listed all) mentions ≡ true → (name : List ℕ)
+    → is_listed all name ≡ true
     → is_symbol (map (rank_of all) mentions) (rank_of all name) ≡ list_any (bytes_eq name) mentions
 mark_by_name all [] h l name n = refl
 mark_by_name all (m ∷ ms) h l name n =
@@ -142,21 +156,25 @@ mark_by_name all (m ∷ ms) h l name n =
         by true e false f = let s : a ≡ b = same_bytes a b e in sym (sym f ∙ ap (λ c. bytes_eq b c) s ∙ equals_itself b)
         by false e true f = let s : b ≡ a = same_bytes b a f in sym e ∙ ap (λ c. bytes_eq a c) s ∙ equals_itself a
 
-listed_mention : (all : List (List ℕ)) (mentions : List (List ℕ)) (ty : List ℕ) → list_all (is_listed all) mentions ≡ true → list_any (bytes_eq ty) mentions ≡ true → is_listed all ty ≡ true
+listed_mention : (all : List (List ℕ)) (mentions : List (List ℕ)) (ty : List ℕ) → list_all (is_listed all) mentions ≡ true
+    → list_any (bytes_eq ty) mentions ≡ true → is_listed all ty ≡ true
 listed_mention all [] ty l e = cc
 listed_mention all (m ∷ ms) ty l e = by (bytes_eq ty m) refl e (λ g. listed_mention all ms ty (and_right (is_listed all m) _ l) g)
   where
-    by : (b : Bool) → bytes_eq ty m ≡ b → (b || list_any (bytes_eq ty) ms) ≡ true → (list_any (bytes_eq ty) ms ≡ true → is_listed all ty ≡ true) → is_listed all ty ≡ true
+    by : (b : Bool) → bytes_eq ty m ≡ b → (b || list_any (bytes_eq ty) ms) ≡ true → (list_any (bytes_eq ty) ms ≡ true → is_listed all ty ≡ true)
+        → is_listed all ty ≡ true
     by true f g r = let s : ty ≡ m = same_bytes ty m f in ap (is_listed all) s ∙ and_left (is_listed all m) _ l
     by false f g r = r g
 
-pub types_by_name : (all mentions : List (List ℕ)) (marks : List Bool) → ascends bytes_lt all ≡ true → list_all (is_listed all) mentions ≡ true → length marks ≡ length all → AreMarks (map (rank_of all) mentions) marks
+pub types_by_name : (all mentions : List (List ℕ)) (marks : List Bool) → ascends bytes_lt all ≡ true → list_all (is_listed all) mentions ≡ true
+    → length marks ≡ length all → AreMarks (map (rank_of all) mentions) marks
     → AreTypes mentions (marked all marks)
 types_by_name all mentions marks h l long m =
     let q : List ℕ → Bool = λ name. list_any (bytes_eq name) mentions in
     let is : marked all marks ≡ filter q all = marked_is_filter q all marks (λ k w.
     let r : rank_of all (get_or all k []) ≡ k = rank_at all k (get_or all k []) h w refl in
-    m k (omega (arith, long)) ∙ ap (λ b. Some b) (ap (is_symbol (map (rank_of all) mentions)) (sym r) ∙ mark_by_name all mentions h l (get_or all k []) (listed_at all k w))) in
+    m k (omega (arith, long)) ∙ ap (λ b. Some b) (ap (is_symbol (map (rank_of all) mentions)) (sym r) ∙ mark_by_name all mentions h l (get_or all k [])
+    (listed_at all k w))) in
     record {
       ascend = ap (ascends bytes_lt) is ∙ filter_ascends q all h;
       same = λ ty. ap (list_any (bytes_eq ty)) is ∙ any_filter q ty all ∙ by ty (q ty) refl;
@@ -172,6 +190,7 @@ pub no_position : (name : List ℕ) (n : ℕ) (types : List (List ℕ)) → is_l
 no_position name n [] e = refl
 no_position name n (t ∷ ts) e = by (bytes_eq name t) e (no_position name (n + 1) ts)
   where
-    by : (b : Bool) → (b || is_listed ts name) ≡ false → (is_listed ts name ≡ false → position_from (bytes_eq name) (n + 1) ts ≡ None) → cond b (Some n) (position_from (bytes_eq name) (n + 1) ts) ≡ None
+    by : (b : Bool) → (b || is_listed ts name) ≡ false → (is_listed ts name ≡ false → position_from (bytes_eq name) (n + 1) ts ≡ None)
+        → cond b (Some n) (position_from (bytes_eq name) (n + 1) ts) ≡ None
     by true f r = cc
     by false f r = r f

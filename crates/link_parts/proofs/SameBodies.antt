@@ -40,7 +40,8 @@ pub all_right : {A : Type 0} (t : A → Bool) (xs ys : List A) → list_all t (x
 all_right t [] ys h = h
 all_right t (x ∷ xs) ys h = all_right t xs ys (and_right (t x) _ h)
 
-same_code : (n : ℕ) (x y : Numbering) → Agree n x y → (is : List Instr) → list_all (is_name n) (flat_map named_by is) ≡ true → map (renamed x) is ≡ map (renamed y) is
+same_code : (n : ℕ) (x y : Numbering) → Agree n x y → (is : List Instr) → list_all (is_name n) (flat_map named_by is) ≡ true
+    → map (renamed x) is ≡ map (renamed y) is
 same_code n x y a [] h = refl
 same_code n x y a (i ∷ is) h =
     ap (λ j. j ∷ map (renamed x) is) (same_instr n x y a i (all_left (is_name n) (named_by i) (flat_map named_by is) h))
@@ -52,10 +53,12 @@ same_row n x y a r h = by (nat_eq r.what 1) h
     by : (b : Bool) → list_all (is_name n) (if b then r.ty ∷ [] else []) ≡ true
         → (let q : Row = record { from = r.from; to = r.to; target = r.target; what = r.what; ty = if b then x.ty r.ty else r.ty; depth = r.depth } in q)
         ≡ (let q : Row = record { from = r.from; to = r.to; target = r.target; what = r.what; ty = if b then y.ty r.ty else r.ty; depth = r.depth } in q)
-    by true g = ap (λ (ty : ℕ). (let q : Row = record { from = r.from; to = r.to; target = r.target; what = r.what; ty = ty; depth = r.depth } in q)) (a.ty r.ty (named_first n r.ty g))
+    by true g = ap (λ (ty : ℕ). (let q : Row = record { from = r.from; to = r.to; target = r.target; what = r.what; ty = ty; depth = r.depth } in q))
+        (a.ty r.ty (named_first n r.ty g))
     by false g = refl
 
-same_rows : (n : ℕ) (x y : Numbering) → Agree n x y → (rs : List Row) → list_all (is_name n) (flat_map named_by_row rs) ≡ true → map (renamed_row x) rs ≡ map (renamed_row y) rs
+same_rows : (n : ℕ) (x y : Numbering) → Agree n x y → (rs : List Row) → list_all (is_name n) (flat_map named_by_row rs) ≡ true
+    → map (renamed_row x) rs ≡ map (renamed_row y) rs
 same_rows n x y a [] h = refl
 same_rows n x y a (r ∷ rs) h =
     ap (λ q. q ∷ map (renamed_row x) rs) (same_row n x y a r (all_left (is_name n) (named_by_row r) (flat_map named_by_row rs) h))

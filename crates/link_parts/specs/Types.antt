@@ -19,7 +19,8 @@ list_of None = []
 list_of (Some n) = n ∷ []
 
 abbrev pub ranks_in_body : (ranks : List ℕ) (start : ℕ) → BodyView → List ℕ
-ranks_in_body ranks start b = map (λ n. slice_index ranks (start + n)) (flat_map named_types b.code) ++ map (λ n. slice_index ranks (start + n)) (flat_map named_by_row b.rows)
+ranks_in_body ranks start b = map (λ n. slice_index ranks (start + n)) (flat_map named_types b.code)
+    ++ map (λ n. slice_index ranks (start + n)) (flat_map named_by_row b.rows)
 
 abbrev pub ranks_in_some : (ranks : List ℕ) (start : ℕ) → Option BodyView → List ℕ
 ranks_in_some ranks start b = option_map_or (ranks_in_body ranks start) b []

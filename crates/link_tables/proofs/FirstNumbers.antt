@@ -1,5 +1,6 @@
 -- Tables of the first definitions.
-use Rattle.std.proofs.Common.{Bool, true, false, ◌≡◌, ◌<◌, ℕ, suc, zero, ◌+◌, List, [], ◌∷◌, ◌++◌, take, length, refl, sym, ap, ◌∙◌, arith, Option, Some, None, ◌||◌, nat_eq, cond, slice_get, slice_set, get_or, length-set, add-one}
+use Rattle.std.proofs.Common.{Bool, true, false, ◌≡◌, ◌<◌, ℕ, suc, zero, ◌+◌, List, [], ◌∷◌, ◌++◌, take, length, refl, sym, ap, ◌∙◌, arith, Option, Some, None}
+use Rattle.std.proofs.Common.{◌||◌, nat_eq, cond, slice_get, slice_set, get_or, length-set, add-one}
 use Rattle.std.specs.List.{list_any}
 use borrow.Author.Tests.{eqb-true, eqb-false}
 use Rattle.tx_code.specs.Linked.{or_else}
@@ -26,17 +27,21 @@ one_more t xs x = any_of_append t xs (x ∷ [])
 pub seen_internal : (earlier : List Symbol) (marks : List Bool) (s : Symbol) → s.internal ≡ true → Seen earlier marks → Seen (earlier ++ s ∷ []) marks
 seen_internal earlier marks s i h k l = h k l ∙ sym (ap (λ b. Some b) (one_more (has_rank k) earlier s ∙ rw i (or_no (list_any (has_rank k) earlier))))
 
-pub seen_mark : (earlier : List Symbol) (marks : List Bool) (s : Symbol) → s.internal ≡ false → s.rank < length marks → Seen earlier marks → Seen (earlier ++ s ∷ []) (slice_set marks s.rank true)
+pub seen_mark : (earlier : List Symbol) (marks : List Bool) (s : Symbol) → s.internal ≡ false → s.rank < length marks → Seen earlier marks
+    → Seen (earlier ++ s ∷ []) (slice_set marks s.rank true)
 seen_mark earlier marks s i w h k l = by (nat_eq s.rank k) refl
   where
     by : (b : Bool) → nat_eq s.rank k ≡ b → slice_get (slice_set marks s.rank true) k ≡ Some (list_any (has_rank k) (earlier ++ s ∷ []))
-    by true e = get_set_same marks s.rank k true (eqb-true s.rank k e) w ∙ sym (ap (λ b. Some b) (one_more (has_rank k) earlier s ∙ rw (i, e) (or_true (list_any (has_rank k) earlier))))
+    by true e = get_set_same marks s.rank k true (eqb-true s.rank k e) w
+        ∙ sym (ap (λ b. Some b) (one_more (has_rank k) earlier s ∙ rw (i, e) (or_true (list_any (has_rank k) earlier))))
     by false e =
         let within : k < length marks = let m = length-set marks s.rank true in omega arith in
-        get_set_other marks s.rank k true (eqb-false s.rank k e) ∙ h k within ∙ sym (ap (λ b. Some b) (one_more (has_rank k) earlier s ∙ rw (i, e) (or_no (list_any (has_rank k) earlier))))
+        get_set_other marks s.rank k true (eqb-false s.rank k e) ∙ h k within
+        ∙ sym (ap (λ b. Some b) (one_more (has_rank k) earlier s ∙ rw (i, e) (or_no (list_any (has_rank k) earlier))))
 
 -- the mark of a rank
-pub mark_is : (earlier : List Symbol) (marks : List Bool) (s : Symbol) (b : Bool) → s.internal ≡ false → s.rank < length marks → slice_get marks s.rank ≡ Some b → Seen earlier marks → comes_again earlier s ≡ b
+pub mark_is : (earlier : List Symbol) (marks : List Bool) (s : Symbol) (b : Bool) → s.internal ≡ false → s.rank < length marks → slice_get marks s.rank ≡ Some b
+    → Seen earlier marks → comes_again earlier s ≡ b
 mark_is earlier marks s b i w e h = rw i (inside (list_any (has_rank s.rank) earlier) b (sym (h s.rank w) ∙ e))
 
 pub no_mark : (names : ℕ) (marks : List Bool) → ((k : ℕ) → k < length marks → slice_get marks k ≡ Some false) → Seen [] marks
@@ -44,7 +49,8 @@ no_mark names marks h k l = h k l
 
 -- ---- numbers
 
-more_numbers : (t : Symbol → Bool) (ds : List Numbered) (d : Numbered) → number_of t (ds ++ d ∷ []) ≡ or_else (number_of t ds) (cond (t d.symbol) (Some d.number) None)
+more_numbers : (t : Symbol → Bool) (ds : List Numbered) (d : Numbered)
+    → number_of t (ds ++ d ∷ []) ≡ or_else (number_of t ds) (cond (t d.symbol) (Some d.number) None)
 more_numbers t [] d = refl
 more_numbers t (x ∷ xs) d = by (t x.symbol) (more_numbers t xs d)
   where
@@ -62,8 +68,10 @@ pub skipped : (t : Symbol → Bool) (ds : List Numbered) (d : Numbered) → t d.
 skipped t ds d e = more_numbers t ds d ∙ rw e (or_none_left (number_of t ds))
 
 -- what tables by rank and by place have in common: a key, and a test for each key
-pub noted_first : (t : ℕ → Symbol → Bool) (ds : List Numbered) (d : Numbered) (key : ℕ) (table : List (Option ℕ)) → ((k : ℕ) → t k d.symbol ≡ nat_eq key k) → key < length table
-    → slice_get table key ≡ Some None → Tells (λ k. number_of (t k) ds) table → Tells (λ k. number_of (t k) (ds ++ d ∷ [])) (slice_set table key (Some d.number))
+pub noted_first : (t : ℕ → Symbol → Bool) (ds : List Numbered) (d : Numbered) (key : ℕ) (table : List (Option ℕ)) → ((k : ℕ) → t k d.symbol ≡ nat_eq key k)
+    → key < length table
+    → slice_get table key ≡ Some None → Tells (λ k. number_of (t k) ds) table
+    → Tells (λ k. number_of (t k) (ds ++ d ∷ [])) (slice_set table key (Some d.number))
 noted_first t ds d key table s w e h k l = by (nat_eq key k) refl
   where
     by : (b : Bool) → nat_eq key k ≡ b → slice_get (slice_set table key (Some d.number)) k ≡ Some (number_of (t k) (ds ++ d ∷ []))
@@ -90,7 +98,8 @@ noted_later t ds d key n table s e h k l = by (nat_eq key k) refl
     by false g = h k l ∙ sym (ap (λ o. Some o) (skipped (t k) ds d (s k ∙ g)))
 
 -- either way
-pub noted : (t : ℕ → Symbol → Bool) (ds : List Numbered) (d : Numbered) (key : ℕ) (old new : List (Option ℕ)) → ((k : ℕ) → t k d.symbol ≡ nat_eq key k) → key < length old
+pub noted : (t : ℕ → Symbol → Bool) (ds : List Numbered) (d : Numbered) (key : ℕ) (old new : List (Option ℕ)) → ((k : ℕ) → t k d.symbol ≡ nat_eq key k)
+    → key < length old
     → (slice_get old key ≡ Some None → new ≡ slice_set old key (Some d.number)) → ((n : ℕ) → slice_get old key ≡ Some (Some n) → new ≡ old)
     → Tells (λ k. number_of (t k) ds) old → Tells (λ k. number_of (t k) (ds ++ d ∷ [])) new
 noted t ds d key old new s w f g h = by (number_of (t key) ds) (h key w)
@@ -100,7 +109,8 @@ noted t ds d key old new s w f g h = by (number_of (t key) ds) (h key w)
     by (Some n) e = rw (g n e) (noted_later t ds d key n old s e h)
 
 -- one that passes nowhere
-pub not_noted : (t : ℕ → Symbol → Bool) (ds : List Numbered) (d : Numbered) (table : List (Option ℕ)) → ((k : ℕ) → t k d.symbol ≡ false) → Tells (λ k. number_of (t k) ds) table → Tells (λ k. number_of (t k) (ds ++ d ∷ [])) table
+pub not_noted : (t : ℕ → Symbol → Bool) (ds : List Numbered) (d : Numbered) (table : List (Option ℕ)) → ((k : ℕ) → t k d.symbol ≡ false)
+    → Tells (λ k. number_of (t k) ds) table → Tells (λ k. number_of (t k) (ds ++ d ∷ [])) table
 not_noted t ds d table s h k l = h k l ∙ sym (ap (λ o. Some o) (skipped (t k) ds d (s k)))
 
 pub number_step : (t : ℕ → Symbol → Bool) (defs : List Numbered) (i : ℕ) (d : Numbered) (table : List (Option ℕ)) → i < length defs

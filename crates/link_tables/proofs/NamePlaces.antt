@@ -1,5 +1,6 @@
 -- Places of names among the names of all objects.
-use Rattle.std.proofs.Common.{Bool, true, false, ◌≡◌, ◌≢◌, ◌<◌, ◌≤◌, ℕ, suc, zero, ◌+◌, List, [], ◌∷◌, ◌++◌, map, length, refl, sym, ap, ◌∙◌, arith, Some, None, ◌&&◌, nat_eq, nat_lt, slice_get, unwrap_or, eq-eqb}
+use Rattle.std.proofs.Common.{Bool, true, false, ◌≡◌, ◌≢◌, ◌<◌, ◌≤◌, ℕ, suc, zero, ◌+◌, List, [], ◌∷◌, ◌++◌, map, length, refl, sym, ap, ◌∙◌, arith, Some, None}
+use Rattle.std.proofs.Common.{◌&&◌, nat_eq, nat_lt, slice_get, unwrap_or, eq-eqb}
 use Rattle.std.specs.List.{flat_map}
 use Rattle.std.specs.Option.{option_map}
 use borrow.Author.Tests.{eqb-true, eqb-false, ltb-true, ltb-false}
@@ -46,7 +47,8 @@ eq_left n a b = by (nat_eq a b) refl
     by true e = let same : a ≡ b = eqb-true a b e in rw same (eq-eqb (n + b) (n + b) refl)
     by false e = unequal (n + a) (n + b) (λ f. let n : a ≢ b = eqb-false a b e in n (omega (arith, f)))
 
-same_place : (os : List ObjectView) (a b x y : ℕ) (o p : ObjectView) → slice_get os a ≡ Some o → slice_get os b ≡ Some p → x < length o.names → y < length p.names
+same_place : (os : List ObjectView) (a b x y : ℕ) (o p : ObjectView) → slice_get os a ≡ Some o → slice_get os b ≡ Some p → x < length o.names
+    → y < length p.names
     → nat_eq (start_of os a + x) (start_of os b + y) ≡ (nat_eq a b && nat_eq x y)
 same_place [] a b x y o p ea eb lx ly = cc
 same_place (q ∷ qs) zero zero x y o p ea eb lx ly = eq_left (start_of (q ∷ qs) 0) x y ∙ sym (ap (λ t. t && nat_eq x y) (eq-eqb 0 0 refl))
@@ -55,19 +57,22 @@ same_place (q ∷ qs) zero (suc b) x y o p ea eb lx ly =
     let z = start_zero q qs in
     let s = start_suc q qs b in
     let l : length q.names ≡ length o.names = ap (λ (v : ObjectView). length v.names) q-is in
-    unequal (start_of (q ∷ qs) 0 + x) (start_of (q ∷ qs) (suc b) + y) (λ e. omega (arith, z, s, l, e)) ∙ sym (ap (λ t. t && nat_eq x y) (unequal 0 (suc b) (λ e. omega (arith, e))))
+    unequal (start_of (q ∷ qs) 0 + x) (start_of (q ∷ qs) (suc b) + y) (λ e. omega (arith, z, s, l, e))
+    ∙ sym (ap (λ t. t && nat_eq x y) (unequal 0 (suc b) (λ e. omega (arith, e))))
 same_place (q ∷ qs) (suc a) zero x y o p ea eb lx ly =
     let q-is : q ≡ p = inside q p eb in
     let z = start_zero q qs in
     let s = start_suc q qs a in
     let l : length q.names ≡ length p.names = ap (λ (v : ObjectView). length v.names) q-is in
-    unequal (start_of (q ∷ qs) (suc a) + x) (start_of (q ∷ qs) 0 + y) (λ e. omega (arith, z, s, l, e)) ∙ sym (ap (λ t. t && nat_eq x y) (unequal (suc a) 0 (λ e. omega (arith, e))))
+    unequal (start_of (q ∷ qs) (suc a) + x) (start_of (q ∷ qs) 0 + y) (λ e. omega (arith, z, s, l, e))
+    ∙ sym (ap (λ t. t && nat_eq x y) (unequal (suc a) 0 (λ e. omega (arith, e))))
 same_place (q ∷ qs) (suc a) (suc b) x y o p ea eb lx ly =
     let sa = start_suc q qs a in
     let sb = start_suc q qs b in
     let ra : start_of (q ∷ qs) (suc a) + x ≡ length q.names + (start_of qs a + x) = omega (arith, sa) in
     let rb : start_of (q ∷ qs) (suc b) + y ≡ length q.names + (start_of qs b + y) = omega (arith, sb) in
-    rw (ra, rb) (eq_left (length q.names) (start_of qs a + x) (start_of qs b + y) ∙ same_place qs a b x y o p ea eb lx ly ∙ ap (λ t. t && nat_eq x y) (sym (eq_suc a b)))
+    rw (ra, rb) (eq_left (length q.names) (start_of qs a + x) (start_of qs b + y) ∙ same_place qs a b x y o p ea eb lx ly ∙ ap (λ t. t && nat_eq x y)
+    (sym (eq_suc a b)))
   where
     eq_suc : (a b : ℕ) → nat_eq (suc a) (suc b) ≡ nat_eq a b
     eq_suc a b = by (nat_eq a b) refl
@@ -89,12 +94,17 @@ pub record IsPlaced (os : List ObjectView) (h : HomeView) : Type 0 where
 get_same : (os : List ObjectView) (i j : ℕ) → i ≡ j → slice_get os i ≡ slice_get os j
 get_same os i j e = ap (slice_get os) e
 
-placed_from : (os rest : List ObjectView) (at start : ℕ) → ((k : ℕ) → slice_get os (at + k) ≡ slice_get rest k) → ((k : ℕ) → start_of os (at + k) ≡ start + start_of rest k) → Each (IsPlaced os) (homes at start rest)
+placed_from : (os rest : List ObjectView) (at start : ℕ) → ((k : ℕ) → slice_get os (at + k) ≡ slice_get rest k)
+    → ((k : ℕ) → start_of os (at + k) ≡ start + start_of rest k) → Each (IsPlaced os) (homes at start rest)
 placed_from os [] at start g s = nil
 placed_from os (o ∷ rest) at start g s =
     let z = start_zero o rest in
     let i : at ≡ at + 0 = omega arith in
-    also (record { here = record { is = ap (slice_get os) i ∙ g 0 }; start = sym (ap (start_of os) i ∙ s 0 ∙ (let e : start + start_of (o ∷ rest) 0 ≡ start = omega (arith, z) in e)) })
+    also (record {
+      here = record { is = ap (slice_get os) i ∙ g 0 };
+      start =
+          sym (ap (start_of os) i ∙ s 0 ∙ (let e : start + start_of (o ∷ rest) 0 ≡ start = omega (arith, z) in e));
+    })
     (placed_from os rest (at + 1) (start + length o.names)
     (λ k. (let e : at + 1 + k ≡ at + suc k = omega arith in ap (slice_get os) e) ∙ g (suc k))
     (λ k. (let e : at + 1 + k ≡ at + suc k = omega arith in ap (start_of os) e) ∙ s (suc k) ∙ (let t = start_suc o rest k in omega (arith, t))))
@@ -116,7 +126,8 @@ get_back [] ys i j e = let f : j ≡ i = omega (arith, e) in ap (slice_get ys) f
 get_back (x ∷ xs) ys i zero e = absurd (omega arith)
 get_back (x ∷ xs) ys i (suc j) e = get_back xs ys i j (omega arith)
 
-pub name_at_place : (os : List ObjectView) (at n : ℕ) (o : ObjectView) → slice_get os at ≡ Some o → n < length o.names → slice_get (flat_map names_of os) (start_of os at + n) ≡ slice_get o.names n
+pub name_at_place : (os : List ObjectView) (at n : ℕ) (o : ObjectView) → slice_get os at ≡ Some o → n < length o.names
+    → slice_get (flat_map names_of os) (start_of os at + n) ≡ slice_get o.names n
 name_at_place [] at n o e l = cc
 name_at_place (p ∷ os) zero n o e l =
     let p-is : p ≡ o = inside p o e in
@@ -128,7 +139,8 @@ name_at_place (p ∷ os) (suc at) n o e l =
     let s = start_suc p os at in
     get_back p.names (flat_map names_of os) (start_of os at + n) (start_of (p ∷ os) (suc at) + n) (omega (arith, s)) ∙ name_at_place os at n o e l
 
-pub place_within : (os : List ObjectView) (at n : ℕ) (o : ObjectView) → slice_get os at ≡ Some o → n < length o.names → start_of os at + n < length (flat_map names_of os)
+pub place_within : (os : List ObjectView) (at n : ℕ) (o : ObjectView) → slice_get os at ≡ Some o → n < length o.names
+    → start_of os at + n < length (flat_map names_of os)
 place_within os at n o e l = within (flat_map names_of os) (start_of os at + n) o.names n l (name_at_place os at n o e l)
   where
     get_some : {A : Type 0} (xs : List A) (i : ℕ) → i < length xs → slice_get xs i ≡ None → ⊥

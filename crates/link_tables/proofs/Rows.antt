@@ -1,5 +1,6 @@
 -- One more at the end of a list of rows.
-use Rattle.std.proofs.Common.{Bool, true, false, ◌≡◌, ◌≤◌, ℕ, ◌+◌, List, [], ◌∷◌, ◌++◌, map, filter, length, refl, sym, ap, ◌∙◌, arith, ◌&&◌, not, cond, length-append}
+use Rattle.std.proofs.Common.{Bool, true, false, ◌≡◌, ◌≤◌, ℕ, ◌+◌, List, [], ◌∷◌, ◌++◌, map, filter, length, refl, sym, ap, ◌∙◌, arith, ◌&&◌, not, cond}
+use Rattle.std.proofs.Common.{length-append}
 use Rattle.std.specs.List.{flat_map}
 use Rattle.tx_code.specs.Objects.{GlobalView, ObjectView}
 use Rattle.tx_code.specs.WellFormed.{same}
@@ -7,7 +8,8 @@ use Rattle.tx_code.specs.Linked.{end_of, rounded, is_defined_global, is_string}
 use Rattle.link_faults.specs.Ranks.{names_of}
 use Rattle.link_tables.specs.declared.symbols.Symbol.{Symbol}
 use Rattle.link_tables.specs.Homes.{HomeView, homes}
-use Rattle.link_tables.specs.Found.{FuncRow, ClassRow, GlobalRow, kept_with_row, kept_rows, kept_with_class, kept_class_rows, numbered, placed, global_of_row, row_of_global, globals_in}
+use Rattle.link_tables.specs.Found.{FuncRow, ClassRow, GlobalRow, kept_with_row, kept_rows, kept_with_class, kept_class_rows, numbered, placed, global_of_row}
+use Rattle.link_tables.specs.Found.{row_of_global, globals_in}
 
 pub kept_snoc : (kept rs : List FuncRow) (r : FuncRow) → kept_rows kept (rs ++ r ∷ []) ≡ kept_with_row (kept_rows kept rs) r
 kept_snoc kept [] r = refl
@@ -21,13 +23,16 @@ pub numbered_snoc : (n : ℕ) (ss : List Symbol) (s : Symbol) → numbered n (ss
 numbered_snoc n [] s = let e : n ≡ n + 0 = omega arith in ap (λ (k : ℕ). record { symbol = s; number = k } ∷ []) e
 numbered_snoc n (x ∷ xs) s =
     let e : n + 1 + length xs ≡ n + length (x ∷ xs) = omega arith in
-    ap (λ ds. record { symbol = x; number = n } ∷ ds) (numbered_snoc (n + 1) xs s ∙ ap (λ (k : ℕ). numbered (n + 1) xs ++ record { symbol = s; number = k } ∷ []) e)
+    ap (λ ds. record { symbol = x; number = n } ∷ ds)
+    (numbered_snoc (n + 1) xs s ∙ ap (λ (k : ℕ). numbered (n + 1) xs ++ record { symbol = s; number = k } ∷ []) e)
 
-pub placed_snoc : (start : ℕ) (rs : List GlobalRow) (r : GlobalRow) → placed start (rs ++ r ∷ []) ≡ placed start rs ++ record { symbol = r.symbol; number = end_of start (map global_of_row rs) } ∷ []
+pub placed_snoc : (start : ℕ) (rs : List GlobalRow) (r : GlobalRow)
+    → placed start (rs ++ r ∷ []) ≡ placed start rs ++ record { symbol = r.symbol; number = end_of start (map global_of_row rs) } ∷ []
 placed_snoc start [] r = refl
 placed_snoc start (x ∷ xs) r = ap (λ ds. record { symbol = x.symbol; number = start } ∷ ds) (placed_snoc (start + rounded x.global.size) xs r)
 
-pub end_snoc : (start : ℕ) (rs : List GlobalRow) (r : GlobalRow) → end_of start (map global_of_row (rs ++ r ∷ [])) ≡ end_of start (map global_of_row rs) + rounded r.global.size
+pub end_snoc : (start : ℕ) (rs : List GlobalRow) (r : GlobalRow)
+    → end_of start (map global_of_row (rs ++ r ∷ [])) ≡ end_of start (map global_of_row rs) + rounded r.global.size
 end_snoc start [] r = refl
 end_snoc start (x ∷ xs) r = end_snoc (start + rounded x.global.size) xs r
 
@@ -35,11 +40,13 @@ pub end_above : (start : ℕ) (rs : List GlobalRow) → start ≤ end_of start (
 end_above start [] = omega arith
 end_above start (x ∷ xs) = let e = end_above (start + rounded x.global.size) xs in omega (arith, e)
 
-pub end_append : (start : ℕ) (rs ss : List GlobalRow) → end_of start (map global_of_row (rs ++ ss)) ≡ end_of (end_of start (map global_of_row rs)) (map global_of_row ss)
+pub end_append : (start : ℕ) (rs ss : List GlobalRow)
+    → end_of start (map global_of_row (rs ++ ss)) ≡ end_of (end_of start (map global_of_row rs)) (map global_of_row ss)
 end_append start [] ss = refl
 end_append start (x ∷ xs) ss = end_append (start + rounded x.global.size) xs ss
 
-pub homes_snoc : (at start : ℕ) (os : List ObjectView) (o : ObjectView) → homes at start (os ++ o ∷ []) ≡ homes at start os ++ record { at = at + length os; start = start + length (flat_map names_of os); object = o } ∷ []
+pub homes_snoc : (at start : ℕ) (os : List ObjectView) (o : ObjectView)
+    → homes at start (os ++ o ∷ []) ≡ homes at start os ++ record { at = at + length os; start = start + length (flat_map names_of os); object = o } ∷ []
 homes_snoc at start [] o =
     let a : at ≡ at + 0 = omega arith in
     let b : start ≡ start + 0 = omega arith in
@@ -47,29 +54,35 @@ homes_snoc at start [] o =
 homes_snoc at start (x ∷ xs) o =
     let a : at + 1 + length xs ≡ at + length (x ∷ xs) = omega arith in
     let l : length (flat_map names_of (x ∷ xs)) ≡ length (x.names ++ flat_map names_of xs) = refl in
-    let b : start + length x.names + length (flat_map names_of xs) ≡ start + length (flat_map names_of (x ∷ xs)) = omega (arith, l, length-append x.names (flat_map names_of xs)) in
+    let b : start + length x.names + length (flat_map names_of xs) ≡ start + length (flat_map names_of (x ∷ xs)) =
+    omega (arith, l, length-append x.names (flat_map names_of xs)) in
     ap (λ hs. record { at = at; start = start; object = x } ∷ hs)
     (homes_snoc (at + 1) (start + length x.names) xs o
-    ∙ ap (λ (k : ℕ). homes (at + 1) (start + length x.names) xs ++ record { at = k; start = start + length x.names + length (flat_map names_of xs); object = o } ∷ []) a
+    ∙ ap (λ (k : ℕ). homes (at + 1) (start + length x.names) xs ++ record { at = k; start = start + length x.names + length (flat_map names_of xs); object = o }
+    ∷ []) a
     ∙ ap (λ (k : ℕ). homes (at + 1) (start + length x.names) xs ++ record { at = at + length (x ∷ xs); start = k; object = o } ∷ []) b)
 
 -- globals of string literals and the others
-pub others : (o : ObjectView) (gs : List GlobalView) → filter (λ g. is_defined_global g && same false (is_string o g)) gs ≡ filter (λ g. not (is_string o g)) (filter is_defined_global gs)
+pub others : (o : ObjectView) (gs : List GlobalView) → filter (λ g. is_defined_global g && same false (is_string o g)) gs
+    ≡ filter (λ g. not (is_string o g)) (filter is_defined_global gs)
 others o [] = refl
 others o (g ∷ gs) = by (is_defined_global g) (others o gs)
   where
     by : (b : Bool) → filter (λ g. is_defined_global g && same false (is_string o g)) gs ≡ filter (λ g. not (is_string o g)) (filter is_defined_global gs)
-        → cond (b && same false (is_string o g)) (g ∷ filter (λ g. is_defined_global g && same false (is_string o g)) gs) (filter (λ g. is_defined_global g && same false (is_string o g)) gs)
+        → cond (b && same false (is_string o g)) (g ∷ filter (λ g. is_defined_global g && same false (is_string o g)) gs)
+        (filter (λ g. is_defined_global g && same false (is_string o g)) gs)
         ≡ filter (λ g. not (is_string o g)) (cond b (g ∷ filter is_defined_global gs) (filter is_defined_global gs))
     by true e = ap (λ hs. cond (not (is_string o g)) (g ∷ hs) hs) e
     by false e = e
 
-pub literals : (o : ObjectView) (gs : List GlobalView) → filter (λ g. is_defined_global g && same true (is_string o g)) gs ≡ filter (is_string o) (filter is_defined_global gs)
+pub literals : (o : ObjectView) (gs : List GlobalView)
+    → filter (λ g. is_defined_global g && same true (is_string o g)) gs ≡ filter (is_string o) (filter is_defined_global gs)
 literals o [] = refl
 literals o (g ∷ gs) = by (is_defined_global g) (literals o gs)
   where
     by : (b : Bool) → filter (λ g. is_defined_global g && same true (is_string o g)) gs ≡ filter (is_string o) (filter is_defined_global gs)
-        → cond (b && same true (is_string o g)) (g ∷ filter (λ g. is_defined_global g && same true (is_string o g)) gs) (filter (λ g. is_defined_global g && same true (is_string o g)) gs)
+        → cond (b && same true (is_string o g)) (g ∷ filter (λ g. is_defined_global g && same true (is_string o g)) gs)
+        (filter (λ g. is_defined_global g && same true (is_string o g)) gs)
         ≡ filter (is_string o) (cond b (g ∷ filter is_defined_global gs) (filter is_defined_global gs))
     by true e = ap (λ hs. cond (is_string o g) (g ∷ hs) hs) e
     by false e = e
@@ -92,4 +105,6 @@ both_parts all h old mid new e f =
     let b = literals h.object h.object.globals in
     let e' = rw a at e in
     let f' = rw (b, e') at f in
-    f' ∙ append_assoc old _ _ ∙ ap (λ zs. old ++ zs) (sym (map_append (row_of_global all h) (filter (λ g. not (is_string h.object g)) (filter is_defined_global h.object.globals)) (filter (is_string h.object) (filter is_defined_global h.object.globals))))
+    f' ∙ append_assoc old _ _ ∙ ap (λ zs. old ++ zs) (sym
+    (map_append (row_of_global all h) (filter (λ g. not (is_string h.object g)) (filter is_defined_global h.object.globals))
+    (filter (is_string h.object) (filter is_defined_global h.object.globals))))

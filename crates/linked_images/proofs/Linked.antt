@@ -20,7 +20,8 @@ use Rattle.linked_images.specs.LinkedImages.{Agree, IsLinkedWhereChecked}
 
 main_is : (i : ImageView) (g : Given) → agrees i g ≡ true → i.main ≡ (linked_of g).main
 main_is i g h =
-    let a = and_parts (counts_agree i g) (same_funcs (linked_of g) 0 i.funcs && (units_agree i g (typed g).units && (threads_agree i g && main_agrees i g))) h in
+    let a = and_parts (counts_agree i g) (same_funcs (linked_of g) 0 i.funcs &&
+    (units_agree i g (typed g).units && (threads_agree i g && main_agrees i g))) h in
     let b = and_parts (same_funcs (linked_of g) 0 i.funcs) (units_agree i g (typed g).units && (threads_agree i g && main_agrees i g)) a.1 in
     let c = and_parts (units_agree i g (typed g).units) (threads_agree i g && main_agrees i g) b.1 in
     let d = and_parts (threads_agree i g) (main_agrees i g) c.1 in
@@ -48,7 +49,8 @@ linked_where_checked g i h can b notes typs checked =
         small = small_where_agreed i g h.tables can;
         main_is = main_is i g h.tables;
         main = can_begin (linked_of g) (names_of i) b (linked_book i g notes typs) l.links 0 (linked_of g).main [] l.main;
-        started = λ address n found. can_begin (linked_of g) (names_of i) b (linked_book i g notes typs) l.links 1 n (0 ∷ []) (l.threads 1 address n 0 refl found);
+        started = λ address n found. can_begin (linked_of g) (names_of i) b (linked_book i g notes typs) l.links 1 n (0 ∷ [])
+            (l.threads 1 address n 0 refl found);
       };
       globals = same_cells (typed g) (linked_of g) i h.globals.size h.globals.cells;
     }

@@ -27,7 +27,8 @@ module _ (g : Given) (i : ImageView) (b : Bounds) (all : AllNoted g i b) where
   typs_of n safe = typs_there n safe ((names_of i).body n safe) refl
 
   checked_there : (n : ℕ) (safe : Bool) (o : Option BodyView) (e : (names_of i).body n safe ≡ o) (body : BodyView) → o ≡ Some body
-      → Checked (linked_of g) b (linked_book i g notes_of typs_of) ((linked_book i g (λ m s. notes_there n safe o e) (λ m s. typs_there n safe o e)).held n safe)
+      → Checked (linked_of g) b (linked_book i g notes_of typs_of)
+      ((linked_book i g (λ m s. notes_there n safe o e) (λ m s. typs_there n safe o e)).held n safe)
   unfolding notes_there typs_there
   checked_there n safe None e body is = absurd cc
   checked_there n safe (Some there) e body is = (all n safe there e).checked notes_of typs_of

@@ -23,13 +23,15 @@ pub record Agree (g : Given) (i : ImageView) : Type 0 where
 
 -- The image is linked from the program, whatever notes its bodies are checked with.
 abbrev pub IsLinkedWhereChecked : Given → ImageView → Type 0
-IsLinkedWhereChecked g i = (b : Bounds) (notes : ℕ → Bool → List Note) (typs : ℕ → Bool → List Typ) → AllChecked i (linked_of g) b (linked_book i g notes typs) → IsLinkedFrom g i b (linked_book i g notes typs)
+IsLinkedWhereChecked g i = (b : Bounds) (notes : ℕ → Bool → List Note) (typs : ℕ → Bool → List Typ) → AllChecked i (linked_of g) b (linked_book i g notes typs)
+    → IsLinkedFrom g i b (linked_book i g notes typs)
 
 -- There are notes with which a body is checked, whatever the notes of the other bodies are.
 pub record IsNoted (g : Given) (i : ImageView) (b : Bounds) (n : ℕ) (safe : Bool) : Type 0 where
   pub notes : List Note
   pub typs : List Typ
-  pub checked : (all : ℕ → Bool → List Note) (types : ℕ → Bool → List Typ) → Checked (linked_of g) b (linked_book i g all types) ((linked_book i g (λ m s. notes) (λ m s. typs)).held n safe)
+  pub checked : (all : ℕ → Bool → List Note) (types : ℕ → Bool → List Typ)
+      → Checked (linked_of g) b (linked_book i g all types) ((linked_book i g (λ m s. notes) (λ m s. typs)).held n safe)
 
 -- So it is of each body that is there.
 abbrev pub AllNoted : Given → ImageView → Bounds → Type 0

@@ -83,7 +83,8 @@ module _ {S T : Type 0} (a : Thread S) (b : Thread T) (most longest : ℕ) (Rela
   })
 
   -- both are silent
-  strode : (n q : ℕ) {s : S} {u t : T} → ((k : ℕ) → k < n → Holds k) → Path b q u t → q ≤ most → Striding a b most longest Related s t → Sim terms n longest most s u
+  strode : (n q : ℕ) {s : S} {u t : T} → ((k : ℕ) → k < n → Holds k) → Path b q u t → q ≤ most → Striding a b most longest Related s t
+      → Sim terms n longest most s u
   unfolding terms
   strode zero q below w few m = tt
   strode (suc n) q {s} {u} {t} below w few m =
@@ -103,20 +104,23 @@ module _ {S T : Type 0} (a : Thread S) (b : Thread T) (most longest : ℕ) (Rela
       twice k l = omega (arith, l)
 
   -- behind so many silent steps of the second
-  walk : (fuel n q rank : ℕ) {s : S} {u t : T} → ((k : ℕ) → k < n → Holds k) → Path b q u t → rank ≤ fuel → q + rank ≤ most → Related rank s t → Sim terms n longest most s u
+  walk : (fuel n q rank : ℕ) {s : S} {u t : T} → ((k : ℕ) → k < n → Holds k) → Path b q u t → rank ≤ fuel → q + rank ≤ most → Related rank s t
+      → Sim terms n longest most s u
   walk zero n q rank {s} {u} {t} below w low few h =
       elim (move rank s t (omega (arith, few)) h) [
         | meets m ↦ met n longest q below w (omega (arith, few)) m
         | strides m ↦ strode n q below w (omega (arith, few)) m
         | waits m ↦ absurd (omega (arith, low, m.falls))
-        | leads {n = k} short p m ↦ along n longest (longest - k) p (omega (arith, short)) (λ j l. met j (longest - k) q (λ i x. below i (omega (arith, x, l))) w (omega (arith, few)) m)
+        | leads {n = k} short p m ↦ along n longest (longest - k) p (omega (arith, short))
+            (λ j l. met j (longest - k) q (λ i x. below i (omega (arith, x, l))) w (omega (arith, few)) m)
       ]
   walk (suc fuel) n q rank {s} {u} {t} below w low few h =
       elim (move rank s t (omega (arith, few)) h) [
         | meets m ↦ met n longest q below w (omega (arith, few)) m
         | strides m ↦ strode n q below w (omega (arith, few)) m
         | waits m ↦ walk fuel n (q + 1) m.lower below (further w m.silent) (omega (arith, low, m.falls)) (omega (arith, few, m.falls)) m.goes
-        | leads {n = k} short p m ↦ along n longest (longest - k) p (omega (arith, short)) (λ j l. met j (longest - k) q (λ i x. below i (omega (arith, x, l))) w (omega (arith, few)) m)
+        | leads {n = k} short p m ↦ along n longest (longest - k) p (omega (arith, short))
+            (λ j l. met j (longest - k) q (λ i x. below i (omega (arith, x, l))) w (omega (arith, few)) m)
       ]
 
   holds : (n : ℕ) (k : ℕ) → k < n → Holds k

@@ -1,5 +1,6 @@
 -- The test of all functions says what the marks are.
-use Rattle.std.proofs.Common.{◌≡◌, ◌∙◌, ◌<◌, ℕ, zero, suc, ◌+◌, nat_le, Bool, true, false, not, ◌&&◌, ◌||◌, IsTrue, IfOk, ◌↔◌, List, [], ◌∷◌, Option, Some, None, Result, Ok, Err, slice_get, get_or, length, map, take, ap, sym, arith, refl}
+use Rattle.std.proofs.Common.{◌≡◌, ◌∙◌, ◌<◌, ℕ, zero, suc, ◌+◌, nat_le, Bool, true, false, not, ◌&&◌, ◌||◌, IsTrue, IfOk, ◌↔◌, List, [], ◌∷◌, Option, Some}
+use Rattle.std.proofs.Common.{None, Result, Ok, Err, slice_get, get_or, length, map, take, ap, sym, arith, refl}
 use Rattle.std.specs.declared.alloc.AllocError.{AllocError}
 use Rattle.std.specs.Prelude.{option_and_then}
 use Rattle.std.specs.List.{list_all}
@@ -23,7 +24,8 @@ use Rattle.mark_check.specs.Functions.{is_body_unmarked, is_func_unmarked, are_f
 
 -- Words
 
-pub words_are : (f : TFunc) (b : Bool) (frame words : List Ty) → frame ≡ f.frame.items → words ≡ take f.words frame → b ≡ list_all (λ (t : Typ). not (is_marked t)) (map typ_of words)
+pub words_are : (f : TFunc) (b : Bool) (frame words : List Ty) → frame ≡ f.frame.items → words ≡ take f.words frame
+    → b ≡ list_all (λ (t : Typ). not (is_marked t)) (map typ_of words)
     → b ≡ list_all (λ (t : Typ). not (is_marked t)) (take f.words (map typ_of f.frame.items))
 words_are f b frame words e w h = h ∙ ap (λ z. list_all (λ (t : Typ). not (is_marked t)) (map typ_of z)) (w ∙ ap (take f.words) e)
     ∙ sym (ap (list_all (λ (t : Typ). not (is_marked t))) (take-map typ_of f.words f.frame.items))
@@ -44,7 +46,8 @@ body_shown safe (Some body) h = h body refl
 
 -- All functions
 
-each_func : (safe : ℕ → Bool) (fs : List Func) (from i : ℕ) (f : Func) → are_funcs_unmarked safe from fs ≡ true → slice_get fs i ≡ Some f → is_func_unmarked (safe (from + i)) f ≡ true
+each_func : (safe : ℕ → Bool) (fs : List Func) (from i : ℕ) (f : Func) → are_funcs_unmarked safe from fs ≡ true → slice_get fs i ≡ Some f
+    → is_func_unmarked (safe (from + i)) f ≡ true
 each_func safe [] from i f h e = absurd cc
 each_func safe (g ∷ fs) from zero f h e =
     let p = and_parts (is_func_unmarked (safe from) g) (are_funcs_unmarked safe (from + 1) fs) h in
@@ -56,7 +59,8 @@ each_func safe (g ∷ fs) from (suc i) f h e =
     let there : from + suc i ≡ from + 1 + i = omega arith in
     ap (λ (z : ℕ). is_func_unmarked (safe z) f) there ∙ each_func safe fs (from + 1) i f p.1 e
 
-each_unit : (safe : ℕ → ℕ → Bool) (us : List TypedUnit) (from i : ℕ) (u : TypedUnit) → are_units_unmarked safe from us ≡ true → slice_get us i ≡ Some u → are_funcs_unmarked (safe (from + i)) 0 u.funcs ≡ true
+each_unit : (safe : ℕ → ℕ → Bool) (us : List TypedUnit) (from i : ℕ) (u : TypedUnit) → are_units_unmarked safe from us ≡ true → slice_get us i ≡ Some u
+    → are_funcs_unmarked (safe (from + i)) 0 u.funcs ≡ true
 each_unit safe [] from i u h e = absurd cc
 each_unit safe (v ∷ us) from zero u h e =
     let p = and_parts (are_funcs_unmarked (safe from) 0 v.funcs) (are_units_unmarked safe (from + 1) us) h in
@@ -68,21 +72,25 @@ each_unit safe (v ∷ us) from (suc i) u h e =
     let there : from + suc i ≡ from + 1 + i = omega arith in
     ap (λ (z : ℕ). are_funcs_unmarked (safe z) 0 u.funcs) there ∙ each_unit safe us (from + 1) i u p.1 e
 
-all_funcs : (safe : ℕ → Bool) (fs : List Func) (from : ℕ) → ((i : ℕ) (f : Func) → slice_get fs i ≡ Some f → is_func_unmarked (safe (from + i)) f ≡ true) → are_funcs_unmarked safe from fs ≡ true
+all_funcs : (safe : ℕ → Bool) (fs : List Func) (from : ℕ) → ((i : ℕ) (f : Func) → slice_get fs i ≡ Some f → is_func_unmarked (safe (from + i)) f ≡ true)
+    → are_funcs_unmarked safe from fs ≡ true
 all_funcs safe [] from each = refl
 all_funcs safe (f ∷ fs) from each =
     let here : from + 0 ≡ from = omega arith in
     and_from (is_func_unmarked (safe from) f) (are_funcs_unmarked safe (from + 1) fs)
     (ap (λ (z : ℕ). is_func_unmarked (safe z) f) (sym here) ∙ each 0 f refl)
-    (all_funcs safe fs (from + 1) (λ i g e. let there : from + 1 + i ≡ from + suc i = omega arith in ap (λ (z : ℕ). is_func_unmarked (safe z) g) there ∙ each (suc i) g e))
+    (all_funcs safe fs (from + 1) (λ i g e. let there : from + 1 + i ≡ from + suc i = omega arith in ap (λ (z : ℕ). is_func_unmarked (safe z) g) there ∙ each
+    (suc i) g e))
 
-all_units : (safe : ℕ → ℕ → Bool) (us : List TypedUnit) (from : ℕ) → ((i : ℕ) (u : TypedUnit) → slice_get us i ≡ Some u → are_funcs_unmarked (safe (from + i)) 0 u.funcs ≡ true) → are_units_unmarked safe from us ≡ true
+all_units : (safe : ℕ → ℕ → Bool) (us : List TypedUnit) (from : ℕ)
+    → ((i : ℕ) (u : TypedUnit) → slice_get us i ≡ Some u → are_funcs_unmarked (safe (from + i)) 0 u.funcs ≡ true) → are_units_unmarked safe from us ≡ true
 all_units safe [] from each = refl
 all_units safe (u ∷ us) from each =
     let here : from + 0 ≡ from = omega arith in
     and_from (are_funcs_unmarked (safe from) 0 u.funcs) (are_units_unmarked safe (from + 1) us)
     (ap (λ (z : ℕ). are_funcs_unmarked (safe z) 0 u.funcs) (sym here) ∙ each 0 u refl)
-    (all_units safe us (from + 1) (λ i v e. let there : from + 1 + i ≡ from + suc i = omega arith in ap (λ (z : ℕ). are_funcs_unmarked (safe z) 0 v.funcs) there ∙ each (suc i) v e))
+    (all_units safe us (from + 1) (λ i v e. let there : from + 1 + i ≡ from + suc i = omega arith in ap (λ (z : ℕ). are_funcs_unmarked (safe z) 0 v.funcs) there
+    ∙ each (suc i) v e))
 
 -- The program
 
@@ -92,10 +100,12 @@ tested_unit t h unit n f None g e = absurd cc
 tested_unit t h unit n f (Some u) g e =
     let there : 0 + unit ≡ unit = omega arith in
     let here : 0 + n ≡ n = omega arith in
-    let all : are_funcs_unmarked (is_safe t unit) 0 u.funcs ≡ true = ap (λ (z : ℕ). are_funcs_unmarked (is_safe t z) 0 u.funcs) (sym there) ∙ each_unit (is_safe t) t.units 0 unit u h g in
+    let all : are_funcs_unmarked (is_safe t unit) 0 u.funcs ≡ true = ap (λ (z : ℕ). are_funcs_unmarked (is_safe t z) 0 u.funcs) (sym there)
+    ∙ each_unit (is_safe t) t.units 0 unit u h g in
     ap (λ (z : ℕ). is_func_unmarked (is_safe t unit z) f) (sym here) ∙ each_func (is_safe t unit) u.funcs 0 n f all e
 
-tested : (t : TypedProgram) → are_units_unmarked (is_safe t) 0 t.units ≡ true → (unit n : ℕ) (f : Func) → func_at t unit n ≡ Some f → is_func_unmarked (is_safe t unit n) f ≡ true
+tested : (t : TypedProgram) → are_units_unmarked (is_safe t) 0 t.units ≡ true → (unit n : ℕ) (f : Func) → func_at t unit n ≡ Some f
+    → is_func_unmarked (is_safe t unit n) f ≡ true
 tested t h unit n f e = tested_unit t h unit n f (slice_get t.units unit) refl e
 
 -- what the test of a function has
@@ -103,7 +113,8 @@ place_of : (safe : Bool) (f : Func) → is_func_unmarked safe f ≡ true → nat
 place_of safe f h = (and_parts (nat_le f.closed_at unit_end) ((not safe || has_unmarked_words f) && is_body_unmarked safe f.body) h).0
 
 inner_of : (safe : Bool) (f : Func) → is_func_unmarked safe f ≡ true → ((not safe || has_unmarked_words f) ≡ true) × (is_body_unmarked safe f.body ≡ true)
-inner_of safe f h = and_parts (not safe || has_unmarked_words f) (is_body_unmarked safe f.body) ((and_parts (nat_le f.closed_at unit_end) ((not safe || has_unmarked_words f) && is_body_unmarked safe f.body) h).1)
+inner_of safe f h = and_parts (not safe || has_unmarked_words f) (is_body_unmarked safe f.body)
+    ((and_parts (nat_le f.closed_at unit_end) ((not safe || has_unmarked_words f) && is_body_unmarked safe f.body) h).1)
 
 marks_of : (t : TypedProgram) → are_units_unmarked (is_safe t) 0 t.units ≡ true → IsUnmarked t
 marks_of t h = record {
@@ -116,26 +127,30 @@ func_shown : (t : TypedProgram) → IsUnmarked t → (unit n : ℕ) (f : Func) �
 func_shown t u unit n f e =
     let safe = is_safe t unit n in
     and_from (nat_le f.closed_at unit_end) ((not safe || has_unmarked_words f) && is_body_unmarked safe f.body) (u.places unit n f e)
-    (and_from (not safe || has_unmarked_words f) (is_body_unmarked safe f.body) (where_safe safe (has_unmarked_words f) (u.words unit n f e)) (body_shown safe f.body (λ body b. u.body unit n f body e b)))
+    (and_from (not safe || has_unmarked_words f) (is_body_unmarked safe f.body) (where_safe safe (has_unmarked_words f) (u.words unit n f e))
+    (body_shown safe f.body (λ body b. u.body unit n f body e b)))
 
 shown_unit : (t : TypedProgram) → IsUnmarked t → (i : ℕ) (x : TypedUnit) → slice_get t.units i ≡ Some x → are_funcs_unmarked (is_safe t i) 0 x.funcs ≡ true
 shown_unit t u i x g = all_funcs (is_safe t i) x.funcs 0 (λ n f e. let here : 0 + n ≡ n = omega arith in ap (λ (z : ℕ). is_func_unmarked (is_safe t i z) f) here
     ∙ func_shown t u i n f (ap (option_and_then (λ (y : TypedUnit). slice_get y.funcs n)) g ∙ e))
 
 shown : (t : TypedProgram) → IsUnmarked t → are_units_unmarked (is_safe t) 0 t.units ≡ true
-shown t u = all_units (is_safe t) t.units 0 (λ i x g. let there : 0 + i ≡ i = omega arith in ap (λ (z : ℕ). are_funcs_unmarked (is_safe t z) 0 x.funcs) there ∙ shown_unit t u i x g)
+shown t u = all_units (is_safe t) t.units 0 (λ i x g. let there : 0 + i ≡ i = omega arith in ap (λ (z : ℕ). are_funcs_unmarked (is_safe t z) 0 x.funcs) there
+    ∙ shown_unit t u i x g)
 
 pub units_are : (t : TypedProgram) (b : Bool) → b ≡ are_units_unmarked (is_safe t) 0 t.units → IsTrue b ↔ IsUnmarked t
 units_are t b e = (λ h. marks_of t (sym e ∙ h), λ u. e ∙ shown t u)
 
-pub units_answer : (r : Result Bool AllocError) (p : Program) (us : List UnitTree) → us ≡ p.units.items → IfOk r (λ b. b ≡ are_units_unmarked (is_safe (program_of p)) 0 (map unit_of us))
+pub units_answer : (r : Result Bool AllocError) (p : Program) (us : List UnitTree) → us ≡ p.units.items
+    → IfOk r (λ b. b ≡ are_units_unmarked (is_safe (program_of p)) 0 (map unit_of us))
     → IfOk r (λ b. IsTrue b ↔ IsUnmarked (program_of p))
 units_answer (Ok b) p us e h = units_are (program_of p) b (h ∙ ap (λ z. are_units_unmarked (is_safe (program_of p)) 0 (map unit_of z)) e)
 units_answer (Err x) p us e h = h
 
 -- What a well-formed program has
 
-pub root_within : (p : Program) (u : UnitTree) (fs : List TFunc) (nodes : List TNode) (i : ℕ) (f : TFunc) → WellFormedUnit p u → fs ≡ u.funcs.items → nodes ≡ u.nodes.items → i < length fs → f ≡ get_or fs i f
+pub root_within : (p : Program) (u : UnitTree) (fs : List TFunc) (nodes : List TNode) (i : ℕ) (f : TFunc) → WellFormedUnit p u → fs ≡ u.funcs.items
+    → nodes ≡ u.nodes.items → i < length fs → f ≡ get_or fs i f
     → (root : TNodeId) → f.body ≡ Some root → root.0 < length nodes
 root_within p u fs nodes i f w e m l r root b =
     let there : slice_get u.funcs.items i ≡ Some f = sym (ap (λ z. slice_get z i) e) ∙ slice_get_read fs (length fs) i f refl l r in
@@ -143,5 +158,6 @@ root_within p u fs nodes i f w e m l r root b =
     let k : length nodes ≡ length u.nodes.items = ap length m in
     omega (arith, h, k)
 
-pub unit_formed : (p : Program) (us : List UnitTree) (i : ℕ) (u : UnitTree) → WellFormed p → us ≡ p.units.items → i < length us → u ≡ get_or us i u → WellFormedUnit p u
+pub unit_formed : (p : Program) (us : List UnitTree) (i : ℕ) (u : UnitTree) → WellFormed p → us ≡ p.units.items → i < length us → u ≡ get_or us i u
+    → WellFormedUnit p u
 unit_formed p us i u w e l r = w.units i u (sym (ap (λ z. slice_get z i) e) ∙ slice_get_read us (length us) i u refl l r)

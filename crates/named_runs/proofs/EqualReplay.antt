@@ -37,17 +37,20 @@ none_together [] = tt
 none_together (t ∷ ts) = tt
 
 -- the turns of a schedule are of its entries
-listed_together : {S : Type 0} (a : Thread S) (p : MemoryLayout) (whole : List ℕ) (slots : List Slot) (r : Progress S) → PickedBy (λ seen before. pick (Listed whole) seen.turn seen before) a p slots r → Together (drop r.turn whole) (picks slots)
+listed_together : {S : Type 0} (a : Thread S) (p : MemoryLayout) (whole : List ℕ) (slots : List Slot) (r : Progress S)
+    → PickedBy (λ seen before. pick (Listed whole) seen.turn seen before) a p slots r → Together (drop r.turn whole) (picks slots)
 listed_together a p whole [] r h = none_together (drop r.turn whole)
 listed_together a p whole (q ∷ qs) r (at, rest) =
-    subst (λ l. Together l (q.thread ∷ picks qs)) (sym (drop_get whole r.turn q.thread at ∙ ap (λ n. q.thread ∷ drop n whole) (one_more r.turn))) (refl, listed_together a p whole qs (advance a p q r) rest)
+    subst (λ l. Together l (q.thread ∷ picks qs)) (sym (drop_get whole r.turn q.thread at ∙ ap (λ n. q.thread ∷ drop n whole) (one_more r.turn)))
+    (refl, listed_together a p whole qs (advance a p q r) rest)
 
 -- a run is one of no more turns than it has
 own_stop : (bound taken : ℕ) (o : Option End) (e : End) → Stops bound taken o e → Stops taken taken o e
 own_stop bound taken (Some x) e s = s
 own_stop bound taken None e s = (refl, s.1)
 
-own_bound : {S : Type 0} (a : Thread S) (p : MemoryLayout) (bound : ℕ) (first : Machine S) (slots : List Slot) (r : Outcome S) → RunOf a p bound first slots r → RunOf a p (length slots) first slots r
+own_bound : {S : Type 0} (a : Thread S) (p : MemoryLayout) (bound : ℕ) (first : Machine S) (slots : List Slot) (r : Outcome S) → RunOf a p bound first slots r
+    → RunOf a p (length slots) first slots r
 own_bound a p bound first slots r h = record {
   within = omega arith;
   going = h.going;
@@ -65,7 +68,8 @@ few_turns bound (Round slot) = omega arith
 few_turns bound Clashing = omega arith
 few_turns bound (Listed schedule) = omega arith
 
-pub same_run : (image : ImageView) (picker : PickerName) (policy : PolicyName) (bound : ℕ) (input : List ℕ) (ran other : Ran Here) → IsNamedRun image picker policy bound input ran
+pub same_run : (image : ImageView) (picker : PickerName) (policy : PolicyName) (bound : ℕ) (input : List ℕ) (ran other : Ran Here)
+    → IsNamedRun image picker policy bound input ran
     → IsNamedRun image (Listed ran.picked.items) policy bound input other → IsSameRan other ran
 same_run image picker policy bound input ran other h g =
     let first = machine_at_main image input in
@@ -75,7 +79,9 @@ same_run image picker policy bound input ran other h g =
     let turns : turns_within bound (Listed ran.picked.items) ≡ length h.slots = omega (arith, many, few, within) in
     let theirs = subst (λ n. RunOf running (layout_of_image image) n first g.slots g.outcome) turns g.run in
     let tog : Together h.outcome.picked g.outcome.picked =
-    subst (Together h.outcome.picked) (sym g.run.picked) (subst (λ l. Together l (picks g.slots)) h.is.picked (listed_together running (layout_of_image image) ran.picked.items g.slots (not_begun first) g.picked)) in
+    subst (Together h.outcome.picked) (sym g.run.picked)
+    (subst (λ l. Together l (picks g.slots)) h.is.picked
+    (listed_together running (layout_of_image image) ran.picked.items g.slots (not_begun first) g.picked)) in
     let same : g.outcome ≡ h.outcome =
     again running (layout_of_image image) (length h.slots) first (answer policy) h.slots g.slots h.outcome g.outcome
     (own_bound running (layout_of_image image) (turns_within bound picker) first h.slots h.outcome h.run) h.answered theirs g.answered tog in

@@ -21,8 +21,10 @@ module _ (P Q : Clash → Choice → Type 0) (more : (c : Clash) (choice : Choic
   answered_more a p [] r h = h
   answered_more a p (q ∷ qs) r (h, hs) = (λ c asked. more c (q.answer c) (h c asked), answered_more a p qs (advance a p q r) hs)
 
-  runs_more : {S G V W : Type 0} (a : Thread S) (p : MemoryLayout) (step : G → Seen → ℕ → G → Type 0) (sight : Sight S V W) (bound : ℕ) (memory : ℕ → ℕ) (input : List ℕ) (main : S) (before after : G) (saw sees : W)
-      (result : Outcome S) → RunsTo a p P step sight bound memory input main before after saw sees result → RunsTo a p Q step sight bound memory input main before after saw sees result
+  runs_more : {S G V W : Type 0} (a : Thread S) (p : MemoryLayout) (step : G → Seen → ℕ → G → Type 0) (sight : Sight S V W) (bound : ℕ) (memory : ℕ → ℕ)
+      (input : List ℕ) (main : S) (before after : G) (saw sees : W)
+      (result : Outcome S) → RunsTo a p P step sight bound memory input main before after saw sees result
+      → RunsTo a p Q step sight bound memory input main before after saw sees result
   runs_more a p step sight bound memory input main before after saw sees result h = record {
     slots = h.slots;
     run = h.run;
@@ -45,7 +47,10 @@ module _ (P Q : Clash → Choice → Type 0) (more : (c : Clash) (choice : Choic
       record { outcome = h.outcome; runs = runs_more _ _ step _ bound _ input _ before after tt tt h.outcome h.runs; is = h.is }
 
 -- the same of what a call answers
-pub result_more : {G E : Type 0} {P Q : Clash → Choice → Type 0} (step : G → Seen → ℕ → G → Type 0) (image : ImageView) (bound : ℕ) (input : List ℕ) (before after : G) (r : Result (Ran Here) E)
-    → IfOk r (RunsImage image P step bound input before after) → ((c : Clash) (choice : Choice) → P c choice → Q c choice) → IfOk r (RunsImage image Q step bound input before after)
+pub result_more : {G E : Type 0} {P Q : Clash → Choice → Type 0} (step : G → Seen → ℕ → G → Type 0) (image : ImageView) (bound : ℕ) (input : List ℕ)
+    (before after : G) (r : Result (Ran Here) E)
+    → IfOk r (RunsImage image P step bound input before after) → ((c : Clash) (choice : Choice) → P c choice → Q c choice)
+    → IfOk r (RunsImage image Q step bound input before after)
 result_more {P = P} {Q = Q} step image bound input before after r done more =
-    IfOk-weaker r (RunsImage image P step bound input before after) (RunsImage image Q step bound input before after) (λ ran h. image_runs_more P Q more image step bound input before after ran h) done
+    IfOk-weaker r (RunsImage image P step bound input before after) (RunsImage image Q step bound input before after)
+    (λ ran h. image_runs_more P Q more image step bound input before after ran h) done

@@ -1,5 +1,6 @@
 -- Classes by their names.
-use Rattle.std.proofs.Common.{◌≡◌, ℕ, zero, suc, ◌+◌, ◌<◌, ◌≤◌, nat_eq, nat_lt, arith, Bool, true, false, List, [], ◌∷◌, length, map, get_or, Option, Some, None, refl, sym, ap, subst, ◌∙◌, inl, inr}
+use Rattle.std.proofs.Common.{◌≡◌, ℕ, zero, suc, ◌+◌, ◌<◌, ◌≤◌, nat_eq, nat_lt, arith, Bool, true, false, List, [], ◌∷◌, length, map, get_or, Option, Some}
+use Rattle.std.proofs.Common.{None, refl, sym, ap, subst, ◌∙◌, inl, inr}
 use Rattle.std.specs.List.{slice_get}
 use Rattle.std.specs.Option.{option_map}
 use Rattle.std.proofs.lemmas.Bool.{and_parts, ltb-true, eq-eqb, ne_eqb, cases_lt}
@@ -27,7 +28,8 @@ ascend_rest : (a : ClassView) (cs : List ClassView) → ascends_from by_name a c
 ascend_rest a [] h = refl
 ascend_rest a (c ∷ cs) h = (and_parts (by_name a c) (ascends_from by_name c cs) h).1
 
-pub sorted : (cs : List ClassView) (i j : ℕ) (a b : ClassView) → ascends by_name cs ≡ true → i < j → slice_get cs i ≡ Some a → slice_get cs j ≡ Some b → a.name < b.name
+pub sorted : (cs : List ClassView) (i j : ℕ) (a b : ClassView) → ascends by_name cs ≡ true → i < j → slice_get cs i ≡ Some a → slice_get cs j ≡ Some b
+    → a.name < b.name
 sorted [] i j a b h lt e f = absurd cc
 sorted (c ∷ cs) i zero a b h lt e f = absurd (omega arith)
 sorted (c ∷ cs) zero (suc j) a b h lt e f =
@@ -35,7 +37,8 @@ sorted (c ∷ cs) zero (suc j) a b h lt e f =
     subst (λ (z : ClassView). z.name < b.name) same (class_above c cs j b h f)
 sorted (c ∷ cs) (suc i) (suc j) a b h lt e f = sorted cs i j a b (ascend_rest c cs h) (omega arith) e f
 
-pub named_at : (cs : List ClassView) (i : ℕ) (c : ClassView) (name : ℕ) → ascends by_name cs ≡ true → slice_get cs i ≡ Some c → c.name ≡ name → class_named cs name ≡ Some c
+pub named_at : (cs : List ClassView) (i : ℕ) (c : ClassView) (name : ℕ) → ascends by_name cs ≡ true → slice_get cs i ≡ Some c → c.name ≡ name
+    → class_named cs name ≡ Some c
 named_at [] i c name h e n = absurd cc
 named_at (d ∷ cs) zero c name h e n =
     let same : d ≡ c = cc in
@@ -63,7 +66,13 @@ bounds_all cs name high e = record {
 }
 
 pub found_there : (cs : List ClassView) (name i : ℕ) → ascends by_name cs ≡ true → HasName cs i name → IsIndex cs name i
-found_there cs name i h n = record { class = n.class; at = n.at; named = named_at cs i n.class name h n.at n.name_is; within = slice_get_within cs i n.class n.at }
+found_there cs name i h n = record {
+  class = n.class;
+  at = n.at;
+  named = named_at cs i n.class name h n.at n.name_is;
+  within =
+      slice_get_within cs i n.class n.at;
+}
 
 some_is : (c d : ClassView) → Path (Option ClassView) (Some c) (Some d) → c ≡ d
 some_is c d e = cc
@@ -71,7 +80,8 @@ some_is c d e = cc
 pub same_class : (cs : List ClassView) (i : ℕ) (c d : ClassView) → slice_get cs i ≡ Some c → slice_get cs i ≡ Some d → c ≡ d
 same_class cs i c d e f = some_is c d (sym e ∙ f)
 
-below_middle : (cs : List ClassView) (name middle found : ℕ) → ascends by_name cs ≡ true → HasName cs middle found → found < name → (k : ℕ) (c : ClassView) → k ≤ middle → slice_get cs k ≡ Some c → c.name < name
+below_middle : (cs : List ClassView) (name middle found : ℕ) → ascends by_name cs ≡ true → HasName cs middle found → found < name → (k : ℕ) (c : ClassView)
+    → k ≤ middle → slice_get cs k ≡ Some c → c.name < name
 below_middle cs name middle found h n less k c le f =
     elim (cases_lt k middle) [
       | inl lt ↦ omega (arith, sorted cs k middle c n.class h lt f n.at, n.name_is)
@@ -82,7 +92,8 @@ below_middle cs name middle found h n less k c le f =
           omega arith
     ]
 
-above_middle : (cs : List ClassView) (name middle found : ℕ) → ascends by_name cs ≡ true → HasName cs middle found → name < found → (k : ℕ) (c : ClassView) → middle ≤ k → slice_get cs k ≡ Some c → name < c.name
+above_middle : (cs : List ClassView) (name middle found : ℕ) → ascends by_name cs ≡ true → HasName cs middle found → name < found → (k : ℕ) (c : ClassView)
+    → middle ≤ k → slice_get cs k ≡ Some c → name < c.name
 above_middle cs name middle found h n more k c ge f =
     elim (cases_lt middle k) [
       | inl lt ↦ omega (arith, sorted cs middle k n.class c h lt n.at f, n.name_is)
@@ -93,7 +104,8 @@ above_middle cs name middle found h n more k c ge f =
           omega arith
     ]
 
-pub bounds_up : (cs : List ClassView) (name low high middle found : ℕ) → ascends by_name cs ≡ true → AreBounds cs name low high → middle < high → HasName cs middle found → found < name → AreBounds cs name (middle + 1) high
+pub bounds_up : (cs : List ClassView) (name low high middle found : ℕ) → ascends by_name cs ≡ true → AreBounds cs name low high → middle < high
+    → HasName cs middle found → found < name → AreBounds cs name (middle + 1) high
 bounds_up cs name low high middle found h b lt n less = record {
   ordered = omega arith;
   within = b.within;
@@ -101,7 +113,8 @@ bounds_up cs name low high middle found h b lt n less = record {
   above = b.above;
 }
 
-pub bounds_down : (cs : List ClassView) (name low high middle found : ℕ) → ascends by_name cs ≡ true → AreBounds cs name low high → low ≤ middle → middle < high → HasName cs middle found → name < found → AreBounds cs name low middle
+pub bounds_down : (cs : List ClassView) (name low high middle found : ℕ) → ascends by_name cs ≡ true → AreBounds cs name low high → low ≤ middle → middle < high
+    → HasName cs middle found → name < found → AreBounds cs name low middle
 bounds_down cs name low high middle found h b le lt n more = record {
   ordered = le;
   within = omega (arith, b.within);

@@ -1,5 +1,6 @@
 -- After how many steps chains of bases end.
-use Rattle.std.proofs.Common.{◌≡◌, ℕ, zero, suc, ◌+◌, ◌-◌, ◌<◌, ◌≤◌, arith, true, false, List, length, set, Option, Some, None, refl, sym, ap, subst, ◌∙◌, inl, inr}
+use Rattle.std.proofs.Common.{◌≡◌, ℕ, zero, suc, ◌+◌, ◌-◌, ◌<◌, ◌≤◌, arith, true, false, List, length, set, Option, Some, None, refl, sym, ap, subst, ◌∙◌, inl}
+use Rattle.std.proofs.Common.{inr}
 use Rattle.std.specs.List.{slice_get}
 use Rattle.std.proofs.lemmas.Bool.{cases_lt, cases_eq}
 use Rattle.std.proofs.lemmas.List.{length-set, get_or-set_same, get_or-set_other}
@@ -53,7 +54,8 @@ still cs base k at m w ne lt =
           behind cs base k at m w ge ∙ ap (λ (z : ℕ). goes_on cs z at) none ∙ starts cs at ne
     ]
 
-pub walk_more : (cs : List ClassView) (base k at i next : ℕ) → Walks cs base k at → (at ≡ 0 → ⊥) → IsIndex cs (at - 1) i → HasBase cs i next → Walks cs base (k + 1) next
+pub walk_more : (cs : List ClassView) (base k at i next : ℕ) → Walks cs base k at → (at ≡ 0 → ⊥) → IsIndex cs (at - 1) i → HasBase cs i next
+    → Walks cs base (k + 1) next
 walk_more cs base k at i next w ne found has = record {
   before = λ m lt. still cs base k at m w ne lt;
   from = λ m.
@@ -68,7 +70,8 @@ walk_ends cs base k at le w e = record {
   within = le;
 }
 
-pub walk_leaves : (cs : List ClassView) (base k at : ℕ) → k < length cs → Walks cs base k at → (at ≡ 0 → ⊥) → class_named cs (at - 1) ≡ None → EndsIn cs base (k + 1)
+pub walk_leaves : (cs : List ClassView) (base k at : ℕ) → k < length cs → Walks cs base k at → (at ≡ 0 → ⊥) → class_named cs (at - 1) ≡ None
+    → EndsIn cs base (k + 1)
 walk_leaves cs base k at lt w ne none = record {
   before = λ m less. still cs base k at m w ne less;
   from = λ m ge.
@@ -82,10 +85,12 @@ has_base : (cs : List ClassView) (name i : ℕ) → (found : IsIndex cs name i) 
 has_base cs name i found = record { class = found.class; at = found.at; base_is = refl }
 
 -- a class of which it is known after how many steps its chain ends
-known_from : (cs : List ClassView) (steps : List (Option ℕ)) (name i k : ℕ) → AreSteps cs steps → (found : IsIndex cs name i) → slice_get steps i ≡ Some (Some k) → EndsIn cs found.class.base k
+known_from : (cs : List ClassView) (steps : List (Option ℕ)) (name i k : ℕ) → AreSteps cs steps → (found : IsIndex cs name i)
+    → slice_get steps i ≡ Some (Some k) → EndsIn cs found.class.base k
 known_from cs steps name i k s found e = s.each i k found.class.base (has_base cs name i found) e
 
-pub walk_joins : (cs : List ClassView) (steps : List (Option ℕ)) (base k at i left : ℕ) → k + left < length cs → Walks cs base k at → (at ≡ 0 → ⊥) → AreSteps cs steps → IsIndex cs (at - 1) i → slice_get steps i ≡ Some (Some left) → EndsIn cs base (k + 1 + left)
+pub walk_joins : (cs : List ClassView) (steps : List (Option ℕ)) (base k at i left : ℕ) → k + left < length cs → Walks cs base k at → (at ≡ 0 → ⊥)
+    → AreSteps cs steps → IsIndex cs (at - 1) i → slice_get steps i ≡ Some (Some left) → EndsIn cs base (k + 1 + left)
 walk_joins cs steps base k at i left lt w ne s found f =
     let next = found.class.base in
     let e = known_from cs steps (at - 1) i left s found f in
@@ -100,7 +105,8 @@ walk_joins cs steps base k at i left lt w ne s found f =
       within = omega arith;
     }
 
-pub walk_too_far : (cs : List ClassView) (steps : List (Option ℕ)) (n base k at i left : ℕ) → k < n → n - k ≤ left → Walks cs base k at → (at ≡ 0 → ⊥) → AreSteps cs steps → IsIndex cs (at - 1) i → slice_get steps i ≡ Some (Some left) → goes_on cs n base ≡ true
+pub walk_too_far : (cs : List ClassView) (steps : List (Option ℕ)) (n base k at i left : ℕ) → k < n → n - k ≤ left → Walks cs base k at → (at ≡ 0 → ⊥)
+    → AreSteps cs steps → IsIndex cs (at - 1) i → slice_get steps i ≡ Some (Some left) → goes_on cs n base ≡ true
 walk_too_far cs steps n base k at i left lt ge w ne s found f =
     let next = found.class.base in
     let e = known_from cs steps (at - 1) i left s found f in
@@ -137,7 +143,8 @@ base_is cs i a b h k = sym h.base_is ∙ ap (λ (z : ClassView). z.base) (same_c
 number_is : (a b : ℕ) → Path (Option (Option ℕ)) (Some (Some a)) (Some (Some b)) → a ≡ b
 number_is a b e = cc
 
-pub kept : (cs : List ClassView) (steps : List (Option ℕ)) (i k base : ℕ) → AreSteps cs steps → i < length steps → HasBase cs i base → EndsIn cs base k → AreSteps cs (set steps i (Some k))
+pub kept : (cs : List ClassView) (steps : List (Option ℕ)) (i k base : ℕ) → AreSteps cs steps → i < length steps → HasBase cs i base → EndsIn cs base k
+    → AreSteps cs (set steps i (Some k))
 kept cs steps i k base s lt has e = record {
   as_many = length-set steps i (Some k) ∙ s.as_many;
   each = λ j n b h f.
@@ -145,13 +152,16 @@ kept cs steps i k base s lt has e = record {
         | inl same ↦
             let at-j : HasBase cs i b = subst (λ (z : ℕ). HasBase cs z b) same h in
             let there : slice_get (set steps i (Some k)) j ≡ Some (Some k) =
-            ap (slice_get (set steps i (Some k))) same ∙ slice_get-get_or (set steps i (Some k)) i None (subst (λ (z : ℕ). i < z) (sym (length-set steps i (Some k))) lt) ∙ ap (λ (z : Option ℕ). Some z) (get_or-set_same steps i (Some k) None lt) in
+            ap (slice_get (set steps i (Some k))) same
+            ∙ slice_get-get_or (set steps i (Some k)) i None (subst (λ (z : ℕ). i < z) (sym (length-set steps i (Some k))) lt)
+            ∙ ap (λ (z : Option ℕ). Some z) (get_or-set_same steps i (Some k) None lt) in
             let k-is : k ≡ n = number_is k n (sym there ∙ f) in
             subst (λ (z : ℕ). EndsIn cs z n) (base_is cs i base b has at-j) (subst (λ (z : ℕ). EndsIn cs base z) k-is e)
         | inr ne ↦
             let within : j < length steps = subst (λ (z : ℕ). j < z) (length-set steps i (Some k)) (slice_get_within (set steps i (Some k)) j (Some n) f) in
             let there : slice_get (set steps i (Some k)) j ≡ slice_get steps j =
-            slice_get-get_or (set steps i (Some k)) j None (subst (λ (z : ℕ). j < z) (sym (length-set steps i (Some k))) within) ∙ ap (λ (z : Option ℕ). Some z) (get_or-set_other steps i j (Some k) None ne) ∙ sym (slice_get-get_or steps j None within) in
+            slice_get-get_or (set steps i (Some k)) j None (subst (λ (z : ℕ). j < z) (sym (length-set steps i (Some k))) within)
+            ∙ ap (λ (z : Option ℕ). Some z) (get_or-set_other steps i j (Some k) None ne) ∙ sym (slice_get-get_or steps j None within) in
             s.each j n b h (sym there ∙ f)
       ];
 }

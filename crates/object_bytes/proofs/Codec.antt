@@ -1,5 +1,6 @@
 -- How decoders are taken apart: what a decoder took from the front, and what it reads again.
-use Rattle.std.proofs.Common.{◌≡◌, ℕ, suc, ◌+◌, ◌^◌, ◌<◌, ◌≤◌, Bool, true, false, cond, ltb, List, [], ◌∷◌, ◌++◌, length, get_or, take, drop, Result, Ok, Err, refl, sym, ap, subst, ◌∙◌, append_assoc, arith, inl, inr}
+use Rattle.std.proofs.Common.{◌≡◌, ℕ, suc, ◌+◌, ◌^◌, ◌<◌, ◌≤◌, Bool, true, false, cond, ltb, List, [], ◌∷◌, ◌++◌, length, get_or, take, drop, Result, Ok, Err}
+use Rattle.std.proofs.Common.{refl, sym, ap, subst, ◌∙◌, append_assoc, arith, inl, inr}
 use Rattle.std.specs.List.{list_all}
 use Rattle.std.specs.Int.{Width, w32, w64, byte_len, from_le_bytes, to_le_bytes}
 use Rattle.std.proofs.lemmas.Bool.{cases_lt, ltb-true, ltb-false, le-ltb, lt-ltb, and_from}
@@ -47,7 +48,8 @@ pub record Is {A : Type 0} (spell : A → List ℕ) (good : A → Type 0) (part 
   pub spelled : part ≡ spell x
   pub fits : good x
 
-went_on : {A B : Type 0} (r : Result (A × List ℕ) ℕ) (next : A → Decoder B) (y : B) (rest : List ℕ) → go_on r next ≡ Ok (y, rest) → (x : A) × (mid : List ℕ) × (r ≡ Ok (x, mid)) × (next x mid ≡ Ok (y, rest))
+went_on : {A B : Type 0} (r : Result (A × List ℕ) ℕ) (next : A → Decoder B) (y : B) (rest : List ℕ) → go_on r next ≡ Ok (y, rest) → (x : A) × (mid : List ℕ)
+    × (r ≡ Ok (x, mid)) × (next x mid ≡ Ok (y, rest))
 went_on (Ok x) next y rest e = (x.0, x.1, refl, e)
 went_on (Err left) next y rest e = absurd cc
 
@@ -60,7 +62,10 @@ ok_are {A = A} x y a b e =
     (ap (λ (p : A × List ℕ). p.0) h, ap (λ (p : A × List ℕ). p.1) h)
 
 pub reads_weaken : {A : Type 0} {d : Decoder A} {P Q : List ℕ → A → Type 0} → ((p : List ℕ) (x : A) → P p x → Q p x) → Reads d P → Reads d Q
-reads_weaken f r = record { took = λ bytes x rest fits e. let t = r.took bytes x rest fits e in record { part = t.part; parts = t.parts; rest_fits = t.rest_fits; holds = f t.part x t.holds } }
+reads_weaken f r = record {
+  took = λ bytes x rest fits e. let t = r.took bytes x rest fits e in
+      record { part = t.part; parts = t.parts; rest_fits = t.rest_fits; holds = f t.part x t.holds };
+}
 
 pub reads_done : {A : Type 0} {P : List ℕ → A → Type 0} (x : A) → P [] x → Reads (done x) P
 unfolding done
@@ -70,35 +75,49 @@ reads_done {A = A} {P = P} x h = record {
       record { part = []; parts = p.1; rest_fits = subst IsBytes p.1 fits; holds = subst (λ (z : A). P [] z) p.0 h };
 }
 
-pub reads_bind : {A B : Type 0} {d : Decoder A} {next : A → Decoder B} {P : List ℕ → A → Type 0} {Q : List ℕ → B → Type 0} → Reads d P → ((a : A) (p : List ℕ) → P p a → Reads (next a) (λ q y. Q (p ++ q) y)) → Reads (bind d next) Q
+pub reads_bind : {A B : Type 0} {d : Decoder A} {next : A → Decoder B} {P : List ℕ → A → Type 0} {Q : List ℕ → B → Type 0} → Reads d P
+    → ((a : A) (p : List ℕ) → P p a → Reads (next a) (λ q y. Q (p ++ q) y)) → Reads (bind d next) Q
 unfolding bind
 reads_bind {d = d} {next = next} first then = record {
   took = λ bytes y rest fits e.
       let w = went_on (d bytes) next y rest e in
       let t = first.took bytes w.0 w.1 fits w.2 in
       let u = (then w.0 t.part t.holds).took w.1 y rest t.rest_fits w.3 in
-      record { part = t.part ++ u.part; parts = t.parts ∙ ap (λ (z : List ℕ). t.part ++ z) u.parts ∙ sym (append_assoc t.part u.part rest); rest_fits = u.rest_fits; holds = u.holds };
+      record {
+        part = t.part ++ u.part;
+        parts = t.parts ∙ ap (λ (z : List ℕ). t.part ++ z) u.parts ∙ sym (append_assoc t.part u.part rest);
+        rest_fits =
+            u.rest_fits;
+        holds = u.holds;
+      };
 }
 
 -- a field, and the fields behind it
-pub reads_field : {A B : Type 0} {d : Decoder A} {next : A → Decoder B} {spell : A → List ℕ} {fits : A → Type 0} {Q : List ℕ → B → Type 0} → Reads d (Is spell fits) → ((a : A) → fits a → Reads (next a) (λ q y. Q (spell a ++ q) y)) → Reads (bind d next) Q
-reads_field {B = B} {next = next} {Q = Q} first then = reads_bind first (λ a p h. subst (λ (z : List ℕ). Reads (next a) (λ q y. Q (z ++ q) y)) (sym h.spelled) (then a h.fits))
+pub reads_field : {A B : Type 0} {d : Decoder A} {next : A → Decoder B} {spell : A → List ℕ} {fits : A → Type 0} {Q : List ℕ → B → Type 0}
+    → Reads d (Is spell fits) → ((a : A) → fits a → Reads (next a) (λ q y. Q (spell a ++ q) y)) → Reads (bind d next) Q
+reads_field {B = B} {next = next} {Q = Q} first then =
+    reads_bind first (λ a p h. subst (λ (z : List ℕ). Reads (next a) (λ q y. Q (z ++ q) y)) (sym h.spelled) (then a h.fits))
 
 -- the last field
-pub reads_last : {A B : Type 0} {d : Decoder A} (make : A → B) {spell : A → List ℕ} {fits : A → Type 0} {Q : List ℕ → B → Type 0} → Reads d (Is spell fits) → ((a : A) → fits a → Q (spell a) (make a)) → Reads (bind d (λ a. done (make a))) Q
-reads_last make {Q = Q} first then = reads_bind first (λ a p h. reads_done (make a) (subst (λ (z : List ℕ). Q z (make a)) (sym h.spelled ∙ sym (append-nil p)) (then a h.fits)))
+pub reads_last : {A B : Type 0} {d : Decoder A} (make : A → B) {spell : A → List ℕ} {fits : A → Type 0} {Q : List ℕ → B → Type 0} → Reads d (Is spell fits)
+    → ((a : A) → fits a → Q (spell a) (make a)) → Reads (bind d (λ a. done (make a))) Q
+reads_last make {Q = Q} first then = reads_bind first
+    (λ a p h. reads_done (make a) (subst (λ (z : List ℕ). Q z (make a)) (sym h.spelled ∙ sym (append-nil p)) (then a h.fits)))
 
-chosen : {A : Type 0} (b : Bool) (y : A × List ℕ) (left : ℕ) (x : A) (rest : List ℕ) → Path (Result (A × List ℕ) ℕ) (cond b (Ok y) (Err left)) (Ok (x, rest)) → (b ≡ true) × (y ≡ (x, rest))
+chosen : {A : Type 0} (b : Bool) (y : A × List ℕ) (left : ℕ) (x : A) (rest : List ℕ) → Path (Result (A × List ℕ) ℕ) (cond b (Ok y) (Err left)) (Ok (x, rest))
+    → (b ≡ true) × (y ≡ (x, rest))
 chosen true y left x rest e = (refl, cc)
 chosen false y left x rest e = absurd cc
 
-was_tested : {A : Type 0} (r : Result (A × List ℕ) ℕ) (test : A → Bool) (left : ℕ) (x : A) (rest : List ℕ) → tested r test left ≡ Ok (x, rest) → (r ≡ Ok (x, rest)) × (test x ≡ true)
+was_tested : {A : Type 0} (r : Result (A × List ℕ) ℕ) (test : A → Bool) (left : ℕ) (x : A) (rest : List ℕ) → tested r test left ≡ Ok (x, rest)
+    → (r ≡ Ok (x, rest)) × (test x ≡ true)
 was_tested {A = A} (Ok y) test left x rest e =
     let c = chosen (test y.0) y left x rest e in
     (ap (λ (z : A × List ℕ). Ok z) c.1, sym (ap (λ (z : A × List ℕ). test z.0) c.1) ∙ c.0)
 was_tested (Err d) test left x rest e = absurd cc
 
-pub reads_test : {A : Type 0} {d : Decoder A} (test : A → Bool) {spell : A → List ℕ} {fits : A → Type 0} → Reads d (Is spell fits) → Reads (such_that d test) (Is spell (λ x. fits x × (test x ≡ true)))
+pub reads_test : {A : Type 0} {d : Decoder A} (test : A → Bool) {spell : A → List ℕ} {fits : A → Type 0} → Reads d (Is spell fits)
+    → Reads (such_that d test) (Is spell (λ x. fits x × (test x ≡ true)))
 unfolding such_that
 reads_test {d = d} test r = record {
   took = λ bytes x rest fits e.
@@ -116,9 +135,13 @@ pub again_done : {A : Type 0} (x : A) → Again (done x) [] x
 unfolding done
 again_done x = record { again = λ rest. refl }
 
-pub again_bind : {A B : Type 0} {d : Decoder A} (next : A → Decoder B) (p q : List ℕ) {a : A} {y : B} → Again d p a → Again (next a) q y → Again (bind d next) (p ++ q) y
+pub again_bind : {A B : Type 0} {d : Decoder A} (next : A → Decoder B) (p q : List ℕ) {a : A} {y : B} → Again d p a → Again (next a) q y
+    → Again (bind d next) (p ++ q) y
 unfolding bind
-again_bind {d = d} next p q first then = record { again = λ rest. ap (λ (z : List ℕ). go_on (d z) next) (append_assoc p q rest) ∙ ap (λ r. go_on r next) (first.again (q ++ rest)) ∙ then.again rest }
+again_bind {d = d} next p q first then = record {
+  again = λ rest. ap (λ (z : List ℕ). go_on (d z) next) (append_assoc p q rest) ∙ ap (λ r. go_on r next)
+      (first.again (q ++ rest)) ∙ then.again rest;
+}
 
 pub again_last : {A B : Type 0} {d : Decoder A} (make : A → B) {p : List ℕ} {a : A} → Again d p a → Again (bind d (λ a. done (make a))) p (make a)
 unfolding bind done
@@ -135,7 +158,13 @@ unfolding u8
 u8_took [] x rest fits e = absurd cc
 u8_took (b ∷ bytes) x rest fits e =
     let p = ok_are b x bytes rest e in
-    record { part = x ∷ []; parts = rw (p.0, p.1) refl; rest_fits = subst IsBytes p.1 (IsBytes-rest b bytes fits); holds = record { spelled = refl; fits = rw (← p.0) (lt-ltb b 256 (fits 0)) } }
+    record {
+      part = x ∷ [];
+      parts = rw (p.0, p.1) refl;
+      rest_fits = subst IsBytes p.1 (IsBytes-rest b bytes fits);
+      holds =
+          record { spelled = refl; fits = rw (← p.0) (lt-ltb b 256 (fits 0)) };
+    }
 
 pub u8_reads : Reads u8 (Is (λ n. n ∷ []) (λ n. is_u8 n ≡ true))
 unfolding u8
@@ -171,14 +200,23 @@ fits_or_short : {A : Type 0} (b : Bool) (x y : A) → Path (Result A ℕ) (cond 
 fits_or_short true x y e = absurd cc
 fits_or_short false x y e = (refl, cc)
 
-number_took : (w : Width) (limit : ℕ) (wide : IsWide w limit) (bytes : List ℕ) (n : ℕ) (rest : List ℕ) → IsBytes bytes → number w bytes ≡ Ok (n, rest) → Took (Is (to_le_bytes w) (λ n. n < limit)) bytes n rest
+number_took : (w : Width) (limit : ℕ) (wide : IsWide w limit) (bytes : List ℕ) (n : ℕ) (rest : List ℕ) → IsBytes bytes → number w bytes ≡ Ok (n, rest)
+    → Took (Is (to_le_bytes w) (λ n. n < limit)) bytes n rest
 number_took w limit wide bytes n rest fits e =
     let g = fits_or_short (ltb (length bytes) (byte_len w)) (from_le_bytes w (take (byte_len w) bytes), drop (byte_len w) bytes) (n, rest) e in
     let long : byte_len w ≤ length bytes = ltb-false _ _ g.0 in
     let n-is : from_le_bytes w (take (byte_len w) bytes) ≡ n = ap (λ (p : ℕ × List ℕ). p.0) g.1 in
     let rest-is : drop (byte_len w) bytes ≡ rest = ap (λ (p : ℕ × List ℕ). p.1) g.1 in
-    let front : to_le_bytes w n ≡ take (byte_len w) bytes = rw (← n-is) (wide.back (take (byte_len w) bytes) (omega (arith, length-take (byte_len w) bytes)) (IsBytes-take (byte_len w) bytes fits)) in
-    record { part = to_le_bytes w n; parts = rw (front, ← rest-is) (sym (take-append-drop (byte_len w) bytes)); rest_fits = rw (← rest-is) (IsBytes-drop (byte_len w) bytes fits); holds = record { spelled = refl; fits = rw (← n-is) (wide.below (take (byte_len w) bytes) (IsBytes-take (byte_len w) bytes fits)) } }
+    let front : to_le_bytes w n ≡ take (byte_len w) bytes =
+    rw (← n-is) (wide.back (take (byte_len w) bytes) (omega (arith, length-take (byte_len w) bytes)) (IsBytes-take (byte_len w) bytes fits)) in
+    record {
+      part = to_le_bytes w n;
+      parts = rw (front, ← rest-is) (sym (take-append-drop (byte_len w) bytes));
+      rest_fits =
+          rw (← rest-is) (IsBytes-drop (byte_len w) bytes fits);
+      holds =
+          record { spelled = refl; fits = rw (← n-is) (wide.below (take (byte_len w) bytes) (IsBytes-take (byte_len w) bytes fits)) };
+    }
 
 number_again : (w : Width) (limit : ℕ) (wide : IsWide w limit) (n : ℕ) (rest : List ℕ) → n < limit → number w (to_le_bytes w n ++ rest) ≡ Ok (n, rest)
 number_again w limit wide n rest lt =
@@ -218,7 +256,20 @@ raw_reads n = record {
       let long : n ≤ length bytes = ltb-false _ _ g.0 in
       let x-is : take n bytes ≡ x = ap (λ (p : List ℕ × List ℕ). p.0) g.1 in
       let rest-is : drop n bytes ≡ rest = ap (λ (p : List ℕ × List ℕ). p.1) g.1 in
-      record { part = x; parts = rw (← x-is, ← rest-is) (sym (take-append-drop n bytes)); rest_fits = rw (← rest-is) (IsBytes-drop n bytes fits); holds = record { spelled = refl; fits = (rw (← x-is) (omega (arith, length-take n bytes)), rw (← x-is) (all_u8 (take n bytes) (IsBytes-take n bytes fits))) } };
+      record {
+        part = x;
+        parts = rw (← x-is, ← rest-is) (sym (take-append-drop n bytes));
+        rest_fits = rw (← rest-is) (IsBytes-drop n bytes fits);
+        holds =
+            record {
+              spelled = refl;
+              fits = (
+                rw (← x-is) (omega (arith, length-take n bytes)),
+                rw (← x-is)
+                    (all_u8 (take n bytes) (IsBytes-take n bytes fits)),
+              );
+            };
+      };
 }
 
 pub raw_again : (x : List ℕ) → Again (raw (length x)) x x

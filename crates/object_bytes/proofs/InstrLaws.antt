@@ -4,13 +4,17 @@ use Rattle.std.specs.List.{list_all, slice_get}
 use Rattle.std.specs.Option.{is_some}
 use Rattle.std.proofs.lemmas.Bool.{and_parts, and_from, eqb-true}
 use Rattle.tx_code.specs.declared.instr.Instr.{Instr}
-use Rattle.tx_code.specs.declared.instr.Instr.TheVariants.{Push, Dup, Pop, Swap, FrameAddr, GlobalAddr, FuncAddr, ClassAddr, Load, Store, TLoad, TStore, VLoad, VStore, Bin, Neg, Conv, Jump, JumpZero, Call, TCall, CallIndirect, TCallIndirect, Slot, Ret, Begin, End, BeginSync, EndSync, Out, Inp, Spawn, Join, Abort, NewException, PutException, Throw, Rethrow, GetException, EndHandler, Resume, Over}
+use Rattle.tx_code.specs.declared.instr.Instr.TheVariants.{Push, Dup, Pop, Swap, FrameAddr, GlobalAddr, FuncAddr, ClassAddr, Load, Store, TLoad, TStore, VLoad}
+use Rattle.tx_code.specs.declared.instr.Instr.TheVariants.{VStore, Bin, Neg, Conv, Jump, JumpZero, Call, TCall, CallIndirect, TCallIndirect, Slot, Ret, Begin}
+use Rattle.tx_code.specs.declared.instr.Instr.TheVariants.{End, BeginSync, EndSync, Out, Inp, Spawn, Join, Abort, NewException, PutException, Throw, Rethrow}
+use Rattle.tx_code.specs.declared.instr.Instr.TheVariants.{GetException, EndHandler, Resume, Over}
 use Rattle.tx_code.specs.WellFormed.{is_name, named_by}
 use Rattle.object_bytes.specs.declared.op.Op.{Op}
 use Rattle.object_bytes.specs.declared.op.Op.TheVariants as o
 use Rattle.object_bytes.specs.Spelling.{u32_bytes, u64_bytes, instr_bytes, instr_is_wide, is_u8, is_u32}
 use Rattle.object_bytes.specs.Instructions.{name, ops, op_or_fail, op, operands, instr}
-use Rattle.object_bytes.proofs.Codec.{Reads, Is, Again, reads_weaken, reads_done, reads_field, reads_last, reads_test, again_done, again_bind, again_last, again_test, u8_reads, u8_again, u32_reads, u32_again, u64_reads, u64_again}
+use Rattle.object_bytes.proofs.Codec.{Reads, Is, Again, reads_weaken, reads_done, reads_field, reads_last, reads_test, again_done, again_bind, again_last}
+use Rattle.object_bytes.proofs.Codec.{again_test, u8_reads, u8_again, u32_reads, u32_again, u64_reads, u64_again}
 use Rattle.object_bytes.proofs.Lists.{OneFits}
 
 abbrev pub names_in : (n : ℕ) → Instr → Bool
@@ -173,14 +177,20 @@ operands_read n o.VLoad = reads_last _ u8_reads (λ a ha. (refl, record { test =
 operands_read n o.VStore = reads_last _ u8_reads (λ a ha. (refl, record { test = refl; wide = ha }))
 operands_read n o.Bin = reads_field u8_reads (λ a ha. reads_last _ u8_reads (λ b hb. (refl, record { test = refl; wide = and_from (is_u8 a) (is_u8 b) ha hb })))
 operands_read n o.Neg = reads_last _ u8_reads (λ a ha. (refl, record { test = refl; wide = ha }))
-operands_read n o.Conv = reads_field u8_reads (λ a ha. reads_last _ u8_reads (λ b hb. (refl, record { test = refl; wide = and_from (is_u8 a) (is_u8 b) ha hb })))
+operands_read n o.Conv = reads_field u8_reads (λ a ha. reads_last _ u8_reads
+    (λ b hb. (refl, record { test = refl; wide = and_from (is_u8 a) (is_u8 b) ha hb })))
 operands_read n o.Jump = reads_last _ u32_reads (λ a ha. (refl, record { test = refl; wide = ha }))
 operands_read n o.JumpZero = reads_last _ u32_reads (λ a ha. (refl, record { test = refl; wide = ha }))
-operands_read n o.Call = reads_field (name_reads n) (λ a ha. reads_last _ u8_reads (λ b hb. (refl, record { test = and_from (is_name n a) true ha.1 refl; wide = and_from (is_u32 a) (is_u8 b) ha.0 hb })))
-operands_read n o.TCall = reads_field (name_reads n) (λ a ha. reads_last _ u8_reads (λ b hb. (refl, record { test = and_from (is_name n a) true ha.1 refl; wide = and_from (is_u32 a) (is_u8 b) ha.0 hb })))
-operands_read n o.CallIndirect = reads_field (name_reads n) (λ a ha. reads_last _ u8_reads (λ b hb. (refl, record { test = and_from (is_name n a) true ha.1 refl; wide = and_from (is_u32 a) (is_u8 b) ha.0 hb })))
-operands_read n o.TCallIndirect = reads_field (name_reads n) (λ a ha. reads_last _ u8_reads (λ b hb. (refl, record { test = and_from (is_name n a) true ha.1 refl; wide = and_from (is_u32 a) (is_u8 b) ha.0 hb })))
-operands_read n o.Slot = reads_field (name_reads n) (λ a ha. reads_last _ u32_reads (λ b hb. (refl, record { test = and_from (is_name n a) true ha.1 refl; wide = and_from (is_u32 a) (is_u32 b) ha.0 hb })))
+operands_read n o.Call = reads_field (name_reads n) (λ a ha. reads_last _ u8_reads
+    (λ b hb. (refl, record { test = and_from (is_name n a) true ha.1 refl; wide = and_from (is_u32 a) (is_u8 b) ha.0 hb })))
+operands_read n o.TCall = reads_field (name_reads n) (λ a ha. reads_last _ u8_reads
+    (λ b hb. (refl, record { test = and_from (is_name n a) true ha.1 refl; wide = and_from (is_u32 a) (is_u8 b) ha.0 hb })))
+operands_read n o.CallIndirect = reads_field (name_reads n)
+    (λ a ha. reads_last _ u8_reads (λ b hb. (refl, record { test = and_from (is_name n a) true ha.1 refl; wide = and_from (is_u32 a) (is_u8 b) ha.0 hb })))
+operands_read n o.TCallIndirect = reads_field (name_reads n)
+    (λ a ha. reads_last _ u8_reads (λ b hb. (refl, record { test = and_from (is_name n a) true ha.1 refl; wide = and_from (is_u32 a) (is_u8 b) ha.0 hb })))
+operands_read n o.Slot = reads_field (name_reads n) (λ a ha. reads_last _ u32_reads
+    (λ b hb. (refl, record { test = and_from (is_name n a) true ha.1 refl; wide = and_from (is_u32 a) (is_u32 b) ha.0 hb })))
 operands_read n o.Ret = reads_last _ u8_reads (λ a ha. (refl, record { test = refl; wide = ha }))
 operands_read n o.Begin = reads_last _ u8_reads (λ a ha. (refl, record { test = refl; wide = ha }))
 operands_read n o.End = reads_done _ (refl, record { test = refl; wide = refl })
@@ -192,10 +202,12 @@ operands_read n o.Spawn = reads_done _ (refl, record { test = refl; wide = refl 
 operands_read n o.Join = reads_done _ (refl, record { test = refl; wide = refl })
 operands_read n o.Abort = reads_done _ (refl, record { test = refl; wide = refl })
 operands_read n o.NewException = reads_last _ (name_reads n) (λ a ha. (refl, record { test = and_from (is_name n a) true ha.1 refl; wide = ha.0 }))
-operands_read n o.PutException = reads_field u8_reads (λ a ha. reads_last _ u8_reads (λ b hb. (refl, record { test = refl; wide = and_from (is_u8 a) (is_u8 b) ha hb })))
+operands_read n o.PutException = reads_field u8_reads
+    (λ a ha. reads_last _ u8_reads (λ b hb. (refl, record { test = refl; wide = and_from (is_u8 a) (is_u8 b) ha hb })))
 operands_read n o.Throw = reads_done _ (refl, record { test = refl; wide = refl })
 operands_read n o.Rethrow = reads_done _ (refl, record { test = refl; wide = refl })
-operands_read n o.GetException = reads_field u8_reads (λ a ha. reads_last _ u8_reads (λ b hb. (refl, record { test = refl; wide = and_from (is_u8 a) (is_u8 b) ha hb })))
+operands_read n o.GetException = reads_field u8_reads
+    (λ a ha. reads_last _ u8_reads (λ b hb. (refl, record { test = refl; wide = and_from (is_u8 a) (is_u8 b) ha hb })))
 operands_read n o.EndHandler = reads_done _ (refl, record { test = refl; wide = refl })
 operands_read n o.Resume = reads_done _ (refl, record { test = refl; wide = refl })
 operands_read n o.Over = reads_done _ (refl, record { test = refl; wide = refl })
@@ -211,7 +223,8 @@ instr_again n Dup fits = again_bind _ (1 ∷ []) [] (op_again o.Dup) (again_done
 instr_again n Pop fits = again_bind _ (2 ∷ []) [] (op_again o.Pop) (again_done _)
 instr_again n Swap fits = again_bind _ (3 ∷ []) [] (op_again o.Swap) (again_done _)
 instr_again n (FrameAddr a) fits = again_bind _ (4 ∷ []) (u32_bytes a) (op_again o.FrameAddr) (again_last _ (u32_again a fits.wide))
-instr_again n (GlobalAddr a) fits = again_bind _ (5 ∷ []) (u32_bytes a) (op_again o.GlobalAddr) (again_last _ (name_again n a fits.wide (one_name n a fits.test)))
+instr_again n (GlobalAddr a) fits = again_bind _ (5 ∷ []) (u32_bytes a) (op_again o.GlobalAddr)
+    (again_last _ (name_again n a fits.wide (one_name n a fits.test)))
 instr_again n (FuncAddr a) fits = again_bind _ (6 ∷ []) (u32_bytes a) (op_again o.FuncAddr) (again_last _ (name_again n a fits.wide (one_name n a fits.test)))
 instr_again n (ClassAddr a) fits = again_bind _ (7 ∷ []) (u32_bytes a) (op_again o.ClassAddr) (again_last _ (name_again n a fits.wide (one_name n a fits.test)))
 instr_again n (Load a) fits = again_bind _ (8 ∷ []) (a ∷ []) (op_again o.Load) (again_last _ (u8_again a))
@@ -231,19 +244,24 @@ instr_again n (Jump a) fits = again_bind _ (17 ∷ []) (u32_bytes a) (op_again o
 instr_again n (JumpZero a) fits = again_bind _ (18 ∷ []) (u32_bytes a) (op_again o.JumpZero) (again_last _ (u32_again a fits.wide))
 instr_again n (Call a b) fits =
     let w = and_parts (is_u32 a) (is_u8 b) fits.wide in
-    again_bind _ (19 ∷ []) ((u32_bytes a) ++ (b ∷ [])) (op_again o.Call) (again_bind _ (u32_bytes a) (b ∷ []) (name_again n a w.0 (one_name n a fits.test)) (again_last _ (u8_again b)))
+    again_bind _ (19 ∷ []) ((u32_bytes a) ++ (b ∷ [])) (op_again o.Call)
+    (again_bind _ (u32_bytes a) (b ∷ []) (name_again n a w.0 (one_name n a fits.test)) (again_last _ (u8_again b)))
 instr_again n (TCall a b) fits =
     let w = and_parts (is_u32 a) (is_u8 b) fits.wide in
-    again_bind _ (20 ∷ []) ((u32_bytes a) ++ (b ∷ [])) (op_again o.TCall) (again_bind _ (u32_bytes a) (b ∷ []) (name_again n a w.0 (one_name n a fits.test)) (again_last _ (u8_again b)))
+    again_bind _ (20 ∷ []) ((u32_bytes a) ++ (b ∷ [])) (op_again o.TCall)
+    (again_bind _ (u32_bytes a) (b ∷ []) (name_again n a w.0 (one_name n a fits.test)) (again_last _ (u8_again b)))
 instr_again n (CallIndirect a b) fits =
     let w = and_parts (is_u32 a) (is_u8 b) fits.wide in
-    again_bind _ (21 ∷ []) ((u32_bytes a) ++ (b ∷ [])) (op_again o.CallIndirect) (again_bind _ (u32_bytes a) (b ∷ []) (name_again n a w.0 (one_name n a fits.test)) (again_last _ (u8_again b)))
+    again_bind _ (21 ∷ []) ((u32_bytes a) ++ (b ∷ [])) (op_again o.CallIndirect)
+    (again_bind _ (u32_bytes a) (b ∷ []) (name_again n a w.0 (one_name n a fits.test)) (again_last _ (u8_again b)))
 instr_again n (TCallIndirect a b) fits =
     let w = and_parts (is_u32 a) (is_u8 b) fits.wide in
-    again_bind _ (22 ∷ []) ((u32_bytes a) ++ (b ∷ [])) (op_again o.TCallIndirect) (again_bind _ (u32_bytes a) (b ∷ []) (name_again n a w.0 (one_name n a fits.test)) (again_last _ (u8_again b)))
+    again_bind _ (22 ∷ []) ((u32_bytes a) ++ (b ∷ [])) (op_again o.TCallIndirect)
+    (again_bind _ (u32_bytes a) (b ∷ []) (name_again n a w.0 (one_name n a fits.test)) (again_last _ (u8_again b)))
 instr_again n (Slot a b) fits =
     let w = and_parts (is_u32 a) (is_u32 b) fits.wide in
-    again_bind _ (23 ∷ []) ((u32_bytes a) ++ (u32_bytes b)) (op_again o.Slot) (again_bind _ (u32_bytes a) (u32_bytes b) (name_again n a w.0 (one_name n a fits.test)) (again_last _ (u32_again b w.1)))
+    again_bind _ (23 ∷ []) ((u32_bytes a) ++ (u32_bytes b)) (op_again o.Slot)
+    (again_bind _ (u32_bytes a) (u32_bytes b) (name_again n a w.0 (one_name n a fits.test)) (again_last _ (u32_again b w.1)))
 instr_again n (Ret a) fits = again_bind _ (24 ∷ []) (a ∷ []) (op_again o.Ret) (again_last _ (u8_again a))
 instr_again n (Begin a) fits = again_bind _ (25 ∷ []) (a ∷ []) (op_again o.Begin) (again_last _ (u8_again a))
 instr_again n End fits = again_bind _ (26 ∷ []) [] (op_again o.End) (again_done _)
@@ -254,7 +272,8 @@ instr_again n Inp fits = again_bind _ (30 ∷ []) [] (op_again o.Inp) (again_don
 instr_again n Spawn fits = again_bind _ (31 ∷ []) [] (op_again o.Spawn) (again_done _)
 instr_again n Join fits = again_bind _ (32 ∷ []) [] (op_again o.Join) (again_done _)
 instr_again n Abort fits = again_bind _ (33 ∷ []) [] (op_again o.Abort) (again_done _)
-instr_again n (NewException a) fits = again_bind _ (34 ∷ []) (u32_bytes a) (op_again o.NewException) (again_last _ (name_again n a fits.wide (one_name n a fits.test)))
+instr_again n (NewException a) fits = again_bind _ (34 ∷ []) (u32_bytes a) (op_again o.NewException)
+    (again_last _ (name_again n a fits.wide (one_name n a fits.test)))
 instr_again n (PutException a b) fits =
     let w = and_parts (is_u8 a) (is_u8 b) fits.wide in
     again_bind _ (35 ∷ []) ((a ∷ []) ++ (b ∷ [])) (op_again o.PutException) (again_bind _ (a ∷ []) (b ∷ []) (u8_again a) (again_last _ (u8_again b)))

@@ -1,5 +1,6 @@
 -- Objects: the fields that are read are spelled so, and what is spelled so is read.
-use Rattle.std.proofs.Common.{◌≡◌, ℕ, zero, suc, ◌+◌, ◌^◌, ◌<◌, nat_eq, nat_lt, nat_le, arith, Bool, true, false, cond, List, [], ◌∷◌, length, get_or, Option, Some, None, Ordering, Less, Equal, Greater, refl, sym, ap, subst, ◌∙◌, ◌&&◌, ◌||◌, inl, inr}
+use Rattle.std.proofs.Common.{◌≡◌, ℕ, zero, suc, ◌+◌, ◌^◌, ◌<◌, nat_eq, nat_lt, nat_le, arith, Bool, true, false, cond, List, [], ◌∷◌, length, get_or, Option}
+use Rattle.std.proofs.Common.{Some, None, Ordering, Less, Equal, Greater, refl, sym, ap, subst, ◌∙◌, ◌&&◌, ◌||◌, inl, inr}
 use Rattle.std.specs.List.{list_all, list_any, slice_get}
 use Rattle.std.specs.Str.{bytes_eq}
 use Rattle.std.specs.Ordering.{is_lt, nat_cmp}
@@ -9,15 +10,19 @@ use Rattle.std.proofs.lemmas.Cmp.{nat_list_cmp_total, tied_itself}
 use Rattle.std.proofs.lemmas.Slice.Eq.{bytes_eq-Decides}
 use Rattle.std.proofs.lemmas.Option.{slice_get-get_or, slice_get_within}
 use Rattle.tx_code.specs.Objects.{ClassView, GlobalView, FuncView, ObjectView}
-use Rattle.tx_code.specs.WellFormed.{bytes_lt, is_count, is_length, is_name_or_none, ascends, ascends_from, ascends_by, source_fits, class_fits, global_fits, func_fits}
-use Rattle.object_bytes.specs.Spelling.{u32_bytes, list_bytes, name_bytes, class_bytes, global_bytes, magic, number_of, source_number, source_bytes, object_bytes, is_u8, is_u32, class_is_wide, global_is_wide, func_is_wide, is_wide}
+use Rattle.tx_code.specs.WellFormed.{bytes_lt, is_count, is_length, is_name_or_none, ascends, ascends_from, ascends_by, source_fits, class_fits, global_fits}
+use Rattle.tx_code.specs.WellFormed.{func_fits}
+use Rattle.object_bytes.specs.Spelling.{u32_bytes, list_bytes, name_bytes, class_bytes, global_bytes, magic, number_of, source_number, source_bytes}
+use Rattle.object_bytes.specs.Spelling.{object_bytes, is_u8, is_u32, class_is_wide, global_is_wide, func_is_wide, is_wide}
 use Rattle.object_bytes.specs.Decoder.{done, bind}
 use Rattle.object_bytes.specs.Fields.{above, is_name_length, name_or_none, text, name_item}
 use Rattle.object_bytes.specs.Objects.{source_of, source_field, entries, object}
-use Rattle.object_bytes.proofs.Codec.{Reads, Is, Again, reads_weaken, reads_done, reads_field, reads_last, reads_test, again_done, again_bind, again_last, again_test, u32_reads, u32_again, raw_reads, raw_again}
+use Rattle.object_bytes.proofs.Codec.{Reads, Is, Again, reads_weaken, reads_done, reads_field, reads_last, reads_test, again_done, again_bind, again_last}
+use Rattle.object_bytes.proofs.Codec.{again_test, u32_reads, u32_again, raw_reads, raw_again}
 use Rattle.object_bytes.proofs.Parts.{parts5}
 use Rattle.object_bytes.proofs.Lists.{ItemFits, OneFits, ordered, ordered_ascends, list_reads, list_again}
-use Rattle.object_bytes.proofs.EntryLaws.{name_or_none_reads, name_or_none_again, class_reads, class_again, classes_ascend, global_reads, global_again, globals_ascend, func_reads, func_again, funcs_ascend}
+use Rattle.object_bytes.proofs.EntryLaws.{name_or_none_reads, name_or_none_again, class_reads, class_again, classes_ascend, global_reads, global_again}
+use Rattle.object_bytes.proofs.EntryLaws.{globals_ascend, func_reads, func_again, funcs_ascend}
 
 -- ---- order of bytes
 
@@ -53,7 +58,9 @@ length_wide name h =
 
 text_reads : Reads text (Is name_bytes (OneFits is_length (list_all is_u8)))
 unfolding text
-text_reads = reads_field (reads_test is_name_length u32_reads) (λ n hn. reads_weaken (λ p x h. record { spelled = rw (h.spelled, h.fits.0) refl; fits = record { test = rw h.fits.0 hn.1; wide = h.fits.1 } }) (raw_reads n))
+text_reads = reads_field (reads_test is_name_length u32_reads)
+    (λ n hn. reads_weaken (λ p x h. record { spelled = rw (h.spelled, h.fits.0) refl; fits = record { test = rw h.fits.0 hn.1; wide = h.fits.1 } })
+    (raw_reads n))
 
 text_again : (name : List ℕ) → is_length name ≡ true → Again text (name_bytes name) name
 unfolding text
@@ -61,9 +68,11 @@ text_again name h = again_bind _ (u32_bytes (length name)) name (again_test _ (u
 
 name_reads : (before : Option (List ℕ)) → Reads (name_item before) (Is name_bytes (ItemFits is_length (list_all is_u8) name_order before))
 unfolding name_item
-name_reads before = reads_weaken (λ p x h. record { spelled = h.spelled; fits = record { test = h.fits.0.test; wide = h.fits.0.wide; order = h.fits.1 } }) (reads_test _ text_reads)
+name_reads before = reads_weaken (λ p x h. record { spelled = h.spelled; fits = record { test = h.fits.0.test; wide = h.fits.0.wide; order = h.fits.1 } })
+    (reads_test _ text_reads)
 
-name_again : (before : Option (List ℕ)) (name : List ℕ) → ItemFits is_length (list_all is_u8) name_order before name → Again (name_item before) (name_bytes name) name
+name_again : (before : Option (List ℕ)) (name : List ℕ) → ItemFits is_length (list_all is_u8) name_order before name
+    → Again (name_item before) (name_bytes name) name
 unfolding name_item
 name_again before name fits = again_test _ (text_again name fits.test) fits.order
 
@@ -98,7 +107,8 @@ number_found k (y ∷ ys) (suc i) x h e =
     let k1 : k + 1 + i ≡ k + suc i = omega arith in
     rw ne (more ∙ k1)
 
-pub number_back : (k : ℕ) (names : List (List ℕ)) (x : List ℕ) → list_any (bytes_eq x) names ≡ true → (i : ℕ) × (number_of k names x ≡ k + i) × (slice_get names i ≡ Some x)
+pub number_back : (k : ℕ) (names : List (List ℕ)) (x : List ℕ) → list_any (bytes_eq x) names ≡ true → (i : ℕ) × (number_of k names x ≡ k + i)
+    × (slice_get names i ≡ Some x)
 number_back k [] x h = absurd (false≢true h)
 number_back k (y ∷ ys) x h =
     elim (cases_Bool (bytes_eq x y)) [
@@ -116,7 +126,8 @@ abbrev pub fits_by : Bool → List (List ℕ) → Option (List ℕ) → Bool
 fits_by b names None = true
 fits_by b names (Some name) = b && list_any (bytes_eq name) names
 
-pub source_fits_is : (version : ℕ) (names : List (List ℕ)) (source : Option (List ℕ)) → source_fits version names source ≡ fits_by (nat_eq version 2) names source
+pub source_fits_is : (version : ℕ) (names : List (List ℕ)) (source : Option (List ℕ))
+    → source_fits version names source ≡ fits_by (nat_eq version 2) names source
 source_fits_is version names None = refl
 source_fits_is version names (Some name) = refl
 
@@ -140,20 +151,27 @@ numbered names (suc i) h fits =
     let k1 : 1 + i ≡ suc i = omega arith in
     rw e (record { number = sym (number_found 1 names i (get_or names i []) h e ∙ k1); named = found_in names i (get_or names i []) e })
 
-source_read : (b : Bool) (names : List (List ℕ)) → ascends bytes_lt names ≡ true → Reads (cond b (bind (name_or_none (length names)) (λ i. done (source_of names i))) (done None)) (Is (λ s. cond b (u32_bytes (source_number names s)) []) (λ s. fits_by b names s ≡ true))
+source_read : (b : Bool) (names : List (List ℕ)) → ascends bytes_lt names ≡ true
+    → Reads (cond b (bind (name_or_none (length names)) (λ i. done (source_of names i))) (done None))
+    (Is (λ s. cond b (u32_bytes (source_number names s)) []) (λ s. fits_by b names s ≡ true))
 source_read true names h = reads_last _ (name_or_none_reads (length names)) (λ i hi.
     let n = numbered names i h hi.test in
     record { spelled = ap u32_bytes n.number; fits = n.named })
 source_read false names h = reads_done _ (record { spelled = refl; fits = refl })
 
-source_again : (b : Bool) (names : List (List ℕ)) (source : Option (List ℕ)) → is_count names ≡ true → fits_by b names source ≡ true → Again (cond b (bind (name_or_none (length names)) (λ i. done (source_of names i))) (done None)) (cond b (u32_bytes (source_number names source)) []) source
-source_again true names None count h = again_last (λ i. source_of names i) (name_or_none_again (length names) 0 (record { test = le-leb 0 (length names) (omega arith); wide = refl }))
+source_again : (b : Bool) (names : List (List ℕ)) (source : Option (List ℕ)) → is_count names ≡ true → fits_by b names source ≡ true
+    → Again (cond b (bind (name_or_none (length names)) (λ i. done (source_of names i))) (done None))
+    (cond b (u32_bytes (source_number names source)) []) source
+source_again true names None count h = again_last (λ i. source_of names i)
+    (name_or_none_again (length names) 0 (record { test = le-leb 0 (length names) (omega arith); wide = refl }))
 source_again true names (Some x) count h =
     let b = number_back 1 names x h in
     let lt : b.0 < length names = slice_get_within names b.0 x b.2 in
     let k1 : number_of 1 names x ≡ suc b.0 = b.1 ∙ omega arith in
     let small : length names < 2 ^ 32 = ltb-true _ _ count in
-    let here : Again (bind (name_or_none (length names)) (λ i. done (source_of names i))) (u32_bytes (suc b.0)) (slice_get names b.0) = again_last (λ i. source_of names i) (name_or_none_again (length names) (suc b.0) (record { test = le-leb (suc b.0) (length names) (omega arith); wide = lt-ltb (suc b.0) (2 ^ 32) (omega arith) })) in
+    let here : Again (bind (name_or_none (length names)) (λ i. done (source_of names i))) (u32_bytes (suc b.0)) (slice_get names b.0) =
+    again_last (λ i. source_of names i) (name_or_none_again (length names) (suc b.0)
+    (record { test = le-leb (suc b.0) (length names) (omega arith); wide = lt-ltb (suc b.0) (2 ^ 32) (omega arith) })) in
     subst (λ (k : ℕ). Again (bind (name_or_none (length names)) (λ i. done (source_of names i))) (u32_bytes k) (Some x)) (sym k1)
     (subst (λ (s : Option (List ℕ)). Again (bind (name_or_none (length names)) (λ i. done (source_of names i))) (u32_bytes (suc b.0)) s) b.2 here)
 source_again false names None count h = again_done _
@@ -181,9 +199,13 @@ pub record FieldsFit (o : ObjectView) : Type 0 where
 
 pub object_reads : Reads object (Is object_bytes FieldsFit)
 unfolding object entries source_field object_bytes is_wide
-object_reads = reads_field (reads_test _ (raw_reads 4)) (λ head h1. reads_field (reads_test _ u32_reads) (λ version h2. reads_field (list_reads name_reads) (λ names h3.
+object_reads = reads_field (reads_test _ (raw_reads 4))
+    (λ head h1. reads_field (reads_test _ u32_reads) (λ version h2. reads_field (list_reads name_reads) (λ names h3.
     let ascend : ascends bytes_lt names ≡ true = sym (names_ascend names) ∙ h3.1.orders in
-    reads_field (source_read (nat_eq version 2) names ascend) (λ source h4. reads_field (list_reads (class_reads (length names))) (λ classes h5. reads_field (list_reads (global_reads (length names))) (λ globals h6. reads_last _ (list_reads (func_reads version (length names))) (λ funcs h7.
+    reads_field (source_read (nat_eq version 2) names ascend)
+    (λ source h4. reads_field (list_reads (class_reads (length names)))
+    (λ classes h5. reads_field (list_reads (global_reads (length names)))
+    (λ globals h6. reads_last _ (list_reads (func_reads version (length names))) (λ funcs h7.
     record {
       spelled = rw (bytes_same head magic h1.1) refl;
       fits = record {
@@ -208,10 +230,18 @@ object_reads = reads_field (reads_test _ (raw_reads 4)) (λ head h1. reads_field
 pub object_again : (o : ObjectView) → FieldsFit o → Again object (object_bytes o) o
 unfolding object entries source_field object_bytes is_wide
 object_again o f =
-    let w = parts5 (is_u32 o.version) (list_all (list_all is_u8) o.names) (list_all class_is_wide o.classes) (list_all global_is_wide o.globals) (list_all func_is_wide o.funcs) f.wide in
+    let w = parts5 (is_u32 o.version) (list_all (list_all is_u8) o.names) (list_all class_is_wide o.classes) (list_all global_is_wide o.globals)
+    (list_all func_is_wide o.funcs) f.wide in
     again_bind _ magic _ (again_test _ (raw_again magic) refl) (again_bind _ (u32_bytes o.version) _ (again_test _ (u32_again o.version w.0) f.version)
-    (again_bind _ (list_bytes name_bytes o.names) _ (list_again name_again o.names f.name_count (record { tests = f.names; wides = w.1; orders = names_ascend o.names ∙ f.names_ascend }))
-    (again_bind _ (source_bytes o.version o.names o.source) _ (source_again (nat_eq o.version 2) o.names o.source f.name_count (sym (source_fits_is o.version o.names o.source) ∙ f.source))
-    (again_bind _ (list_bytes class_bytes o.classes) _ (list_again (class_again (length o.names)) o.classes f.class_count (record { tests = f.classes; wides = w.2; orders = classes_ascend o.classes ∙ f.classes_ascend }))
-    (again_bind _ (list_bytes global_bytes o.globals) _ (list_again (global_again (length o.names)) o.globals f.global_count (record { tests = f.globals; wides = w.3; orders = globals_ascend o.globals ∙ f.globals_ascend }))
-    (again_last _ (list_again (func_again o.version (length o.names)) o.funcs f.func_count (record { tests = f.funcs; wides = w.4; orders = funcs_ascend o.funcs ∙ f.funcs_ascend }))))))))
+    (again_bind _ (list_bytes name_bytes o.names) _ (list_again name_again o.names f.name_count
+    (record { tests = f.names; wides = w.1; orders = names_ascend o.names ∙ f.names_ascend }))
+    (again_bind _ (source_bytes o.version o.names o.source) _
+    (source_again (nat_eq o.version 2) o.names o.source f.name_count (sym (source_fits_is o.version o.names o.source) ∙ f.source))
+    (again_bind _ (list_bytes class_bytes o.classes) _
+    (list_again (class_again (length o.names)) o.classes f.class_count
+    (record { tests = f.classes; wides = w.2; orders = classes_ascend o.classes ∙ f.classes_ascend }))
+    (again_bind _ (list_bytes global_bytes o.globals) _
+    (list_again (global_again (length o.names)) o.globals f.global_count
+    (record { tests = f.globals; wides = w.3; orders = globals_ascend o.globals ∙ f.globals_ascend }))
+    (again_last _ (list_again (func_again o.version (length o.names)) o.funcs f.func_count
+    (record { tests = f.funcs; wides = w.4; orders = funcs_ascend o.funcs ∙ f.funcs_ascend }))))))))

@@ -1,11 +1,13 @@
 -- Where names and classes stand.
-use Rattle.std.proofs.Common.{◌≡◌, ℕ, ◌+◌, ◌*◌, ◌<◌, ◌≤◌, arith, Bool, true, false, cond, nat_eq, List, [], ◌∷◌, ◌++◌, length, map, get_or, drop, Option, Some, None, refl, sym, ap, ◌∙◌, ◌||◌}
+use Rattle.std.proofs.Common.{◌≡◌, ℕ, ◌+◌, ◌*◌, ◌<◌, ◌≤◌, arith, Bool, true, false, cond, nat_eq, List, [], ◌∷◌, ◌++◌, length, map, get_or, drop, Option, Some}
+use Rattle.std.proofs.Common.{None, refl, sym, ap, ◌∙◌, ◌||◌}
 use Rattle.std.specs.List.{flat_map, list_all, list_any}
 use Rattle.std.proofs.lemmas.List.{drop_more, drop_all, length-append}
 use Rattle.tx_code.specs.declared.object.ObjMember.{ObjMember}
 use Rattle.tx_code.specs.Objects.{ClassView, ObjectView}
 use Rattle.tx_code.specs.WellFormed.{is_source, all_used}
-use Rattle.object_bytes.specs.Spelling.{u32_bytes, list_bytes, name_bytes, member_bytes, class_bytes, global_bytes, func_bytes, source_bytes, source_number, object_bytes}
+use Rattle.object_bytes.specs.Spelling.{u32_bytes, list_bytes, name_bytes, member_bytes, class_bytes, global_bytes, func_bytes, source_bytes, source_number}
+use Rattle.object_bytes.specs.Spelling.{object_bytes}
 use Rattle.object_bytes.specs.Objects.{unused_from, base_is_wrong, wrong_base_from, first_name, first_class}
 
 pub dropped : {A B : Type 0} (f : A → B) (xs : List A) (i : ℕ) (x : A) → i < length xs → x ≡ get_or xs i x → map f (drop i xs) ≡ f x ∷ map f (drop (i + 1) xs)
@@ -23,7 +25,17 @@ length_name name = length-append (u32_bytes (length name)) name ∙ ap (λ (n : 
 
 length_members : (ms : List ObjMember) → length (flat_map member_bytes ms) ≡ 12 * length ms
 length_members [] = refl
-length_members (m ∷ ms) = omega (arith, length-append (member_bytes m) (flat_map member_bytes ms), length-append (u32_bytes m.name) (u32_bytes m.offset ++ u32_bytes m.ty), length-append (u32_bytes m.offset) (u32_bytes m.ty), length_u32 m.name, length_u32 m.offset, length_u32 m.ty, length_members ms)
+length_members (m ∷ ms) = omega (
+  arith,
+  length-append (member_bytes m) (flat_map member_bytes ms),
+  length-append (u32_bytes m.name)
+      (u32_bytes m.offset ++ u32_bytes m.ty),
+  length-append (u32_bytes m.offset) (u32_bytes m.ty),
+  length_u32 m.name,
+  length_u32 m.offset,
+  length_u32 m.ty,
+  length_members ms,
+)
 
 length_slots : (ss : List ℕ) → length (flat_map u32_bytes ss) ≡ 4 * length ss
 length_slots [] = refl
@@ -50,12 +62,15 @@ length_class c =
     omega (arith, length_members c.members, length_slots c.slots)
 
 -- the first item of those that are left
-pub size_more : {A : Type 0} (item : A → List ℕ) (xs left : List A) (x : A) (size total : ℕ) → xs ≡ x ∷ left → size + length (flat_map item xs) ≡ total → size + length (item x) + length (flat_map item left) ≡ total
+pub size_more : {A : Type 0} (item : A → List ℕ) (xs left : List A) (x : A) (size total : ℕ) → xs ≡ x ∷ left → size + length (flat_map item xs) ≡ total
+    → size + length (item x) + length (flat_map item left) ≡ total
 size_more item xs left x size total e h =
-    let a : length (flat_map item xs) ≡ length (item x) + length (flat_map item left) = ap (λ z. length (flat_map item z)) e ∙ length-append (item x) (flat_map item left) in
+    let a : length (flat_map item xs) ≡ length (item x) + length (flat_map item left) = ap (λ z. length (flat_map item z)) e
+    ∙ length-append (item x) (flat_map item left) in
     omega arith
 
-pub size_fits : {A : Type 0} (item : A → List ℕ) (xs left : List A) (x : A) (size total : ℕ) → xs ≡ x ∷ left → size + length (flat_map item xs) ≡ total → size + length (item x) ≤ total
+pub size_fits : {A : Type 0} (item : A → List ℕ) (xs left : List A) (x : A) (size total : ℕ) → xs ≡ x ∷ left → size + length (flat_map item xs) ≡ total
+    → size + length (item x) ≤ total
 size_fits item xs left x size total e h = omega (arith, size_more item xs left x size total e h)
 
 pub size_all : {A : Type 0} (item : A → List ℕ) (xs : List A) (size total : ℕ) → xs ≡ [] → size + length (flat_map item xs) ≡ total → size ≡ total
@@ -94,27 +109,33 @@ source_size version names source = by_test (nat_eq version 2) (source_number nam
 
 -- ---- one more name, one more base
 
-pub unused_more : (source : Option (List ℕ)) (used : List ℕ) (i at : ℕ) (names left : List (List ℕ)) (name : List ℕ) (total : Option ℕ) → names ≡ name ∷ left → (list_any (nat_eq i) used || is_source source name) ≡ true
+pub unused_more : (source : Option (List ℕ)) (used : List ℕ) (i at : ℕ) (names left : List (List ℕ)) (name : List ℕ) (total : Option ℕ) → names ≡ name ∷ left
+    → (list_any (nat_eq i) used || is_source source name) ≡ true
     → unused_from source used i at names ≡ total → unused_from source used (i + 1) (at + length (name_bytes name)) left ≡ total
 unused_more source used i at names left name total e h so_far =
-    let one : unused_from source used i at names ≡ unused_from source used (i + 1) (at + length (name_bytes name)) left = ap (unused_from source used i at) e ∙ rw h refl in
+    let one : unused_from source used i at names ≡ unused_from source used (i + 1) (at + length (name_bytes name)) left = ap (unused_from source used i at) e
+    ∙ rw h refl in
     sym one ∙ so_far
 
-pub unused_here : (source : Option (List ℕ)) (used : List ℕ) (i at : ℕ) (names left : List (List ℕ)) (name : List ℕ) (total : Option ℕ) → names ≡ name ∷ left → (list_any (nat_eq i) used || is_source source name) ≡ false
+pub unused_here : (source : Option (List ℕ)) (used : List ℕ) (i at : ℕ) (names left : List (List ℕ)) (name : List ℕ) (total : Option ℕ) → names ≡ name ∷ left
+    → (list_any (nat_eq i) used || is_source source name) ≡ false
     → unused_from source used i at names ≡ total → Some at ≡ total
 unused_here source used i at names left name total e h so_far =
     let one : unused_from source used i at names ≡ Some at = ap (unused_from source used i at) e ∙ rw h refl in
     sym one ∙ so_far
 
-pub unused_none : (source : Option (List ℕ)) (used : List ℕ) (i at : ℕ) (names : List (List ℕ)) (total : Option ℕ) → names ≡ [] → unused_from source used i at names ≡ total → None ≡ total
+pub unused_none : (source : Option (List ℕ)) (used : List ℕ) (i at : ℕ) (names : List (List ℕ)) (total : Option ℕ) → names ≡ []
+    → unused_from source used i at names ≡ total → None ≡ total
 unused_none source used i at names total e so_far = sym (ap (unused_from source used i at) e) ∙ so_far
 
-pub base_more : (cs : List ClassView) (at : ℕ) (rest left : List ClassView) (c : ClassView) (total : Option ℕ) → rest ≡ c ∷ left → base_is_wrong cs c.base ≡ false → wrong_base_from cs at rest ≡ total → wrong_base_from cs (at + length (class_bytes c)) left ≡ total
+pub base_more : (cs : List ClassView) (at : ℕ) (rest left : List ClassView) (c : ClassView) (total : Option ℕ) → rest ≡ c ∷ left
+    → base_is_wrong cs c.base ≡ false → wrong_base_from cs at rest ≡ total → wrong_base_from cs (at + length (class_bytes c)) left ≡ total
 base_more cs at rest left c total e h so_far =
     let one : wrong_base_from cs at rest ≡ wrong_base_from cs (at + length (class_bytes c)) left = ap (wrong_base_from cs at) e ∙ rw h refl in
     sym one ∙ so_far
 
-pub base_here : (cs : List ClassView) (at : ℕ) (rest left : List ClassView) (c : ClassView) (total : Option ℕ) → rest ≡ c ∷ left → base_is_wrong cs c.base ≡ true → wrong_base_from cs at rest ≡ total → Some (at + 12) ≡ total
+pub base_here : (cs : List ClassView) (at : ℕ) (rest left : List ClassView) (c : ClassView) (total : Option ℕ) → rest ≡ c ∷ left
+    → base_is_wrong cs c.base ≡ true → wrong_base_from cs at rest ≡ total → Some (at + 12) ≡ total
 base_here cs at rest left c total e h so_far =
     let one : wrong_base_from cs at rest ≡ Some (at + 12) = ap (wrong_base_from cs at) e ∙ rw h refl in
     sym one ∙ so_far
@@ -122,22 +143,26 @@ base_here cs at rest left c total e h so_far =
 pub base_none : (cs : List ClassView) (at : ℕ) (rest : List ClassView) (total : Option ℕ) → rest ≡ [] → wrong_base_from cs at rest ≡ total → None ≡ total
 base_none cs at rest total e so_far = sym (ap (wrong_base_from cs at) e) ∙ so_far
 
-pub used_more : (source : Option (List ℕ)) (used : List ℕ) (i : ℕ) (names left : List (List ℕ)) (name : List ℕ) (total : Bool) → names ≡ name ∷ left → (list_any (nat_eq i) used || is_source source name) ≡ true
+pub used_more : (source : Option (List ℕ)) (used : List ℕ) (i : ℕ) (names left : List (List ℕ)) (name : List ℕ) (total : Bool) → names ≡ name ∷ left
+    → (list_any (nat_eq i) used || is_source source name) ≡ true
     → all_used source used i names ≡ total → all_used source used (i + 1) left ≡ total
 used_more source used i names left name total e h so_far =
     let one : all_used source used i names ≡ all_used source used (i + 1) left = ap (all_used source used i) e ∙ rw h refl in
     sym one ∙ so_far
 
-pub used_here : (source : Option (List ℕ)) (used : List ℕ) (i : ℕ) (names left : List (List ℕ)) (name : List ℕ) (total : Bool) → names ≡ name ∷ left → (list_any (nat_eq i) used || is_source source name) ≡ false
+pub used_here : (source : Option (List ℕ)) (used : List ℕ) (i : ℕ) (names left : List (List ℕ)) (name : List ℕ) (total : Bool) → names ≡ name ∷ left
+    → (list_any (nat_eq i) used || is_source source name) ≡ false
     → all_used source used i names ≡ total → false ≡ total
 used_here source used i names left name total e h so_far =
     let one : all_used source used i names ≡ false = ap (all_used source used i) e ∙ rw h refl in
     sym one ∙ so_far
 
-pub used_all : (source : Option (List ℕ)) (used : List ℕ) (i : ℕ) (names : List (List ℕ)) (total : Bool) → names ≡ [] → all_used source used i names ≡ total → true ≡ total
+pub used_all : (source : Option (List ℕ)) (used : List ℕ) (i : ℕ) (names : List (List ℕ)) (total : Bool) → names ≡ [] → all_used source used i names ≡ total
+    → true ≡ total
 used_all source used i names total e so_far = sym (ap (all_used source used i) e) ∙ so_far
 
-pub all_more : {A : Type 0} (p : A → Bool) (xs left : List A) (x : A) (total : Bool) → xs ≡ x ∷ left → p x ≡ true → list_all p xs ≡ total → list_all p left ≡ total
+pub all_more : {A : Type 0} (p : A → Bool) (xs left : List A) (x : A) (total : Bool) → xs ≡ x ∷ left → p x ≡ true → list_all p xs ≡ total
+    → list_all p left ≡ total
 all_more p xs left x total e h so_far =
     let one : list_all p xs ≡ list_all p left = ap (list_all p) e ∙ rw h refl in
     sym one ∙ so_far

@@ -1,5 +1,6 @@
 -- What is wrong only where all else is right: unused names, and bases.
-use Rattle.std.proofs.Common.{◌≡◌, ℕ, zero, suc, ◌+◌, ◌-◌, nat_eq, Bool, true, false, cond, not, List, [], ◌∷◌, ◌++◌, length, Option, Some, None, Result, Ok, Err, refl, sym, ap, subst, ◌∙◌, ◌&&◌, ◌||◌}
+use Rattle.std.proofs.Common.{◌≡◌, ℕ, zero, suc, ◌+◌, ◌-◌, nat_eq, Bool, true, false, cond, not, List, [], ◌∷◌, ◌++◌, length, Option, Some, None, Result, Ok}
+use Rattle.std.proofs.Common.{Err, refl, sym, ap, subst, ◌∙◌, ◌&&◌, ◌||◌}
 use Rattle.std.specs.List.{list_all, list_any}
 use Rattle.std.specs.Option.{is_some, is_none, option_map_or}
 use Rattle.std.proofs.lemmas.Bool.{and_parts, and_from, or_parts, or_from, not-true, not_from_false, eqb-true, false≢true}
@@ -7,7 +8,8 @@ use Rattle.std.proofs.lemmas.List.{append-nil, nil_from_length}
 use Rattle.tx_code.specs.Objects.{ClassView, ObjectView}
 use Rattle.tx_code.specs.WellFormed.{is_source, named_in, all_used, class_named, chain_ends, bases_fit, IsObject}
 use Rattle.object_bytes.specs.Spelling.{name_bytes, class_bytes, object_bytes, is_wide, Spells}
-use Rattle.object_bytes.specs.Objects.{unused_from, is_unknown, goes_on, base_is_wrong, wrong_base_from, or_else, first_name, first_class, wrong_as_a_whole, unless_wrong, to_the_end, object, decoded}
+use Rattle.object_bytes.specs.Objects.{unused_from, is_unknown, goes_on, base_is_wrong, wrong_base_from, or_else, first_name, first_class, wrong_as_a_whole}
+use Rattle.object_bytes.specs.Objects.{unless_wrong, to_the_end, object, decoded}
 use Rattle.object_bytes.proofs.Codec.{IsBytes}
 use Rattle.object_bytes.proofs.ObjectLaws.{FieldsFit, object_reads, object_again}
 
@@ -17,9 +19,11 @@ one_more_used : (b : Bool) (rest : Bool) (found : Option ℕ) (at : ℕ) → res
 one_more_used true rest found at h = h
 one_more_used false rest found at h = refl
 
-used_is : (source : Option (List ℕ)) (used : List ℕ) (i at : ℕ) (names : List (List ℕ)) → all_used source used i names ≡ is_none (unused_from source used i at names)
+used_is : (source : Option (List ℕ)) (used : List ℕ) (i at : ℕ) (names : List (List ℕ))
+    → all_used source used i names ≡ is_none (unused_from source used i at names)
 used_is source used i at [] = refl
-used_is source used i at (name ∷ names) = one_more_used (list_any (nat_eq i) used || is_source source name) (all_used source used (i + 1) names) (unused_from source used (i + 1) (at + length (name_bytes name)) names) at (used_is source used (i + 1) (at + length (name_bytes name)) names)
+used_is source used i at (name ∷ names) = one_more_used (list_any (nat_eq i) used || is_source source name) (all_used source used (i + 1) names)
+    (unused_from source used (i + 1) (at + length (name_bytes name)) names) at (used_is source used (i + 1) (at + length (name_bytes name)) names)
 
 -- ---- bases
 
@@ -32,9 +36,11 @@ base_is_right cs c = not (base_is_wrong cs c.base)
 
 right_is : (cs : List ClassView) (at : ℕ) (rest : List ClassView) → list_all (base_is_right cs) rest ≡ is_none (wrong_base_from cs at rest)
 right_is cs at [] = refl
-right_is cs at (c ∷ rest) = one_more_base (base_is_wrong cs c.base) (list_all (base_is_right cs) rest) (wrong_base_from cs (at + length (class_bytes c)) rest) (at + 12) (right_is cs (at + length (class_bytes c)) rest)
+right_is cs at (c ∷ rest) = one_more_base (base_is_wrong cs c.base) (list_all (base_is_right cs) rest) (wrong_base_from cs (at + length (class_bytes c)) rest)
+    (at + 12) (right_is cs (at + length (class_bytes c)) rest)
 
-pick : (p : ClassView → Bool) (b : Bool) (d : ClassView) (cs : List ClassView) (name : ℕ) (c : ClassView) → list_all p (d ∷ cs) ≡ true → cond b (Some d) (class_named cs name) ≡ Some c → ((e : class_named cs name ≡ Some c) → list_all p cs ≡ true → p c ≡ true) → p c ≡ true
+pick : (p : ClassView → Bool) (b : Bool) (d : ClassView) (cs : List ClassView) (name : ℕ) (c : ClassView) → list_all p (d ∷ cs) ≡ true
+    → cond b (Some d) (class_named cs name) ≡ Some c → ((e : class_named cs name ≡ Some c) → list_all p cs ≡ true → p c ≡ true) → p c ≡ true
 pick p true d cs name c h e more =
     let same : d ≡ c = cc in
     subst (λ x. p x ≡ true) same (and_parts (p d) (list_all p cs) h).0
@@ -50,23 +56,31 @@ all_to_all p q (c ∷ cs) f h =
     let a = and_parts (p c) (list_all p cs) h in
     and_from _ _ (f c a.0) (all_to_all p q cs f a.1)
 
-ends_at : (cs : List ClassView) → list_all (base_is_right cs) cs ≡ true → (most : ℕ) (found : Option ClassView) → ((c : ClassView) → found ≡ Some c → base_is_right cs c ≡ true) → ((base : ℕ) → is_unknown cs base ≡ false → goes_on cs most base ≡ false → chain_ends cs most base ≡ true)
-    → not (is_some found) ≡ false → option_map_or (λ (c : ClassView). goes_on cs most c.base) found false ≡ false → option_map_or (λ (c : ClassView). chain_ends cs most c.base) found false ≡ true
+ends_at : (cs : List ClassView) → list_all (base_is_right cs) cs ≡ true → (most : ℕ) (found : Option ClassView)
+    → ((c : ClassView) → found ≡ Some c → base_is_right cs c ≡ true)
+    → ((base : ℕ) → is_unknown cs base ≡ false → goes_on cs most base ≡ false → chain_ends cs most base ≡ true)
+    → not (is_some found) ≡ false → option_map_or (λ (c : ClassView). goes_on cs most c.base) found false ≡ false
+    → option_map_or (λ (c : ClassView). chain_ends cs most c.base) found false ≡ true
 ends_at cs right most None named more known stops = absurd (false≢true (sym known))
-ends_at cs right most (Some c) named more known stops = more c.base (or_parts (is_unknown cs c.base) (goes_on cs (length cs) c.base) (not-true _ (named c refl))).0 stops
+ends_at cs right most (Some c) named more known stops =
+    more c.base (or_parts (is_unknown cs c.base) (goes_on cs (length cs) c.base) (not-true _ (named c refl))).0 stops
 
 -- a known base, of classes whose bases are known, whose chain does not go on
-ends : (cs : List ClassView) → list_all (base_is_right cs) cs ≡ true → (most base : ℕ) → is_unknown cs base ≡ false → goes_on cs most base ≡ false → chain_ends cs most base ≡ true
+ends : (cs : List ClassView) → list_all (base_is_right cs) cs ≡ true → (most base : ℕ) → is_unknown cs base ≡ false → goes_on cs most base ≡ false
+    → chain_ends cs most base ≡ true
 ends cs right most zero known stops = refl
 ends cs right zero (suc name) known stops = absurd (false≢true (sym stops))
-ends cs right (suc most) (suc name) known stops = ends_at cs right most (class_named cs name) (λ c e. named_is (base_is_right cs) cs name c right e) (λ base k s. ends cs right most base k s) known stops
+ends cs right (suc most) (suc name) known stops = ends_at cs right most (class_named cs name) (λ c e. named_is (base_is_right cs) cs name c right e)
+    (λ base k s. ends cs right most base k s) known stops
 
 right_fits : (cs : List ClassView) → list_all (base_is_right cs) cs ≡ true → list_all (bases_fit cs) cs ≡ true
 right_fits cs right = all_to_all (base_is_right cs) (bases_fit cs) cs (λ c h.
     let w = or_parts (is_unknown cs c.base) (goes_on cs (length cs) c.base) (not-true _ h) in
     ends cs right (length cs) c.base w.0 w.1) right
 
-found_at : (cs : List ClassView) (most : ℕ) (found : Option ClassView) → ((base : ℕ) → chain_ends cs most base ≡ true → (is_unknown cs base ≡ false) × (goes_on cs most base ≡ false)) → option_map_or (λ (c : ClassView). chain_ends cs most c.base) found false ≡ true
+found_at : (cs : List ClassView) (most : ℕ) (found : Option ClassView)
+    → ((base : ℕ) → chain_ends cs most base ≡ true → (is_unknown cs base ≡ false) × (goes_on cs most base ≡ false))
+    → option_map_or (λ (c : ClassView). chain_ends cs most c.base) found false ≡ true
     → (not (is_some found) ≡ false) × (option_map_or (λ (c : ClassView). goes_on cs most c.base) found false ≡ false)
 found_at cs most None more h = absurd (false≢true h)
 found_at cs most (Some c) more h = (refl, (more c.base h).1)
@@ -158,7 +172,8 @@ was_none : (o x : ObjectView) (found : Option ℕ) → unless_wrong o found ≡ 
 was_none o x None e = (refl, ok_is o x e)
 was_none o x (Some at) e = absurd cc
 
-at_the_end : (b : Bool) (o x : ObjectView) (at : ℕ) → cond b (unless_wrong o (wrong_as_a_whole o)) (Err at) ≡ Ok x → (b ≡ true) × (wrong_as_a_whole o ≡ None) × (o ≡ x)
+at_the_end : (b : Bool) (o x : ObjectView) (at : ℕ) → cond b (unless_wrong o (wrong_as_a_whole o)) (Err at) ≡ Ok x → (b ≡ true) × (wrong_as_a_whole o ≡ None)
+    × (o ≡ x)
 at_the_end true o x at e = let w = was_none o x (wrong_as_a_whole o) e in (refl, w.0, w.1)
 at_the_end false o x at e = absurd cc
 
@@ -168,7 +183,8 @@ record ReadTo (bytes : List ℕ) (o : ObjectView) : Type 0 where
   none : rest ≡ []
   right : wrong_as_a_whole o ≡ None
 
-read_to : (bytes : List ℕ) (size : ℕ) (read : Result (ObjectView × List ℕ) ℕ) (o : ObjectView) → object bytes ≡ read → to_the_end size read ≡ Ok o → ReadTo bytes o
+read_to : (bytes : List ℕ) (size : ℕ) (read : Result (ObjectView × List ℕ) ℕ) (o : ObjectView) → object bytes ≡ read → to_the_end size read ≡ Ok o
+    → ReadTo bytes o
 read_to bytes size (Err left) o was e = absurd cc
 read_to bytes size (Ok x) o was e =
     let w = at_the_end (nat_eq (length x.1) 0) x.0 o (size - length x.1) e in
@@ -181,7 +197,12 @@ unfolding decoded
 decoded_spells bytes o fits e =
     let r = read_to bytes (length bytes) (object bytes) o refl e in
     let t = object_reads.took bytes o r.rest fits r.read in
-    record { object = whole_fits o t.holds.fits r.right; wide = t.holds.fits.wide; bytes_are = t.parts ∙ ap (λ (z : List ℕ). t.part ++ z) r.none ∙ append-nil t.part ∙ t.holds.spelled }
+    record {
+      object = whole_fits o t.holds.fits r.right;
+      wide = t.holds.fits.wide;
+      bytes_are = t.parts ∙ ap (λ (z : List ℕ). t.part ++ z) r.none
+          ∙ append-nil t.part ∙ t.holds.spelled;
+    }
 
 read_again : (o : ObjectView) → IsObject o → is_wide o ≡ true → (more : List ℕ) → object (object_bytes o ++ more) ≡ Ok (o, more)
 read_again o f wide more = (object_again o (fields_fit o f wide)).again more

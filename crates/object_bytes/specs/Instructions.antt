@@ -4,7 +4,10 @@ use Rattle.tx_code.specs.declared.instr.Instr.{Instr}
 use Rattle.tx_code.specs.declared.instr.Instr.TheVariants as instrs
 use Rattle.tx_code.specs.WellFormed.{is_name}
 use Rattle.object_bytes.specs.declared.op.Op.{Op}
-use Rattle.object_bytes.specs.declared.op.Op.TheVariants.{Push, Dup, Pop, Swap, FrameAddr, GlobalAddr, FuncAddr, ClassAddr, Load, Store, TLoad, TStore, VLoad, VStore, Bin, Neg, Conv, Jump, JumpZero, Call, TCall, CallIndirect, TCallIndirect, Slot, Ret, Begin, End, BeginSync, EndSync, Out, Inp, Spawn, Join, Abort, NewException, PutException, Throw, Rethrow, GetException, EndHandler, Resume, Over}
+use Rattle.object_bytes.specs.declared.op.Op.TheVariants.{Push, Dup, Pop, Swap, FrameAddr, GlobalAddr, FuncAddr, ClassAddr, Load, Store, TLoad, TStore, VLoad}
+use Rattle.object_bytes.specs.declared.op.Op.TheVariants.{VStore, Bin, Neg, Conv, Jump, JumpZero, Call, TCall, CallIndirect, TCallIndirect, Slot, Ret, Begin}
+use Rattle.object_bytes.specs.declared.op.Op.TheVariants.{End, BeginSync, EndSync, Out, Inp, Spawn, Join, Abort, NewException, PutException, Throw, Rethrow}
+use Rattle.object_bytes.specs.declared.op.Op.TheVariants.{GetException, EndHandler, Resume, Over}
 use Rattle.object_bytes.specs.Decoder.{Decoder, done, fail, ◌>>=◌, such_that, u8, u32, u64}
 
 -- the number of a name, where there are n
@@ -13,7 +16,9 @@ name n = such_that u32 (is_name n)
 
 -- in the order of their op bytes
 abbrev pub ops : List Op
-ops = Push ∷ Dup ∷ Pop ∷ Swap ∷ FrameAddr ∷ GlobalAddr ∷ FuncAddr ∷ ClassAddr ∷ Load ∷ Store ∷ TLoad ∷ TStore ∷ VLoad ∷ VStore ∷ Bin ∷ Neg ∷ Conv ∷ Jump ∷ JumpZero ∷ Call ∷ TCall ∷ CallIndirect ∷ TCallIndirect ∷ Slot ∷ Ret ∷ Begin ∷ End ∷ BeginSync ∷ EndSync ∷ Out ∷ Inp ∷ Spawn ∷ Join ∷ Abort ∷ NewException ∷ PutException ∷ Throw ∷ Rethrow ∷ GetException ∷ EndHandler ∷ Resume ∷ Over ∷ []
+ops = Push ∷ Dup ∷ Pop ∷ Swap ∷ FrameAddr ∷ GlobalAddr ∷ FuncAddr ∷ ClassAddr ∷ Load ∷ Store ∷ TLoad ∷ TStore ∷ VLoad ∷ VStore ∷ Bin ∷ Neg ∷ Conv ∷ Jump
+    ∷ JumpZero ∷ Call ∷ TCall ∷ CallIndirect ∷ TCallIndirect ∷ Slot ∷ Ret ∷ Begin ∷ End ∷ BeginSync ∷ EndSync ∷ Out ∷ Inp ∷ Spawn ∷ Join ∷ Abort ∷ NewException
+    ∷ PutException ∷ Throw ∷ Rethrow ∷ GetException ∷ EndHandler ∷ Resume ∷ Over ∷ []
 
 -- the operands of an instruction
 unfoldable pub operands : (n : ℕ) → Op → Decoder Instr

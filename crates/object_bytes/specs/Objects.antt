@@ -1,5 +1,6 @@
 -- Which bytes spell which object, and the first wrong field of bytes that spell none.
-use Rattle.std.specs.Prelude.{Bool, true, false, ℕ, zero, suc, ◌+◌, ◌-◌, List, [], ◌∷◌, length, Option, Some, None, Result, Ok, Err, not, ◌&&◌, ◌||◌, nat_eq, is_some, slice_get, if◌then◌else◌}
+use Rattle.std.specs.Prelude.{Bool, true, false, ℕ, zero, suc, ◌+◌, ◌-◌, List, [], ◌∷◌, length, Option, Some, None, Result, Ok, Err, not, ◌&&◌, ◌||◌, nat_eq}
+use Rattle.std.specs.Prelude.{is_some, slice_get, if◌then◌else◌}
 use Rattle.std.specs.List.{list_any, list_all, flat_map}
 use Rattle.std.specs.Option.{option_map_or}
 use Rattle.std.specs.Str.{bytes_eq}
@@ -38,7 +39,8 @@ object = do
 -- where the first name stands that is not used: the names from number i on, the first of which stands at `at`
 abbrev pub unused_from : (source : Option (List ℕ)) → (used : List ℕ) → (i at : ℕ) → List (List ℕ) → Option ℕ
 unused_from source used i at [] = None
-unused_from source used i at (name ∷ names) = if list_any (nat_eq i) used || is_source source name then unused_from source used (i + 1) (at + length (name_bytes name)) names else Some at
+unused_from source used i at (name ∷ names) = if list_any (nat_eq i) used
+    || is_source source name then unused_from source used (i + 1) (at + length (name_bytes name)) names else Some at
 
 -- a base that is no class of the list
 abbrev pub is_unknown : List ClassView → (base : ℕ) → Bool

@@ -6,7 +6,10 @@ use Rattle.std.specs.Option.{option_map_or}
 use Rattle.std.specs.Str.{bytes_eq}
 use Rattle.std.specs.Int.{w32, w64, to_le_bytes}
 use Rattle.tx_code.specs.declared.instr.Instr.{Instr}
-use Rattle.tx_code.specs.declared.instr.Instr.TheVariants.{Push, Dup, Pop, Swap, FrameAddr, GlobalAddr, FuncAddr, ClassAddr, Load, Store, TLoad, TStore, VLoad, VStore, Bin, Neg, Conv, Jump, JumpZero, Call, TCall, CallIndirect, TCallIndirect, Slot, Ret, Begin, End, BeginSync, EndSync, Out, Inp, Spawn, Join, Abort, NewException, PutException, Throw, Rethrow, GetException, EndHandler, Resume, Over}
+use Rattle.tx_code.specs.declared.instr.Instr.TheVariants.{Push, Dup, Pop, Swap, FrameAddr, GlobalAddr, FuncAddr, ClassAddr, Load, Store, TLoad, TStore, VLoad}
+use Rattle.tx_code.specs.declared.instr.Instr.TheVariants.{VStore, Bin, Neg, Conv, Jump, JumpZero, Call, TCall, CallIndirect, TCallIndirect, Slot, Ret, Begin}
+use Rattle.tx_code.specs.declared.instr.Instr.TheVariants.{End, BeginSync, EndSync, Out, Inp, Spawn, Join, Abort, NewException, PutException, Throw, Rethrow}
+use Rattle.tx_code.specs.declared.instr.Instr.TheVariants.{GetException, EndHandler, Resume, Over}
 use Rattle.tx_code.specs.declared.body.Row.{Row}
 use Rattle.tx_code.specs.declared.body.LineRow.{LineRow}
 use Rattle.tx_code.specs.declared.object.ObjMember.{ObjMember}
@@ -101,7 +104,8 @@ abbrev pub member_bytes : ObjMember → List ℕ
 member_bytes m = fields (u32_bytes m.name ∷ u32_bytes m.offset ∷ u32_bytes m.ty ∷ [])
 
 abbrev pub class_bytes : ClassView → List ℕ
-class_bytes c = fields (u32_bytes c.name ∷ u32_bytes c.size ∷ u32_bytes c.align ∷ u32_bytes c.base ∷ u32_bytes c.pointer ∷ u32_bytes c.text ∷ list_bytes member_bytes c.members ∷ list_bytes u32_bytes c.slots ∷ [])
+class_bytes c = fields (u32_bytes c.name ∷ u32_bytes c.size ∷ u32_bytes c.align ∷ u32_bytes c.base ∷ u32_bytes c.pointer ∷ u32_bytes c.text
+    ∷ list_bytes member_bytes c.members ∷ list_bytes u32_bytes c.slots ∷ [])
 
 abbrev pub cell_bytes : ObjCell → List ℕ
 cell_bytes c = fields (u32_bytes c.offset ∷ u8_bytes c.size ∷ u8_bytes c.what ∷ u64_bytes c.value ∷ u32_bytes c.symbol ∷ [])
@@ -114,7 +118,8 @@ abbrev pub some_bytes : (version : ℕ) → Option BodyView → List ℕ
 some_bytes version b = option_map_or (body_bytes version) b []
 
 abbrev pub func_bytes : (version : ℕ) → FuncView → List ℕ
-func_bytes version f = fields (u32_bytes f.symbol ∷ u32_bytes f.ty ∷ u8_bytes f.linkage ∷ u8_bytes f.flags ∷ u32_bytes f.text ∷ u32_bytes f.frame ∷ some_bytes version f.plain ∷ some_bytes version f.safe ∷ [])
+func_bytes version f = fields (u32_bytes f.symbol ∷ u32_bytes f.ty ∷ u8_bytes f.linkage ∷ u8_bytes f.flags ∷ u32_bytes f.text ∷ u32_bytes f.frame
+    ∷ some_bytes version f.plain ∷ some_bytes version f.safe ∷ [])
 
 -- ---- objects
 
@@ -136,7 +141,8 @@ abbrev pub source_bytes : (version : ℕ) → List (List ℕ) → Option (List �
 source_bytes version names source = if nat_eq version 2 then u32_bytes (source_number names source) else []
 
 unfoldable pub object_bytes : ObjectView → List ℕ
-object_bytes o = fields (magic ∷ u32_bytes o.version ∷ list_bytes name_bytes o.names ∷ source_bytes o.version o.names o.source ∷ list_bytes class_bytes o.classes ∷ list_bytes global_bytes o.globals ∷ list_bytes (func_bytes o.version) o.funcs ∷ [])
+object_bytes o = fields (magic ∷ u32_bytes o.version ∷ list_bytes name_bytes o.names ∷ source_bytes o.version o.names o.source
+    ∷ list_bytes class_bytes o.classes ∷ list_bytes global_bytes o.globals ∷ list_bytes (func_bytes o.version) o.funcs ∷ [])
 
 -- ---- how large the numbers are
 
@@ -191,7 +197,8 @@ abbrev pub member_is_wide : ObjMember → Bool
 member_is_wide m = is_u32 m.name && is_u32 m.offset && is_u32 m.ty
 
 abbrev pub class_is_wide : ClassView → Bool
-class_is_wide c = is_u32 c.name && is_u32 c.size && is_u32 c.align && is_u32 c.base && is_u32 c.pointer && is_u32 c.text && list_all member_is_wide c.members && list_all is_u32 c.slots
+class_is_wide c = is_u32 c.name && is_u32 c.size && is_u32 c.align && is_u32 c.base && is_u32 c.pointer && is_u32 c.text && list_all member_is_wide c.members
+    && list_all is_u32 c.slots
 
 abbrev pub cell_is_wide : ObjCell → Bool
 cell_is_wide c = is_u32 c.offset && is_u8 c.size && is_u8 c.what && is_u64 c.value && is_u32 c.symbol
@@ -203,11 +210,13 @@ abbrev pub some_is_wide : Option BodyView → Bool
 some_is_wide b = option_map_or body_is_wide b true
 
 abbrev pub func_is_wide : FuncView → Bool
-func_is_wide f = is_u32 f.symbol && is_u32 f.ty && is_u8 f.linkage && is_u8 f.flags && is_u32 f.text && is_u32 f.frame && some_is_wide f.plain && some_is_wide f.safe
+func_is_wide f = is_u32 f.symbol && is_u32 f.ty && is_u8 f.linkage && is_u8 f.flags && is_u32 f.text && is_u32 f.frame && some_is_wide f.plain
+    && some_is_wide f.safe
 
 -- each number is one of the bits that the Rust types give it, and each byte of a name is a byte
 unfoldable pub is_wide : ObjectView → Bool
-is_wide o = is_u32 o.version && list_all (list_all is_u8) o.names && list_all class_is_wide o.classes && list_all global_is_wide o.globals && list_all func_is_wide o.funcs
+is_wide o = is_u32 o.version && list_all (list_all is_u8) o.names && list_all class_is_wide o.classes && list_all global_is_wide o.globals
+    && list_all func_is_wide o.funcs
 
 -- ---- spelling
 

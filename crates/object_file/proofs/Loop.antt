@@ -1,5 +1,6 @@
 -- Reading items one after the other, as a loop does.
-use Rattle.std.proofs.Common.{◌≡◌, ℕ, zero, suc, ◌-◌, ◌+◌, ◌≤◌, ◌<◌, List, [], ◌∷◌, ◌++◌, Option, Some, None, Result, Ok, Err, refl, sym, ap, ◌∙◌, append_assoc, arith}
+use Rattle.std.proofs.Common.{◌≡◌, ℕ, zero, suc, ◌-◌, ◌+◌, ◌≤◌, ◌<◌, List, [], ◌∷◌, ◌++◌, Option, Some, None, Result, Ok, Err, refl, sym, ap, ◌∙◌, append_assoc}
+use Rattle.std.proofs.Common.{arith}
 use Rattle.std.proofs.lemmas.List.{append-nil}
 use Rattle.object_file.specs.declared.fault.ReadError.{ReadError}
 use Rattle.object_file.specs.declared.fault.ReadError.TheVariants.{Memory, Wrong}
@@ -22,25 +23,32 @@ begins key item bytes n rest e =
     let k : n - 0 ≡ n = omega arith in
     rw k (no_front (items key item None n rest) ∙ sym (rw e refl))
 
-pub starts : {A K : Type 0} (key : A → K) (item : Option K → Decoder A) (bytes : List ℕ) (n : ℕ) → with_front [] (items key item None (n - 0) bytes) ≡ items key item None n bytes
+pub starts : {A K : Type 0} (key : A → K) (item : Option K → Decoder A) (bytes : List ℕ) (n : ℕ)
+    → with_front [] (items key item None (n - 0) bytes) ≡ items key item None n bytes
 starts key item bytes n =
     let k : n - 0 ≡ n = omega arith in
     rw k (no_front (items key item None n bytes))
 
-one_more : {A : Type 0} (front : List A) (x : A) (read : Result (List A × List ℕ) ℕ) → with_front front (go_on read (λ xs. done (x ∷ xs))) ≡ with_front (front ++ x ∷ []) read
+one_more : {A : Type 0} (front : List A) (x : A) (read : Result (List A × List ℕ) ℕ)
+    → with_front front (go_on read (λ xs. done (x ∷ xs))) ≡ with_front (front ++ x ∷ []) read
 unfolding done
 one_more {A = A} front x (Ok y) = ap (λ (xs : List A). Ok (xs, y.1)) (simp append_assoc)
 one_more front x (Err left) = refl
 
-pub goes_on : {A K : Type 0} (key : A → K) (item : Option K → Decoder A) (front : List A) (before : Option K) (count i : ℕ) (bytes : List ℕ) (x : A) (after : List ℕ) (total : Result (List A × List ℕ) ℕ) → i < count → item before bytes ≡ Ok (x, after)
-    → with_front front (items key item before (count - i) bytes) ≡ total → with_front (front ++ x ∷ []) (items key item (Some (key x)) (count - (i + 1)) after) ≡ total
+pub goes_on : {A K : Type 0} (key : A → K) (item : Option K → Decoder A) (front : List A) (before : Option K) (count i : ℕ) (bytes : List ℕ) (x : A)
+    (after : List ℕ) (total : Result (List A × List ℕ) ℕ) → i < count → item before bytes ≡ Ok (x, after)
+    → with_front front (items key item before (count - i) bytes) ≡ total
+    → with_front (front ++ x ∷ []) (items key item (Some (key x)) (count - (i + 1)) after) ≡ total
 unfolding items bind done
 goes_on key item front before count i bytes x after total lt h so_far =
     let k : count - i ≡ suc (count - (i + 1)) = omega arith in
-    let one : with_front front (items key item before (count - i) bytes) ≡ with_front (front ++ x ∷ []) (items key item (Some (key x)) (count - (i + 1)) after) = rw (k, h) (one_more front x (items key item (Some (key x)) (count - (i + 1)) after)) in
+    let one : with_front front (items key item before (count - i) bytes)
+    ≡ with_front (front ++ x ∷ []) (items key item (Some (key x)) (count - (i + 1)) after) =
+    rw (k, h) (one_more front x (items key item (Some (key x)) (count - (i + 1)) after)) in
     sym one ∙ so_far
 
-pub ends : {A K : Type 0} (key : A → K) (item : Option K → Decoder A) (e : ReadError) (front : List A) (before : Option K) (count i : ℕ) (bytes : List ℕ) (total : Result (List A × List ℕ) ℕ) → i < count → Fails e (item before bytes)
+pub ends : {A K : Type 0} (key : A → K) (item : Option K → Decoder A) (e : ReadError) (front : List A) (before : Option K) (count i : ℕ) (bytes : List ℕ)
+    (total : Result (List A × List ℕ) ℕ) → i < count → Fails e (item before bytes)
     → with_front front (items key item before (count - i) bytes) ≡ total → Fails e total
 unfolding items bind done
 ends key item Memory front before count i bytes total lt h so_far = tt
@@ -49,7 +57,8 @@ ends key item (Wrong left) front before count i bytes total lt h so_far =
     let one : with_front front (items key item before (count - i) bytes) ≡ Err left = rw (k, h) refl in
     sym so_far ∙ one
 
-pub is_done : {A K : Type 0} (key : A → K) (item : Option K → Decoder A) (front : List A) (before : Option K) (count i : ℕ) (bytes : List ℕ) (total : Result (List A × List ℕ) ℕ) → count ≤ i → with_front front (items key item before (count - i) bytes) ≡ total → total ≡ Ok (front, bytes)
+pub is_done : {A K : Type 0} (key : A → K) (item : Option K → Decoder A) (front : List A) (before : Option K) (count i : ℕ) (bytes : List ℕ)
+    (total : Result (List A × List ℕ) ℕ) → count ≤ i → with_front front (items key item before (count - i) bytes) ≡ total → total ≡ Ok (front, bytes)
 unfolding items done
 is_done {A = A} key item front before count i bytes total le so_far =
     let k : count - i ≡ 0 = omega arith in
@@ -58,7 +67,8 @@ is_done {A = A} key item front before count i bytes total le so_far =
 
 -- ---- where an item does not depend on the one before it
 
-any_before : {A : Type 0} (item : Decoder A) (before : Option A) (n : ℕ) (bytes : List ℕ) → items (λ x. x) (λ _. item) before n bytes ≡ items (λ x. x) (λ _. item) None n bytes
+any_before : {A : Type 0} (item : Decoder A) (before : Option A) (n : ℕ) (bytes : List ℕ)
+    → items (λ x. x) (λ _. item) before n bytes ≡ items (λ x. x) (λ _. item) None n bytes
 unfolding items
 any_before item before zero bytes = refl
 any_before item before (suc n) bytes = refl
@@ -67,16 +77,21 @@ pub each_begins : {A : Type 0} (item : Decoder A) (bytes : List ℕ) (n : ℕ) (
     → with_front [] (items (λ x. x) (λ _. item) None (n - 0) rest) ≡ each item bytes
 each_begins item bytes n rest e = begins (λ x. x) (λ _. item) bytes n rest e
 
-pub each_goes_on : {A : Type 0} (item : Decoder A) (front : List A) (count i : ℕ) (bytes : List ℕ) (x : A) (after : List ℕ) (total : Result (List A × List ℕ) ℕ) → i < count → item bytes ≡ Ok (x, after)
-    → with_front front (items (λ x. x) (λ _. item) None (count - i) bytes) ≡ total → with_front (front ++ x ∷ []) (items (λ x. x) (λ _. item) None (count - (i + 1)) after) ≡ total
+pub each_goes_on : {A : Type 0} (item : Decoder A) (front : List A) (count i : ℕ) (bytes : List ℕ) (x : A) (after : List ℕ) (total : Result (List A × List ℕ) ℕ)
+    → i < count → item bytes ≡ Ok (x, after)
+    → with_front front (items (λ x. x) (λ _. item) None (count - i) bytes) ≡ total
+    → with_front (front ++ x ∷ []) (items (λ x. x) (λ _. item) None (count - (i + 1)) after) ≡ total
 each_goes_on item front count i bytes x after total lt h so_far =
-    ap (with_front (front ++ x ∷ [])) (sym (any_before item (Some x) (count - (i + 1)) after)) ∙ goes_on (λ x. x) (λ _. item) front None count i bytes x after total lt h so_far
+    ap (with_front (front ++ x ∷ [])) (sym (any_before item (Some x) (count - (i + 1)) after))
+    ∙ goes_on (λ x. x) (λ _. item) front None count i bytes x after total lt h so_far
 
-pub each_ends : {A : Type 0} (item : Decoder A) (e : ReadError) (front : List A) (count i : ℕ) (bytes : List ℕ) (total : Result (List A × List ℕ) ℕ) → i < count → Fails e (item bytes)
+pub each_ends : {A : Type 0} (item : Decoder A) (e : ReadError) (front : List A) (count i : ℕ) (bytes : List ℕ) (total : Result (List A × List ℕ) ℕ) → i < count
+    → Fails e (item bytes)
     → with_front front (items (λ x. x) (λ _. item) None (count - i) bytes) ≡ total → Fails e total
 each_ends item e front count i bytes total lt h so_far = ends (λ x. x) (λ _. item) e front None count i bytes total lt h so_far
 
-pub each_is_done : {A : Type 0} (item : Decoder A) (front : List A) (count i : ℕ) (bytes : List ℕ) (total : Result (List A × List ℕ) ℕ) → count ≤ i → with_front front (items (λ x. x) (λ _. item) None (count - i) bytes) ≡ total → total ≡ Ok (front, bytes)
+pub each_is_done : {A : Type 0} (item : Decoder A) (front : List A) (count i : ℕ) (bytes : List ℕ) (total : Result (List A × List ℕ) ℕ) → count ≤ i
+    → with_front front (items (λ x. x) (λ _. item) None (count - i) bytes) ≡ total → total ≡ Ok (front, bytes)
 each_is_done item front count i bytes total le so_far = is_done (λ x. x) (λ _. item) front None count i bytes total le so_far
 
 -- a step that fails

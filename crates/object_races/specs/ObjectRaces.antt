@@ -35,9 +35,12 @@ pub record RunsWithRaces (o : RunOptions) (file : List ℕ) (image : ImageView) 
   pub run : IsNamedRun image (picker_of o.picker entries) (policy_of o.policy) o.steps input ran
   pub races : AreRaces image input ran.order.items words
   pub answer : a ≡ record { status = status_of ran.end; ran = Some ran; refusal = None }
-  pub writes_are : writes ≡ run_writes image ran (option_map string_bytes o.order_file) (option_map string_bytes o.record_file) ++ to_file file (report_text words) ∷ []
+  pub writes_are : writes ≡ run_writes image ran (option_map string_bytes o.order_file) (option_map string_bytes o.record_file)
+      ++ to_file file (report_text words) ∷ []
 
 -- The objects are linked, and their image is run. They were compiled from sources, so that their code is not sound is no refusal.
-pub data DecidesObjects (o : RunOptions) (file : List ℕ) (objects : List ObjectView) (input entries : List ℕ) (a : Answer) (writes : List Written) : Type 0 where
+pub data DecidesObjects (o : RunOptions) (file : List ℕ) (objects : List ObjectView) (input entries : List ℕ) (a : Answer)
+    (writes : List Written) : Type 0 where
   faulty : (fault : LinkFault) → Faulty objects fault → RefusesLink fault a writes → DecidesObjects o file objects input entries a writes
-  linked : (image : ImageView) → ImageOf objects image → RunsWithRaces o file image input entries a writes → DecidesObjects o file objects input entries a writes
+  linked : (image : ImageView) → ImageOf objects image → RunsWithRaces o file image input entries a writes
+      → DecidesObjects o file objects input entries a writes

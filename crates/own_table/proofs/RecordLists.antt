@@ -1,5 +1,6 @@
 -- Lists of records, after a write, a push and a filter.
-use Rattle.std.proofs.Common.{ℕ, ◌≡◌, ◌==◌, ◌<◌, ◌≤◌, suc, zero, Bool, true, false, not, cond, Option, Some, None, List, [], ◌∷◌, ◌++◌, length, get_or, refl, ap, sym, ◌∙◌, inl, inr, arith}
+use Rattle.std.proofs.Common.{ℕ, ◌≡◌, ◌==◌, ◌<◌, ◌≤◌, suc, zero, Bool, true, false, not, cond, Option, Some, None, List, [], ◌∷◌, ◌++◌, length, get_or, refl}
+use Rattle.std.proofs.Common.{ap, sym, ◌∙◌, inl, inr, arith}
 use Rattle.std.proofs.Math.ListN.{set}
 use Rattle.std.specs.List.{filter, list_all, position, position_or_len, remove}
 use Rattle.std.proofs.lemmas.Bool.{eqb-true, eqb-false, eq-eqb, ne_eqb, cases_eq, cases_Bool, cases_lt, and_parts, and_from}
@@ -26,19 +27,23 @@ swapped a b w x y z d = elim (cases_Bool (a == w)) [
 ]
 
 -- a write at the first record of the word
-found_set : (xs : List HoldRec) (i : ℕ) (h : HoldRec) (w : ℕ) → i < length xs → ((get_or xs i h).word == h.word) ≡ true → ((k : ℕ) → k < i → ((get_or xs k h).word == h.word) ≡ false) → record_of (set xs i h) w ≡ cond (h.word == w) (Some h) (record_of xs w)
+found_set : (xs : List HoldRec) (i : ℕ) (h : HoldRec) (w : ℕ) → i < length xs → ((get_or xs i h).word == h.word) ≡ true
+    → ((k : ℕ) → k < i → ((get_or xs k h).word == h.word) ≡ false) → record_of (set xs i h) w ≡ cond (h.word == w) (Some h) (record_of xs w)
 found_set [] i h w l at before = absurd (omega arith)
 found_set (x ∷ xs) zero h w l at before =
     let same : x.word ≡ h.word = eqb-true x.word h.word at in
     elim (cases_Bool (h.word == w)) [
       | inl e ↦ ap (λ p. cond p (Some h) (record_of xs w)) e ∙ sym (ap (λ p. cond p (Some h) (cond (x.word == w) (Some x) (record_of xs w))) e)
-      | inr e ↦ ap (λ p. cond p (Some h) (record_of xs w)) e ∙ sym (ap (λ p. cond p (Some h) (cond (x.word == w) (Some x) (record_of xs w))) e ∙ ap (λ p. cond p (Some x) (record_of xs w)) (ap (λ a. a == w) same ∙ e))
+      | inr e ↦ ap (λ p. cond p (Some h) (record_of xs w)) e
+          ∙ sym (ap (λ p. cond p (Some h) (cond (x.word == w) (Some x) (record_of xs w))) e ∙ ap (λ p. cond p (Some x) (record_of xs w))
+          (ap (λ a. a == w) same ∙ e))
     ]
 found_set (x ∷ xs) (suc i) h w l at before =
     ap (λ r. cond (x.word == w) (Some x) r) (found_set xs i h w (omega arith) at (λ k m. before (suc k) (omega arith)))
     ∙ swapped x.word h.word w (Some x) (Some h) (record_of xs w) (before zero (omega arith))
 
-pub record_of-set : (xs : List HoldRec) (i : ℕ) (h : HoldRec) → position (λ r. r.word == h.word) xs ≡ Some i → (w : ℕ) → record_of (set xs i h) w ≡ cond (h.word == w) (Some h) (record_of xs w)
+pub record_of-set : (xs : List HoldRec) (i : ℕ) (h : HoldRec) → position (λ r. r.word == h.word) xs ≡ Some i → (w : ℕ)
+    → record_of (set xs i h) w ≡ cond (h.word == w) (Some h) (record_of xs w)
 record_of-set xs i h e w =
     let at = position-Some (λ (r : HoldRec). r.word == h.word) xs i h e in
     found_set xs i h w at.0 at.1 at.2
@@ -48,11 +53,13 @@ pub record_of-nowhere : (xs : List HoldRec) (word : ℕ) → position (λ r. r.w
 record_of-nowhere xs word e =
     let p : HoldRec → Bool = λ r. r.word == word in
     find_at p xs ∙ slice_get_past xs (position_or_len p xs) (elim (cases_lt (position_or_len p xs) (length xs)) [
-      | inl l ↦ absurd (none-some (position_or_len p xs) (sym e ∙ ap (λ b. cond b (Some (position_or_len p xs)) None) (lt-ltb (position_or_len p xs) (length xs) l)))
+      | inl l ↦ absurd (none-some (position_or_len p xs)
+          (sym e ∙ ap (λ b. cond b (Some (position_or_len p xs)) None) (lt-ltb (position_or_len p xs) (length xs) l)))
       | inr g ↦ g
     ])
 
-found_here : (xs : List HoldRec) (i word : ℕ) (d : HoldRec) → i < length xs → ((get_or xs i d).word == word) ≡ true → ((k : ℕ) → k < i → ((get_or xs k d).word == word) ≡ false) → record_of xs word ≡ Some (get_or xs i d)
+found_here : (xs : List HoldRec) (i word : ℕ) (d : HoldRec) → i < length xs → ((get_or xs i d).word == word) ≡ true
+    → ((k : ℕ) → k < i → ((get_or xs k d).word == word) ≡ false) → record_of xs word ≡ Some (get_or xs i d)
 found_here [] i word d l at before = absurd (omega arith)
 found_here (x ∷ xs) zero word d l at before = ap (λ b. cond b (Some x) (record_of xs word)) at
 found_here (x ∷ xs) (suc i) word d l at before =
@@ -66,10 +73,13 @@ record_at xs i word r e g =
     found_here xs i word r at.0 at.1 at.2 ∙ ap Some (sym g)
 
 -- a push where there was none
-pub record_of-push : (xs : List HoldRec) (h : HoldRec) → record_of xs h.word ≡ None → (w : ℕ) → record_of (xs ++ h ∷ []) w ≡ cond (h.word == w) (Some h) (record_of xs w)
+pub record_of-push : (xs : List HoldRec) (h : HoldRec) → record_of xs h.word ≡ None → (w : ℕ)
+    → record_of (xs ++ h ∷ []) w ≡ cond (h.word == w) (Some h) (record_of xs w)
 record_of-push [] h e w = refl
 record_of-push (x ∷ xs) h e w =
-    let none : ((x.word == h.word) ≡ false) × (record_of xs h.word ≡ None) = elim (x.word == h.word) as (λ b. cond b (Some x) (record_of xs h.word) ≡ None → (b ≡ false) × (record_of xs h.word ≡ None)) [ true ↦ λ k. absurd (cc) | false ↦ λ k. (refl, k) ] e in
+    let none : ((x.word == h.word) ≡ false) × (record_of xs h.word ≡ None) =
+    elim (x.word == h.word) as (λ b. cond b (Some x) (record_of xs h.word) ≡ None → (b ≡ false)
+    × (record_of xs h.word ≡ None)) [ true ↦ λ k. absurd (cc) | false ↦ λ k. (refl, k) ] e in
     ap (λ r. cond (x.word == w) (Some x) r) (record_of-push xs h none.1 w) ∙ swapped x.word h.word w (Some x) (Some h) (record_of xs w) none.0
 
 abbrev is_other : ℕ → HoldRec → Bool
@@ -83,7 +93,9 @@ record_of-filter (x ∷ xs) word w = elim (cases_Bool (x.word == word)) [
       ap (λ b. record_of (cond (not b) (x ∷ filter (is_other word) xs) (filter (is_other word) xs)) w) e
       ∙ (record_of-filter xs word w ∙ elim (cases_Bool (word == w)) [
         | inl q ↦ ap (λ b. cond b None (record_of xs w)) q ∙ sym (ap (λ b. cond b None (cond (x.word == w) (Some x) (record_of xs w))) q)
-        | inr q ↦ ap (λ b. cond b None (record_of xs w)) q ∙ sym (ap (λ b. cond b None (cond (x.word == w) (Some x) (record_of xs w))) q ∙ ap (λ b. cond b (Some x) (record_of xs w)) (ap (λ a. a == w) (eqb-true x.word word e) ∙ q))
+        | inr q ↦ ap (λ b. cond b None (record_of xs w)) q
+            ∙ sym (ap (λ b. cond b None (cond (x.word == w) (Some x) (record_of xs w))) q ∙ ap (λ b. cond b (Some x) (record_of xs w))
+            (ap (λ a. a == w) (eqb-true x.word word e) ∙ q))
       ])
   | inr e ↦
       ap (λ b. record_of (cond (not b) (x ∷ filter (is_other word) xs) (filter (is_other word) xs)) w) e
@@ -99,21 +111,25 @@ none_left (x ∷ xs) word e =
     let both = sum_by-cons (is_of word) x xs in
     elim (cases_Bool (x.word == word)) [
       | inl q ↦ let here : is_of word x ≡ 1 = ap one q in absurd (omega (arith, both, e, here))
-      | inr q ↦ ap (λ b. cond (not b) (x ∷ filter (is_other word) xs) (filter (is_other word) xs)) q ∙ ap (λ rs. x ∷ rs) (none_left xs word (omega (arith, both, e)))
+      | inr q ↦ ap (λ b. cond (not b) (x ∷ filter (is_other word) xs) (filter (is_other word) xs)) q
+          ∙ ap (λ rs. x ∷ rs) (none_left xs word (omega (arith, both, e)))
     ]
 
-one_left : (xs : List HoldRec) (i word : ℕ) (d : HoldRec) → i < length xs → ((get_or xs i d).word == word) ≡ true → ((k : ℕ) → k < i → ((get_or xs k d).word == word) ≡ false) → records_of xs word ≤ 1 → filter (is_other word) xs ≡ remove xs i
+one_left : (xs : List HoldRec) (i word : ℕ) (d : HoldRec) → i < length xs → ((get_or xs i d).word == word) ≡ true
+    → ((k : ℕ) → k < i → ((get_or xs k d).word == word) ≡ false) → records_of xs word ≤ 1 → filter (is_other word) xs ≡ remove xs i
 one_left [] i word d l at before few = absurd (omega arith)
 one_left (x ∷ xs) zero word d l at before few =
     let here : is_of word x ≡ 1 = ap one at in
-    ap (λ b. cond (not b) (x ∷ filter (is_other word) xs) (filter (is_other word) xs)) at ∙ none_left xs word (omega (arith, sum_by-cons (is_of word) x xs, few, here))
+    ap (λ b. cond (not b) (x ∷ filter (is_other word) xs) (filter (is_other word) xs)) at
+    ∙ none_left xs word (omega (arith, sum_by-cons (is_of word) x xs, few, here))
 one_left (x ∷ xs) (suc i) word d l at before few =
     let other : (x.word == word) ≡ false = before zero (omega arith) in
     ap (λ b. cond (not b) (x ∷ filter (is_other word) xs) (filter (is_other word) xs)) other
     ∙ ap (λ rs. x ∷ rs) (one_left xs i word d (omega arith) at (λ k m. before (suc k) (omega arith)) (omega (arith, sum_by-cons (is_of word) x xs, few)))
 
 -- where each word has one record at most, the others are those without the one at its index
-pub others_are : (xs : List HoldRec) (i word : ℕ) (d : HoldRec) → position (λ r. r.word == word) xs ≡ Some i → records_of xs word ≤ 1 → remove xs i ≡ filter (λ r. not (r.word == word)) xs
+pub others_are : (xs : List HoldRec) (i word : ℕ) (d : HoldRec) → position (λ r. r.word == word) xs ≡ Some i → records_of xs word ≤ 1
+    → remove xs i ≡ filter (λ r. not (r.word == word)) xs
 others_are xs i word d e few =
     let at = position-Some (λ (r : HoldRec). r.word == word) xs i d e in
     sym (one_left xs i word d at.0 at.1 at.2 few)
@@ -133,7 +149,8 @@ list_all-set p xs i h all here = and_set (list_all p) p refl (λ x ys. refl) xs 
 pub list_all-push : (p : HoldRec → Bool) (xs : List HoldRec) (h : HoldRec) → list_all p xs ≡ true → p h ≡ true → list_all p (xs ++ h ∷ []) ≡ true
 list_all-push p xs h all here = and_push (list_all p) p refl (λ x ys. refl) xs h ∙ and_from (list_all p xs) (p h) all here
 
-pub records_of-set : (xs : List HoldRec) (i : ℕ) (h : HoldRec) (w : ℕ) → position (λ r. r.word == h.word) xs ≡ Some i → records_of (set xs i h) w ≡ records_of xs w
+pub records_of-set : (xs : List HoldRec) (i : ℕ) (h : HoldRec) (w : ℕ) → position (λ r. r.word == h.word) xs ≡ Some i
+    → records_of (set xs i h) w ≡ records_of xs w
 records_of-set xs i h w e =
     let at = position-Some (λ (r : HoldRec). r.word == h.word) xs i h e in
     let same : is_of w (get_or xs i h) ≡ is_of w h = ap (λ a. one (a == w)) (eqb-true (get_or xs i h).word h.word at.1) in
@@ -142,7 +159,9 @@ records_of-set xs i h w e =
 none_of : (xs : List HoldRec) (w : ℕ) → record_of xs w ≡ None → records_of xs w ≡ 0
 none_of [] w e = refl
 none_of (x ∷ xs) w e =
-    let none : ((x.word == w) ≡ false) × (record_of xs w ≡ None) = elim (x.word == w) as (λ b. cond b (Some x) (record_of xs w) ≡ None → (b ≡ false) × (record_of xs w ≡ None)) [ true ↦ λ k. absurd (cc) | false ↦ λ k. (refl, k) ] e in
+    let none : ((x.word == w) ≡ false) × (record_of xs w ≡ None) =
+    elim (x.word == w) as (λ b. cond b (Some x) (record_of xs w) ≡ None → (b ≡ false)
+    × (record_of xs w ≡ None)) [ true ↦ λ k. absurd (cc) | false ↦ λ k. (refl, k) ] e in
     let here : is_of w x ≡ 0 = ap one none.0 in
     sum_by-cons (is_of w) x xs ∙ omega (arith, here, none_of xs w none.1)
 
@@ -160,7 +179,8 @@ pub records_of-filter : (q : HoldRec → Bool) (xs : List HoldRec) (w : ℕ) →
 records_of-filter q xs w = omega (arith, sum_by-filter_both q (λ x. not (q x)) (λ x. refl) (is_of w) xs)
 
 -- where each word has one record at most, each record is the one of its word
-pub record_of-own : (xs : List HoldRec) → ((w : ℕ) → records_of xs w ≤ 1) → (k : ℕ) (d : HoldRec) → k < length xs → record_of xs (get_or xs k d).word ≡ Some (get_or xs k d)
+pub record_of-own : (xs : List HoldRec) → ((w : ℕ) → records_of xs w ≤ 1) → (k : ℕ) (d : HoldRec) → k < length xs
+    → record_of xs (get_or xs k d).word ≡ Some (get_or xs k d)
 record_of-own [] once k d l = absurd (omega arith)
 record_of-own (x ∷ xs) once zero d l = ap (λ b. cond b (Some x) (record_of xs x.word)) (eq-eqb x.word x.word refl)
 record_of-own (x ∷ xs) once (suc k) d l =

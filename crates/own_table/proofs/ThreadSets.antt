@@ -1,5 +1,6 @@
 -- Numbers as sets of bits.
-use Rattle.std.proofs.Common.{ℕ, ◌≡◌, ◌==◌, ◌≢◌, ◌<◌, ◌≤◌, ◌+◌, ◌-◌, ◌/◌, ◌%◌, ◌^◌, ◌&&◌, ◌||◌, suc, zero, Bool, true, false, not, refl, ap, sym, ◌∙◌, subst, inl, inr, arith, zero-add, add-one, bit_and, bit_or}
+use Rattle.std.proofs.Common.{ℕ, ◌≡◌, ◌==◌, ◌≢◌, ◌<◌, ◌≤◌, ◌+◌, ◌-◌, ◌/◌, ◌%◌, ◌^◌, ◌&&◌, ◌||◌, suc, zero, Bool, true, false, not, refl, ap, sym, ◌∙◌, subst}
+use Rattle.std.proofs.Common.{inl, inr, arith, zero-add, add-one, bit_and, bit_or}
 use Rattle.std.specs.Int.{bit_at}
 use Rattle.std.specs.Int.Bits.{and_self, and_zero_l, and_zero_r}
 use Rattle.std.proofs.lemmas.Bool.{eqb-false, eq-eqb, ne_eqb, cases_eq, cases_lt, false≢true, not-true, false_from_ne_true}
@@ -74,12 +75,14 @@ pub has_bit_without : (n t u : ℕ) → n < 2 ^ 64 → t < 64 → has_bit (bit_a
 has_bit_without n t u h k = elim (cases_lt u 64) [
   | inl l ↦
       let sum : bit_and (2 ^ 64 - 1 - 2 ^ t) (2 ^ u) + bit_and (2 ^ t) (2 ^ u) ≡ 2 ^ u = and-not 64 (2 ^ t) (2 ^ u) (pow_below t 64 k) (pow_below u 64 l) in
-      let order : bit_and (bit_and n (2 ^ 64 - 1 - 2 ^ t)) (2 ^ u) ≡ bit_and n (bit_and (2 ^ 64 - 1 - 2 ^ t) (2 ^ u)) = and_assoc (2 ^ u) n (2 ^ 64 - 1 - 2 ^ t) in
+      let order : bit_and (bit_and n (2 ^ 64 - 1 - 2 ^ t)) (2 ^ u) ≡ bit_and n (bit_and (2 ^ 64 - 1 - 2 ^ t) (2 ^ u)) =
+      and_assoc (2 ^ u) n (2 ^ 64 - 1 - 2 ^ t) in
       elim (cases_eq u t) [
         | inl e ↦
             let own : bit_and (2 ^ t) (2 ^ u) ≡ 2 ^ u = ap (λ z. bit_and (2 ^ z) (2 ^ u)) (sym e) ∙ and_self (2 ^ u) in
             let none : bit_and (2 ^ 64 - 1 - 2 ^ t) (2 ^ u) ≡ 0 = omega (arith, sum, own) in
-            no_bit_from (bit_and n (2 ^ 64 - 1 - 2 ^ t)) u (order ∙ (ap (bit_and n) none ∙ and_zero_r n)) ∙ sym (ap (λ b. has_bit n u && not b) (eq-eqb u t e) ∙ and_false (has_bit n u))
+            no_bit_from (bit_and n (2 ^ 64 - 1 - 2 ^ t)) u (order ∙ (ap (bit_and n) none ∙ and_zero_r n))
+            ∙ sym (ap (λ b. has_bit n u && not b) (eq-eqb u t e) ∙ and_false (has_bit n u))
         | inr d ↦
             let all : bit_and (2 ^ 64 - 1 - 2 ^ t) (2 ^ u) ≡ 2 ^ u = omega (arith, sum, apart t u d) in
             ap (λ m. not (m == 0)) (order ∙ ap (bit_and n) all) ∙ sym (ap (λ b. has_bit n u && not b) (ne_eqb u t d) ∙ and_true (has_bit n u))
@@ -106,7 +109,8 @@ some_bit zero n h d = absurd (d (omega (arith, h)))
 some_bit (suc k) n h d = elim (cases_eq (n % 2) 1) [
   | inl e ↦ (0, bit_at_lowest n ∙ e)
   | inr o ↦
-      let half : (u : ℕ) × (bit_at (n / 2) u ≡ 1) = some_bit k (n / 2) (shr_below n k 1 (subst (λ m. n < 2 ^ m) (sym (add-one k)) h)) (λ z. d (omega (arith, z))) in
+      let half : (u : ℕ) × (bit_at (n / 2) u ≡ 1) = some_bit k (n / 2) (shr_below n k 1 (subst (λ m. n < 2 ^ m) (sym (add-one k)) h))
+      (λ z. d (omega (arith, z))) in
       (suc half.0, bit_at-suc n half.0 ∙ half.1)
 ]
 

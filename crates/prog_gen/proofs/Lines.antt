@@ -4,7 +4,8 @@ use Rattle.prog_gen.specs.Program.{lines}
 
 -- the line of one number more
 pub lines_more : (line : ℕ → List ℕ) (n : ℕ) (old before new : List ℕ) → before ≡ old ++ lines line n → new ≡ before ++ line n → new ≡ old ++ lines line (n + 1)
-lines_more line n old before new e f = f ∙ (ap (λ t. t ++ line n) e ∙ (append_assoc old (lines line n) (line n) ∙ ap (λ k. old ++ lines line k) (sym (add-one n))))
+lines_more line n old before new e f = f ∙ (ap (λ t. t ++ line n) e ∙
+    (append_assoc old (lines line n) (line n) ∙ ap (λ k. old ++ lines line k) (sym (add-one n))))
 
 -- pieces that are written one after the other
 pub main_pieces : (old p a b f d g z x1 x2 x3 x4 x5 : List ℕ) → x1 ≡ old ++ p → x2 ≡ x1 ++ a → x3 ≡ x2 ++ b → x4 ≡ x3 ++ (f ++ (d ++ g)) → x5 ≡ x4 ++ z

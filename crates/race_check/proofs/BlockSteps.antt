@@ -62,7 +62,8 @@ module _ (items : List Item) (t l k : ℕ) (item : Item) (at : slice_get items k
           let here : Does items k t Enter = subst (λ z. Does items z t Enter) (sym s) d in
           absurd (none (same_thread_of items k item t Enter at here) (same_what_of items k item t Enter at here))
 
-  pub back_further : (found : Option ℕ) → Back items t l (k + 1) found → (item.t ≡ t → item.what ≡ Leave → ⊥) → (item.t ≡ t → item.what ≡ Enter → ⊥) → Back items t l k found
+  pub back_further : (found : Option ℕ) → Back items t l (k + 1) found → (item.t ≡ t → item.what ≡ Leave → ⊥) → (item.t ≡ t → item.what ≡ Enter → ⊥)
+      → Back items t l k found
   back_further found h stays none = record { within = omega (arith, lt); still_open = open_further found h stays; earliest = none_here none found h.earliest }
 
   pub back_entered : (found : Option ℕ) → Back items t l (k + 1) found → item.t ≡ t → item.what ≡ Enter → Back items t l k (Some k)
@@ -94,7 +95,8 @@ module _ (items : List Item) (t l k : ℕ) (item : Item) (at : slice_get items k
         first = λ f n. q.3 f (behind f n) n.earlier n.item;
       }
 
-pub back_all : (items : List Item) (t l k : ℕ) (found : Option ℕ) → k ≡ 0 → Back items t l k found → MatchOption found ((f : ℕ) → Enters items t l f → ⊥) (First items t l)
+pub back_all : (items : List Item) (t l k : ℕ) (found : Option ℕ) → k ≡ 0 → Back items t l k found
+    → MatchOption found ((f : ℕ) → Enters items t l f → ⊥) (First items t l)
 back_all items t l k found zero h = by found h.earliest
   where
     by : (o : Option ℕ) → Earliest items t l k o → MatchOption o ((f : ℕ) → Enters items t l f → ⊥) (First items t l)
@@ -146,7 +148,8 @@ enters_of : (items : List Item) (t l e : ℕ) → InBlock items t e l → Enters
 enters_of items t l e h = record { item = h.enters; earlier = h.later; still_open = h.still_open }
 
 -- no block is left at index n
-pub blocked_still : (items : List Item) (b : Blocks) (n : ℕ) → Blocked items b n → ((t f : ℕ) → Does items n t Leave → Enters items t n f → ⊥) → Blocked items b (n + 1)
+pub blocked_still : (items : List Item) (b : Blocks) (n : ℕ) → Blocked items b n → ((t f : ℕ) → Does items n t Leave → Enters items t n f → ⊥)
+    → Blocked items b (n + 1)
 blocked_still items b n h none w x =
     like_down items (rows_of b w x) (rows_of b w x) (IsBlock items w x n) (IsBlock items w x (n + 1)) (h w x) (λ s. refl) (block_more items w x n)
     (λ p q. back p q (below_or_at p n q.within))
@@ -154,14 +157,17 @@ blocked_still items b n h none w x =
     back : (p : ℕ) → IsBlock items w x (n + 1) p → (p < n) ⊎ (p ≡ n) → IsBlock items w x n p
     back p q (inl lt) = block_before items w x n p q lt
     back p q (inr e) =
-        absurd (none q.thread q.entry (subst (λ z. Does items z q.thread Leave) e q.left) (subst (λ z. Enters items q.thread z q.entry) e (enters_of items q.thread p q.entry q.whole)))
+        absurd (none q.thread q.entry (subst (λ z. Does items z q.thread Leave) e q.left)
+        (subst (λ z. Enters items q.thread z q.entry) e (enters_of items q.thread p q.entry q.whole)))
 
 used_more : (items : List Item) (w : Bool) (t from to x : ℕ) → IsUsed items w t from to x → IsUsed items w t from (to + 1) x
-used_more items w t from to x u = let lt = u.before in record { one = u.one; what = u.what; item = u.item; behind = u.behind; before = omega (arith, lt); hit = u.hit }
+used_more items w t from to x u = let lt = u.before in
+    record { one = u.one; what = u.what; item = u.item; behind = u.behind; before = omega (arith, lt); hit = u.hit }
 
 pub putting_first : (items : List Item) (b : Blocks) (t l from : ℕ) → Blocked items b l → Putting items b t l from (from + 1)
 putting_first items b t l from h w x =
-    like_down items (rows_of b w x) (rows_of b w x) (IsBlock items w x l) (λ p. IsBlock items w x l p ⊎ ((p ≡ l) × IsUsed items w t from (from + 1) x)) (h w x) (λ s. refl)
+    like_down items (rows_of b w x) (rows_of b w x) (IsBlock items w x l) (λ p. IsBlock items w x l p ⊎ ((p ≡ l) × IsUsed items w t from (from + 1) x)) (h w x)
+    (λ s. refl)
     (λ p q. inl q) back
   where
     back : (p : ℕ) → IsBlock items w x l p ⊎ ((p ≡ l) × IsUsed items w t from (from + 1) x) → IsBlock items w x l p
@@ -180,9 +186,11 @@ module _ (items : List Item) (t l from k : ℕ) (item : Item) (at : slice_get it
           absurd (none (same_thread_of items k item t u.what at here) (ap (λ z. hits w z x) (same_what_of items k item t u.what at here) ∙ u.hit))
 
   putting_same : (w : Bool) (x : ℕ) (old new : ℕ → ℕ) → (item.t ≡ t → hits w item.what x ≡ true → ⊥) → ((s : ℕ) → new s ≡ old s)
-      → Down items old (λ p. IsBlock items w x l p ⊎ ((p ≡ l) × IsUsed items w t from k x)) → Down items new (λ p. IsBlock items w x l p ⊎ ((p ≡ l) × IsUsed items w t from (k + 1) x))
+      → Down items old (λ p. IsBlock items w x l p ⊎ ((p ≡ l) × IsUsed items w t from k x))
+      → Down items new (λ p. IsBlock items w x l p ⊎ ((p ≡ l) × IsUsed items w t from (k + 1) x))
   putting_same w x old new none e h =
-      like_down items old new (λ p. IsBlock items w x l p ⊎ ((p ≡ l) × IsUsed items w t from k x)) (λ p. IsBlock items w x l p ⊎ ((p ≡ l) × IsUsed items w t from (k + 1) x)) h e to back
+      like_down items old new (λ p. IsBlock items w x l p ⊎ ((p ≡ l) × IsUsed items w t from k x))
+      (λ p. IsBlock items w x l p ⊎ ((p ≡ l) × IsUsed items w t from (k + 1) x)) h e to back
     where
       to : (p : ℕ) → IsBlock items w x l p ⊎ ((p ≡ l) × IsUsed items w t from k x) → IsBlock items w x l p ⊎ ((p ≡ l) × IsUsed items w t from (k + 1) x)
       to p (inl q) = inl q
@@ -210,26 +218,31 @@ module _ (items : List Item) (t l from k : ℕ) (item : Item) (at : slice_get it
       by b x g (inl so) =
           like_down items (rows_of new b x) (rows_of new b x) (λ p. (IsBlock items b x l p ⊎ ((p ≡ l) × IsUsed items b t from k x)) ⊎ (p ≡ l))
           (λ p. IsBlock items b x l p ⊎ ((p ≡ l) × IsUsed items b t from (k + 1) x))
-          (joined_down items (rows_of old b x) whole (rows_of new b x) (λ p. IsBlock items b x l p ⊎ ((p ≡ l) × IsUsed items b t from k x)) (λ p. p ≡ l) (h b x) w (g.there x so))
+          (joined_down items (rows_of old b x) whole (rows_of new b x) (λ p. IsBlock items b x l p ⊎ ((p ≡ l) × IsUsed items b t from k x)) (λ p. p ≡ l)
+          (h b x) w (g.there x so))
           (λ s. refl) to back
         where
           used : IsUsed items b t from (k + 1) x
           used = record { one = k; what = item.what; item = does items k item t item.what at e refl; behind = lt; before = omega arith; hit = so }
 
-          to : (p : ℕ) → (IsBlock items b x l p ⊎ ((p ≡ l) × IsUsed items b t from k x)) ⊎ (p ≡ l) → IsBlock items b x l p ⊎ ((p ≡ l) × IsUsed items b t from (k + 1) x)
+          to : (p : ℕ) → (IsBlock items b x l p ⊎ ((p ≡ l) × IsUsed items b t from k x)) ⊎ (p ≡ l) → IsBlock items b x l p
+              ⊎ ((p ≡ l) × IsUsed items b t from (k + 1) x)
           to p (inl (inl q)) = inl q
           to p (inl (inr q)) = inr (q.0, used)
           to p (inr s) = inr (s, used)
 
-          back : (p : ℕ) → IsBlock items b x l p ⊎ ((p ≡ l) × IsUsed items b t from (k + 1) x) → (IsBlock items b x l p ⊎ ((p ≡ l) × IsUsed items b t from k x)) ⊎ (p ≡ l)
+          back : (p : ℕ) → IsBlock items b x l p ⊎ ((p ≡ l) × IsUsed items b t from (k + 1) x) → (IsBlock items b x l p ⊎ ((p ≡ l) × IsUsed items b t from k x))
+              ⊎ (p ≡ l)
           back p (inl q) = inl (inl q)
           back p (inr q) = inr q.0
 
 -- the whole block is put in
-pub put_in : (items : List Item) (b : Blocks) (t l from to : ℕ) (item : Item) → slice_get items l ≡ Some item → item.t ≡ t → item.what ≡ Leave → to ≡ l → First items t l from
+pub put_in : (items : List Item) (b : Blocks) (t l from to : ℕ) (item : Item) → slice_get items l ≡ Some item → item.t ≡ t → item.what ≡ Leave → to ≡ l
+    → First items t l from
     → Putting items b t l from to → Blocked items b (l + 1)
 put_in items b t l from to item at owner leaves end first h w x =
-    like_down items (rows_of b w x) (rows_of b w x) (λ p. IsBlock items w x l p ⊎ ((p ≡ l) × IsUsed items w t from to x)) (IsBlock items w x (l + 1)) (h w x) (λ s. refl)
+    like_down items (rows_of b w x) (rows_of b w x) (λ p. IsBlock items w x l p ⊎ ((p ≡ l) × IsUsed items w t from to x)) (IsBlock items w x (l + 1)) (h w x)
+    (λ s. refl)
     on (λ p q. back p q (below_or_at p l q.within))
   where
     left : Does items l t Leave
@@ -279,7 +292,11 @@ put_in items b t l from to item at owner leaves end first h w x =
 -- ---- what an access adds
 
 pub adds_read : (what : What) (whole : ℕ → ℕ) (marks : ℕ → ℕ → ℕ) → writes what ≡ false → Adds (hits true what) whole marks marks
-adds_read what whole marks not_so = record { there = λ x h. absurd (true≢false (sym (and_parts (touches what x) (writes what) h).1 ∙ not_so)); others = λ x s h. refl }
+adds_read what whole marks not_so = record {
+  there = λ x h. absurd (true≢false (sym (and_parts (touches what x) (writes what) h).1 ∙ not_so));
+  others =
+      λ x s h. refl;
+}
 
 in_range : (what : What) (from to x : ℕ) → ((x : ℕ) → from ≤ x → x < to → touches what x ≡ true) → touches what x ≡ false → from ≤ x → x < to → ⊥
 in_range what from to x inside not_so le lt = true≢false (sym (inside x le lt) ∙ not_so)
@@ -341,7 +358,8 @@ gathers_two b what from to old mid new inside all so g h = record {
 abbrev pub Hit : List Item → What → (j p : ℕ) → Type 0
 Hit items what j p = (w : Bool) × (x : ℕ) × (against w what x ≡ true) × IsBlock items w x j p
 
-gathers_down : (items : List Item) (b : Blocks) (what : What) (j : ℕ) (old new : ℕ → ℕ) (P : ℕ → Type 0) → Blocked items b j → Down items old P → Gathers b what old new
+gathers_down : (items : List Item) (b : Blocks) (what : What) (j : ℕ) (old new : ℕ → ℕ) (P : ℕ → Type 0) → Blocked items b j → Down items old P
+    → Gathers b what old new
     → Down items new (λ p. P p ⊎ Hit items what j p)
 gathers_down items b what j old new P blocked h g = record { sound = λ k a e lt. sound k a e lt (g.only a.t); whole = λ k p a e r u. whole k p a e u r }
   where
@@ -421,7 +439,8 @@ module _ (items : List Item) (j u n : ℕ) (item : Item) (at : slice_get items n
           by (inl s) = met_within items j u (n + 1) n p m s
           by (inr s) = absurd (d (same_thread_of items n item u m.what at (subst (λ z. Does items z u m.what) s m.item)))
 
-  pub ahead_more : (b : Blocks) (row new : ℕ → ℕ) → Blocked items b j → Ahead items j u n row → item.t ≡ u → (item.what ≡ Leave → ⊥) → Gathers b item.what row new
+  pub ahead_more : (b : Blocks) (row new : ℕ → ℕ) → Blocked items b j → Ahead items j u n row → item.t ≡ u → (item.what ≡ Leave → ⊥)
+      → Gathers b item.what row new
       → Ahead items j u (n + 1) new
   ahead_more b row new blocked h e stays g = record {
     still_open = stays_open row h (λ p q. stays q);
@@ -458,7 +477,8 @@ module _ (items : List Item) (j u n : ℕ) (item : Item) (at : slice_get items n
               inr (m.write, m.byte, ap (λ z. against m.write z m.byte) same ∙ m.hit, m.block)
 
   -- the block is left
-  pub ahead_left : (row : ℕ → ℕ) → Ahead items j u n row → item.t ≡ u → item.what ≡ Leave → Down items row (λ p. Own items j u p ⊎ IsMet items j u (length items) p)
+  pub ahead_left : (row : ℕ → ℕ) → Ahead items j u n row → item.t ≡ u → item.what ≡ Leave
+      → Down items row (λ p. Own items j u p ⊎ IsMet items j u (length items) p)
   ahead_left row h e g =
       like_down items row row (λ p. Own items j u p ⊎ IsMet items j u n p) (λ p. Own items j u p ⊎ IsMet items j u (length items) p) h.down (λ s. refl) to back
     where
@@ -481,7 +501,8 @@ module _ (items : List Item) (j u n : ℕ) (item : Item) (at : slice_get items n
               let same : item.what ≡ m.what = same_what_of items n item u m.what at (subst (λ z. Does items z u m.what) s m.item) in
               absurd (none m.write m.byte (ap (λ z. against m.write z m.byte) (sym g ∙ same) ∙ m.hit))
 
-pub ahead_all : (items : List Item) (j u n : ℕ) (row : ℕ → ℕ) → length items ≤ n → Ahead items j u n row → Down items row (λ p. Own items j u p ⊎ IsMet items j u (length items) p)
+pub ahead_all : (items : List Item) (j u n : ℕ) (row : ℕ → ℕ) → length items ≤ n → Ahead items j u n row
+    → Down items row (λ p. Own items j u p ⊎ IsMet items j u (length items) p)
 ahead_all items j u n row le h =
     like_down items row row (λ p. Own items j u p ⊎ IsMet items j u n p) (λ p. Own items j u p ⊎ IsMet items j u (length items) p) h.down (λ s. refl) to back
   where
@@ -548,7 +569,8 @@ met_of items j u t p lt left m =
     let second : c.other ≡ other = same_Some c.other other (sym c.at_other ∙ m.threads.1.1) in
     let written : (writes one.what || writes c.other.what) ≡ true = subst (λ (z : Item). (writes z.what || writes c.other.what) ≡ true) first c.written in
     let h =
-    clash_by one.what other.what m.byte (subst (λ (z : Item). touches z.what m.byte ≡ true) first c.in_one) (subst (λ (z : Item). touches z.what m.byte ≡ true) second c.in_other)
+    clash_by one.what other.what m.byte (subst (λ (z : Item). touches z.what m.byte ≡ true) first c.in_one)
+    (subst (λ (z : Item). touches z.what m.byte ≡ true) second c.in_other)
     (subst (λ (z : Item). (writes one.what || writes z.what) ≡ true) second written) (cases_Bool (writes one.what)) in
     record {
       other = m.other;

@@ -122,7 +122,8 @@ module _ (items : List Item) (j : ℕ) (item : Item) (f : slice_get items j ≡ 
     where
       to : (p : ℕ) → Own items j t p ⊎ (p ≡ j) → Own items (j + 1) t p
       to p (inl o) = own_more t p o
-      to p (inr e) = subst (λ z. Own items (j + 1) t z) (sym e) (inr (record { starter = item.t; item = does items j item item.t (Spawned t) f refl is; before = omega arith }))
+      to p (inr e) = subst (λ z. Own items (j + 1) t z) (sym e)
+          (inr (record { starter = item.t; item = does items j item item.t (Spawned t) f refl is; before = omega arith }))
 
   -- another thread
   other_here : (t : ℕ) (old new : ℕ → ℕ) → (t ≡ item.t → ⊥) → (item.what ≡ Spawned t → ⊥) → Down items old (Own items j t) → ((s : ℕ) → new s ≡ old s)
@@ -174,10 +175,12 @@ module _ (items : List Item) (j : ℕ) (item : Item) (f : slice_get items j ≡ 
       by_thread t lt (inl e) (inr n) =
           subst (λ z. Down items (row_in new.rows.items z) (Own items (j + 1) z)) (sym e)
           (whole_here (row_in new.rows.items item.t)
-          (like_down items (row_in mid item.t) (row_in new.rows.items item.t) (λ p. p ≡ j) (λ p. p ≡ j) w (λ s. unspawned item.t s (no_own_start r)) (λ p q. q) (λ p q. q)))
+          (like_down items (row_in mid item.t) (row_in new.rows.items item.t) (λ p. p ≡ j) (λ p. p ≡ j) w (λ s. unspawned item.t s (no_own_start r)) (λ p q. q)
+          (λ p q. q)))
       by_thread t lt (inr d) (inl is) =
           start_here t (row_in mid t) (row_in new.rows.items t) (row_in mid item.t) is
-          (like_down items (row_in old.rows.items t) (row_in mid t) (Own items j t) (Own items j t) (h.others t lt d) (λ s. same t s d) (λ p q. q) (λ p q. q)) w (spawned t is lt)
+          (like_down items (row_in old.rows.items t) (row_in mid t) (Own items j t) (Own items j t) (h.others t lt d) (λ s. same t s d) (λ p q. q) (λ p q. q)) w
+          (spawned t is lt)
       by_thread t lt (inr d) (inr n) =
           other_here t (row_in old.rows.items t) (row_in new.rows.items t) d n (h.others t lt d) (λ s. unspawned t s n ∙ same t s d)
 
@@ -194,9 +197,18 @@ module _ (items : List Item) (j : ℕ) (item : Item) (f : slice_get items j ≡ 
     meets : (t : ℕ) → item.what ≡ Enter → p < j → Does items p t Leave → Meet items t p item.t j → Into p
 
   pub into_of : Regular items → (p : ℕ) → Leads items p j → Into p
-  into_of r p (same_thread t x y lt d e) = own (inl (record { what = x; item = subst (λ z. Does items p z x) (sym (same_thread_of items j item t y f e)) d; before = lt }))
+  into_of r p (same_thread t x y lt d e) = own (inl (record {
+    what = x;
+    item = subst (λ z. Does items p z x) (sym (same_thread_of items j item t y f e)) d;
+    before = lt;
+  }))
   into_of r p (starts t child y d e) =
-      own (inr (record { starter = t; item = subst (λ z. Does items p t (Spawned z)) (sym (same_thread_of items j item child y f e)) d; before = r.starts p j t child y d e }))
+      own (inr (record {
+        starter = t;
+        item = subst (λ z. Does items p t (Spawned z)) (sym (same_thread_of items j item child y f e)) d;
+        before =
+            r.starts p j t child y d e;
+      }))
   into_of r p (joins t child x lt d e) = of_child child (same_what_of items j item t (Joined child) f e) (record { what = x; item = d; before = lt })
   into_of r p (blocks t u lt d e m) =
       meets t (same_what_of items j item u Enter f e) lt d (subst (λ z. Meet items t p z j) (sym (same_thread_of items j item u Enter f e)) m)
@@ -240,12 +252,14 @@ module _ (items : List Item) (j : ℕ) (item : Item) (f : slice_get items j ≡ 
   own_row r clocks h = h.rows item.t (r.threads j item f)
 
   pub reached : (old new : Clocks) → Clocked items old j → length new.rows.items ≡ 64 → new.begun.items ≡ old.begun.items
-      → ((u s : ℕ) → (u ≡ item.t → ⊥) → row_in new.rows.items u s ≡ row_in old.rows.items u s) → Right items (row_at new.rows.items item.t) j → Reached items new j item.t
+      → ((u s : ℕ) → (u ≡ item.t → ⊥) → row_in new.rows.items u s ≡ row_in old.rows.items u s) → Right items (row_at new.rows.items item.t) j
+      → Reached items new j item.t
   reached old new h size begun others right = record {
     size = size;
     begun_size = ap length begun ∙ h.begun_size;
     right = right;
-    others = λ u lt d. like_down items (row_in old.rows.items u) (row_in new.rows.items u) (Own items j u) (Own items j u) (h.rows u lt) (λ s. others u s d) (λ p q. q) (λ p q. q);
+    others = λ u lt d. like_down items (row_in old.rows.items u) (row_in new.rows.items u) (Own items j u) (Own items j u) (h.rows u lt) (λ s. others u s d)
+        (λ p q. q) (λ p q. q);
     begun = subst (λ z. Begun items z j) (sym begun) h.begun;
   }
 
@@ -260,7 +274,8 @@ module _ (items : List Item) (j : ℕ) (item : Item) (f : slice_get items j ≡ 
   reached_idle r clocks child h is none =
       reached clocks clocks h h.size refl (λ u s d. refl)
       (right_joined r (row_at clocks.rows.items item.t) child is
-      (like_down items (row_in clocks.rows.items item.t) (row_in clocks.rows.items item.t) (Own items j item.t) (λ p. Own items j item.t p ⊎ IsOf items j child p) (own_row r clocks h)
+      (like_down items (row_in clocks.rows.items item.t) (row_in clocks.rows.items item.t) (Own items j item.t)
+      (λ p. Own items j item.t p ⊎ IsOf items j child p) (own_row r clocks h)
       (λ s. refl) (λ p o. inl o) back))
     where
       back : (p : ℕ) → Own items j item.t p ⊎ IsOf items j child p → Own items j item.t p
@@ -268,13 +283,16 @@ module _ (items : List Item) (j : ℕ) (item : Item) (f : slice_get items j ≡ 
       back p (inr i) = absurd (none p i)
 
   -- a child with items: what starts it is ordered before them
-  pub reached_joined : Regular items → (old new : Clocks) (child : ℕ) → Clocked items old j → item.what ≡ Joined child → child < 64 → ((p : ℕ) × IsOf items j child p)
-      → length new.rows.items ≡ 64 → new.begun.items ≡ old.begun.items → Greater (row_in old.rows.items item.t) (row_in old.rows.items child) (row_in new.rows.items item.t)
+  pub reached_joined : Regular items → (old new : Clocks) (child : ℕ) → Clocked items old j → item.what ≡ Joined child → child < 64
+      → ((p : ℕ) × IsOf items j child p)
+      → length new.rows.items ≡ 64 → new.begun.items ≡ old.begun.items
+      → Greater (row_in old.rows.items item.t) (row_in old.rows.items child) (row_in new.rows.items item.t)
       → ((u s : ℕ) → (u ≡ item.t → ⊥) → row_in new.rows.items u s ≡ row_in old.rows.items u s) → Reached items new j item.t
   reached_joined r old new child h is lt one size begun g others =
       reached old new h size begun others
       (right_joined r (row_at new.rows.items item.t) child is
-      (joined_down items (row_in old.rows.items item.t) (row_in old.rows.items child) (row_in new.rows.items item.t) (Own items j item.t) (IsOf items j child) (own_row r old h) of_child_down g))
+      (joined_down items (row_in old.rows.items item.t) (row_in old.rows.items child) (row_in new.rows.items item.t) (Own items j item.t) (IsOf items j child)
+      (own_row r old h) of_child_down g))
     where
       behind : (p : ℕ) → Own items j child p → (q : ℕ) × IsOf items j child q × ((p ≡ q) ⊎ Ordered items p q)
       behind p (inl i) = (p, i, inl refl)
@@ -282,7 +300,8 @@ module _ (items : List Item) (j : ℕ) (item : Item) (f : slice_get items j ≡ 
 
       of_child_down : Down items (row_in old.rows.items child) (IsOf items j child)
       of_child_down =
-          same_down items (row_in old.rows.items child) (row_in old.rows.items child) (Own items j child) (IsOf items j child) (h.rows child lt) (λ s. refl) behind
+          same_down items (row_in old.rows.items child) (row_in old.rows.items child) (Own items j child) (IsOf items j child) (h.rows child lt)
+          (λ s. refl) behind
           (λ p i. (p, inl i, inl refl))
 
   -- the row that an Enter changes
@@ -310,12 +329,15 @@ module _ (items : List Item) (j : ℕ) (item : Item) (f : slice_get items j ≡ 
       others u s d = ap (λ z. row_in z u s) is ∙ row_set_other old.rows.items t u s row (λ q. d (q ∙ e))
 
       here_is : row_at new.rows.items item.t ≡ row.latest
-      here_is = ap (λ z. row_at z item.t) is ∙ (ap (λ z. row_at (set old.rows.items t row) z) (sym e) ∙ ap (λ (z : Row). z.latest) (get_or-set_same old.rows.items t row no_row within))
+      here_is = ap (λ z. row_at z item.t) is ∙ (ap (λ z. row_at (set old.rows.items t row) z) (sym e) ∙ ap (λ (z : Row). z.latest)
+          (get_or-set_same old.rows.items t row no_row within))
 
   -- ---- item j is done
 
-  pub counted : (old : Clocks) (mid : List Row) → Reached items old j item.t → ((s : ℕ) → row_in old.rows.items item.t s ≤ row_in mid item.t s) → j < row_in mid item.t item.t
-      → ((s : ℕ) → (row_in mid item.t s ≡ row_in old.rows.items item.t s) ⊎ ((s ≡ item.t) × (row_in mid item.t s ≡ j + 1))) → Down items (row_in mid item.t) (λ p. p ≡ j)
+  pub counted : (old : Clocks) (mid : List Row) → Reached items old j item.t → ((s : ℕ) → row_in old.rows.items item.t s ≤ row_in mid item.t s)
+      → j < row_in mid item.t item.t
+      → ((s : ℕ) → (row_in mid item.t s ≡ row_in old.rows.items item.t s) ⊎ ((s ≡ item.t) × (row_in mid item.t s ≡ j + 1)))
+      → Down items (row_in mid item.t) (λ p. p ≡ j)
   counted old mid h kept gained only = with_item_down items (row_at old.rows.items item.t) (row_at mid item.t) j item f h.right kept gained only
 
   pub still_counted : Regular items → (mid new : List Row) → Down items (row_in mid item.t) (λ p. p ≡ j)

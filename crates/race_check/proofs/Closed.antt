@@ -31,11 +31,13 @@ or_left : (a b : Bool) → a ≡ true → (a || b) ≡ true
 or_left true b h = refl
 or_left false b h = absurd (false≢true h)
 
-may_lead : (items : List Item) (i j : ℕ) → Leads items i j → (a b : Item) → slice_get items i ≡ Some a → slice_get items j ≡ Some b → may (nat_lt i j) a b ≡ true
+may_lead : (items : List Item) (i j : ℕ) → Leads items i j → (a b : Item) → slice_get items i ≡ Some a → slice_get items j ≡ Some b
+    → may (nat_lt i j) a b ≡ true
 may_lead items i j (same_thread t x y lt f g) a b h k =
     let p = ap (λ (z : Item). z.t) (same_Some _ a (sym f ∙ h)) in
     let q = ap (λ (z : Item). z.t) (same_Some _ b (sym g ∙ k)) in
-    or_left _ (leaves a.what) (or_left _ (joins_it b.what a.t) (or_left _ (starts_it a.what b.t) (ap (λ c. c && (a.t == b.t)) (lt-ltb i j lt) ∙ eq-eqb a.t b.t (sym p ∙ q))))
+    or_left _ (leaves a.what) (or_left _ (joins_it b.what a.t)
+    (or_left _ (starts_it a.what b.t) (ap (λ c. c && (a.t == b.t)) (lt-ltb i j lt) ∙ eq-eqb a.t b.t (sym p ∙ q))))
 may_lead items i j (starts t child y f g) a b h k =
     let p = ap (λ (z : Item). starts_it z.what b.t) (same_Some _ a (sym f ∙ h)) in
     let q = ap (λ (z : Item). z.t) (same_Some _ b (sym g ∙ k)) in
@@ -45,7 +47,8 @@ may_lead items i j (joins t child x lt f g) a b h k =
     let q = ap (λ (z : Item). joins_it z.what a.t) (same_Some _ b (sym g ∙ k)) in
     or_left _ (leaves a.what) (or_right ((nat_lt i j && (a.t == b.t)) || starts_it a.what b.t) _ (sym q ∙ eq-eqb child a.t p))
 may_lead items i j (blocks t u lt f g m) a b h k =
-    or_right ((nat_lt i j && (a.t == b.t)) || starts_it a.what b.t || joins_it b.what a.t) _ (sym (ap (λ (z : Item). leaves z.what) (same_Some _ a (sym f ∙ h))))
+    or_right ((nat_lt i j && (a.t == b.t)) || starts_it a.what b.t || joins_it b.what a.t) _
+    (sym (ap (λ (z : Item). leaves z.what) (same_Some _ a (sym f ∙ h))))
 
 -- each item to which one of the set may lead is in it
 

@@ -83,7 +83,8 @@ more_listed items r words new row seen j item f right marked w h = record {
   all = λ x m k c lt p o. by x m k c lt o (below_or_at k j p);
 }
   where
-    race_of : (x : ℕ) → touches item.what x ≡ true → late_at seen.writes row item.t x ⊎ ((writes item.what ≡ true) × late_at seen.reads row item.t x) → Race items x
+    race_of : (x : ℕ) → touches item.what x ≡ true → late_at seen.writes row item.t x ⊎ ((writes item.what ≡ true) × late_at seen.reads row item.t x)
+        → Race items x
     race_of x t (inl l) = late_item items r row j item true seen.writes x f right marked.writes t (λ one e. or_left _ _ e) l
     race_of x t (inr (e, l)) = late_item items r row j item false seen.reads x f right marked.reads t (λ one g. or_right _ _ e) l
 
@@ -104,7 +105,8 @@ more_listed items r words new row seen j item f right marked w h = record {
         wrote s (inl p) = absurd (true≢false (sym p ∙ s))
         wrote s (inr p) = ap (λ (z : Item). writes z.what) e ∙ p
 
-        ways : (writes one.what ≡ true) ⊎ (writes one.what ≡ false) → late_at seen.writes row item.t x ⊎ ((writes item.what ≡ true) × late_at seen.reads row item.t x)
+        ways : (writes one.what ≡ true) ⊎ (writes one.what ≡ false) → late_at seen.writes row item.t x
+            ⊎ ((writes item.what ≡ true) × late_at seen.reads row item.t x)
         ways (inl s) = inl (late_of items row j m one item true seen.writes x g lt right marked.writes t s differ o)
         ways (inr s) = inr (wrote s (or_cases _ _ q), late_of items row j m one item false seen.reads x g lt right marked.reads t s differ o)
 

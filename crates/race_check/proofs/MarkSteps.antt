@@ -216,11 +216,13 @@ greater_right f g h b w = record {
     by s (inr e) (inr le) = inr (omega (arith, e, le))
 
 -- a group is given them: the bytes of a piece that is one
-pub group_there : (old new : Marks) (whole : ℕ → ℕ) (at end : ℕ) → IsPiece at end → Greater (cell old.groups (at / 4)) whole (cell new.groups (at / 4)) → new.bytes ≡ old.bytes
+pub group_there : (old new : Marks) (whole : ℕ → ℕ) (at end : ℕ) → IsPiece at end → Greater (cell old.groups (at / 4)) whole (cell new.groups (at / 4))
+    → new.bytes ≡ old.bytes
     → (x : ℕ) → at ≤ x → x < end → Greater (mark old x) whole (mark new x)
 group_there old new whole at end p g same x le lt =
     subst (λ b. Greater (mark old x) whole (λ s. max (cell new.groups (x / 4) s) (cell b x s))) (sym same)
-    (subst (λ k. Greater (λ s. max (cell old.groups k s) (cell old.bytes x s)) whole (λ s. max (cell new.groups k s) (cell old.bytes x s))) (sym (piece_group at end x p le lt))
+    (subst (λ k. Greater (λ s. max (cell old.groups k s) (cell old.bytes x s)) whole (λ s. max (cell new.groups k s) (cell old.bytes x s)))
+    (sym (piece_group at end x p le lt))
     (greater_left (cell old.groups (at / 4)) whole (cell new.groups (at / 4)) (cell old.bytes x) g))
 
 pub group_others : (old new : Marks) (at end : ℕ) → IsPiece at end → end - at ≡ 4 → ((k s : ℕ) → (k ≡ at / 4 → ⊥) → cell new.groups k s ≡ cell old.groups k s)
@@ -249,7 +251,8 @@ byte_others old new at end p other others same x s apart =
 pub gathers_none : (marks : ℕ → ℕ → ℕ) (from : ℕ) (row : ℕ → ℕ) → GathersFrom marks from from row row
 gathers_none marks from row = record { kept = λ s. omega arith; gained = λ x s le lt. absurd (omega (arith, le, lt)); only = λ s. inl refl }
 
-pub gathers_both : (marks : ℕ → ℕ → ℕ) (from n end : ℕ) (old mid new : ℕ → ℕ) → from ≤ n → n ≤ end → GathersFrom marks from n old mid → GathersFrom marks n end mid new
+pub gathers_both : (marks : ℕ → ℕ → ℕ) (from n end : ℕ) (old mid new : ℕ → ℕ) → from ≤ n → n ≤ end → GathersFrom marks from n old mid
+    → GathersFrom marks n end mid new
     → GathersFrom marks from end old new
 gathers_both marks from n end old mid new low high g h = record {
   kept = λ s. let a = g.kept s in let b = h.kept s in omega (arith, a, b);
@@ -272,7 +275,8 @@ gathers_both marks from n end old mid new low high g h = record {
     last s (inr (x, le, lt, q)) = inr (x, omega (arith, low, le), lt, q)
 
 -- the row of the group first, and then those of its bytes
-pub gathers_piece : (m : Marks) (at end : ℕ) (old mid new : ℕ → ℕ) → IsPiece at end → Greater old (cell m.groups (at / 4)) mid → GathersFrom (cell m.bytes) at end mid new
+pub gathers_piece : (m : Marks) (at end : ℕ) (old mid new : ℕ → ℕ) → IsPiece at end → Greater old (cell m.groups (at / 4)) mid
+    → GathersFrom (cell m.bytes) at end mid new
     → GathersFrom (mark m) at end old new
 gathers_piece m at end old mid new p g h = record {
   kept = λ s. let a = g.kept s in let b = h.kept s in omega (arith, a, b);
@@ -291,14 +295,16 @@ gathers_piece m at end old mid new p g h = record {
         let e = group x s le lt in
         omega (arith, a, b, c, e)
 
-    of_group : (s : ℕ) → new s ≡ mid s → (mid s ≡ old s) ⊎ (mid s ≡ cell m.groups (at / 4) s) → (new s ≡ old s) ⊎ ((x : ℕ) × (at ≤ x) × (x < end) × (new s ≡ mark m x s))
+    of_group : (s : ℕ) → new s ≡ mid s → (mid s ≡ old s) ⊎ (mid s ≡ cell m.groups (at / 4) s) → (new s ≡ old s)
+        ⊎ ((x : ℕ) × (at ≤ x) × (x < end) × (new s ≡ mark m x s))
     of_group s e (inl q) = inl (e ∙ q)
     of_group s e (inr q) =
         let up = piece_up at end p in
         let c = h.gained at s (omega arith) up in
         inr (at, omega arith, up, omega (arith, e, q, c))
 
-    only : (s : ℕ) → (new s ≡ mid s) ⊎ ((x : ℕ) × (at ≤ x) × (x < end) × (new s ≡ cell m.bytes x s)) → (new s ≡ old s) ⊎ ((x : ℕ) × (at ≤ x) × (x < end) × (new s ≡ mark m x s))
+    only : (s : ℕ) → (new s ≡ mid s) ⊎ ((x : ℕ) × (at ≤ x) × (x < end) × (new s ≡ cell m.bytes x s)) → (new s ≡ old s)
+        ⊎ ((x : ℕ) × (at ≤ x) × (x < end) × (new s ≡ mark m x s))
     only s (inl e) = of_group s e (g.only s)
     only s (inr (x, le, lt, q)) =
         let a = g.gained s in

@@ -46,7 +46,18 @@ all_regular items n le h = record {
     by i j t child b d e (inr ge) =
         let q = index_within items i (record { t = t; what = Spawned child }) d in
         absurd (h.starts i (record { t = t; what = Spawned child }) (omega (arith, q, le)) d
-        (record { child = child; is = refl; item = record { at = j; item = record { t = child; what = b }; there = e; before = omega (arith, ge); owner = refl } }))
+        (record {
+          child = child;
+          is = refl;
+          item = record {
+            at = j;
+            item = record { t = child; what = b };
+            there = e;
+            before = omega (arith, ge);
+            owner =
+                refl;
+          };
+        }))
 
 pub never_late : (items : List Item) → Regular items → (i : ℕ) (a : Item) → slice_get items i ≡ Some a → StartsLate items a.what (i + 1) → ⊥
 never_late items r i a f s =

@@ -52,7 +52,8 @@ pub record IsUsed (items : List Item) (write : Bool) (t from to x : ℕ) : Type 
 
 -- the same while the block of thread t that is left at index l is put in: its accesses between two indexes are
 abbrev pub Putting : List Item → Blocks → (t l from to : ℕ) → Type 0
-Putting items b t l from to = (write : Bool) (x : ℕ) → Down items (rows_of b write x) (λ p. IsBlock items write x l p ⊎ ((p ≡ l) × IsUsed items write t from to x))
+Putting items b t l from to = (write : Bool) (x : ℕ) → Down items (rows_of b write x)
+    (λ p. IsBlock items write x l p ⊎ ((p ≡ l) × IsUsed items write t from to x))
 
 -- The rows of the bytes that are hit gain the counters of one more; the others stay.
 pub record Adds (hit : ℕ → Bool) (row : ℕ → ℕ) (old new : ℕ → ℕ → ℕ) : Type 0 where

@@ -41,18 +41,23 @@ module _ (r : Races) where
   schedule_wanted = wanted_given Schedule (schedule_file e.options.picker)
 
   -- not all sources were read
-  pub ends_at_sources : (old mid new : HostState) (u : Unread) (a : Answer) → StopsReading old sources_wanted mid u → HaltsAmong sources_wanted u mid new a → Ends (wants_of e) (DecidesOn r) old new a
-  ends_at_sources old mid new u a s h = halted_ends (wants_of e) (DecidesOn r) old mid new u a (halted_before old mid new sources_wanted (input_wanted ++ schedule_wanted) u a (s, h))
+  pub ends_at_sources : (old mid new : HostState) (u : Unread) (a : Answer) → StopsReading old sources_wanted mid u → HaltsAmong sources_wanted u mid new a
+      → Ends (wants_of e) (DecidesOn r) old new a
+  ends_at_sources old mid new u a s h = halted_ends (wants_of e) (DecidesOn r) old mid new u a
+      (halted_before old mid new sources_wanted (input_wanted ++ schedule_wanted) u a (s, h))
 
   -- the input was not read
-  pub ends_at_input : (old first mid new : HostState) (sources : List (List ℕ)) (u : Unread) (a : Answer) → ReadsWithin old sources_wanted sources first → StopsReading first input_wanted mid u → HaltsAmong input_wanted u mid new a
+  pub ends_at_input : (old first mid new : HostState) (sources : List (List ℕ)) (u : Unread) (a : Answer) → ReadsWithin old sources_wanted sources first
+      → StopsReading first input_wanted mid u → HaltsAmong input_wanted u mid new a
       → Ends (wants_of e) (DecidesOn r) old new a
   ends_at_input old first mid new sources u a reads s h =
       halted_ends (wants_of e) (DecidesOn r) old mid new (behind (length sources_wanted) u) a
-      (halted_behind old first mid new sources_wanted (input_wanted ++ schedule_wanted) sources u a reads (halted_before first mid new input_wanted schedule_wanted u a (s, h)))
+      (halted_behind old first mid new sources_wanted (input_wanted ++ schedule_wanted) sources u a reads
+      (halted_before first mid new input_wanted schedule_wanted u a (s, h)))
 
   -- the schedule was not read
-  pub ends_at_schedule : (old first second mid new : HostState) (sources inputs : List (List ℕ)) (u : Unread) (a : Answer) → ReadsWithin old sources_wanted sources first → ReadsWithin first input_wanted inputs second
+  pub ends_at_schedule : (old first second mid new : HostState) (sources inputs : List (List ℕ)) (u : Unread) (a : Answer)
+      → ReadsWithin old sources_wanted sources first → ReadsWithin first input_wanted inputs second
       → StopsReading second schedule_wanted mid u → HaltsAmong schedule_wanted u mid new a → Ends (wants_of e) (DecidesOn r) old new a
   ends_at_schedule old first second mid new sources inputs u a reads also s h =
       halted_ends (wants_of e) (DecidesOn r) old mid new (behind (length sources_wanted) (behind (length input_wanted) u)) a
@@ -60,7 +65,8 @@ module _ (r : Races) where
       (halted_behind first second mid new input_wanted schedule_wanted inputs u a also (s, h)))
 
   -- the texts that were read in three parts
-  whole : (old first : HostState) (sources : List (List ℕ)) (input schedule : List ℕ) → ReadsWithin old sources_wanted sources first → (input_file e ≡ None → input ≡ []) → (schedule_file e.options.picker ≡ None → schedule ≡ [])
+  whole : (old first : HostState) (sources : List (List ℕ)) (input schedule : List ℕ) → ReadsWithin old sources_wanted sources first
+      → (input_file e ≡ None → input ≡ []) → (schedule_file e.options.picker ≡ None → schedule ≡ [])
       → AreTexts e (sources ++ (bytes_of (input_file e) input ++ bytes_of (schedule_file e.options.picker) schedule)) sources input schedule
   whole old first sources input schedule reads no_input no_schedule = record {
     texts_are = refl;
@@ -70,14 +76,19 @@ module _ (r : Races) where
   }
 
   -- all files were read, and what is decided on their texts is written
-  pub ends_read : (old first second mid new : HostState) (sources : List (List ℕ)) (input schedule : List ℕ) (d : Result Decision AllocError) (a : Answer) → ReadsWithin old sources_wanted sources first
-      → ReadsWithin first input_wanted (bytes_of (input_file e) input) second → ReadsWithin second schedule_wanted (bytes_of (schedule_file e.options.picker) schedule) mid → (input_file e ≡ None → input ≡ [])
-      → (schedule_file e.options.picker ≡ None → schedule ≡ []) → IfOk d (λ x. Decides r sources input schedule x.answer (map written_of x.writes.items)) → Settles mid new d a → Ends (wants_of e) (DecidesOn r) old new a
+  pub ends_read : (old first second mid new : HostState) (sources : List (List ℕ)) (input schedule : List ℕ) (d : Result Decision AllocError) (a : Answer)
+      → ReadsWithin old sources_wanted sources first
+      → ReadsWithin first input_wanted (bytes_of (input_file e) input) second
+      → ReadsWithin second schedule_wanted (bytes_of (schedule_file e.options.picker) schedule) mid → (input_file e ≡ None → input ≡ [])
+      → (schedule_file e.options.picker ≡ None → schedule ≡ []) → IfOk d (λ x. Decides r sources input schedule x.answer (map written_of x.writes.items))
+      → Settles mid new d a → Ends (wants_of e) (DecidesOn r) old new a
   ends_read old first second mid new sources input schedule d a reads also last no_input no_schedule decides settles =
       let inputs = bytes_of (input_file e) input in
       let schedules = bytes_of (schedule_file e.options.picker) schedule in
       let texts_are = whole old first sources input schedule reads no_input no_schedule in
       ends_settled (wants_of e) (DecidesOn r) old mid new (sources ++ (inputs ++ schedules)) d a
-      (reads_append old first mid sources_wanted (input_wanted ++ schedule_wanted) sources (inputs ++ schedules) reads (reads_append first second mid input_wanted schedule_wanted inputs schedules also last))
-      (IfOk-weaker d (λ x. Decides r sources input schedule x.answer (map written_of x.writes.items)) (λ x. DecidesOn r (sources ++ (inputs ++ schedules)) x.answer (map written_of x.writes.items))
+      (reads_append old first mid sources_wanted (input_wanted ++ schedule_wanted) sources (inputs ++ schedules) reads
+      (reads_append first second mid input_wanted schedule_wanted inputs schedules also last))
+      (IfOk-weaker d (λ x. Decides r sources input schedule x.answer (map written_of x.writes.items))
+      (λ x. DecidesOn r (sources ++ (inputs ++ schedules)) x.answer (map written_of x.writes.items))
       (λ x h. record { sources = sources; input = input; schedule = schedule; texts_are = texts_are; decides = h }) decides) settles

@@ -1,5 +1,6 @@
 -- The items of a replay fit the threads that are started.
-use Rattle.std.proofs.Common.{ℕ, ℤ, ◌≡◌, ◌<◌, ◌≤◌, ◌+◌, ◌*◌, ◌^◌, ◌⊎◌, inl, inr, Bool, true, false, cond, refl, ap, sym, ◌∙◌, subst, List, [], ◌∷◌, ◌++◌, Option, Some, None, arith}
+use Rattle.std.proofs.Common.{ℕ, ℤ, ◌≡◌, ◌<◌, ◌≤◌, ◌+◌, ◌*◌, ◌^◌, ◌⊎◌, inl, inr, Bool, true, false, cond, refl, ap, sym, ◌∙◌, subst, List, [], ◌∷◌, ◌++◌}
+use Rattle.std.proofs.Common.{Option, Some, None, arith}
 use Rattle.std.specs.Prelude.{nat_lt, nat_le, ◌&&◌, ◌||◌, ◌-◌, ◌/◌, ◌%◌}
 use Rattle.std.proofs.lemmas.Bool.{ltb-true, leb-true, eqb-true, cases_lt, false≢true}
 use Rattle.std.proofs.Math.Nat.{mod-eq_of_lt}
@@ -27,7 +28,8 @@ use Rattle.tx_events.specs.declared.Item.{Item}
 use Rattle.tx_events.specs.declared.What.{What}
 use Rattle.tx_events.specs.declared.What.TheVariants.{Read, Write, Enter, Leave, Spawned}
 use Rattle.tx_events.specs.Thread.{Thread, is_empty, rest_of}
-use Rattle.tx_events.specs.Memory.{update, MemoryLayout, can_access, is_aligned, is_mapped, in_globals, in_stacks, globals_start, globals_end, stacks_start, stack_stride, stack_size, word_of, word_bound}
+use Rattle.tx_events.specs.Memory.{update, MemoryLayout, can_access, is_aligned, is_mapped, in_globals, in_stacks, globals_start, globals_end, stacks_start}
+use Rattle.tx_events.specs.Memory.{stack_stride, stack_size, word_of, word_bound}
 use Rattle.tx_events.specs.Alone.{Inner, Inside, at_start, goes_on, BlockStep, Goes, Leaves, Halts, Never, outcome}
 use Rattle.tx_events.specs.World.{World, Alive, alive, Replays, EventStep, BlockEffect, Joins, target, ends, first_world}
 use Rattle.tx_events.proofs.WordLemmas.{access_below, is_accessed, and_left}
@@ -136,7 +138,8 @@ module _ {S : Type 0} (a : Thread S) (p : MemoryLayout) (few : p.limit ≤ 64) (
     still : (items : List Item) → v.started ≡ w.started → Numbered v → Fits w.started items w.started → Goes_to w v items
     still items e f g = record { numbered = f; fits = subst (λ z. Fits w.started items z) (sym e) g }
 
-    moves : (items : List Item) (o : Option (Alive S)) → v.started ≡ w.started → v.threads ≡ update w.threads t o → Fits w.started items w.started → Goes_to w v items
+    moves : (items : List Item) (o : Option (Alive S)) → v.started ≡ w.started → v.threads ≡ update w.threads t o → Fits w.started items w.started
+        → Goes_to w v items
     moves items o e f g = still items e (moved w v h t o lt f e) g
 
     halts : (items : List Item) (end : End) → v ≡ ends w end → Fits w.started items w.started → Goes_to w v items
@@ -155,9 +158,14 @@ module _ {S : Type 0} (a : Thread S) (p : MemoryLayout) (few : p.limit ≤ 64) (
         let free : n < 64 = omega (arith, below, few) in
         let started : v.started ≡ n + 1 = ap (λ (z : World S). z.started) e ∙ s in
         let threads : v.threads ≡ update (update w.threads n child) t own = ap (λ (z : World S). z.threads) e ∙ f in
-        let all = updated (update w.threads n child) t (n + 1) own (omega (arith, lt)) (updated w.threads n (n + 1) child (omega arith) (more w.threads n h.below)) in
+        let all = updated (update w.threads n child) t (n + 1) own (omega (arith, lt))
+        (updated w.threads n (n + 1) child (omega arith) (more w.threads n h.below)) in
         record {
-          numbered = record { few = omega (arith, started, free); below = subst (λ z. Below v.threads z) (sym started) (subst (λ f. Below f (n + 1)) (sym threads) all) };
+          numbered = record {
+            few = omega (arith, started, free);
+            below = subst (λ z. Below v.threads z) (sym started)
+                (subst (λ f. Below f (n + 1)) (sym threads) all);
+          };
           fits = ((lt, zero_end t n lt, (refl, free)), sym started);
         }
     spawns false is x child own end e s f = halts [] end e refl
@@ -179,7 +187,8 @@ module _ {S : Type 0} (a : Thread S) (p : MemoryLayout) (few : p.limit ≤ 64) (
     step_fits s (Raise kind can) d = absurd d
     step_fits s (Load addr size vol) d = either (can_access p addr size) _ _ (Trapped BadAddress) (access_items p t (Load addr size vol)) d refl refl
         (access_fits t w.started lt (Load addr size vol))
-    step_fits s (Store addr size value vol) d = either (can_access p addr size) _ _ (Trapped BadAddress) (access_items p t (Store addr size value vol)) d refl refl
+    step_fits s (Store addr size value vol) d = either (can_access p addr size) _ _ (Trapped BadAddress)
+        (access_items p t (Store addr size value vol)) d refl refl
         (access_fits t w.started lt (Store addr size value vol))
     step_fits s (Out c) d = moves [] _ (ap (λ (z : World S). z.started) d) (ap (λ (z : World S). z.threads) d) refl
     step_fits s Inp d = moves [] _ (ap (λ (z : World S). z.started) d) (ap (λ (z : World S). z.threads) d) refl

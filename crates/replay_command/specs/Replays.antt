@@ -80,11 +80,14 @@ spent_line index = codes "cost out " ++ decimal index
 
 -- ---- the steps
 
--- The order is replayed on the program that is bound, with this input: it is a run of it with that output and end, or an entry is not enabled, or it costs too much.
+-- The order is replayed on the program that is bound, with this input: it is a run of it with that output and end, or an entry is not enabled, or it costs too
+-- much.
 pub data DecidesOrder (r : Replay) (g : Given) (input order : List ℕ) (a : Answer) (writes : List Written) : Type 0 where
   replayed : (o : Replayed) → AnswersOrder g input order r.cost (Ok o) → Answers o a writes → DecidesOrder r g input order a writes
-  not_a_run : (index : ℕ) → AnswersOrder g input order r.cost (Err (NotARun index)) → Refuses 13 (not_a_run_line (order_file r) index) Refused a writes → DecidesOrder r g input order a writes
-  spent : (index : ℕ) → AnswersOrder g input order r.cost (Err (Spent index)) → Refuses 15 (spent_line index) CostOut a writes → DecidesOrder r g input order a writes
+  not_a_run : (index : ℕ) → AnswersOrder g input order r.cost (Err (NotARun index)) → Refuses 13 (not_a_run_line (order_file r) index) Refused a writes
+      → DecidesOrder r g input order a writes
+  spent : (index : ℕ) → AnswersOrder g input order r.cost (Err (Spent index)) → Refuses 15 (spent_line index) CostOut a writes
+      → DecidesOrder r g input order a writes
 
 -- the program is bound: functions have safe bodies where they are safe, slots name the final overriders, and thread 0 starts in `main`
 pub record DecidesBound (r : Replay) (p : Program) (input order : List ℕ) (a : Answer) (writes : List Written) : Type 0 where
@@ -119,7 +122,8 @@ OnKept r texts input order a writes = (entries : List ℕ) → Keeps most_entrie
 
 -- the order is read, on the texts of the sources
 pub data Decides (r : Replay) (texts : List (List ℕ)) (input order : List ℕ) (a : Answer) (writes : List Written) : Type 0 where
-  bad_schedule : (line : ℕ) → IsFirstBad order line → Refuses 10 (bad_schedule_line (order_file r) line) BadSchedule a writes → Decides r texts input order a writes
+  bad_schedule : (line : ℕ) → IsFirstBad order line → Refuses 10 (bad_schedule_line (order_file r) line) BadSchedule a writes
+      → Decides r texts input order a writes
   says : (entries : List ℕ) → Says order entries → OnEntries r texts input entries a writes → Decides r texts input order a writes
 
 -- ---- the command

@@ -22,7 +22,8 @@ use Rattle.vm_thread.specs.declared.thread.Here.{Here}
 
 -- what the laws of folding say of a program and one that it folds to
 abbrev pub KeepsRuns : Type 0
-KeepsRuns = (g h : Given) → WellFormed g.program → program_of h.program ≡ folded_program (program_of g.program) → h.choices ≡ g.choices → Keeps (linked_of g) (linked_of h)
+KeepsRuns = (g h : Given) → WellFormed g.program → program_of h.program ≡ folded_program (program_of g.program) → h.choices ≡ g.choices
+    → Keeps (linked_of g) (linked_of h)
 
 abbrev pub KeepsSize : Type 0
 KeepsSize = (p : Program) → globals_size (folded_program (program_of p)) ≡ globals_size (program_of p)
@@ -34,21 +35,28 @@ KeepsCells = (g h : Given) → WellFormed g.program → program_of h.program ≡
 abbrev memory_of : Given → ℕ → ℕ
 memory_of g = with_cells no_bytes (first_cells (typed g) (linked_of g))
 
-runs_kept : KeepsRuns → KeepsSize → KeepsCells → (g h : Given) → WellFormed g.program → program_of h.program ≡ folded_program (program_of g.program) → h.choices ≡ g.choices
+runs_kept : KeepsRuns → KeepsSize → KeepsCells → (g h : Given) → WellFormed g.program → program_of h.program ≡ folded_program (program_of g.program)
+    → h.choices ≡ g.choices
     → (input order out : List ℕ) (end : End) → RunsTo h input order out end → RunsTo g input order out end
 runs_kept keeps size cells g h well same choices input order out end r =
-    let layout : layout_in h ≡ layout_in g = ap (λ (n : ℕ). record { globals = (n + 7) / 8 * 8; limit = THREAD_LIMIT }) (ap globals_size same ∙ size g.program) in
+    let layout : layout_in h ≡ layout_in g = ap (λ (n : ℕ). record { globals = (n + 7) / 8 * 8; limit = THREAD_LIMIT })
+    (ap globals_size same ∙ size g.program) in
     let memory : memory_of h ≡ memory_of g = ap (with_cells no_bytes) (cells g h well same choices) in
-    let back : IsReplay (linked_of g) (layout_in h) (memory_of h) input order r.world = (keeps g h well same choices).back (layout_in h) (memory_of h) input order r.world (omega arith) r.replays in
-    let placed : IsReplay (linked_of g) (layout_in g) (memory_of h) input order r.world = subst (λ (p : MemoryLayout). IsReplay (linked_of g) p (memory_of h) input order r.world) layout back in
-    let moved : IsReplay (linked_of g) (layout_in g) (memory_of g) input order r.world = subst (λ (m : ℕ → ℕ). IsReplay (linked_of g) (layout_in g) m input order r.world) memory placed in
+    let back : IsReplay (linked_of g) (layout_in h) (memory_of h) input order r.world =
+    (keeps g h well same choices).back (layout_in h) (memory_of h) input order r.world (omega arith) r.replays in
+    let placed : IsReplay (linked_of g) (layout_in g) (memory_of h) input order r.world =
+    subst (λ (p : MemoryLayout). IsReplay (linked_of g) p (memory_of h) input order r.world) layout back in
+    let moved : IsReplay (linked_of g) (layout_in g) (memory_of g) input order r.world =
+    subst (λ (m : ℕ → ℕ). IsReplay (linked_of g) (layout_in g) m input order r.world) memory placed in
     record { world = with_threads r.world moved.threads; replays = moved.replay; out_is = r.out_is; end_is = r.end_is }
 
 linked_runs : KeepsRuns → KeepsSize → KeepsCells → (fold : Bool) (p q : Program) (c : Choices) → WellFormed p → IsCompiled fold p q
-    → (input order out : List ℕ) (end : End) → RunsTo (record { program = q; choices = c }) input order out end → RunsTo (record { program = p; choices = c }) input order out end
+    → (input order out : List ℕ) (end : End) → RunsTo (record { program = q; choices = c }) input order out end
+    → RunsTo (record { program = p; choices = c }) input order out end
 linked_runs keeps size cells true p q c well is input order out end r =
     runs_kept keeps size cells (record { program = p; choices = c }) (record { program = q; choices = c }) well is refl input order out end r
-linked_runs keeps size cells false p q c well is input order out end r = subst (λ (x : Program). RunsTo (record { program = x; choices = c }) input order out end) is r
+linked_runs keeps size cells false p q c well is input order out end r =
+    subst (λ (x : Program). RunsTo (record { program = x; choices = c }) input order out end) is r
 
 of_ran : KeepsRuns → KeepsSize → KeepsCells → (fold : Bool) (p q : Program) (c : Choices) (input : List ℕ) (ran : Option (Ran Here))
     → WellFormed p → IsCompiled fold p q → AreChoices (program_of p) c → OfLinked (record { program = q; choices = c }) input ran → OfSource p input ran

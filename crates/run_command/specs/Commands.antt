@@ -46,8 +46,10 @@ pub record AreTexts (r : Run) (texts sources : List (List ℕ)) (input schedule 
 
 -- the schedule is read: a run looks at its first entries alone
 pub data Decides (r : Run) (sources : List (List ℕ)) (input schedule : List ℕ) (a : Answer) (writes : List Written) : Type 0 where
-  bad_schedule : (line : ℕ) → IsFirstBad schedule line → Refuses 10 (bad_schedule_line (schedule_name r.options.picker) line) BadSchedule a writes → Decides r sources input schedule a writes
-  scheduled : (entries : List ℕ) → Says schedule entries → DecidesTexts r.options r.fold (source_files r) sources input (take most_entries entries) a writes → Decides r sources input schedule a writes
+  bad_schedule : (line : ℕ) → IsFirstBad schedule line → Refuses 10 (bad_schedule_line (schedule_name r.options.picker) line) BadSchedule a writes
+      → Decides r sources input schedule a writes
+  scheduled : (entries : List ℕ) → Says schedule entries → DecidesTexts r.options r.fold (source_files r) sources input (take most_entries entries) a writes
+      → Decides r sources input schedule a writes
 
 pub record DecidesOn (r : Run) (texts : List (List ℕ)) (a : Answer) (writes : List Written) : Type 0 where
   pub sources : List (List ℕ)

@@ -26,7 +26,8 @@ pub record Compiled (fold : Bool) (p q : Program) : Type 0 where
   pub well_formed : WellFormed q
   pub safe : IsSafe (program_of q)
 
--- The units of a program are compiled to objects that have exactly the entries of the units; these are linked and run, and the only refusal is that they can't be linked. What code the bodies have is not told.
+-- The units of a program are compiled to objects that have exactly the entries of the units; these are linked and run, and the only refusal is that they can't
+-- be linked. What code the bodies have is not told.
 pub record RunsUnits (o : RunOptions) (p : Program) (names : List (List ℕ)) (input entries : List ℕ) (a : Answer) (writes : List Written) : Type 0 where
   pub objects : List ObjectView
   pub are_objects : AreUnitObjects (program_of p) names objects
@@ -43,7 +44,8 @@ pub record RunsLinked (o : RunOptions) (g : Given) (names : List (List ℕ)) (in
   pub source : IsOfLinked g input a
 
 -- A safe program is compiled, with `--fold` the program that it folds to, and run; what was run is a run of the program itself, in the order that is answered.
-pub record CompilesAndRuns (o : RunOptions) (fold : Bool) (p : Program) (names : List (List ℕ)) (input entries : List ℕ) (a : Answer) (writes : List Written) : Type 0 where
+pub record CompilesAndRuns (o : RunOptions) (fold : Bool) (p : Program) (names : List (List ℕ)) (input entries : List ℕ) (a : Answer)
+    (writes : List Written) : Type 0 where
   pub program : Program
   pub compiled : Compiled fold p program
   pub runs : RunsUnits o program names input entries a writes

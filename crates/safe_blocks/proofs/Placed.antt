@@ -6,9 +6,11 @@ use Rattle.std.proofs.lemmas.Bool.{false≢true, and_parts, and_from}
 use Rattle.cpp_tree.specs.cpp_types.Typ.{Typ, Form}
 use Rattle.cpp_tree.specs.cpp_types.Class.{Class}
 use Rattle.cpp_tree.specs.declared.kinds.TKind.{TKind}
-use Rattle.cpp_tree.specs.declared.kinds.TKind.TheVariants.{Literal, Conditional, Comma, Materialize, FullExpression, Call, VirtualCall, PointerCall, Store, Construct, Pieces, Piece, Elements, Block, Init, Defer, Switch, Try}
+use Rattle.cpp_tree.specs.declared.kinds.TKind.TheVariants.{Literal, Conditional, Comma, Materialize, FullExpression, Call, VirtualCall, PointerCall, Store}
+use Rattle.cpp_tree.specs.declared.kinds.TKind.TheVariants.{Construct, Pieces, Piece, Elements, Block, Init, Defer, Switch, Try}
 use Rattle.cpp_tree.specs.declared.roles.Role.{Role}
-use Rattle.cpp_tree.specs.declared.roles.Role.TheVariants.{Value, Word, Initialiser, CopyInit, Zero, Statement, BlockItem, SwitchItem, Step, Part, CopiedPart, Catch, Destruction, Scalar}
+use Rattle.cpp_tree.specs.declared.roles.Role.TheVariants.{Value, Word, Initialiser, CopyInit, Zero, Statement, BlockItem, SwitchItem, Step, Part, CopiedPart}
+use Rattle.cpp_tree.specs.declared.roles.Role.TheVariants.{Catch, Destruction, Scalar}
 use Rattle.cpp_tree.specs.declared.roles.Position.{Position}
 use Rattle.cpp_tree.specs.Trees.{Tree, node, Trees, none, more, kind_of, first, rest}
 use Rattle.cpp_tree.specs.Typing.{is_void}
@@ -106,7 +108,8 @@ mutual
       let c = zeros_scoped cs v n (suc i) ts a.1 in
       (and_from _ _ b.0 c.0, and_from _ _ b.1 c.1)
 
-  zero_part_scoped : (cs : List Class) (v : Bool) (part : Option PartRecord) (t : Tree) → zero_part cs v part t ≡ true → (is_at_most of_pieces (scope_for (kind_of t)) ≡ true) × (is_scoped t ≡ true)
+  zero_part_scoped : (cs : List Class) (v : Bool) (part : Option PartRecord) (t : Tree) → zero_part cs v part t ≡ true
+      → (is_at_most of_pieces (scope_for (kind_of t)) ≡ true) × (is_scoped t ≡ true)
   zero_part_scoped cs v part (node (Piece offset) u cat at (more kid none)) h =
       let a = (and_parts _ _ h).1 in
       (refl, and_from _ _ (and_from _ _ (zero_free cs v _ kid a) refl) (and_from _ _ (zero_scoped cs v _ kid a) refl))
@@ -140,9 +143,11 @@ fits_wanted s p role (node kind t cat at kids) h =
 abbrev kid_test : Setting → Position → Role → Tree → Bool
 kid_test s p role t = cond (is_zero_role role) (zeroes s.classes false (result_of s.function) t) (fits s p role t)
 
-kid_wanted : (s : Setting) (p : Position) (o : Option Owner) (role : Role) (t : Tree) → is_within o (wanted role) ≡ true → kid_test s p role t ≡ true → is_within o (scope_for (kind_of t)) ≡ true
+kid_wanted : (s : Setting) (p : Position) (o : Option Owner) (role : Role) (t : Tree) → is_within o (wanted role) ≡ true → kid_test s p role t ≡ true
+    → is_within o (scope_for (kind_of t)) ≡ true
 kid_wanted s p o role t r =
-    elim (is_zero_role role) as (λ b. cond b (zeroes s.classes false (result_of s.function) t) (fits s p role t) ≡ true → is_within o (scope_for (kind_of t)) ≡ true) [
+    elim (is_zero_role role) as (λ b. cond b (zeroes s.classes false (result_of s.function) t) (fits s p role t) ≡ true
+    → is_within o (scope_for (kind_of t)) ≡ true) [
       | true ↦ λ h. free_within o (scope_for (kind_of t)) (zero_free _ _ _ t h)
       | false ↦ λ h. within_more o (wanted role) (scope_for (kind_of t)) r (fits_wanted s p role t h)
     ]
@@ -150,7 +155,8 @@ kid_wanted s p o role t r =
 abbrev role_of : Kids → ℕ → Role
 role_of ks i = unwrap_or (role_at ks i) Value
 
-kid_fits : (s : Setting) (p : Position) (ks : Kids) (i : ℕ) (t : Tree) (ts : Trees) → kids_fit s p ks i (more t ts) ≡ true → (kid_test s p (role_of ks i) t ≡ true) × (kids_fit s p ks (suc i) ts ≡ true)
+kid_fits : (s : Setting) (p : Position) (ks : Kids) (i : ℕ) (t : Tree) (ts : Trees) → kids_fit s p ks i (more t ts) ≡ true
+    → (kid_test s p (role_of ks i) t ≡ true) × (kids_fit s p ks (suc i) ts ≡ true)
 kid_fits s p ks i t ts h = let a = and_parts _ _ h in ((and_parts _ _ a.0).1, a.1)
 
 abbrev other_within : Option Owner → Option Role → Bool
@@ -160,18 +166,21 @@ other_within o (Some r) = is_within o (wanted r)
 abbrev all_roles : Option Owner → Kids → Bool
 all_roles o ks = list_all (λ (r : Role). is_within o (wanted r)) ks.fixed && other_within o ks.others
 
-role_within : (o : Option Owner) (rs : List Role) (others : Option Role) (i : ℕ) → list_all (λ (r : Role). is_within o (wanted r)) rs ≡ true → other_within o others ≡ true
+role_within : (o : Option Owner) (rs : List Role) (others : Option Role) (i : ℕ) → list_all (λ (r : Role). is_within o (wanted r)) rs ≡ true
+    → other_within o others ≡ true
     → is_within o (wanted (unwrap_or (option_or (slice_get rs i) others) Value)) ≡ true
 role_within o [] None i h g = none_within o
 role_within o [] (Some r) i h g = g
 role_within o (r ∷ rs) others zero h g = (and_parts (is_within o (wanted r)) (list_all (λ (r : Role). is_within o (wanted r)) rs) h).0
-role_within o (r ∷ rs) others (suc i) h g = role_within o rs others i (and_parts (is_within o (wanted r)) (list_all (λ (r : Role). is_within o (wanted r)) rs) h).1 g
+role_within o (r ∷ rs) others (suc i) h g = role_within o rs others i
+    (and_parts (is_within o (wanted r)) (list_all (λ (r : Role). is_within o (wanted r)) rs) h).1 g
 
 abbrev all_at : Option Owner → Trees → Bool
 all_at o none = true
 all_at o (more t ts) = is_within o (scope_for (kind_of t)) && all_at o ts
 
-kids_at : (s : Setting) (p : Position) (o : Option Owner) (ks : Kids) (i : ℕ) (ts : Trees) → all_roles o ks ≡ true → kids_fit s p ks i ts ≡ true → all_at o ts ≡ true
+kids_at : (s : Setting) (p : Position) (o : Option Owner) (ks : Kids) (i : ℕ) (ts : Trees) → all_roles o ks ≡ true → kids_fit s p ks i ts ≡ true
+    → all_at o ts ≡ true
 kids_at s p o ks i none r h = refl
 kids_at s p o ks i (more t ts) r h =
     let a = kid_fits s p ks i t ts h in
@@ -184,7 +193,8 @@ none_free (Some o) h = h
 
 at_free : (ts : Trees) → all_at None ts ≡ true → all_free ts ≡ true
 at_free none h = refl
-at_free (more t ts) h = let a = and_parts (is_within None (scope_for (kind_of t))) (all_at None ts) h in and_from _ _ (none_free (scope_for (kind_of t)) a.0) (at_free ts a.1)
+at_free (more t ts) h = let a = and_parts (is_within None (scope_for (kind_of t))) (all_at None ts) h in
+    and_from _ _ (none_free (scope_for (kind_of t)) a.0) (at_free ts a.1)
 
 at_within : (o : Owner) (ts : Trees) → all_at (Some o) ts ≡ true → all_within o ts ≡ true
 at_within o none h = refl
@@ -193,15 +203,18 @@ at_within o (more t ts) h = let a = and_parts (is_at_most o (scope_for (kind_of 
 free_kids : (s : Setting) (p : Position) (ks : Kids) (ts : Trees) → all_roles None ks ≡ true → kids_fit s p ks 0 ts ≡ true → all_free ts ≡ true
 free_kids s p ks ts r h = at_free ts (kids_at s p None ks 0 ts r h)
 
-scope_kids : (s : Setting) (p : Position) (o : Owner) (ks : Kids) (ts : Trees) → all_roles (Some o) ks ≡ true → kids_fit s p ks 0 ts ≡ true → all_within o ts ≡ true
+scope_kids : (s : Setting) (p : Position) (o : Owner) (ks : Kids) (ts : Trees) → all_roles (Some o) ks ≡ true → kids_fit s p ks 0 ts ≡ true
+    → all_within o ts ≡ true
 scope_kids s p o ks ts r h = at_within o ts (kids_at s p (Some o) ks 0 ts r h)
 
 -- the first by itself
-first_kid_free : (s : Setting) (p : Position) (ks : Kids) (ts : Trees) → is_within None (wanted (role_of ks 0)) ≡ true → kids_fit s p ks 0 ts ≡ true → is_free (first ts) ≡ true
+first_kid_free : (s : Setting) (p : Position) (ks : Kids) (ts : Trees) → is_within None (wanted (role_of ks 0)) ≡ true → kids_fit s p ks 0 ts ≡ true
+    → is_free (first ts) ≡ true
 first_kid_free s p ks none r h = refl
 first_kid_free s p ks (more t ts) r h = none_free (scope_for (kind_of t)) (kid_wanted s p None (role_of ks 0) t r (kid_fits s p ks 0 t ts h).0)
 
-later_kids : (s : Setting) (p : Position) (o : Owner) (ks : Kids) (ts : Trees) → all_roles (Some o) ks ≡ true → kids_fit s p ks 0 ts ≡ true → all_within o (rest ts) ≡ true
+later_kids : (s : Setting) (p : Position) (o : Owner) (ks : Kids) (ts : Trees) → all_roles (Some o) ks ≡ true → kids_fit s p ks 0 ts ≡ true
+    → all_within o (rest ts) ≡ true
 later_kids s p o ks none r h = refl
 later_kids s p o ks (more t ts) r h = at_within o ts (kids_at s p (Some o) ks 1 ts r (kid_fits s p ks 0 t ts h).1)
 
@@ -212,8 +225,10 @@ is_catch s p (node kind t cat at kids) h =
 
 catches : (s : Setting) (p : Position) (i : ℕ) (ts : Trees) → kids_fit s p (and_any (Statement ∷ Catch ∷ []) Catch) (suc i) ts ≡ true → all_handlers ts ≡ true
 catches s p i none h = refl
-catches s p zero (more t ts) h = let a = kid_fits s p (and_any (Statement ∷ Catch ∷ []) Catch) 1 t ts h in and_from _ _ (is_catch s p t a.0) (catches s p 1 ts a.1)
-catches s p (suc i) (more t ts) h = let a = kid_fits s p (and_any (Statement ∷ Catch ∷ []) Catch) (suc (suc i)) t ts h in and_from _ _ (is_catch s p t a.0) (catches s p (suc (suc i)) ts a.1)
+catches s p zero (more t ts) h = let a = kid_fits s p (and_any (Statement ∷ Catch ∷ []) Catch) 1 t ts h in
+    and_from _ _ (is_catch s p t a.0) (catches s p 1 ts a.1)
+catches s p (suc i) (more t ts) h = let a = kid_fits s p (and_any (Statement ∷ Catch ∷ []) Catch) (suc (suc i)) t ts h in
+    and_from _ _ (is_catch s p t a.0) (catches s p (suc (suc i)) ts a.1)
 
 handlers_behind : (s : Setting) (p : Position) (ts : Trees) → kids_fit s p (and_any (Statement ∷ Catch ∷ []) Catch) 0 ts ≡ true → all_handlers (rest ts) ≡ true
 handlers_behind s p none h = refl
@@ -245,16 +260,21 @@ init_plain : (b : Bool) → is_within None (wanted (cond b Zero Initialiser)) �
 init_plain true = refl
 init_plain false = refl
 
-placed : (s : Setting) (p : Position) (role : Role) (kind : TKind) (b c : Bool) (ts : Trees) → kids_fit s p (kids_for role kind b c) 0 ts ≡ true → are_placed kind ts ≡ true
+placed : (s : Setting) (p : Position) (role : Role) (kind : TKind) (b c : Bool) (ts : Trees) → kids_fit s p (kids_for role kind b c) 0 ts ≡ true
+    → are_placed kind ts ≡ true
 placed s p role (Call f) b c ts h = scope_kids s p of_call (kids_for role (Call f) b c) ts refl h
 placed s p role (Construct f) b c ts h = scope_kids s p of_call (kids_for role (Construct f) b c) ts refl h
-placed s p role (VirtualCall f x y z) b c ts h = and_from _ _ (first_kid_free s p (kids_for role (VirtualCall f x y z) b c) ts refl h) (later_kids s p of_call (kids_for role (VirtualCall f x y z) b c) ts refl h)
-placed s p role PointerCall b c ts h = and_from _ _ (first_kid_free s p (kids_for role PointerCall b c) ts refl h) (later_kids s p of_call (kids_for role PointerCall b c) ts refl h)
+placed s p role (VirtualCall f x y z) b c ts h = and_from _ _ (first_kid_free s p (kids_for role (VirtualCall f x y z) b c) ts refl h)
+    (later_kids s p of_call (kids_for role (VirtualCall f x y z) b c) ts refl h)
+placed s p role PointerCall b c ts h = and_from _ _ (first_kid_free s p (kids_for role PointerCall b c) ts refl h)
+    (later_kids s p of_call (kids_for role PointerCall b c) ts refl h)
 placed s p role Pieces b c ts h = scope_kids s p of_pieces (kids_for role Pieces b c) ts (part_within role) h
 placed s p role (Block subobjects) b c ts h = scope_kids s p of_block (kids_for role (Block subobjects) b c) ts refl h
-placed s p role Switch b c ts h = and_from _ _ (first_kid_free s p (kids_for role Switch b c) ts refl h) (later_kids s p of_block (kids_for role Switch b c) ts refl h)
+placed s p role Switch b c ts h = and_from _ _ (first_kid_free s p (kids_for role Switch b c) ts refl h)
+    (later_kids s p of_block (kids_for role Switch b c) ts refl h)
 placed s p role Try b c ts h = and_from _ _ (first_kid_free s p (kids_for role Try b c) ts refl h) (handlers_behind s p ts h)
-placed s p role Conditional b c ts h = free_kids s p (kids_for role Conditional b c) ts (and_from _ _ (and_from _ _ (branch_plain role b) (and_from _ _ (branch_plain role b) refl)) refl) h
+placed s p role Conditional b c ts h = free_kids s p (kids_for role Conditional b c) ts
+    (and_from _ _ (and_from _ _ (branch_plain role b) (and_from _ _ (branch_plain role b) refl)) refl) h
 placed s p role Comma b c ts h = free_kids s p (kids_for role Comma b c) ts (and_from _ _ (and_from _ _ (result_plain role) refl) refl) h
 placed s p role FullExpression b c ts h = free_kids s p (kids_for role FullExpression b c) ts (and_from _ _ (and_from _ _ (result_plain role) refl) refl) h
 placed s p role (Piece n) b c ts h = free_kids s p (kids_for role (Piece n) b c) ts (and_from _ _ (and_from _ _ (object_plain role) refl) refl) h
@@ -266,13 +286,15 @@ mutual
   pub fits_scoped : (s : Setting) (p : Position) (role : Role) (t : Tree) → fits s p role t ≡ true → is_scoped t ≡ true
   fits_scoped s p role (node kind t cat at kids) h =
       let k = (and_parts _ _ h).1 in
-      and_from _ _ (placed s (inside kind p) role kind (is_void t) (no_object (heads_of kids)) kids k) (kids_scoped s (inside kind p) (kids_in role kind t (heads_of kids)) 0 kids k)
+      and_from _ _ (placed s (inside kind p) role kind (is_void t) (no_object (heads_of kids)) kids k)
+      (kids_scoped s (inside kind p) (kids_in role kind t (heads_of kids)) 0 kids k)
 
   kids_scoped : (s : Setting) (p : Position) (ks : Kids) (i : ℕ) (ts : Trees) → kids_fit s p ks i ts ≡ true → all_scoped ts ≡ true
   kids_scoped s p ks i none h = refl
   kids_scoped s p ks i (more t ts) h =
       let a = kid_fits s p ks i t ts h in
-      and_from _ _ (elim (is_zero_role (role_of ks i)) as (λ b. cond b (zeroes s.classes false (result_of s.function) t) (fits s p (role_of ks i) t) ≡ true → is_scoped t ≡ true) [
+      and_from _ _ (elim (is_zero_role (role_of ks i)) as (λ b. cond b (zeroes s.classes false (result_of s.function) t) (fits s p (role_of ks i) t) ≡ true →
+      is_scoped t ≡ true) [
         | true ↦ λ z. zero_scoped _ _ _ t z
         | false ↦ λ f. fits_scoped s p (role_of ks i) t f
       ] a.0) (kids_scoped s p ks (suc i) ts a.1)

@@ -9,7 +9,8 @@ use Rattle.cpp_tree.specs.cpp_types.declared.classes.At.{At}
 use Rattle.cpp_tree.specs.cpp_types.declared.ranks.Cat.{Cat}
 use Rattle.cpp_tree.specs.declared.kinds.Builtin.TheVariants.{PutChar, GetChar, Spawn, Join, Abort}
 use Rattle.cpp_tree.specs.declared.kinds.TKind.{TKind}
-use Rattle.cpp_tree.specs.declared.kinds.TKind.TheVariants.{Load, Assign, Update, Call, Builtin as CallBuiltin, Store, CopyScalar, Construct, CopyConstruct, Atomic, Destroy}
+use Rattle.cpp_tree.specs.declared.kinds.TKind.TheVariants.{Load, Assign, Update, Call, Builtin as CallBuiltin, Store, CopyScalar, Construct, CopyConstruct}
+use Rattle.cpp_tree.specs.declared.kinds.TKind.TheVariants.{Atomic, Destroy}
 use Rattle.cpp_tree.specs.Trees.{Tree, node, Trees, none, more, rest}
 use Rattle.tx_unsafe.specs.declared.finding.CallSite.{CallSite}
 use Rattle.tx_unsafe.specs.Unsafe.{first_of, own, own_in, own_in_all, called, sites, counted, is_atomic, calls_in, calls_in_all}
@@ -37,7 +38,8 @@ abbrev pub calls_safe : (ℕ → Bool) → CallSite → Bool
 calls_safe s site = s site.func
 
 -- one node
-tame_kind : (v s : ℕ → Bool) (kind : TKind) (t : Typ) (cat : Cat) (at : At) (a b : Option Tree) → own v kind t cat at a b ≡ [] → list_all (calls_safe s) (sites (called kind) at) ≡ true
+tame_kind : (v s : ℕ → Bool) (kind : TKind) (t : Typ) (cat : Cat) (at : At) (a b : Option Tree) → own v kind t cat at a b ≡ []
+    → list_all (calls_safe s) (sites (called kind) at) ≡ true
     → not (is_marked_store kind) ≡ true → is_tame_kind s kind ≡ true
 tame_kind v s (Load k true) t cat at a b o c u = absurd (false≢true (ap is_empty o))
 tame_kind v s (Load k false) t cat at a b o c u = refl
@@ -63,7 +65,8 @@ or_none true h = refl
 or_none false h = h
 
 -- where it counts
-tame_node : (v s : ℕ → Bool) (outside : Bool) (kind : TKind) (t : Typ) (cat : Cat) (at : At) (a b : Option Tree) → counted (not outside) (own v kind t cat at a b) ≡ [] → list_all (calls_safe s) (counted (not outside) (sites (called kind) at)) ≡ true
+tame_node : (v s : ℕ → Bool) (outside : Bool) (kind : TKind) (t : Typ) (cat : Cat) (at : At) (a b : Option Tree)
+    → counted (not outside) (own v kind t cat at a b) ≡ [] → list_all (calls_safe s) (counted (not outside) (sites (called kind) at)) ≡ true
     → (not (is_marked_store kind) || outside) ≡ true → (is_tame_kind s kind || outside) ≡ true
 tame_node v s true kind t cat at a b o c u = or_right (is_tame_kind s kind) true refl
 tame_node v s false kind t cat at a b o c u = ap (λ z. z || false) (tame_kind v s kind t cat at a b o c (or_none (not (is_marked_store kind)) u))
@@ -83,16 +86,23 @@ mutual
       let calls_here = counted (not outside) (sites (called kind) at) in
       let um = and_parts (not (is_marked_store kind) || outside) (are_unmarked (below kind outside) kids) u in
       let sc = and_parts (are_placed kind kids) (all_scoped kids) p in
-      let own_kids : own_in_all v (not (below kind outside)) kids ≡ [] = subst (λ z. own_in_all v z kids ≡ []) (below_is kind outside) (nothing_right own_here (own_in_all v deeper kids) o) in
-      let calls_kids : list_all (calls_safe s) (calls_in_all (not (below kind outside)) kids) ≡ true = subst (λ z. list_all (calls_safe s) (calls_in_all z kids) ≡ true) (below_is kind outside) (all_right (calls_safe s) calls_here (calls_in_all deeper kids) c) in
-      and_from _ _ (tame_node v s outside kind t cat at (first_of kids) (first_of (rest kids)) (nothing_left own_here (own_in_all v deeper kids) o) (all_left (calls_safe s) calls_here (calls_in_all deeper kids) c) um.0)
+      let own_kids : own_in_all v (not (below kind outside)) kids ≡ [] =
+      subst (λ z. own_in_all v z kids ≡ []) (below_is kind outside) (nothing_right own_here (own_in_all v deeper kids) o) in
+      let calls_kids : list_all (calls_safe s) (calls_in_all (not (below kind outside)) kids) ≡ true =
+      subst (λ z. list_all (calls_safe s) (calls_in_all z kids) ≡ true) (below_is kind outside)
+      (all_right (calls_safe s) calls_here (calls_in_all deeper kids) c) in
+      and_from _ _ (tame_node v s outside kind t cat at (first_of kids) (first_of (rest kids)) (nothing_left own_here (own_in_all v deeper kids) o)
+      (all_left (calls_safe s) calls_here (calls_in_all deeper kids) c) um.0)
       (and_from _ _ sc.0 (tame_trees v s (below kind outside) kids own_kids calls_kids um.1 sc.1))
 
-  pub tame_trees : (v s : ℕ → Bool) (outside : Bool) (ts : Trees) → own_in_all v (not outside) ts ≡ [] → list_all (calls_safe s) (calls_in_all (not outside) ts) ≡ true
+  pub tame_trees : (v s : ℕ → Bool) (outside : Bool) (ts : Trees) → own_in_all v (not outside) ts ≡ []
+      → list_all (calls_safe s) (calls_in_all (not outside) ts) ≡ true
       → are_unmarked outside ts ≡ true → all_scoped ts ≡ true → are_tame s outside ts ≡ true
   tame_trees v s outside none o c u p = refl
   tame_trees v s outside (more t ts) o c u p =
       let um = and_parts (is_unmarked outside t) (are_unmarked outside ts) u in
       let sc = and_parts (is_scoped t) (all_scoped ts) p in
-      and_from _ _ (tame_tree v s outside t (nothing_left (own_in v (not outside) t) (own_in_all v (not outside) ts) o) (all_left (calls_safe s) (calls_in (not outside) t) (calls_in_all (not outside) ts) c) um.0 sc.0)
-      (tame_trees v s outside ts (nothing_right (own_in v (not outside) t) (own_in_all v (not outside) ts) o) (all_right (calls_safe s) (calls_in (not outside) t) (calls_in_all (not outside) ts) c) um.1 sc.1)
+      and_from _ _ (tame_tree v s outside t (nothing_left (own_in v (not outside) t) (own_in_all v (not outside) ts) o)
+      (all_left (calls_safe s) (calls_in (not outside) t) (calls_in_all (not outside) ts) c) um.0 sc.0)
+      (tame_trees v s outside ts (nothing_right (own_in v (not outside) t) (own_in_all v (not outside) ts) o)
+      (all_right (calls_safe s) (calls_in (not outside) t) (calls_in_all (not outside) ts) c) um.1 sc.1)

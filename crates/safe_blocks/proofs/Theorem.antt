@@ -33,7 +33,8 @@ mapped f [] i y h = absurd cc
 mapped f (x ∷ xs) zero y h = let s : f x ≡ y = cc in (x, refl, s)
 mapped f (x ∷ xs) (suc i) y h = mapped f xs i y h
 
-body_scoped : (p : TypedUnits) → WellFormed p → (unit n : ℕ) (u : UnitTree) (g : TFunc) → slice_get p.units.items unit ≡ Some u → slice_get u.funcs.items n ≡ Some g → (o : Option TNodeId) → g.body ≡ o
+body_scoped : (p : TypedUnits) → WellFormed p → (unit n : ℕ) (u : UnitTree) (g : TFunc) → slice_get p.units.items unit ≡ Some u
+    → slice_get u.funcs.items n ≡ Some g → (o : Option TNodeId) → g.body ≡ o
     → (body : Tree) → option_map (tree_at (trees_of u.nodes.items)) o ≡ Some body → (is_scoped body ≡ true) × (is_free body ≡ true)
 body_scoped p w unit n u g a b None c body d = absurd cc
 body_scoped p w unit n u g a b (Some root) c body d =
@@ -44,14 +45,16 @@ body_scoped p w unit n u g a b (Some root) c body d =
       subst (λ z. is_free z ≡ true) same (ap (λ z. not (is_some z)) (block_free g.kind (kind_of tree) is.block)),
     )
 
-shown_func : (p : TypedUnits) → WellFormed p → (unit n : ℕ) (u : UnitTree) (f : Func) → slice_get p.units.items unit ≡ Some u → slice_get (map (func_of (trees_of u.nodes.items)) u.funcs.items) n ≡ Some f → IsScopedFunc f
+shown_func : (p : TypedUnits) → WellFormed p → (unit n : ℕ) (u : UnitTree) (f : Func) → slice_get p.units.items unit ≡ Some u
+    → slice_get (map (func_of (trees_of u.nodes.items)) u.funcs.items) n ≡ Some f → IsScopedFunc f
 shown_func p w unit n u f a h =
     let g = mapped (func_of (trees_of u.nodes.items)) u.funcs.items n f h in
     let both = body_scoped p w unit n u g.0 a g.1 (g.0).body refl in
     let at = ap (λ (z : Func). z.body) g.2 in
     record { scoped = λ body b. (both body (at ∙ b)).0; free = λ body b. (both body (at ∙ b)).1 }
 
-shown_unit : (p : TypedUnits) → WellFormed p → (unit n : ℕ) (f : Func) (o : Option TypedUnit) → slice_get (map unit_of p.units.items) unit ≡ o → option_and_then (λ (x : TypedUnit). slice_get x.funcs n) o ≡ Some f → IsScopedFunc f
+shown_unit : (p : TypedUnits) → WellFormed p → (unit n : ℕ) (f : Func) (o : Option TypedUnit) → slice_get (map unit_of p.units.items) unit ≡ o
+    → option_and_then (λ (x : TypedUnit). slice_get x.funcs n) o ≡ Some f → IsScopedFunc f
 shown_unit p w unit n f None a h = absurd cc
 shown_unit p w unit n f (Some x) a h =
     let u = mapped unit_of p.units.items unit x a in
@@ -72,5 +75,8 @@ unsafe_free p = record {
       let q = safely_linked symbol entry t in
       let m = program_tame symbol entry t s l u (record { each = scoped_func p w }) in
       let test = is_marked q (is_safe t) in
-      record { same = λ x reply c. marked_same q (is_safe t) m x reply (tested q test (stays_marked q (is_safe t) m) (main_marked q (is_safe t) m) (thread_marked q (is_safe t) m) x c) });
+      record {
+        same = λ x reply c. marked_same q (is_safe t) m x reply
+            (tested q test (stays_marked q (is_safe t) m) (main_marked q (is_safe t) m) (thread_marked q (is_safe t) m) x c);
+      });
 }

@@ -38,7 +38,8 @@ safe_part p = record p { func = λ n. safe_func (p.func n) }
 
 -- inside an atomic block threads do the same in that program, where a call of what has no body traps: so no unsafe function is entered there
 pub record EntersSafe (p : Program) : Type 0 where
-  pub same : (s : State) (reply : Reply) → Comes p s → no_atomic ((source p).blocks ((source p).after s reply)) ≡ false → (source (safe_part p)).after s reply ≡ (source p).after s reply
+  pub same : (s : State) (reply : Reply) → Comes p s → no_atomic ((source p).blocks ((source p).after s reply)) ≡ false
+      → (source (safe_part p)).after s reply ≡ (source p).after s reply
 
 -- the linked program of a typed one, in which exactly the safe functions have safe bodies
 abbrev pub safely_linked : (SlotFunc → Option (List ℕ)) → (entry : List ℕ) → TypedProgram → Program
@@ -77,7 +78,9 @@ pub record IsUnmarked (t : TypedProgram) : Type 0 where
 
 -- the blocks of a safe program are hidden and enter safe functions alone, whatever its slots name
 pub record UnsafeFree (p : TypedUnits) : Type 0 where
-  pub free : (symbol : SlotFunc → Option (List ℕ)) (entry : List ℕ) → WellFormed p → IsSafe (program_of p) → LinksSafely (program_of p) → IsUnmarked (program_of p)
+  pub free : (symbol : SlotFunc → Option (List ℕ)) (entry : List ℕ) → WellFormed p → IsSafe (program_of p) → LinksSafely (program_of p)
+      → IsUnmarked (program_of p)
       → HidesBlocks (safely_linked symbol entry (program_of p))
-  pub enters : (symbol : SlotFunc → Option (List ℕ)) (entry : List ℕ) → WellFormed p → IsSafe (program_of p) → LinksSafely (program_of p) → IsUnmarked (program_of p)
+  pub enters : (symbol : SlotFunc → Option (List ℕ)) (entry : List ℕ) → WellFormed p → IsSafe (program_of p) → LinksSafely (program_of p)
+      → IsUnmarked (program_of p)
       → EntersSafe (safely_linked symbol entry (program_of p))

@@ -1,5 +1,6 @@
 -- Lines at the front of a text: there is one way to read them.
-use Rattle.std.proofs.Common.{◌≡◌, ◌≢◌, ◌∙◌, ◌⊎◌, ◌<◌, ◌≤◌, ◌++◌, inl, inr, ap, ap₂, sym, subst, refl, arith, ℕ, Bool, List, [], ◌∷◌, true, false, true≢false, append_assoc, leb-true, ltb-true}
+use Rattle.std.proofs.Common.{◌≡◌, ◌≢◌, ◌∙◌, ◌⊎◌, ◌<◌, ◌≤◌, ◌++◌, inl, inr, ap, ap₂, sym, subst, refl, arith, ℕ, Bool, List, [], ◌∷◌, true, false, true≢false}
+use Rattle.std.proofs.Common.{append_assoc, leb-true, ltb-true}
 use Rattle.std.specs.Prelude.{◌&&◌, ◌^◌, ◌==◌, if◌then◌else◌}
 use Rattle.std.specs.List.{list_all}
 use Rattle.std.specs.Fmt.{decimal}
@@ -74,7 +75,8 @@ same_end m n x y p q e = go (ends m (count_text m ++ 10 ∷ x) x refl) (ends n (
 -- ---- whole lines
 
 pub line_split : (r : Run) (rest : List ℕ) → line_text r ++ rest ≡ decimal r.thread ++ (count_text r.count ++ 10 ∷ rest)
-line_split r rest = append_assoc (decimal r.thread) (count_text r.count ++ 10 ∷ []) rest ∙ ap (λ t. decimal r.thread ++ t) (append_assoc (count_text r.count) (10 ∷ []) rest)
+line_split r rest = append_assoc (decimal r.thread) (count_text r.count ++ 10 ∷ []) rest
+    ∙ ap (λ t. decimal r.thread ++ t) (append_assoc (count_text r.count) (10 ∷ []) rest)
 
 pub record InBounds (r : Run) : Type 0 where
   pub thread : r.thread < 64
@@ -124,7 +126,8 @@ same_lines (r ∷ rs) (q ∷ qs) a b e =
     let same = same_line r q (text_of rs) (text_of qs) one.0 two.0 e in
     ap₂ (λ x xs. x ∷ xs) same.line (same_lines rs qs one.1 two.1 same.rest)
 
-pub no_bad : (rs qs : List Run) (rest : List ℕ) → list_all is_line rs ≡ true → list_all is_line qs ≡ true → text_of rs ≡ text_of qs ++ rest → rest ≢ [] → ((r : Run) (tail : List ℕ) → is_line r ≡ true → rest ≢ line_text r ++ tail) → ⊥
+pub no_bad : (rs qs : List Run) (rest : List ℕ) → list_all is_line rs ≡ true → list_all is_line qs ≡ true → text_of rs ≡ text_of qs ++ rest → rest ≢ []
+    → ((r : Run) (tail : List ℕ) → is_line r ≡ true → rest ≢ line_text r ++ tail) → ⊥
 no_bad [] [] rest a b e more bad = more (sym e)
 no_bad (r ∷ rs) [] rest a b e more bad = bad r (text_of rs) (both _ _ a).0 (sym e)
 no_bad [] (q ∷ qs) rest a b e more bad = line_some q (text_of qs ++ rest) (sym (e ∙ append_assoc (line_text q) (text_of qs) rest))
@@ -136,12 +139,14 @@ no_bad (r ∷ rs) (q ∷ qs) rest a b e more bad =
 
 -- the first bad line has one number
 pub one_bad : (rs qs : List Run) (x y : List ℕ) → list_all is_line rs ≡ true → list_all is_line qs ≡ true → text_of rs ++ x ≡ text_of qs ++ y
-    → ((r : Run) (tail : List ℕ) → is_line r ≡ true → x ≢ line_text r ++ tail) → ((r : Run) (tail : List ℕ) → is_line r ≡ true → y ≢ line_text r ++ tail) → rs ≡ qs
+    → ((r : Run) (tail : List ℕ) → is_line r ≡ true → x ≢ line_text r ++ tail) → ((r : Run) (tail : List ℕ) → is_line r ≡ true → y ≢ line_text r ++ tail)
+    → rs ≡ qs
 one_bad [] [] x y a b e no_x no_y = refl
 one_bad [] (q ∷ qs) x y a b e no_x no_y = absurd (no_x q (text_of qs ++ y) (both _ _ b).0 (e ∙ append_assoc (line_text q) (text_of qs) y))
 one_bad (r ∷ rs) [] x y a b e no_x no_y = absurd (no_y r (text_of rs ++ x) (both _ _ a).0 (sym e ∙ append_assoc (line_text r) (text_of rs) x))
 one_bad (r ∷ rs) (q ∷ qs) x y a b e no_x no_y =
     let one = both _ _ a in
     let two = both _ _ b in
-    let same = same_line r q (text_of rs ++ x) (text_of qs ++ y) one.0 two.0 (sym (append_assoc (line_text r) (text_of rs) x) ∙ e ∙ append_assoc (line_text q) (text_of qs) y) in
+    let same = same_line r q (text_of rs ++ x) (text_of qs ++ y) one.0 two.0
+    (sym (append_assoc (line_text r) (text_of rs) x) ∙ e ∙ append_assoc (line_text q) (text_of qs) y) in
     ap₂ (λ z zs. z ∷ zs) same.line (one_bad rs qs x y one.1 two.1 same.rest no_x no_y)

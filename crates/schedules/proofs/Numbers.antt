@@ -1,5 +1,6 @@
 -- Numbers at the front of a text.
-use Rattle.std.proofs.Common.{◌≡◌, ◌∙◌, ◌⊎◌, ◌<◌, ◌≤◌, ◌+◌, ◌*◌, ◌-◌, ◌++◌, inl, inr, ap, sym, subst, refl, arith, rules, ℕ, Bool, List, [], ◌∷◌, true, false, true≢false, length, take, drop, get_or}
+use Rattle.std.proofs.Common.{◌≡◌, ◌∙◌, ◌⊎◌, ◌<◌, ◌≤◌, ◌+◌, ◌*◌, ◌-◌, ◌++◌, inl, inr, ap, sym, subst, refl, arith, rules, ℕ, Bool, List, [], ◌∷◌, true, false}
+use Rattle.std.proofs.Common.{true≢false, length, take, drop, get_or}
 use Rattle.std.specs.Prelude.{◌&&◌, ◌^◌, cond, zero, suc}
 use Rattle.std.specs.Char.{is_ascii_digit}
 use Rattle.std.specs.List.{prefix_len}
@@ -90,7 +91,8 @@ same_number m n x y p q e b c =
     record { number = decimal_injective m n p q (sym one.digits ∙ two.digits); rest = sym one.others ∙ two.others }
 
 -- no number is empty or has a zero before other digits
-pub not_padded : (text : List ℕ) (most : ℕ) → most < 2 ^ 32 → ((length (front text) ≡ 0) ⊎ ((1 < length (front text)) × (get_or (front text) 0 0 ≡ 48))) → BeginsWithNone text most
+pub not_padded : (text : List ℕ) (most : ℕ) → most < 2 ^ 32 → ((length (front text) ≡ 0) ⊎ ((1 < length (front text)) × (get_or (front text) 0 0 ≡ 48)))
+    → BeginsWithNone text most
 not_padded text most fits pad n rest is =
     let cut = is_cut text n rest (omega (arith, is.bound)) is.written is.behind in
     go n (omega (arith, is.bound)) (subst (λ ds. (length ds ≡ 0) ⊎ ((1 < length ds) × (get_or ds 0 0 ≡ 48))) cut.digits pad)
@@ -108,11 +110,13 @@ too_large text most fits large n rest is =
     omega (arith, is.bound)
 
 -- a number that is not padded is what its digits write
-pub is_written : (text : List ℕ) (most n : ℕ) → most < 2 ^ 32 → (((length (front text) ≡ 0) ⊎ ((1 < length (front text)) × (get_or (front text) 0 0 ≡ 48))) → ⊥) → n ≡ read_on 0 (front text) → n ≤ most
+pub is_written : (text : List ℕ) (most n : ℕ) → most < 2 ^ 32 → (((length (front text) ≡ 0) ⊎ ((1 < length (front text)) × (get_or (front text) 0 0 ≡ 48))) → ⊥)
+    → n ≡ read_on 0 (front text) → n ≤ most
     → text ≡ front text ++ back text → BeginsWith text most n (back text)
 is_written text most n fits plain value bound split = record {
   bound = bound;
-  written = split ∙ ap (λ ds. ds ++ back text) (sym (ap decimal value ∙ decimal-digits_value own (front text) (front_digits text) (some (length (front text)) refl) one (omega arith)));
+  written = split ∙ ap (λ ds. ds ++ back text) (sym (ap decimal value ∙ decimal-digits_value own (front text) (front_digits text)
+      (some (length (front text)) refl) one (omega arith)));
   behind = back_behind text;
 }
   where

@@ -1,5 +1,6 @@
 -- The runs of equal entries.
-use Rattle.std.proofs.Common.{◌≡◌, ◌≢◌, ◌∙◌, ◌<◌, ◌≤◌, ◌+◌, ◌++◌, ap, sym, subst, refl, arith, ℕ, Bool, List, [], ◌∷◌, true, false, true≢false, drop, length, replicate, append_assoc, ltb-true, le-leb, lt-ltb}
+use Rattle.std.proofs.Common.{◌≡◌, ◌≢◌, ◌∙◌, ◌<◌, ◌≤◌, ◌+◌, ◌++◌, ap, sym, subst, refl, arith, ℕ, Bool, List, [], ◌∷◌, true, false, true≢false, drop, length}
+use Rattle.std.proofs.Common.{replicate, append_assoc, ltb-true, le-leb, lt-ltb}
 use Rattle.std.specs.Prelude.{◌&&◌, ◌==◌, if◌then◌else◌, cond, suc, not, nat_lt}
 use Rattle.std.specs.List.{list_all}
 use Rattle.std.specs.Fmt.{decimal}
@@ -16,9 +17,11 @@ turn_entries : (t : ℕ) (rs : List Run) → entries_of (with_turn t rs) ≡ t �
 turn_entries t [] = refl
 turn_entries t (r ∷ rs) = go (t == r.thread) refl
   where
-    go : (b : Bool) → (t == r.thread) ≡ b → entries_of (if b then record { thread = t; count = r.count + 1 } ∷ rs else record { thread = t; count = 1 } ∷ r ∷ rs) ≡ t ∷ entries_of (r ∷ rs)
+    go : (b : Bool) → (t == r.thread) ≡ b → entries_of
+        (if b then record { thread = t; count = r.count + 1 } ∷ rs else record { thread = t; count = 1 } ∷ r ∷ rs) ≡ t ∷ entries_of (r ∷ rs)
     go true e = let same = (Decides-eqb t r.thread).0 e in
-        subst (λ k. replicate k t ++ entries_of rs ≡ t ∷ (replicate r.count r.thread ++ entries_of rs)) (one_more r.count) (ap (λ x. t ∷ (replicate r.count x ++ entries_of rs)) same)
+        subst (λ k. replicate k t ++ entries_of rs ≡ t ∷ (replicate r.count r.thread ++ entries_of rs)) (one_more r.count)
+        (ap (λ x. t ∷ (replicate r.count x ++ entries_of rs)) same)
     go false e = refl
 
 -- the runs of a list say its entries
@@ -29,7 +32,8 @@ entries_runs (t ∷ ts) = turn_entries t (runs_of ts) ∙ ap (λ xs. t ∷ xs) (
 -- ---- runs from the front
 
 turn_same : (t n : ℕ) (rs : List Run) → with_turn t (record { thread = t; count = n } ∷ rs) ≡ record { thread = t; count = n + 1 } ∷ rs
-turn_same t n rs = ap (λ (b : Bool). if b then record { thread = t; count = n + 1 } ∷ rs else record { thread = t; count = 1 } ∷ record { thread = t; count = n } ∷ rs) ((Decides-eqb t t).1 refl)
+turn_same t n rs = ap (λ (b : Bool). if b then record { thread = t; count = n + 1 } ∷ rs else record { thread = t; count = 1 } ∷
+    record { thread = t; count = n } ∷ rs) ((Decides-eqb t t).1 refl)
 
 not_eqb : (t u : ℕ) → t ≢ u → (t == u) ≡ false
 not_eqb t u h = go (t == u) refl
@@ -39,7 +43,8 @@ not_eqb t u h = go (t == u) refl
     go false e = refl
 
 turn_other : (t : ℕ) (r : Run) (rs : List Run) → t ≢ r.thread → with_turn t (r ∷ rs) ≡ record { thread = t; count = 1 } ∷ r ∷ rs
-turn_other t r rs h = ap (λ (b : Bool). if b then record { thread = t; count = r.count + 1 } ∷ rs else record { thread = t; count = 1 } ∷ r ∷ rs) (not_eqb t r.thread h)
+turn_other t r rs h = ap (λ (b : Bool). if b then record { thread = t; count = r.count + 1 } ∷ rs else record { thread = t; count = 1 } ∷ r ∷ rs)
+    (not_eqb t r.thread h)
 
 pub record BeginsAt (t : ℕ) (rs : List Run) : Type 0 where
   pub first : Run
@@ -51,7 +56,8 @@ pub turn_begins : (t : ℕ) (rs : List Run) → BeginsAt t (with_turn t rs)
 turn_begins t [] = record { first = record { thread = t; count = 1 }; others = []; is = refl; thread = refl }
 turn_begins t (r ∷ rs) = go (t == r.thread) refl
   where
-    go : (b : Bool) → (t == r.thread) ≡ b → BeginsAt t (if b then record { thread = t; count = r.count + 1 } ∷ rs else record { thread = t; count = 1 } ∷ r ∷ rs)
+    go : (b : Bool) → (t == r.thread) ≡ b → BeginsAt t
+        (if b then record { thread = t; count = r.count + 1 } ∷ rs else record { thread = t; count = 1 } ∷ r ∷ rs)
     go true e = record { first = record { thread = t; count = r.count + 1 }; others = rs; is = refl; thread = refl }
     go false e = record { first = record { thread = t; count = 1 }; others = r ∷ rs; is = refl; thread = refl }
 
@@ -63,19 +69,22 @@ runs_front t (u ∷ us) = go (runs_front t us) (u == t) refl
     Goal : ℕ → Type 0
     Goal k = runs_of (t ∷ u ∷ us) ≡ record { thread = t; count = k + 1 } ∷ runs_of (drop k (u ∷ us))
 
-    go : runs_of (t ∷ us) ≡ record { thread = t; count = equal_len t us + 1 } ∷ runs_of (drop (equal_len t us) us) → (b : Bool) → (u == t) ≡ b → Goal (equal_len t (u ∷ us))
+    go : runs_of (t ∷ us) ≡ record { thread = t; count = equal_len t us + 1 } ∷ runs_of (drop (equal_len t us) us) → (b : Bool) → (u == t) ≡ b
+        → Goal (equal_len t (u ∷ us))
     go ih true e =
         let same = (Decides-eqb u t).0 e in
         let k : suc (equal_len t us) ≡ 1 + equal_len t us = omega arith in
         let here : equal_len t (u ∷ us) ≡ 1 + equal_len t us = ap (λ b. cond b (1 + equal_len t us) 0) e in
         let sum : equal_len t us + 1 + 1 ≡ suc (equal_len t us) + 1 = omega arith in
-        subst Goal (k ∙ sym here) (ap (λ x. with_turn t (runs_of (x ∷ us))) same ∙ (ap (with_turn t) ih ∙ (turn_same t (equal_len t us + 1) (runs_of (drop (equal_len t us) us))
+        subst Goal (k ∙ sym here) (ap (λ x. with_turn t (runs_of (x ∷ us))) same ∙
+        (ap (with_turn t) ih ∙ (turn_same t (equal_len t us + 1) (runs_of (drop (equal_len t us) us))
         ∙ ap (λ n. record { thread = t; count = n } ∷ runs_of (drop (equal_len t us) us)) sum)))
     go ih false e =
         let here : equal_len t (u ∷ us) ≡ 0 = ap (λ b. cond b (1 + equal_len t us) 0) e in
         let head = turn_begins u (runs_of us) in
         let apart : t ≢ head.first.thread = λ h. true≢false (sym ((Decides-eqb u t).1 (sym head.thread ∙ sym h)) ∙ e) in
-        subst Goal (sym here) (ap (with_turn t) head.is ∙ (turn_other t head.first head.others apart ∙ ap (λ rs. record { thread = t; count = 1 } ∷ rs) (sym head.is)))
+        subst Goal (sym here) (ap (with_turn t) head.is ∙
+        (turn_other t head.first head.others apart ∙ ap (λ rs. record { thread = t; count = 1 } ∷ rs) (sym head.is)))
 
 -- one step of the writer
 pub next_line : (text entries ts : List ℕ) (t k : ℕ) → text ++ text_of (runs_of (t ∷ ts)) ≡ text_of (runs_of entries) → k ≡ equal_len t ts
@@ -108,8 +117,12 @@ runs_lines (t ∷ ts) e b = go (runs_of ts) (runs_lines ts (both _ _ e).1 (omega
     go [] h = record { lines = all_line (record { thread = t; count = 1 }) [] small (omega arith) (omega arith) refl; head = omega arith }
     go (r ∷ rs) h = pick (t == r.thread)
       where
-        pick : (b : Bool) → HeadBound (suc (length ts)) (if b then record { thread = t; count = r.count + 1 } ∷ rs else record { thread = t; count = 1 } ∷ r ∷ rs)
-        pick true = record { lines = all_line (record { thread = t; count = r.count + 1 }) rs small (omega arith) (omega (arith, h.head)) (both _ _ h.lines).1; head = omega (arith, h.head) }
+        pick : (b : Bool) → HeadBound (suc (length ts))
+            (if b then record { thread = t; count = r.count + 1 } ∷ rs else record { thread = t; count = 1 } ∷ r ∷ rs)
+        pick true = record {
+          lines = all_line (record { thread = t; count = r.count + 1 }) rs small (omega arith) (omega (arith, h.head)) (both _ _ h.lines).1;
+          head = omega (arith, h.head);
+        }
         pick false = record { lines = all_line (record { thread = t; count = 1 }) (r ∷ rs) small (omega arith) (omega arith) h.lines; head = omega arith }
 
 -- no two neighbours are of one thread
@@ -117,10 +130,12 @@ pub turn_tight : (t : ℕ) (rs : List Run) → is_tight rs ≡ true → is_tight
 turn_tight t [] e = refl
 turn_tight t (r ∷ rs) e = go (t == r.thread) refl
   where
-    go : (b : Bool) → (t == r.thread) ≡ b → is_tight (if b then record { thread = t; count = r.count + 1 } ∷ rs else record { thread = t; count = 1 } ∷ r ∷ rs) ≡ true
+    go : (b : Bool) → (t == r.thread) ≡ b → is_tight (if b then record { thread = t; count = r.count + 1 } ∷ rs else record { thread = t; count = 1 } ∷ r ∷ rs)
+        ≡ true
     go true h = ap (λ x. begins_apart (record { thread = x; count = r.count + 1 }) rs && is_tight rs) ((Decides-eqb t r.thread).0 h) ∙ moved rs e
       where
-        moved : (qs : List Run) → (begins_apart r qs && is_tight qs) ≡ true → (begins_apart (record { thread = r.thread; count = r.count + 1 }) qs && is_tight qs) ≡ true
+        moved : (qs : List Run) → (begins_apart r qs && is_tight qs) ≡ true
+            → (begins_apart (record { thread = r.thread; count = r.count + 1 }) qs && is_tight qs) ≡ true
         moved [] e = e
         moved (q ∷ qs) e = e
     go false h = ap (λ x. not x && is_tight (r ∷ rs)) h ∙ e

@@ -12,13 +12,15 @@ use Rattle.vm_thread.specs.declared.thread.Here.{Here}
 
 module _ (g : Given) (input order out : List ℕ) (end : End) (most : ℕ) where
   -- the output and end of a replay are those of each other one
-  pub runs_so : (r : Replayed) → IsReplay (source (program_in g)) (layout_in g) (first_in g input) order most r → out ≡ r.out.items → end ≡ end_in r.end → RunsWithin most g input order out end
+  pub runs_so : (r : Replayed) → IsReplay (source (program_in g)) (layout_in g) (first_in g input) order most r → out ≡ r.out.items → end ≡ end_in r.end
+      → RunsWithin most g input order out end
   runs_so r h same ended = record {
     runs = record { world = h.world; replays = h.replays; out_is = same ∙ h.out_is; end_is = ended ∙ ap end_in h.end_is };
     within = omega (arith, h.cost_is, h.within);
   }
 
-  pub other_end : (r : Replayed) → IsReplay (source (program_in g)) (layout_in g) (first_in g input) order most r → (out ≡ r.out.items → end ≡ end_in r.end → ⊥) → RunsWithin most g input order out end → ⊥
+  pub other_end : (r : Replayed) → IsReplay (source (program_in g)) (layout_in g) (first_in g input) order most r → (out ≡ r.out.items → end ≡ end_in r.end → ⊥)
+      → RunsWithin most g input order out end → ⊥
   other_end r h other w =
       let only = only_replay (source (program_in g)) (layout_in g) (first_in g input) order most r w.runs.world h w.runs.replays in
       other (w.runs.out_is ∙ sym only.out_is) (w.runs.end_is ∙ ap end_in (sym only.end_is))
@@ -35,9 +37,11 @@ module _ (g : Given) (input order out : List ℕ) (end : End) (most : ℕ) where
       absurd (omega (arith, more, less))
 
 -- what was run, and its order and output as slices
-module _ (most : ℕ) (g : Given) (input : List ℕ) (o : Option (Ran Here)) (ran : Ran Here) (order out : List ℕ) (is : o ≡ Some ran) (orders : order ≡ ran.order.items) (outs : out ≡ ran.out.items) where
+module _ (most : ℕ) (g : Given) (input : List ℕ) (o : Option (Ran Here)) (ran : Ran Here) (order out : List ℕ) (is : o ≡ Some ran)
+    (orders : order ≡ ran.order.items) (outs : out ≡ ran.out.items) where
   own : RunsWithin most g input order out ran.end → RunsWithin most g input ran.order.items ran.out.items ran.end
-  own h = subst (λ (z : List ℕ). RunsWithin most g input ran.order.items z ran.end) outs (subst (λ (z : List ℕ). RunsWithin most g input z out ran.end) orders h)
+  own h = subst (λ (z : List ℕ). RunsWithin most g input ran.order.items z ran.end) outs
+      (subst (λ (z : List ℕ). RunsWithin most g input z out ran.end) orders h)
 
   pub linked_within : RunsWithin most g input order out ran.end → OfLinkedWithin most g input o
   linked_within h = subst (λ (z : Option (Ran Here)). OfLinkedWithin most g input z) (sym is) (own h)
@@ -48,4 +52,5 @@ module _ (most : ℕ) (g : Given) (input : List ℕ) (o : Option (Ran Here)) (ra
   pub runs_within : OfLinkedWithin most g input o → RunsWithin most g input order out ran.end
   runs_within h =
       let there : RunsWithin most g input ran.order.items ran.out.items ran.end = subst (λ (z : Option (Ran Here)). OfLinkedWithin most g input z) is h in
-      subst (λ (z : List ℕ). RunsWithin most g input order z ran.end) (sym outs) (subst (λ (z : List ℕ). RunsWithin most g input z ran.out.items ran.end) (sym orders) there)
+      subst (λ (z : List ℕ). RunsWithin most g input order z ran.end) (sym outs)
+      (subst (λ (z : List ℕ). RunsWithin most g input z ran.out.items ran.end) (sym orders) there)

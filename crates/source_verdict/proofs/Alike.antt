@@ -22,13 +22,16 @@ same_sources n [] [] xs agree are = are
 same_sources n [] (other ∷ others) xs agree are = elim agree [ ]
 same_sources n (text ∷ texts) [] xs agree are = elim agree [ ]
 same_sources n (text ∷ texts) (other ∷ others) [] agree are = elim are [ ]
-same_sources n (text ∷ texts) (other ∷ others) (x ∷ xs) agree are = (same_source n text other x agree.0 are.0, same_sources (suc n) texts others xs agree.1 are.1)
+same_sources n (text ∷ texts) (other ∷ others) (x ∷ xs) agree are =
+    (same_source n text other x agree.0 are.0, same_sources (suc n) texts others xs agree.1 are.1)
 
-first_sources : (n : ℕ) (texts others : List (List ℕ)) (xs : List Source) → AgreeInTokens texts others → AreFirstSources n texts xs → AreFirstSources n others xs
+first_sources : (n : ℕ) (texts others : List (List ℕ)) (xs : List Source) → AgreeInTokens texts others → AreFirstSources n texts xs
+    → AreFirstSources n others xs
 first_sources n texts others [] agree are = tt
 first_sources n [] others (x ∷ xs) agree are = elim are [ ]
 first_sources n (text ∷ texts) [] (x ∷ xs) agree are = elim agree [ ]
-first_sources n (text ∷ texts) (other ∷ others) (x ∷ xs) agree are = (same_source n text other x agree.0 are.0, first_sources (suc n) texts others xs agree.1 are.1)
+first_sources n (text ∷ texts) (other ∷ others) (x ∷ xs) agree are =
+    (same_source n text other x agree.0 are.0, first_sources (suc n) texts others xs agree.1 are.1)
 
 pub same_program : (texts others : List (List ℕ)) (p : TypedProgram) → AgreeInTokens texts others → HasProgram texts p → HasProgram others p
 same_program texts others p agree has = record { sources = has.sources; are = same_sources 0 texts others has.sources agree has.are; is = has.is }
@@ -37,4 +40,5 @@ pub same_fault : (texts others : List (List ℕ)) (e : ElabFault) → AgreeInTok
 same_fault texts others e agree has = record { sources = has.sources; are = first_sources 0 texts others has.sources agree has.are; is = has.is }
 
 pub accepted_alike : (texts others : List (List ℕ)) (p q : Program) → AgreeInTokens texts others → Accepts texts p → Accepts others q → shown p ≡ shown q
-accepted_alike texts others p q agree a b = one_typed others b.units (shown p) (shown q) b.read (same_program texts others (shown p) agree a.elaborated) b.elaborated
+accepted_alike texts others p q agree a b = one_typed others b.units (shown p) (shown q) b.read
+    (same_program texts others (shown p) agree a.elaborated) b.elaborated

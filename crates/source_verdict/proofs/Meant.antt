@@ -29,23 +29,27 @@ source_read one n text u x read is =
     let decls : read.parsed.decls ≡ x.decls = one u read.parsed.decls x.decls read.parsed.shows.shows is.decls in
     record {
       lexed = subst (IsTokens text) tokens read.lexed;
-      derives = subst (λ (ts : Trees). IsUnit (source_of n x.tokens) ts) decls (subst (λ (ls : List Lexeme). IsUnit (source_of n ls) read.parsed.decls) tokens read.parsed.derives);
+      derives = subst (λ (ts : Trees). IsUnit (source_of n x.tokens) ts) decls
+          (subst (λ (ls : List Lexeme). IsUnit (source_of n ls) read.parsed.decls) tokens read.parsed.derives);
     }
 
-pub first_read : OneWhole → (n : ℕ) (texts : List (List ℕ)) (us : List UnitRecord) (xs : List Source) → AreRead n texts us → AreFirst us xs → AreFirstSources n texts xs
+pub first_read : OneWhole → (n : ℕ) (texts : List (List ℕ)) (us : List UnitRecord) (xs : List Source) → AreRead n texts us → AreFirst us xs
+    → AreFirstSources n texts xs
 first_read one n texts us [] read first = tt
 first_read one n [] [] (x ∷ xs) read first = elim first [ ]
 first_read one n [] (u ∷ us) (x ∷ xs) read first = elim read [ ]
 first_read one n (text ∷ texts) [] (x ∷ xs) read first = elim read [ ]
 first_read one n (text ∷ texts) (u ∷ us) (x ∷ xs) read first = (source_read one n text u x read.0 first.0, first_read one (suc n) texts us xs read.1 first.1)
 
-pub all_read : OneWhole → (n : ℕ) (texts : List (List ℕ)) (us : List UnitRecord) (xs : List Source) → length xs ≡ length us → AreRead n texts us → AreFirst us xs → AreSourcesOf n texts xs
+pub all_read : OneWhole → (n : ℕ) (texts : List (List ℕ)) (us : List UnitRecord) (xs : List Source) → length xs ≡ length us → AreRead n texts us
+    → AreFirst us xs → AreSourcesOf n texts xs
 all_read one n [] [] [] long read first = tt
 all_read one n [] [] (x ∷ xs) long read first = elim first [ ]
 all_read one n [] (u ∷ us) xs long read first = elim read [ ]
 all_read one n (text ∷ texts) [] xs long read first = elim read [ ]
 all_read one n (text ∷ texts) (u ∷ us) [] long read first = let e : ⊥ = omega (arith, long) in absurd e
-all_read one n (text ∷ texts) (u ∷ us) (x ∷ xs) long read first = (source_read one n text u x read.0 first.0, all_read one (suc n) texts us xs (let e : length xs ≡ length us = omega (arith, long) in e) read.1 first.1)
+all_read one n (text ∷ texts) (u ∷ us) (x ∷ xs) long read first =
+    (source_read one n text u x read.0 first.0, all_read one (suc n) texts us xs (let e : length xs ≡ length us = omega (arith, long) in e) read.1 first.1)
 
 pub program_meant : OneWhole → (texts : List (List ℕ)) (us : List UnitRecord) (p : TypedProgram) → AreRead 0 texts us → IsProgram us p → HasProgram texts p
 program_meant one texts us p read is = record { sources = is.sources; are = all_read one 0 texts us is.sources is.all read is.are; is = is.is }
@@ -58,10 +62,13 @@ fault_meant one texts us e read is = record {
 }
 
 -- the fault that is answered is refused; want of memory is none
-pub fault_refused : OneWhole → (names texts : List (List ℕ)) (us : List UnitRecord) (e : ElabFault) (a : Answer) (writes : List Written) → AreRead 0 texts us → UnlessMemory e (IsFault us e) → RefusesFault names texts e a writes
+pub fault_refused : OneWhole → (names texts : List (List ℕ)) (us : List UnitRecord) (e : ElabFault) (a : Answer) (writes : List Written) → AreRead 0 texts us
+    → UnlessMemory e (IsFault us e) → RefusesFault names texts e a writes
     → RefusesTexts names texts a writes
 fault_refused one names texts us (Ill at rule) a writes read is r = faulty us (Ill at rule) read (fault_meant one texts us (Ill at rule) read is) r
-fault_refused one names texts us (Override at rule) a writes read is r = faulty us (Override at rule) read (fault_meant one texts us (Override at rule) read is) r
-fault_refused one names texts us (JumpIntoBlock at) a writes read is r = faulty us (JumpIntoBlock at) read (fault_meant one texts us (JumpIntoBlock at) read is) r
+fault_refused one names texts us (Override at rule) a writes read is r =
+    faulty us (Override at rule) read (fault_meant one texts us (Override at rule) read is) r
+fault_refused one names texts us (JumpIntoBlock at) a writes read is r =
+    faulty us (JumpIntoBlock at) read (fault_meant one texts us (JumpIntoBlock at) read is) r
 fault_refused one names texts us (Limit at which) a writes read is r = faulty us (Limit at which) read (fault_meant one texts us (Limit at which) read is) r
 fault_refused one names texts us Memory a writes read is r = elim r [ ]

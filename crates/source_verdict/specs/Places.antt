@@ -20,4 +20,5 @@ abbrev pub column_of : List ℕ → ℕ → ℕ
 column_of text offset = suc (since_end 0 (take offset text))
 
 abbrev pub place_line : (name text : List ℕ) → (offset : ℕ) → (what : List ℕ) → List ℕ
-place_line name text offset what = name ++ (codes ":" ++ (decimal (line_of text offset) ++ (codes ":" ++ (decimal (column_of text offset) ++ (codes ": " ++ what)))))
+place_line name text offset what = name ++ (codes ":" ++
+    (decimal (line_of text offset) ++ (codes ":" ++ (decimal (column_of text offset) ++ (codes ": " ++ what)))))

@@ -27,7 +27,8 @@ use Rattle.source_verdict.specs.Places.{place_line}
 use Rattle.source_verdict.specs.Names.{ill_name, override_name, reason_name, limit_name}
 
 -- the refusal names a place in one of the texts
-pub record RefusesAt (names texts : List (List ℕ)) (source offset number : ℕ) (what : List ℕ) (status : Status) (a : Answer) (writes : List Written) : Type 0 where
+pub record RefusesAt (names texts : List (List ℕ)) (source offset number : ℕ) (what : List ℕ) (status : Status) (a : Answer)
+    (writes : List Written) : Type 0 where
   pub name : List ℕ
   pub text : List ℕ
   pub name_is : slice_get names source ≡ Some name
@@ -50,8 +51,10 @@ RefusesFault names texts Memory a writes = ⊥
 -- The first refusal of the texts: the first that is no unit, the fault of elaboration, or the first unsafe node of their program.
 pub data RefusesTexts (names texts : List (List ℕ)) (a : Answer) (writes : List Written) : Type 0 where
   unread : (u : Unread) → IsFirstUnread texts u → RefusesFront names texts u.index u.fault a writes → RefusesTexts names texts a writes
-  faulty : (units : List UnitRecord) (fault : ElabFault) → AreRead 0 texts units → HasFault texts fault → RefusesFault names texts fault a writes → RefusesTexts names texts a writes
-  unsafe_part : (units : List UnitRecord) (p : Program) (at : At) (reason : UnsafeReason) → AreRead 0 texts units → HasProgram texts (program_of p) → FirstUnsafe (program_of p) at reason
+  faulty : (units : List UnitRecord) (fault : ElabFault) → AreRead 0 texts units → HasFault texts fault → RefusesFault names texts fault a writes
+      → RefusesTexts names texts a writes
+  unsafe_part : (units : List UnitRecord) (p : Program) (at : At) (reason : UnsafeReason) → AreRead 0 texts units → HasProgram texts (program_of p)
+      → FirstUnsafe (program_of p) at reason
       → RefusesAt names texts at.source at.offset 4 (codes "Unsafe " ++ reason_name reason) Refused a writes → RefusesTexts names texts a writes
 
 -- each text is a unit, and the program is theirs, well formed and safe, without a mark of `volatile` where the check does not look

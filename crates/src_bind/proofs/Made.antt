@@ -22,7 +22,8 @@ bodies_in t ds e = ap (list_all (has_body t)) e ∙ bodies_there t
 pub room_for : (t : TypedProgram) (ds : List Def) → CanBind t → ds ≡ kept_globals t → globals_end 0 (map (global_size t) ds) ≤ 1048576
 room_for t ds can e = subst (λ z. globals_end 0 (map (global_size t) z) ≤ 1048576) (sym e) can.room
 
-module _ (g : Given) (s : Tables) (funcs globals classes : List Def) (f : funcs ≡ kept_funcs (typed g)) (l : globals ≡ kept_globals (typed g)) (k : classes ≡ kept_classes (typed g)) where
+module _ (g : Given) (s : Tables) (funcs globals classes : List Def) (f : funcs ≡ kept_funcs (typed g)) (l : globals ≡ kept_globals (typed g))
+    (k : classes ≡ kept_classes (typed g)) where
   -- what each table was made of
   pub record MadeOf (offsets : List ℕ) (records : List ClassRec) (empty : List ℕ) (symbols : List (Vec (Option (Vec ℕ)))) (name : List ℕ) : Type 0 where
     pub few : length s.infos < 4294967296
@@ -42,13 +43,15 @@ module _ (g : Given) (s : Tables) (funcs globals classes : List Def) (f : funcs 
     pub name_is : name ≡ g.choices.main.items
     pub main : s.main ≡ number_in (named name) funcs
 
-  pub tables_are : (offsets : List ℕ) (records : List ClassRec) (empty : List ℕ) (symbols : List (Vec (Option (Vec ℕ)))) (name : List ℕ) → MadeOf offsets records empty symbols name → AreTables g s
+  pub tables_are : (offsets : List ℕ) (records : List ClassRec) (empty : List ℕ) (symbols : List (Vec (Option (Vec ℕ)))) (name : List ℕ)
+      → MadeOf offsets records empty symbols name → AreTables g s
   tables_are offsets records empty symbols name m = record {
     few = m.few;
     keys = keys_are g s.infos (kept_funcs (typed g)) (m.infos ∙ ap (map (func_found g)) f) (m.bodies ∙ ap (map (body_found g.program)) f);
     types = λ sig. m.types sig ∙ ap (map (type_found (typed g) sig)) f;
     numbers = m.numbers ∙ ap (λ z. unit_numbers z 0 (typed g).units) f;
-    globals = m.addresses ∙ ap (λ z. unit_addresses globals z 0 (typed g).units) m.lie ∙ ap (λ z. unit_addresses z (global_offsets 0 (map (global_size (typed g)) z)) 0 (typed g).units) l;
+    globals = m.addresses ∙ ap (λ z. unit_addresses globals z 0 (typed g).units) m.lie
+        ∙ ap (λ z. unit_addresses z (global_offsets 0 (map (global_size (typed g)) z)) 0 (typed g).units) l;
     tables = m.tables ∙ ap (λ z. class_numbers classes (classes_of z)) m.records_are ∙ ap (λ z. class_numbers z (typed g).classes) k;
     nameless = m.nameless ∙ ap (λ z. number_in (named z) classes) m.empty_is ∙ ap (number_in (named [])) k;
     places = m.places ∙ ap (map place_in) k;

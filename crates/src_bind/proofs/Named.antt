@@ -1,5 +1,6 @@
 -- Numbers by symbols.
-use Rattle.std.proofs.Common.{◌≡◌, ◌∙◌, ◌<◌, ◌≤◌, ℕ, suc, Bool, true, false, not, cond, ◌&&◌, ◌||◌, ◌==◌, List, [], ◌∷◌, length, refl, sym, ap, arith, Option, Some, None}
+use Rattle.std.proofs.Common.{◌≡◌, ◌∙◌, ◌<◌, ◌≤◌, ℕ, suc, Bool, true, false, not, cond, ◌&&◌, ◌||◌, ◌==◌, List, [], ◌∷◌, length, refl, sym, ap, arith, Option}
+use Rattle.std.proofs.Common.{Some, None}
 use Rattle.std.specs.Global.{Vec}
 use Rattle.std.proofs.lemmas.List.{length-map}
 use Rattle.std.specs.List.{list_any}
@@ -27,7 +28,8 @@ seen_outside z true = and_no z
 seen_outside z false = refl
 
 same_named : (s : List ℕ) (d : Def) → same_def (named s) d ≡ (name_eq d.symbol s && not d.internal)
-same_named s d = ap (λ z. z && cond d.internal ((0 == d.unit) && false) true) (name_turned s d.symbol) ∙ ap (λ z. name_eq d.symbol s && z) (seen_outside (0 == d.unit) d.internal)
+same_named s d = ap (λ z. z && cond d.internal ((0 == d.unit) && false) true) (name_turned s d.symbol)
+    ∙ ap (λ z. name_eq d.symbol s && z) (seen_outside (0 == d.unit) d.internal)
 
 any_named : (s : List ℕ) (ds : List Def) → list_any (same_def (named s)) ds ≡ list_any (λ (d : Def). name_eq d.symbol s && not d.internal) ds
 any_named s [] = refl
@@ -49,16 +51,20 @@ not_among : (d : Def) (ds : List Def) → length ds ≤ number_in d ds → list_
 not_among d [] h = refl
 not_among d (e ∷ es) h = not_among_by (same_def d e) (number_in d es) (length es) (list_any (same_def d) es) (not_among d es) h
 
-pub symbol_there : (o : Option (Vec ℕ)) (name : Vec ℕ) (lent : List ℕ) (kept : List Found) (n : ℕ) → o ≡ Some name → lent ≡ name.items → n ≡ number_in (named lent) (defs_of kept) → n < length kept → Some n ≡ slot_numbers (defs_of kept) o
+pub symbol_there : (o : Option (Vec ℕ)) (name : Vec ℕ) (lent : List ℕ) (kept : List Found) (n : ℕ) → o ≡ Some name → lent ≡ name.items
+    → n ≡ number_in (named lent) (defs_of kept) → n < length kept → Some n ≡ slot_numbers (defs_of kept) o
 symbol_there o name lent kept n p q e h =
     let f : n ≡ number_in (named name.items) (defs_of kept) = e ∙ ap (λ z. number_in (named z) (defs_of kept)) q in
     let m : length (defs_of kept) ≡ length kept = length-map kept def_of in
     let g : number_in (named name.items) (defs_of kept) < length (defs_of kept) = omega (arith, h, f, m) in
-    sym (ap (slot_numbers (defs_of kept)) p ∙ ap (λ z. number_if z (number_in (named name.items) (defs_of kept))) (sym (any_named name.items (defs_of kept)) ∙ among (named name.items) (defs_of kept) g) ∙ ap Some (sym f))
+    sym (ap (slot_numbers (defs_of kept)) p ∙ ap (λ z. number_if z (number_in (named name.items) (defs_of kept)))
+    (sym (any_named name.items (defs_of kept)) ∙ among (named name.items) (defs_of kept) g) ∙ ap Some (sym f))
 
-pub symbol_not_there : (o : Option (Vec ℕ)) (name : Vec ℕ) (lent : List ℕ) (kept : List Found) (n : ℕ) → o ≡ Some name → lent ≡ name.items → n ≡ number_in (named lent) (defs_of kept) → length kept ≤ n → None ≡ slot_numbers (defs_of kept) o
+pub symbol_not_there : (o : Option (Vec ℕ)) (name : Vec ℕ) (lent : List ℕ) (kept : List Found) (n : ℕ) → o ≡ Some name → lent ≡ name.items
+    → n ≡ number_in (named lent) (defs_of kept) → length kept ≤ n → None ≡ slot_numbers (defs_of kept) o
 symbol_not_there o name lent kept n p q e h =
     let f : n ≡ number_in (named name.items) (defs_of kept) = e ∙ ap (λ z. number_in (named z) (defs_of kept)) q in
     let m : length (defs_of kept) ≡ length kept = length-map kept def_of in
     let g : length (defs_of kept) ≤ number_in (named name.items) (defs_of kept) = omega (arith, h, f, m) in
-    sym (ap (slot_numbers (defs_of kept)) p ∙ ap (λ z. number_if z (number_in (named name.items) (defs_of kept))) (sym (any_named name.items (defs_of kept)) ∙ not_among (named name.items) (defs_of kept) g))
+    sym (ap (slot_numbers (defs_of kept)) p ∙ ap (λ z. number_if z (number_in (named name.items) (defs_of kept)))
+    (sym (any_named name.items (defs_of kept)) ∙ not_among (named name.items) (defs_of kept) g))

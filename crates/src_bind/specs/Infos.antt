@@ -34,7 +34,16 @@ word_of w = record { offset = w.offset; kind = w.kind; volatile = w.volatile }
 
 -- what a record shows of a function
 abbrev pub info_of : Program → FuncInfo → Func
-info_of p i = record { unit = i.unit; size = i.size; places = i.places.items; words = map word_of i.words.items; stops = i.stops; safe = i.safe; body = tree_at (trees_in p i.unit) i.body }
+info_of p i = record {
+  unit = i.unit;
+  size = i.size;
+  places = i.places.items;
+  words = map word_of i.words.items;
+  stops = i.stops;
+  safe = i.safe;
+  body = tree_at
+      (trees_in p i.unit) i.body;
+}
 
 -- it is no member, and of this type, safety aside
 abbrev pub is_of_type : List Class → Signature → FuncInfo → Bool

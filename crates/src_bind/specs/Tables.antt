@@ -9,7 +9,8 @@ use Rattle.cpp_tree.specs.declared.program.Program.{Program as Units}
 use Rattle.cpp_tree.specs.Units.{SlotFunc, TypedProgram, program_of}
 use Rattle.cpp_tree.specs.tx_events.declared.TheConstants.{GLOBALS_LIMIT}
 use Rattle.src_mean.specs.Linked.{WordPlace, Func, Program}
-use Rattle.src_mean.specs.Links.{Def, func_at, linked, linked_func, kept_funcs, kept_globals, kept_classes, global_size, global_offsets, globals_size, number_in, number_of_symbol, numbered, class_name, is_or_has_base}
+use Rattle.src_mean.specs.Links.{Def, func_at, linked, linked_func, kept_funcs, kept_globals, kept_classes, global_size, global_offsets, globals_size}
+use Rattle.src_mean.specs.Links.{number_in, number_of_symbol, numbered, class_name, is_or_has_base}
 use Rattle.src_bind.specs.declared.choices.Choices.{Choices}
 use Rattle.src_bind.specs.declared.infos.FuncInfo.{FuncInfo}
 use Rattle.src_bind.specs.Defs.{named}
@@ -69,7 +70,16 @@ pub record Key : Type 0 where
   pub body : Option TNodeId
 
 abbrev pub key_of : FuncInfo → Key
-key_of i = record { unit = i.unit; size = i.size; places = i.places.items; words = map word_of i.words.items; stops = i.stops; safe = i.safe; body = Some i.body }
+key_of i = record {
+  unit = i.unit;
+  size = i.size;
+  places = i.places.items;
+  words = map word_of i.words.items;
+  stops = i.stops;
+  safe = i.safe;
+  body =
+      Some i.body;
+}
 
 abbrev pub key_in : Option TNodeId → Func → Key
 key_in body f = record { unit = f.unit; size = f.size; places = f.places; words = f.words; stops = f.stops; safe = f.safe; body = body }
@@ -86,7 +96,8 @@ pub record AreTables (g : Given) (s : Tables) : Type 0 where
   pub keys : map (λ (i : FuncInfo). Some (key_of i)) s.infos ≡ map (key_found g) (kept_funcs (typed g))
   pub types : (sig : Signature) → map (is_of_type (typed g).classes sig) s.infos ≡ map (type_found (typed g) sig) (kept_funcs (typed g))
   pub numbers : rows s.numbers ≡ unit_numbers (kept_funcs (typed g)) 0 (typed g).units
-  pub globals : rows s.globals ≡ unit_addresses (kept_globals (typed g)) (global_offsets 0 (map (global_size (typed g)) (kept_globals (typed g)))) 0 (typed g).units
+  pub globals : rows s.globals ≡ unit_addresses (kept_globals (typed g)) (global_offsets 0 (map (global_size (typed g)) (kept_globals (typed g)))) 0
+      (typed g).units
   pub tables : s.tables ≡ class_numbers (kept_classes (typed g)) (typed g).classes
   pub nameless : s.nameless ≡ number_in (named []) (kept_classes (typed g))
   pub places : s.places ≡ map place_in (kept_classes (typed g))

@@ -50,7 +50,8 @@ module _ (classes : List Class) (text : List ℕ) where
   own_first (closure n) e = simp e
   own_first (tx_ex t) e = simp e
 
-  none_behind : (f : Form) → class_in f ≡ None → name_eq text (form_spelling classes f false false) ≡ false → list_any (name_eq text) (caught_as classes f) ≡ false
+  none_behind : (f : Form) → class_in f ≡ None → name_eq text (form_spelling classes f false false) ≡ false
+      → list_any (name_eq text) (caught_as classes f) ≡ false
   none_behind void i e = simp e
   none_behind (int k) i e = simp e
   none_behind (enum n s) i e = simp e
@@ -63,7 +64,8 @@ module _ (classes : List Class) (text : List ℕ) where
   none_behind (closure n) i e = simp e
   none_behind (tx_ex t) i e = simp e
 
-  bases_behind : (f : Form) (n : ℕ) → class_in f ≡ Some n → name_eq text (form_spelling classes f false false) ≡ false → list_any (name_eq text) (caught_as classes f) ≡ list_any (is_spelled classes text) (bases classes n)
+  bases_behind : (f : Form) (n : ℕ) → class_in f ≡ Some n → name_eq text (form_spelling classes f false false) ≡ false
+      → list_any (name_eq text) (caught_as classes f) ≡ list_any (is_spelled classes text) (bases classes n)
   bases_behind void n i e = absurd cc
   bases_behind (int k) n i e = absurd cc
   bases_behind (enum m s) n i e = absurd cc
@@ -74,23 +76,31 @@ module _ (classes : List Class) (text : List ℕ) where
   bases_behind (func s) n i e = absurd cc
   bases_behind (class m) n i e =
       let is : m ≡ n = cc in
-      let own : list_any (name_eq text) (caught_as classes (class m)) ≡ list_any (name_eq text) (map (λ b. form_spelling classes (class b) false false) (bases classes m)) = simp e in
+      let own : list_any (name_eq text) (caught_as classes (class m))
+      ≡ list_any (name_eq text) (map (λ b. form_spelling classes (class b) false false) (bases classes m)) = simp e in
       own ∙ spelled_any (bases classes m) ∙ ap (λ z. list_any (is_spelled classes text) (bases classes z)) is
   bases_behind (closure m) n i e = absurd cc
   bases_behind (tx_ex t) n i e = absurd cc
 
 -- by the spelling of the type itself, of a base, or not
-pub catches_own : (classes : List Class) (f thrown : Form) (text own : List ℕ) → text ≡ form_spelling classes f false false → own ≡ form_spelling classes thrown false false → true ≡ name_eq text own → true ≡ catches_form classes f thrown
+pub catches_own : (classes : List Class) (f thrown : Form) (text own : List ℕ) → text ≡ form_spelling classes f false false
+    → own ≡ form_spelling classes thrown false false → true ≡ name_eq text own → true ≡ catches_form classes f thrown
 catches_own classes f thrown text own e o h =
-    let there : name_eq (form_spelling classes f false false) (form_spelling classes thrown false false) ≡ true = ap (λ z. name_eq z (form_spelling classes thrown false false)) (sym e) ∙ ap (λ z. name_eq text z) (sym o) ∙ sym h in
+    let there : name_eq (form_spelling classes f false false) (form_spelling classes thrown false false) ≡ true =
+    ap (λ z. name_eq z (form_spelling classes thrown false false)) (sym e) ∙ ap (λ z. name_eq text z) (sym o) ∙ sym h in
     sym (own_first classes (form_spelling classes f false false) thrown there)
 
-pub catches_none : (classes : List Class) (f thrown : Form) (text own : List ℕ) → text ≡ form_spelling classes f false false → own ≡ form_spelling classes thrown false false → false ≡ name_eq text own → None ≡ class_in thrown → false ≡ catches_form classes f thrown
+pub catches_none : (classes : List Class) (f thrown : Form) (text own : List ℕ) → text ≡ form_spelling classes f false false
+    → own ≡ form_spelling classes thrown false false → false ≡ name_eq text own → None ≡ class_in thrown → false ≡ catches_form classes f thrown
 catches_none classes f thrown text own e o h i =
-    let there : name_eq (form_spelling classes f false false) (form_spelling classes thrown false false) ≡ false = ap (λ z. name_eq z (form_spelling classes thrown false false)) (sym e) ∙ ap (λ z. name_eq text z) (sym o) ∙ sym h in
+    let there : name_eq (form_spelling classes f false false) (form_spelling classes thrown false false) ≡ false =
+    ap (λ z. name_eq z (form_spelling classes thrown false false)) (sym e) ∙ ap (λ z. name_eq text z) (sym o) ∙ sym h in
     sym (none_behind classes (form_spelling classes f false false) thrown (sym i) there)
 
-pub catches_base : (classes : List Class) (f thrown : Form) (text own : List ℕ) (n : ℕ) (b : Bool) → text ≡ form_spelling classes f false false → own ≡ form_spelling classes thrown false false → false ≡ name_eq text own → Some n ≡ class_in thrown → b ≡ list_any (is_spelled classes text) (bases classes n) → b ≡ catches_form classes f thrown
+pub catches_base : (classes : List Class) (f thrown : Form) (text own : List ℕ) (n : ℕ) (b : Bool) → text ≡ form_spelling classes f false false
+    → own ≡ form_spelling classes thrown false false → false ≡ name_eq text own → Some n ≡ class_in thrown
+    → b ≡ list_any (is_spelled classes text) (bases classes n) → b ≡ catches_form classes f thrown
 catches_base classes f thrown text own n b e o h i k =
-    let there : name_eq (form_spelling classes f false false) (form_spelling classes thrown false false) ≡ false = ap (λ z. name_eq z (form_spelling classes thrown false false)) (sym e) ∙ ap (λ z. name_eq text z) (sym o) ∙ sym h in
+    let there : name_eq (form_spelling classes f false false) (form_spelling classes thrown false false) ≡ false =
+    ap (λ z. name_eq z (form_spelling classes thrown false false)) (sym e) ∙ ap (λ z. name_eq text z) (sym o) ∙ sym h in
     k ∙ ap (λ z. list_any (is_spelled classes z) (bases classes n)) e ∙ sym (bases_behind classes (form_spelling classes f false false) thrown n (sym i) there)

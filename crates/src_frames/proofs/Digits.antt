@@ -17,7 +17,8 @@ put_none (suc n) [] = refl
 put_none (suc n) (b ∷ bs) = ap (λ z. b ∷ z) (put_none n bs)
 
 -- of the bytes that are put from an offset on, one more was put
-pub put_next : (offset i size left : ℕ) (out others bs : List ℕ) → i < size → others ≡ slice_set out (offset + i) (left % 256) → with_bytes (offset + i) (bytes_of (size - i) left) out ≡ bs → with_bytes (offset + (i + 1)) (bytes_of (size - (i + 1)) (left / 256)) others ≡ bs
+pub put_next : (offset i size left : ℕ) (out others bs : List ℕ) → i < size → others ≡ slice_set out (offset + i) (left % 256)
+    → with_bytes (offset + i) (bytes_of (size - i) left) out ≡ bs → with_bytes (offset + (i + 1)) (bytes_of (size - (i + 1)) (left / 256)) others ≡ bs
 put_next offset i size left out others bs h e k =
     let m : ℕ = size - (i + 1) in
     let one_more : size - i ≡ suc m = omega arith in
@@ -53,7 +54,9 @@ number_small xs small (suc n) j =
     omega arith
 
 -- a number of which so many bytes were read, with the next one, which does not wrap
-pub read_next : (xs : List ℕ) (offset size i word byte next : ℕ) → ((k : ℕ) → get_or xs k 0 < 256) → size ≤ 8 → i < size → byte ≡ get_or xs (offset + (size - 1 - i)) 0 → next ≡ (word * 256 % 2 ^ 64 + byte) % 2 ^ 64 → word ≡ number_of (take i (drop (offset + (size - i)) xs)) → next ≡ number_of (take (i + 1) (drop (offset + (size - (i + 1))) xs))
+pub read_next : (xs : List ℕ) (offset size i word byte next : ℕ) → ((k : ℕ) → get_or xs k 0 < 256) → size ≤ 8 → i < size
+    → byte ≡ get_or xs (offset + (size - 1 - i)) 0 → next ≡ (word * 256 % 2 ^ 64 + byte) % 2 ^ 64 → word ≡ number_of (take i (drop (offset + (size - i)) xs))
+    → next ≡ number_of (take (i + 1) (drop (offset + (size - (i + 1))) xs))
 read_next xs offset size i word byte next small few h b e k =
     let j : ℕ = offset + (size - 1 - i) in
     let from : offset + (size - i) ≡ suc j = omega arith in
@@ -68,7 +71,8 @@ read_next xs offset size i word byte next small few h b e k =
     let plain : next ≡ byte + 256 * word = omega arith in
     let split : number_of (take (suc i) (drop j xs)) ≡ get_or xs j 0 + 256 * number_of (take i (drop (suc j) xs)) = number_next xs j i in
     let there : word ≡ number_of (take i (drop (suc j) xs)) = k ∙ ap (λ z. number_of (take i (drop z xs))) from in
-    let turned : number_of (take (i + 1) (drop (offset + (size - (i + 1))) xs)) ≡ number_of (take (suc i) (drop j xs)) = ap (λ z. number_of (take z (drop (offset + (size - (i + 1))) xs))) more ∙ ap (λ z. number_of (take (suc i) (drop z xs))) to in
+    let turned : number_of (take (i + 1) (drop (offset + (size - (i + 1))) xs)) ≡ number_of (take (suc i) (drop j xs)) =
+    ap (λ z. number_of (take z (drop (offset + (size - (i + 1))) xs))) more ∙ ap (λ z. number_of (take (suc i) (drop z xs))) to in
     omega arith
 
 -- all were read

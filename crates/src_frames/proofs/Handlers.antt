@@ -1,5 +1,6 @@
 -- Which frames an entered handler stands in.
-use Rattle.std.proofs.Common.{◌≡◌, ◌∙◌, ℕ, zero, suc, ◌+◌, ◌-◌, ◌<◌, ◌≤◌, List, [], ◌∷◌, ◌++◌, length, get_or, set, sym, ap, refl, arith, take, cond, append_assoc}
+use Rattle.std.proofs.Common.{◌≡◌, ◌∙◌, ℕ, zero, suc, ◌+◌, ◌-◌, ◌<◌, ◌≤◌, List, [], ◌∷◌, ◌++◌, length, get_or, set, sym, ap, refl, arith, take, cond}
+use Rattle.std.proofs.Common.{append_assoc}
 use Rattle.std.specs.Prelude.{Option, Some, None, is_some, option_map, slice_get}
 use Rattle.std.proofs.lemmas.List.{append-nil}
 use Rattle.std.proofs.lemmas.Option.{same_Some, slice_get-get_or}
@@ -46,17 +47,20 @@ newest_push (x ∷ fs) f = ap (λ z. first_of z (handling x)) (newest_push fs f)
 
 -- a frame in place of another one with the same handler
 
-set_from : (k : ℕ) (fs : List Frame) (n : ℕ) (f d : Frame) → n < length fs → d ≡ get_or fs n d → handling f ≡ handling d → handlers_from k (set fs n f) ≡ handlers_from k fs
+set_from : (k : ℕ) (fs : List Frame) (n : ℕ) (f d : Frame) → n < length fs → d ≡ get_or fs n d → handling f ≡ handling d
+    → handlers_from k (set fs n f) ≡ handlers_from k fs
 set_from k [] n f d h i w = absurd (omega (arith, h))
 set_from k (x ∷ xs) zero f d h i w = ap (λ z. cond (is_some z) (k ∷ []) [] ++ handlers_from (k + 1) xs) (w ∙ ap handling i)
 set_from k (x ∷ xs) (suc n) f d h i w = ap (λ z. place_in x k ++ z) (set_from (k + 1) xs n f d (omega (arith, h)) i w)
 
-pub handlers_set : (fs : List Frame) (n : ℕ) (f d : Frame) → n < length fs → d ≡ get_or fs n d → handling f ≡ handling d → handlers_in (set fs n f) ≡ handlers_in fs
+pub handlers_set : (fs : List Frame) (n : ℕ) (f d : Frame) → n < length fs → d ≡ get_or fs n d → handling f ≡ handling d
+    → handlers_in (set fs n f) ≡ handlers_in fs
 handlers_set fs n f d h i w = set_from 0 fs n f d h i w
 
 -- the exception of the innermost one is what the definition finds
 
-newest_to : (g : Given) (fs : List Frame) (m : ℕ) → m ≤ length fs → option_map (exception_shown g.program) (newest_handled (take m fs)) ≡ frames.handled (frames_shown g (take m fs))
+newest_to : (g : Given) (fs : List Frame) (m : ℕ) → m ≤ length fs
+    → option_map (exception_shown g.program) (newest_handled (take m fs)) ≡ frames.handled (frames_shown g (take m fs))
 newest_to g fs zero h = sym (ap frames.handled (shown_none g))
 newest_to g fs (suc m) h =
     let f : Frame = get_or fs m (Gives 0) in
@@ -108,20 +112,49 @@ none_from n (f ∷ fs) e =
     let h = none_by n f (handlers_from (n + 1) fs) (handling f) e in
     ap (λ z. first_of z (handling f)) (none_from (n + 1) fs h.1) ∙ h.0
 
-last_by : (n : ℕ) (f : Frame) (fs : List Frame) → ((hs : List ℕ) → hs ≡ handlers_from (n + 1) fs → (k i : ℕ) → length hs ≡ suc k → slice_get hs k ≡ Some i → Newest (n + 1) fs i)
-    → (o : Option Exception) → handling f ≡ o → (hs : List ℕ) → hs ≡ cond (is_some o) (n ∷ []) [] ++ handlers_from (n + 1) fs → (k i : ℕ) → length hs ≡ suc k → slice_get hs k ≡ Some i → Newest n (f ∷ fs) i
+last_by : (n : ℕ) (f : Frame) (fs : List Frame) → ((hs : List ℕ) → hs ≡ handlers_from (n + 1) fs → (k i : ℕ) → length hs ≡ suc k → slice_get hs k ≡ Some i →
+    Newest (n + 1) fs i)
+    → (o : Option Exception) → handling f ≡ o → (hs : List ℕ) → hs ≡ cond (is_some o) (n ∷ []) [] ++ handlers_from (n + 1) fs → (k i : ℕ) → length hs ≡ suc k
+    → slice_get hs k ≡ Some i → Newest n (f ∷ fs) i
 last_by n f fs more None h hs e k i l s =
     let r = more hs e k i l s in
-    record { index = suc r.index; place = r.place ∙ omega arith; frame = r.frame; there = r.there; exception = r.exception; handles = r.handles; newest = ap (λ z. first_of z (handling f)) r.newest }
+    record {
+      index = suc r.index;
+      place = r.place ∙ omega arith;
+      frame = r.frame;
+      there = r.there;
+      exception = r.exception;
+      handles = r.handles;
+      newest =
+          ap (λ z. first_of z (handling f)) r.newest;
+    }
 last_by n f fs more (Some x) h [] e k i l s = absurd (omega (arith, l))
 last_by n f fs more (Some x) h (m ∷ hs) e zero i l s =
     let same : m ≡ n = head_same m n hs (handlers_from (n + 1) fs) e in
     let rest : hs ≡ handlers_from (n + 1) fs = tail_same m n hs (handlers_from (n + 1) fs) e in
     let none : newest_handled fs ≡ None = none_from (n + 1) fs (sym rest ∙ none_long hs (omega (arith, l))) in
-    record { index = 0; place = sym (same_Some m i s) ∙ same ∙ omega arith; frame = f; there = refl; exception = x; handles = h; newest = ap (λ z. first_of z (handling f)) none ∙ h }
+    record {
+      index = 0;
+      place = sym (same_Some m i s) ∙ same ∙ omega arith;
+      frame = f;
+      there = refl;
+      exception = x;
+      handles = h;
+      newest =
+          ap (λ z. first_of z (handling f)) none ∙ h;
+    }
 last_by n f fs more (Some x) h (m ∷ hs) e (suc k) i l s =
     let r = more hs (tail_same m n hs (handlers_from (n + 1) fs) e) k i (omega (arith, l)) s in
-    record { index = suc r.index; place = r.place ∙ omega arith; frame = r.frame; there = r.there; exception = r.exception; handles = r.handles; newest = ap (λ z. first_of z (handling f)) r.newest }
+    record {
+      index = suc r.index;
+      place = r.place ∙ omega arith;
+      frame = r.frame;
+      there = r.there;
+      exception = r.exception;
+      handles = r.handles;
+      newest =
+          ap (λ z. first_of z (handling f)) r.newest;
+    }
 
 last_from : (n : ℕ) (fs : List Frame) (hs : List ℕ) → hs ≡ handlers_from n fs → (k i : ℕ) → length hs ≡ suc k → slice_get hs k ≡ Some i → Newest n fs i
 last_from n [] hs e k i l s = let none : length hs ≡ 0 = ap length e in absurd (omega (arith, l, none))
@@ -138,4 +171,5 @@ none_last fs (h ∷ hs) e s =
 -- the innermost one
 pub some_last : (fs : List Frame) (hs : List ℕ) (i : ℕ) → hs ≡ handlers_in fs → slice_get hs (length hs - 1) ≡ Some i → Newest 0 fs i
 some_last fs [] i e s = absurd cc
-some_last fs (h ∷ hs) i e s = let last : length hs ≡ length (h ∷ hs) - 1 = omega arith in last_from 0 fs (h ∷ hs) e (length hs) i refl (ap (slice_get (h ∷ hs)) last ∙ s)
+some_last fs (h ∷ hs) i e s = let last : length hs ≡ length (h ∷ hs) - 1 = omega arith in
+    last_from 0 fs (h ∷ hs) e (length hs) i refl (ap (slice_get (h ∷ hs)) last ∙ s)

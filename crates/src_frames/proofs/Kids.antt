@@ -43,7 +43,8 @@ pub first_none : (ts : Trees) → are_none ts ≡ true → literal 0 ≡ first t
 first_none none h = refl
 first_none (more t ts) h = absurd cc
 
-pub kid_below_some : (trees : List Tree) (bound : ℕ) (ids : List TNodeId) (i : ℕ) (k : TNodeId) → slice_get ids i ≡ Some k → kid_of i (kids_below trees bound ids) ≡ Some (cond (nat_lt k.0 bound) (tree_at trees k) (literal 0))
+pub kid_below_some : (trees : List Tree) (bound : ℕ) (ids : List TNodeId) (i : ℕ) (k : TNodeId) → slice_get ids i ≡ Some k
+    → kid_of i (kids_below trees bound ids) ≡ Some (cond (nat_lt k.0 bound) (tree_at trees k) (literal 0))
 kid_below_some trees bound [] i k h = absurd cc
 kid_below_some trees bound (id ∷ ids) zero k h = let e : id ≡ k = cc in ap (λ (z : TNodeId). Some (cond (nat_lt z.0 bound) (tree_at trees z) (literal 0))) e
 kid_below_some trees bound (id ∷ ids) (suc i) k h = kid_below_some trees bound ids i k h

@@ -11,7 +11,8 @@ use Rattle.src_frames.specs.declared.frames.Open.TheVariants.{Atomic, Sync}
 use Rattle.src_frames.specs.declared.frames.Frame.{Frame}
 use Rattle.src_frames.specs.declared.frames.Frame.TheVariants.{Run, Then, Gives, Leaves, Value, Call, Object, Statement, Block, Exception as AtException, End}
 use Rattle.src_frames.specs.declared.frames.ValueFrame.{ValueFrame}
-use Rattle.src_frames.specs.declared.frames.ValueFrame.TheVariants.{Loads, Loaded, Replied, StoreTo, Converts, Right, Apply, Choose, AssignTo, UpdateAt, UpdateOld, UpdateBy, CopyTo, CopyBy, From}
+use Rattle.src_frames.specs.declared.frames.ValueFrame.TheVariants.{Loads, Loaded, Replied, StoreTo, Converts, Right, Apply, Choose, AssignTo, UpdateAt}
+use Rattle.src_frames.specs.declared.frames.ValueFrame.TheVariants.{UpdateOld, UpdateBy, CopyTo, CopyBy, From}
 use Rattle.src_frames.specs.declared.frames.CallFrame.{CallFrame}
 use Rattle.src_frames.specs.declared.frames.CallFrame.TheVariants.{Words, Object as ObjectOf, Slot, Pointer, Passes, Called}
 use Rattle.src_frames.specs.declared.frames.ObjectFrame.{ObjectFrame}
@@ -24,7 +25,8 @@ use Rattle.src_frames.specs.declared.frames.ExceptionFrame.{ExceptionFrame}
 use Rattle.src_frames.specs.declared.frames.ExceptionFrame.TheVariants.{Throws, Fills, Filled, Tries, Trying, Takes, Taking, Handling}
 use Rattle.src_frames.specs.declared.frames.EndFrame.{EndFrame}
 use Rattle.src_frames.specs.declared.frames.EndFrame.TheVariants.{Starts, Halted, Ended}
-use Rattle.src_frames.specs.Shown.{exception_shown, owner_shown, open_shown, value_shown, call_shown, object_shown, statement_shown, block_shown, throwing_shown, end_shown, frame_shown}
+use Rattle.src_frames.specs.Shown.{exception_shown, owner_shown, open_shown, value_shown, call_shown, object_shown, statement_shown, block_shown}
+use Rattle.src_frames.specs.Shown.{throwing_shown, end_shown, frame_shown}
 use Rattle.src_frames.specs.Sorts.{first_of, handling, handling_in, is_atomic, is_atomic_in, is_atomic_open, is_scope_of, is_scope_in, waits_too}
 
 module _ (c : frames.Frame) where
@@ -214,7 +216,8 @@ scopes_end (Starts main) = λ o w k. refl
 scopes_end (Halted end) = λ o w k. refl
 scopes_end Ended = λ o w k. refl
 
-handles_throwing : (p : Program) (f : ExceptionFrame) (k : List frames.Frame) → frames.handled (throwing_shown p f ∷ k) ≡ first_of (option_map (exception_shown p) (handling_in f)) (frames.handled k)
+handles_throwing : (p : Program) (f : ExceptionFrame) (k : List frames.Frame)
+    → frames.handled (throwing_shown p f ∷ k) ≡ first_of (option_map (exception_shown p) (handling_in f)) (frames.handled k)
 handles_throwing p (Throws thrown fields) k = refl
 handles_throwing p (Fills from fields made) k = refl
 handles_throwing p (Filled from offset kind fields made) k = refl
@@ -224,7 +227,8 @@ handles_throwing p (Takes e base fields) k = refl
 handles_throwing p (Taking e base offset kind) k = refl
 handles_throwing p (Handling e) k = refl
 
-pub handled_step : (g : Given) (f : Frame) (k : List frames.Frame) → frames.handled (frame_shown g f ∷ k) ≡ first_of (option_map (exception_shown g.program) (handling f)) (frames.handled k)
+pub handled_step : (g : Given) (f : Frame) (k : List frames.Frame)
+    → frames.handled (frame_shown g f ∷ k) ≡ first_of (option_map (exception_shown g.program) (handling f)) (frames.handled k)
 handled_step g (Run way t) k = refl
 handled_step g (Then way t) k = refl
 handled_step g (Gives w) k = refl
@@ -237,16 +241,19 @@ handled_step g (Block f) k = handles_block g.program f k
 handled_step g (AtException f) k = handles_throwing g.program f k
 handled_step g (End f) k = handles_end f k
 
-no_atomic_open : (o : Open) (k : List frames.Frame) → threads.no_atomic (open_shown o ∷ frames.blocks_of k) ≡ cond (is_atomic_open o) false (threads.no_atomic (frames.blocks_of k))
+no_atomic_open : (o : Open) (k : List frames.Frame) → threads.no_atomic (open_shown o ∷ frames.blocks_of k)
+    ≡ cond (is_atomic_open o) false (threads.no_atomic (frames.blocks_of k))
 no_atomic_open (Atomic kind) k = refl
 no_atomic_open Sync k = refl
 
-no_atomic_block : (p : Program) (f : BlockFrame) (k : List frames.Frame) → threads.no_atomic (frames.blocks_of (block_shown p f ∷ k)) ≡ cond (is_atomic_in f) false (threads.no_atomic (frames.blocks_of k))
+no_atomic_block : (p : Program) (f : BlockFrame) (k : List frames.Frame)
+    → threads.no_atomic (frames.blocks_of (block_shown p f ∷ k)) ≡ cond (is_atomic_in f) false (threads.no_atomic (frames.blocks_of k))
 no_atomic_block p (Opens block t) k = refl
 no_atomic_block p (Within block) k = no_atomic_open block k
 no_atomic_block p (Closes block) k = no_atomic_open block k
 
-pub no_atomic_step : (g : Given) (f : Frame) (k : List frames.Frame) → threads.no_atomic (frames.blocks_of (frame_shown g f ∷ k)) ≡ cond (is_atomic f) false (threads.no_atomic (frames.blocks_of k))
+pub no_atomic_step : (g : Given) (f : Frame) (k : List frames.Frame)
+    → threads.no_atomic (frames.blocks_of (frame_shown g f ∷ k)) ≡ cond (is_atomic f) false (threads.no_atomic (frames.blocks_of k))
 no_atomic_step g (Run way t) k = refl
 no_atomic_step g (Then way t) k = refl
 no_atomic_step g (Gives w) k = refl
@@ -259,7 +266,9 @@ no_atomic_step g (Block f) k = no_atomic_block g.program f k
 no_atomic_step g (AtException f) k = ap threads.no_atomic (opens_throwing g.program f k)
 no_atomic_step g (End f) k = ap threads.no_atomic (opens_end f k)
 
-puts_object : (p : Program) (f : ObjectFrame) (o : Owner) (w : frames.Waiting) (k : List frames.Frame) → frames.puts (owner_shown o) w (object_shown p f ∷ k) ≡ cond (is_scope_in o f) (waits_too w (object_shown p f) ∷ k) (object_shown p f ∷ frames.puts (owner_shown o) w k)
+puts_object : (p : Program) (f : ObjectFrame) (o : Owner) (w : frames.Waiting) (k : List frames.Frame)
+    → frames.puts (owner_shown o) w (object_shown p f ∷ k)
+    ≡ cond (is_scope_in o f) (waits_too w (object_shown p f) ∷ k) (object_shown p f ∷ frames.puts (owner_shown o) w k)
 puts_object p (Full outer) o w k = refl
 puts_object p (Keeps obj) o w k = refl
 puts_object p (Scope owner always waiting) o w k = refl
@@ -271,7 +280,9 @@ puts_object p (Destroys number address stride left) o w k = refl
 puts_object p (Parts kids target source) o w k = refl
 puts_object p (Each init destroys stride left target source) o w k = refl
 
-pub puts_step : (g : Given) (f : Frame) (o : Owner) (w : frames.Waiting) (k : List frames.Frame) → frames.puts (owner_shown o) w (frame_shown g f ∷ k) ≡ cond (is_scope_of o f) (waits_too w (frame_shown g f) ∷ k) (frame_shown g f ∷ frames.puts (owner_shown o) w k)
+pub puts_step : (g : Given) (f : Frame) (o : Owner) (w : frames.Waiting) (k : List frames.Frame)
+    → frames.puts (owner_shown o) w (frame_shown g f ∷ k)
+    ≡ cond (is_scope_of o f) (waits_too w (frame_shown g f) ∷ k) (frame_shown g f ∷ frames.puts (owner_shown o) w k)
 puts_step g (Run way t) o w k = refl
 puts_step g (Then way t) o w k = refl
 puts_step g (Gives v) o w k = refl

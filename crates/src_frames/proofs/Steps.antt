@@ -10,11 +10,13 @@ use Rattle.src_mean.specs.Frames.{Here, Callee, Frame, at, value, Run, Words, Pa
 use Rattle.src_mean.specs.Source.{next_word, invoke, give, write, plus}
 use Rattle.src_frames.specs.Trees.{are_none}
 
-pub word_more : (p : Program) (h : Here) (callee : Callee) (before : List ℕ) (ts : Trees) (k : List Frame) → are_none ts ≡ false → next_word p h callee before ts k ≡ at Silent h (Run value (first ts) ∷ Words callee before (rest ts) ∷ k)
+pub word_more : (p : Program) (h : Here) (callee : Callee) (before : List ℕ) (ts : Trees) (k : List Frame) → are_none ts ≡ false
+    → next_word p h callee before ts k ≡ at Silent h (Run value (first ts) ∷ Words callee before (rest ts) ∷ k)
 word_more p h callee before none k e = absurd cc
 word_more p h callee before (more t ts) k e = refl
 
-pub word_none : (p : Program) (h : Here) (callee : Callee) (before : List ℕ) (ts : Trees) (k : List Frame) → are_none ts ≡ true → next_word p h callee before ts k ≡ invoke p h callee before k
+pub word_none : (p : Program) (h : Here) (callee : Callee) (before : List ℕ) (ts : Trees) (k : List Frame) → are_none ts ≡ true
+    → next_word p h callee before ts k ≡ invoke p h callee before k
 word_none p h callee before none k e = refl
 word_none p h callee before (more t ts) k e = absurd cc
 
@@ -30,12 +32,19 @@ drop_none (x ∷ xs) zero e = absurd cc
 drop_none (x ∷ xs) (suc n) e = drop_none xs n e
 
 -- no word is left to pass
-pub pass_no_word : (p : Program) (h : Here) (v : ℕ) (words : List ℕ) (places : List WordPlace) (from : ℕ) (k : List Frame) → slice_get words from ≡ None → give p h v (Passes (drop from words) (drop from places) ∷ k) ≡ give p h 0 k
+pub pass_no_word : (p : Program) (h : Here) (v : ℕ) (words : List ℕ) (places : List WordPlace) (from : ℕ) (k : List Frame) → slice_get words from ≡ None
+    → give p h v (Passes (drop from words) (drop from places) ∷ k) ≡ give p h 0 k
 pass_no_word p h v words places from k e = ap (λ z. give p h v (Passes z (drop from places) ∷ k)) (drop_none words from e)
 
 -- no place is left
-pub pass_no_place : (p : Program) (h : Here) (v : ℕ) (words : List ℕ) (places : List WordPlace) (from w : ℕ) (k : List Frame) → slice_get words from ≡ Some w → slice_get places from ≡ None → give p h v (Passes (drop from words) (drop from places) ∷ k) ≡ give p h 0 k
-pass_no_place p h v words places from w k e f = ap (λ z. give p h v (Passes z (drop from places) ∷ k)) (drop_some words from w e) ∙ ap (λ z. give p h v (Passes (w ∷ drop (from + 1) words) z ∷ k)) (drop_none places from f)
+pub pass_no_place : (p : Program) (h : Here) (v : ℕ) (words : List ℕ) (places : List WordPlace) (from w : ℕ) (k : List Frame) → slice_get words from ≡ Some w
+    → slice_get places from ≡ None → give p h v (Passes (drop from words) (drop from places) ∷ k) ≡ give p h 0 k
+pass_no_place p h v words places from w k e f = ap (λ z. give p h v (Passes z (drop from places) ∷ k)) (drop_some words from w e)
+    ∙ ap (λ z. give p h v (Passes (w ∷ drop (from + 1) words) z ∷ k)) (drop_none places from f)
 
-pub pass_one : (p : Program) (h : Here) (v : ℕ) (words : List ℕ) (places : List WordPlace) (from w : ℕ) (place : WordPlace) (k : List Frame) → slice_get words from ≡ Some w → slice_get places from ≡ Some place → give p h v (Passes (drop from words) (drop from places) ∷ k) ≡ write h (plus h.frame place.offset) place.kind place.volatile w (Passes (drop (from + 1) words) (drop (from + 1) places) ∷ k)
-pass_one p h v words places from w place k e f = ap (λ z. give p h v (Passes z (drop from places) ∷ k)) (drop_some words from w e) ∙ ap (λ z. give p h v (Passes (w ∷ drop (from + 1) words) z ∷ k)) (drop_some places from place f)
+pub pass_one : (p : Program) (h : Here) (v : ℕ) (words : List ℕ) (places : List WordPlace) (from w : ℕ) (place : WordPlace) (k : List Frame)
+    → slice_get words from ≡ Some w → slice_get places from ≡ Some place
+    → give p h v (Passes (drop from words) (drop from places) ∷ k)
+    ≡ write h (plus h.frame place.offset) place.kind place.volatile w (Passes (drop (from + 1) words) (drop (from + 1) places) ∷ k)
+pass_one p h v words places from w place k e f = ap (λ z. give p h v (Passes z (drop from places) ∷ k)) (drop_some words from w e)
+    ∙ ap (λ z. give p h v (Passes (w ∷ drop (from + 1) words) z ∷ k)) (drop_some places from place f)

@@ -47,4 +47,5 @@ after b o s = goes_on (linked_in b) o (state_of b s)
 
 -- what a node of a kind with these kids does first
 abbrev pub runs_as : Bound → State → Way → TKind → KidsAt → frames.State
-runs_as b s way kind kids = run_node (linked_in b) (here_of b s) (way_shown way) kind (all_kids b kids) (λ w. give (linked_in b) (here_of b s) w (frames_of b s)) (frames_of b s)
+runs_as b s way kind kids = run_node (linked_in b) (here_of b s) (way_shown way) kind (all_kids b kids)
+    (λ w. give (linked_in b) (here_of b s) w (frames_of b s)) (frames_of b s)

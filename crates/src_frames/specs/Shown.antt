@@ -29,7 +29,8 @@ use Rattle.src_frames.specs.declared.frames.Open.TheVariants.{Atomic, Sync}
 use Rattle.src_frames.specs.declared.frames.Frame.{Frame}
 use Rattle.src_frames.specs.declared.frames.Frame.TheVariants.{Run, Then, Gives, Leaves, Value, Call, Object, Statement, Block, Exception as AtException, End}
 use Rattle.src_frames.specs.declared.frames.ValueFrame.{ValueFrame}
-use Rattle.src_frames.specs.declared.frames.ValueFrame.TheVariants.{Loads, Loaded, Replied, StoreTo, Converts, Right, Apply, Choose, AssignTo, UpdateAt, UpdateOld, UpdateBy, CopyTo, CopyBy, From}
+use Rattle.src_frames.specs.declared.frames.ValueFrame.TheVariants.{Loads, Loaded, Replied, StoreTo, Converts, Right, Apply, Choose, AssignTo, UpdateAt}
+use Rattle.src_frames.specs.declared.frames.ValueFrame.TheVariants.{UpdateOld, UpdateBy, CopyTo, CopyBy, From}
 use Rattle.src_frames.specs.declared.frames.CallFrame.{CallFrame}
 use Rattle.src_frames.specs.declared.frames.CallFrame.TheVariants.{Words, Object as ObjectOf, Slot, Pointer, Passes, Called}
 use Rattle.src_frames.specs.declared.frames.ObjectFrame.{ObjectFrame}
@@ -68,7 +69,15 @@ func_at_hand g None = None
 func_at_hand g (Some n) = (linked_of g).func n
 
 abbrev pub here_shown : Given → Here → frames.Here
-here_shown g h = record { frame = h.frame; end = h.end; limit = h.limit; unit = unit_of_func (func_at_hand g h.func); places = places_of_func (func_at_hand g h.func); temporaries = all_waiting g.program h.temporaries.items }
+here_shown g h = record {
+  frame = h.frame;
+  end = h.end;
+  limit = h.limit;
+  unit = unit_of_func (func_at_hand g h.func);
+  places = places_of_func
+      (func_at_hand g h.func);
+  temporaries = all_waiting g.program h.temporaries.items;
+}
 
 -- the type of what was thrown
 abbrev pub thrown_by : Program → TreeAt → Typ

@@ -20,12 +20,14 @@ module _ (classes : List Class) where
   global_in (x ∷ xs) zero g h e b = let k : x ≡ g = cc in (subst (λ (z : Global). z.defined ≡ true → GlobalFits classes z) k h.0) b
   global_in (x ∷ xs) (suc n) g h e b = global_in xs n g h.1 e b
 
-  frame_there : (xs : List TypedUnit) (u n : ℕ) (f : UnitFunc) → UnitsFit classes xs → option_and_then (λ (x : TypedUnit). slice_get x.funcs n) (slice_get xs u) ≡ Some f → is_some f.body ≡ true → FrameFits classes f.frame
+  frame_there : (xs : List TypedUnit) (u n : ℕ) (f : UnitFunc) → UnitsFit classes xs
+      → option_and_then (λ (x : TypedUnit). slice_get x.funcs n) (slice_get xs u) ≡ Some f → is_some f.body ≡ true → FrameFits classes f.frame
   frame_there [] u n f h e b = absurd cc
   frame_there (x ∷ xs) zero n f h e b = frame_in x.funcs n f h.0 e b
   frame_there (x ∷ xs) (suc u) n f h e b = frame_there xs u n f h.2 e b
 
-  global_there : (xs : List TypedUnit) (u n : ℕ) (g : Global) → UnitsFit classes xs → option_and_then (λ (x : TypedUnit). slice_get x.globals n) (slice_get xs u) ≡ Some g → g.defined ≡ true → GlobalFits classes g
+  global_there : (xs : List TypedUnit) (u n : ℕ) (g : Global) → UnitsFit classes xs
+      → option_and_then (λ (x : TypedUnit). slice_get x.globals n) (slice_get xs u) ≡ Some g → g.defined ≡ true → GlobalFits classes g
   global_there [] u n g h e b = absurd cc
   global_there (x ∷ xs) zero n g h e b = global_in x.globals n g h.1 e b
   global_there (x ∷ xs) (suc u) n g h e b = global_there xs u n g h.2 e b

@@ -1,5 +1,6 @@
 -- The open blocks of a thread are those that its events open and close.
-use Rattle.std.specs.Prelude.{◌≡◌, ℕ, zero, suc, ℤ, ◌<◌, ◌*◌, ◌^◌, ◌%◌, Bool, true, false, not, cond, nat_lt, ◌&&◌, ◌||◌, ◌==◌, ◌+◌, List, [], ◌∷◌, ◌++◌, Option, Some, None, Result, Ok, Err, refl}
+use Rattle.std.specs.Prelude.{◌≡◌, ℕ, zero, suc, ℤ, ◌<◌, ◌*◌, ◌^◌, ◌%◌, Bool, true, false, not, cond, nat_lt, ◌&&◌, ◌||◌, ◌==◌, ◌+◌, List, [], ◌∷◌, ◌++◌}
+use Rattle.std.specs.Prelude.{Option, Some, None, Result, Ok, Err, refl}
 use Rattle.std.proofs.Common.{sym, ap, subst, arith, lt-ltb, ◌∙◌}
 use Rattle.std.proofs.lemmas.Bool.{false≢true}
 use Rattle.std.proofs.lemmas.Nat.{pow_pos}
@@ -9,25 +10,38 @@ use Rattle.cpp_tree.specs.tx_ints.declared.kinds.ArithTrap.TheVariants.{Overflow
 use Rattle.cpp_tree.specs.tx_events.declared.Reply.TheVariants.{Nothing}
 use Rattle.cpp_tree.specs.tx_ints.declared.kinds.ArithTrap.{ArithTrap}
 use Rattle.cpp_tree.specs.tx_ints.Words.{word_of}
-use Rattle.cpp_tree.specs.tx_ints.declared.kinds.IntKind.TheVariants.{Bool as BoolKind, Char, SChar, UChar, Short, UShort, Int, UInt, Long, ULong, LLong, ULLong}
+use Rattle.cpp_tree.specs.tx_ints.declared.kinds.IntKind.TheVariants.{Bool as BoolKind, Char, SChar, UChar, Short, UShort, Int, UInt, Long, ULong, LLong}
+use Rattle.cpp_tree.specs.tx_ints.declared.kinds.IntKind.TheVariants.{ULLong}
 use Rattle.cpp_tree.specs.tx_ints.declared.kinds.IntKind.{IntKind}
 use Rattle.cpp_tree.specs.cpp_layout.Layout.{kind_size}
 use Rattle.cpp_tree.specs.tx_events.declared.BlockKind.TheVariants.{NoExcept, Commit, Cancel}
 use Rattle.cpp_tree.specs.tx_events.declared.Event.{Event}
-use Rattle.cpp_tree.specs.tx_events.declared.Event.TheVariants.{Silent, Load as Reads, Store as Writes, Out, Inp, Spawn as Spawns, Join as Joins, BeginAtomic, EndAtomic, Raise, BeginSync, EndSync, Done, Stop}
+use Rattle.cpp_tree.specs.tx_events.declared.Event.TheVariants.{Silent, Load as Reads, Store as Writes, Out, Inp, Spawn as Spawns, Join as Joins, BeginAtomic}
+use Rattle.cpp_tree.specs.tx_events.declared.Event.TheVariants.{EndAtomic, Raise, BeginSync, EndSync, Done, Stop}
 use Rattle.cpp_tree.specs.tx_events.declared.Reply.{Reply}
-use Rattle.cpp_tree.specs.tx_events.Thread.{Open, Atomic as AtomicBlock, Sync, Lawful, no_atomic, blocks_after, is_silent, is_size, is_empty, is_own_end, may_come}
+use Rattle.cpp_tree.specs.tx_events.Thread.{Open, Atomic as AtomicBlock, Sync, Lawful, no_atomic, blocks_after, is_silent, is_size, is_empty, is_own_end}
+use Rattle.cpp_tree.specs.tx_events.Thread.{may_come}
 use Rattle.cpp_tree.specs.cpp_types.Typ.{Typ}
 use Rattle.cpp_tree.specs.declared.kinds.Builtin.{Builtin}
 use Rattle.cpp_tree.specs.declared.kinds.Builtin.TheVariants.{PutChar, GetChar, Spawn as SpawnThread, Join as JoinThread, Abort as AbortProgram}
 use Rattle.cpp_tree.specs.declared.kinds.TKind.{TKind}
-use Rattle.cpp_tree.specs.declared.kinds.TKind.TheVariants.{Literal, Local, Global, Function, ClassTable, Materialize, CopyScalar, Call, Builtin as CallBuiltin, Rethrow, Construct, CopyConstruct, Loop, Case, Default, Break, Continue, Return, Handler, Atomic, Destroy, Field}
+use Rattle.cpp_tree.specs.declared.kinds.TKind.TheVariants.{Literal, Local, Global, Function, ClassTable, Materialize, CopyScalar, Call, Builtin as CallBuiltin}
+use Rattle.cpp_tree.specs.declared.kinds.TKind.TheVariants.{Rethrow, Construct, CopyConstruct, Loop, Case, Default, Break, Continue, Return, Handler, Atomic}
+use Rattle.cpp_tree.specs.declared.kinds.TKind.TheVariants.{Destroy, Field}
 use Rattle.cpp_tree.specs.Trees.{Tree, node, Trees, none, more, kind_of, typ_in}
 use Rattle.src_mean.specs.Linked.{Func, Program}
 use Rattle.src_mean.specs.Exceptions.{Exception, is_object_typ, catches, read_bytes}
-use Rattle.src_mean.specs.Frames.{Here, Way, Exit, throws, returns, breaks, continues, Waiting, Owner, Callee, known, virtual, pointer, builtin, Frame, Run, Gives, Leaves, Loads, Loaded, Replied, StoreTo, UpdateAt, UpdateOld, Filled, Converts, Apply, UpdateBy, Words, Slot, Pointer, Passes, Called, Full, Scope, Waits, Cleans, Due, Destroys, Parts, Each, Items, Test, Body, Picks, Compares, Switches, Returning, Opens, Within, Closes, Fills, Tries, Trying, Takes, Taking, Handling, Starts, Halted, Ended, State, at, blocks_of, handled, puts, puts_some, same_owner}
-use Rattle.src_mean.specs.Source.{trap_of, finish, enter, enter_found, enter_pointed, is_safe, spawn, built_in, invoke, next_word, call, call_slot, halt, leave, leave_call, try_first, is_throw, rethrow, return_value, first_part, destroy, handle, take_field, fill_field, compare, from_label, is_case, run_node, give, reply_word, result_words, target_of, source_of, case_word, applied, read, write, converted, updated, plus, stored_bytes, begins, main_state, empty_stack, source}
-use Rattle.src_mean.specs.Laws.{closes_block, LeftOnce, is_passed, is_last, quiet, opens, closes, is_plain, is_done, settled, IsSettled, follows, is_hidden, GoesOn, Begins, StaysSafe, IsSafeState}
+use Rattle.src_mean.specs.Frames.{Here, Way, Exit, throws, returns, breaks, continues, Waiting, Owner, Callee, known, virtual, pointer, builtin, Frame, Run}
+use Rattle.src_mean.specs.Frames.{Gives, Leaves, Loads, Loaded, Replied, StoreTo, UpdateAt, UpdateOld, Filled, Converts, Apply, UpdateBy, Words, Slot, Pointer}
+use Rattle.src_mean.specs.Frames.{Passes, Called, Full, Scope, Waits, Cleans, Due, Destroys, Parts, Each, Items, Test, Body, Picks, Compares, Switches}
+use Rattle.src_mean.specs.Frames.{Returning, Opens, Within, Closes, Fills, Tries, Trying, Takes, Taking, Handling, Starts, Halted, Ended, State, at, blocks_of}
+use Rattle.src_mean.specs.Frames.{handled, puts, puts_some, same_owner}
+use Rattle.src_mean.specs.Source.{trap_of, finish, enter, enter_found, enter_pointed, is_safe, spawn, built_in, invoke, next_word, call, call_slot, halt, leave}
+use Rattle.src_mean.specs.Source.{leave_call, try_first, is_throw, rethrow, return_value, first_part, destroy, handle, take_field, fill_field, compare}
+use Rattle.src_mean.specs.Source.{from_label, is_case, run_node, give, reply_word, result_words, target_of, source_of, case_word, applied, read, write}
+use Rattle.src_mean.specs.Source.{converted, updated, plus, stored_bytes, begins, main_state, empty_stack, source}
+use Rattle.src_mean.specs.Laws.{closes_block, LeftOnce, is_passed, is_last, quiet, opens, closes, is_plain, is_done, settled, IsSettled, follows, is_hidden}
+use Rattle.src_mean.specs.Laws.{GoesOn, Begins, StaysSafe, IsSafeState}
 
 -- a settled state with these blocks
 pub record Good (bs : List Open) (s : State) : Type 0 where
@@ -48,7 +62,8 @@ either false bs s t g h = h
 
 enters : (h : Here) (ws : List ℕ) (f : Option Func) (k : List Frame) → quiet k ≡ true → Good (blocks_of k) (enter h ws f k)
 enters h ws None k q = record { settled = q; same = refl }
-enters h ws (Some f) k q = either (nat_lt h.limit (h.end + f.size)) (blocks_of k) _ _ (record { settled = q; same = refl }) (record { settled = q; same = refl })
+enters h ws (Some f) k q = either (nat_lt h.limit (h.end + f.size)) (blocks_of k) _ _ (record { settled = q; same = refl })
+    (record { settled = q; same = refl })
 
 enters_found : (h : Here) (ws : List ℕ) (f : Option Func) (k : List Frame) → quiet k ≡ true → Good (blocks_of k) (enter_found h ws f k)
 enters_found h ws f k q = either (no_atomic (blocks_of k) || is_safe f) (blocks_of k) _ _ (enters h ws f k q) (record { settled = q; same = refl })
@@ -85,8 +100,10 @@ reads : (h : Here) (address : ℕ) (kind : IntKind) (volatile : Bool) (k : List 
 reads h address kind volatile k q = record { settled = both (is_size (kind_size kind)) (quiet k) (size_of_kind kind) q; same = refl }
 
 -- a store, behind which stands a frame that takes its reply
-writes : (kind : IntKind) (w : ℕ) (k : List Frame) → quiet k ≡ true → ((is_size (kind_size kind) && nat_lt (stored_bytes kind w) (2 ^ (8 * kind_size kind))) && quiet k) ≡ true
-writes kind w k q = both (is_size (kind_size kind) && nat_lt (stored_bytes kind w) (2 ^ (8 * kind_size kind))) (quiet k) (both (is_size (kind_size kind)) (nat_lt (stored_bytes kind w) (2 ^ (8 * kind_size kind))) (size_of_kind kind) (stored_fits kind w)) q
+writes : (kind : IntKind) (w : ℕ) (k : List Frame) → quiet k ≡ true
+    → ((is_size (kind_size kind) && nat_lt (stored_bytes kind w) (2 ^ (8 * kind_size kind))) && quiet k) ≡ true
+writes kind w k q = both (is_size (kind_size kind) && nat_lt (stored_bytes kind w) (2 ^ (8 * kind_size kind))) (quiet k)
+    (both (is_size (kind_size kind)) (nat_lt (stored_bytes kind w) (2 ^ (8 * kind_size kind))) (size_of_kind kind) (stored_fits kind w)) q
 
 spawns : (h : Here) (f : Option ℕ) (arg : ℕ) (k : List Frame) → quiet k ≡ true → Good (blocks_of k) (spawn h f arg k)
 spawns h None arg k q = record { settled = q; same = refl }
@@ -127,7 +144,8 @@ leaves_call (returns w) h caller stops k q = record { settled = q; same = refl }
 leaves_call breaks h caller stops k q = record { settled = q; same = refl }
 leaves_call continues h caller stops k q = record { settled = q; same = refl }
 
-tries_first : (h : Here) (e : Exception) (hs : Trees) (s : State) (k : List Frame) → quiet k ≡ true → Good (blocks_of k) s → Good (blocks_of k) (try_first h e hs s k)
+tries_first : (h : Here) (e : Exception) (hs : Trees) (s : State) (k : List Frame) → quiet k ≡ true → Good (blocks_of k) s
+    → Good (blocks_of k) (try_first h e hs s k)
 tries_first h e none s k q g = g
 tries_first h e (more t ts) s k q g = record { settled = q; same = refl }
 
@@ -166,7 +184,8 @@ first_parts : (h : Here) (b : Bool) (ts : Trees) (k : List Frame) → quiet k �
 first_parts h true ts k q = record { settled = q; same = refl }
 first_parts h false ts k q = record { settled = q; same = refl }
 
-nodes : (p : Program) (h : Here) (way : Way) (kind : TKind) (kids : Trees) (done : ℕ → State) (k : List Frame) → quiet k ≡ true → ((w : ℕ) → Good (blocks_of k) (done w)) → Good (blocks_of k) (run_node p h way kind kids done k)
+nodes : (p : Program) (h : Here) (way : Way) (kind : TKind) (kids : Trees) (done : ℕ → State) (k : List Frame) → quiet k ≡ true
+    → ((w : ℕ) → Good (blocks_of k) (done w)) → Good (blocks_of k) (run_node p h way kind kids done k)
 nodes p h way (Literal w) kids done k q g = g _
 nodes p h way (Local place) kids done k q g = g _
 nodes p h way (Global n) kids done k q g = g _
@@ -198,12 +217,14 @@ nodes p h way kind kids done k q g = record { settled = q; same = refl }
 
 puts_last : (o : Owner) (w : Waiting) (k : List Frame) → is_last (puts o w k) ≡ is_last k
 puts_last o w [] = refl
-puts_last o w (Scope u always ws ∷ k) = elim (same_owner o u) as (λ b. is_last (cond b (Scope u always (w ∷ ws) ∷ k) (Scope u always ws ∷ puts o w k)) ≡ false) [ true ↦ refl | false ↦ refl ]
+puts_last o w (Scope u always ws ∷ k) = elim (same_owner o u) as (λ b. is_last (cond b (Scope u always (w ∷ ws) ∷ k) (Scope u always ws ∷ puts o w k))
+    ≡ false) [ true ↦ refl | false ↦ refl ]
 puts_last o w (f ∷ k) = refl
 
 puts_quiet : (o : Owner) (w : Waiting) (k : List Frame) → quiet (puts o w k) ≡ quiet k
 puts_quiet o w [] = refl
-puts_quiet o w (Scope u always ws ∷ k) = elim (same_owner o u) as (λ b. quiet (cond b (Scope u always (w ∷ ws) ∷ k) (Scope u always ws ∷ puts o w k)) ≡ quiet k) [ true ↦ refl | false ↦ puts_quiet o w k ]
+puts_quiet o w (Scope u always ws ∷ k) = elim (same_owner o u) as (λ b. quiet (cond b (Scope u always (w ∷ ws) ∷ k) (Scope u always ws ∷ puts o w k))
+    ≡ quiet k) [ true ↦ refl | false ↦ puts_quiet o w k ]
 puts_quiet o w (Opens block body ∷ k) = refl
 puts_quiet o w (Closes block ∷ k) = refl
 puts_quiet o w (Starts main ∷ k) = puts_last o w k
@@ -213,12 +234,14 @@ puts_quiet o w (f ∷ k) = puts_quiet o w k
 
 puts_blocks : (o : Owner) (w : Waiting) (k : List Frame) → blocks_of (puts o w k) ≡ blocks_of k
 puts_blocks o w [] = refl
-puts_blocks o w (Scope u always ws ∷ k) = elim (same_owner o u) as (λ b. blocks_of (cond b (Scope u always (w ∷ ws) ∷ k) (Scope u always ws ∷ puts o w k)) ≡ blocks_of k) [ true ↦ refl | false ↦ puts_blocks o w k ]
+puts_blocks o w (Scope u always ws ∷ k) = elim (same_owner o u) as (λ b. blocks_of (cond b (Scope u always (w ∷ ws) ∷ k) (Scope u always ws ∷ puts o w k))
+    ≡ blocks_of k) [ true ↦ refl | false ↦ puts_blocks o w k ]
 puts_blocks o w (Within block ∷ k) = ap (λ bs. block ∷ bs) (puts_blocks o w k)
 puts_blocks o w (Closes block ∷ k) = ap (λ bs. block ∷ bs) (puts_blocks o w k)
 puts_blocks o w (f ∷ k) = puts_blocks o w k
 
-waits : (h : Here) (v : ℕ) (o : Owner) (address : Tree) (ds : Trees) (k : List Frame) → quiet k ≡ true → Good (blocks_of k) (at Silent h (Gives v ∷ puts_some o address ds k))
+waits : (h : Here) (v : ℕ) (o : Owner) (address : Tree) (ds : Trees) (k : List Frame) → quiet k ≡ true
+    → Good (blocks_of k) (at Silent h (Gives v ∷ puts_some o address ds k))
 waits h v o address none k q = record { settled = q; same = refl }
 waits h v o address (more d ds) k q = record { settled = puts_quiet o _ k ∙ q; same = puts_blocks o _ k }
 
@@ -227,9 +250,14 @@ own_trap Overflows = refl
 own_trap DividesByZero = refl
 own_trap ShiftsBeyond = refl
 
-finishes : (r : Result ℤ ArithTrap) (h : Here) (on : ℤ → State) (k : List Frame) → quiet k ≡ true → ((z : ℤ) → Good (blocks_of k) (on z)) → Good (blocks_of k) (finish r h on k)
+finishes : (r : Result ℤ ArithTrap) (h : Here) (on : ℤ → State) (k : List Frame) → quiet k ≡ true → ((z : ℤ) → Good (blocks_of k) (on z))
+    → Good (blocks_of k) (finish r h on k)
 finishes (Ok z) h on k q g = g z
-finishes (Err trap) h on k q g = record { settled = both (is_own_end (Trapped (trap_of trap))) (is_own_end (Trapped (trap_of trap)) && quiet k) (own_trap trap) (both (is_own_end (Trapped (trap_of trap))) (quiet k) (own_trap trap) q); same = refl }
+finishes (Err trap) h on k q g = record {
+  settled = both (is_own_end (Trapped (trap_of trap))) (is_own_end (Trapped (trap_of trap)) && quiet k) (own_trap trap)
+      (both (is_own_end (Trapped (trap_of trap))) (quiet k) (own_trap trap) q);
+  same = refl;
+}
 
 destroys : (p : Program) (h : Here) (a : ℕ) (kind : TKind) (ts : Trees) (k : List Frame) → quiet k ≡ true → Good (blocks_of k) (destroy p h a kind ts k)
 destroys p h a (Destroy f o c s) ts k q = record { settled = q; same = refl }
@@ -244,8 +272,10 @@ takes : (h : Here) (e : Exception) (base : ℕ) (kind : TKind) (ts : Trees) (k :
 takes h e base (Field o c) ts k q = record { settled = q; same = refl }
 takes h e base kind ts k q = record { settled = q; same = refl }
 
-fills : (h : Here) (t : Typ) (from : ℕ) (kind : TKind) (ts : Trees) (bytes : List ℕ) (k : List Frame) → quiet k ≡ true → Good (blocks_of k) (fill_field h t from kind ts bytes k)
-fills h t from (Field o c) ts bytes k q = either (is_object_typ t) (blocks_of k) _ _ (reads h (plus from o) c false (Filled t from o c ts bytes ∷ k) q) (record { settled = q; same = refl })
+fills : (h : Here) (t : Typ) (from : ℕ) (kind : TKind) (ts : Trees) (bytes : List ℕ) (k : List Frame) → quiet k ≡ true
+    → Good (blocks_of k) (fill_field h t from kind ts bytes k)
+fills h t from (Field o c) ts bytes k q = either (is_object_typ t) (blocks_of k) _ _ (reads h (plus from o) c false (Filled t from o c ts bytes ∷ k) q)
+    (record { settled = q; same = refl })
 fills h t from kind ts bytes k q = record { settled = q; same = refl }
 
 compares : (h : Here) (w : ℕ) (ts items : Trees) (k : List Frame) → quiet k ≡ true → Good (blocks_of k) (compare h w ts items k)
@@ -266,7 +296,9 @@ gives p h v (StoreTo address kind volatile answer ∷ k) q = record { settled = 
 gives p h v (UpdateAt c t ∷ k) q = reads h v c.stored c.volatile (UpdateOld c v t ∷ k) q
 gives p h v (Converts kind ∷ k) q = gives p h _ k q
 gives p h v (Apply op kind left ∷ k) q = finishes (applied op kind left v) h (λ z. give p h (word_of z) k) k q (λ z. gives p h (word_of z) k q)
-gives p h v (UpdateBy c address old ∷ k) q = finishes (applied c.op c.operation old v) h (λ z. write h address c.stored c.volatile (converted c.stored (word_of z)) (Gives (updated c address old) ∷ k)) k q (λ z. record { settled = writes c.stored (converted c.stored (word_of z)) k q; same = refl })
+gives p h v (UpdateBy c address old ∷ k) q = finishes (applied c.op c.operation old v) h
+    (λ z. write h address c.stored c.volatile (converted c.stored (word_of z)) (Gives (updated c address old) ∷ k)) k q
+    (λ z. record { settled = writes c.stored (converted c.stored (word_of z)) k q; same = refl })
 gives p h v (Words callee before rest ∷ k) q = next_words p h callee (before ++ v ∷ []) rest k q
 gives p h v (Slot before class slot words ∷ k) q = calls_slot p h (p.slot v class slot) before words k q
 gives p h v (Pointer before sig words ∷ k) q = calls p h (pointer v sig) before words k q
@@ -288,7 +320,8 @@ gives p h v (Items none ∷ k) q = gives p h 0 k q
 gives p h v (Items (more t ts) ∷ k) q = record { settled = q; same = refl }
 gives p h v (Test test body step ∷ k) q = either (v == 0) (blocks_of k) _ _ (record { settled = q; same = refl }) (record { settled = q; same = refl })
 gives p h v (Picks items ∷ k) q = compares h v (from_label is_case items) items k q
-gives p h v (Compares w label ts items ∷ k) q = either (case_word label == w) (blocks_of k) _ _ (record { settled = q; same = refl }) (compares h w (from_label is_case ts) items k q)
+gives p h v (Compares w label ts items ∷ k) q = either (case_word label == w) (blocks_of k) _ _ (record { settled = q; same = refl })
+    (compares h w (from_label is_case ts) items k q)
 gives p h v (Switches ∷ k) q = gives p h 0 k q
 gives p h v (Returning ∷ k) q = leaves h (returns v) k q
 gives p h v (Within Sync ∷ k) q = record { settled = q; same = refl }
@@ -296,7 +329,8 @@ gives p h v (Within (AtomicBlock kind) ∷ k) q = record { settled = q; same = r
 gives p h v (Fills t from none bytes ∷ k) q = leaves h (throws (record { typ = t; bytes = bytes })) k q
 gives p h v (Fills t from (more field rest) bytes ∷ k) q = fills h t from (kind_of field) rest bytes k q
 gives p h v (Tries hs ∷ k) q = gives p h 0 k q
-gives p h v (Trying e handler others ∷ k) q = either (catches p.classes (typ_in handler) e.typ) (blocks_of k) _ _ (handles h e handler k q) (leaves h (throws e) (Tries others ∷ k) q)
+gives p h v (Trying e handler others ∷ k) q = either (catches p.classes (typ_in handler) e.typ) (blocks_of k) _ _ (handles h e handler k q)
+    (leaves h (throws e) (Tries others ∷ k) q)
 gives p h v (Takes e base none ∷ k) q = gives p h 0 k q
 gives p h v (Takes e base (more field rest) ∷ k) q = takes h e base (kind_of field) rest k q
 gives p h v (Taking e base offset kind ∷ k) q = record { settled = writes kind (read_bytes e.bytes offset (kind_size kind)) k q; same = refl }
@@ -340,19 +374,36 @@ closing_drops (Raise kind cancels) (AtomicBlock k) bs i = refl
 closing_drops EndSync Sync bs i = refl
 closing_drops e block bs i = absurd (false≢true i)
 
-after_plain : (p : Program) (e : Event) (h : Here) (w : ℕ) (k : List Frame) → is_plain e ≡ true → quiet k ≡ true → Good (blocks_after e (blocks_of k)) (give p h w k)
+after_plain : (p : Program) (e : Event) (h : Here) (w : ℕ) (k : List Frame) → is_plain e ≡ true → quiet k ≡ true
+    → Good (blocks_after e (blocks_of k)) (give p h w k)
 after_plain p e h w k i q = record { settled = (gives p h w k q).settled; same = (gives p h w k q).same ∙ sym (plain_keeps e (blocks_of k) i) }
 
 goes_on : (p : Program) (e : Event) (h : Here) (w : ℕ) (k : List Frame) → settled e k ≡ true → Good (blocks_after e (blocks_of k)) (give p h w k)
-goes_on p e h w (Opens block body ∷ k) i = record { settled = right (opens e block) (quiet k) i; same = sym (opening_adds e block (blocks_of k) (left (opens e block) (quiet k) i)) }
-goes_on p e h w (Closes block ∷ k) i = record { settled = (gives p h 0 k (right (closes e block) (quiet k) i)).settled; same = (gives p h 0 k (right (closes e block) (quiet k) i)).same ∙ sym (closing_drops e block (blocks_of k) (left (closes e block) (quiet k) i)) }
-goes_on p e h w (Run way t ∷ k) i = record { settled = (gives p h w (Run way t ∷ k) (right (is_silent e) (quiet k) i)).settled; same = (gives p h w (Run way t ∷ k) (right (is_silent e) (quiet k) i)).same ∙ sym (silent_keeps e (blocks_of k) (left (is_silent e) (quiet k) i)) }
+goes_on p e h w (Opens block body ∷ k) i = record {
+  settled = right (opens e block) (quiet k) i;
+  same = sym
+      (opening_adds e block (blocks_of k) (left (opens e block) (quiet k) i));
+}
+goes_on p e h w (Closes block ∷ k) i = record {
+  settled = (gives p h 0 k (right (closes e block) (quiet k) i)).settled;
+  same =
+      (gives p h 0 k (right (closes e block) (quiet k) i)).same ∙ sym (closing_drops e block (blocks_of k) (left (closes e block) (quiet k) i));
+}
+goes_on p e h w (Run way t ∷ k) i = record {
+  settled = (gives p h w (Run way t ∷ k) (right (is_silent e) (quiet k) i)).settled;
+  same =
+      (gives p h w (Run way t ∷ k) (right (is_silent e) (quiet k) i)).same ∙ sym (silent_keeps e (blocks_of k) (left (is_silent e) (quiet k) i));
+}
 goes_on p e h w (Ended ∷ k) i = record { settled = right (is_done e) (is_last k) i; same = sym (done_keeps e (blocks_of k) (left (is_done e) (is_last k) i)) }
 goes_on p e h w [] i = after_plain p e h w [] (left (is_plain e) true i) refl
 goes_on p e h w (f ∷ k) i = after_plain p e h w (f ∷ k) (left (is_plain e) (quiet (f ∷ k)) i) (right (is_plain e) (quiet (f ∷ k)) i)
 
 pub stays_settled : (p : Program) (s : State) (reply : Reply) → IsSettled s → GoesOn p s reply
-stays_settled p s reply i = record { settled = (goes_on p s.event s.here (reply_word reply) s.frames i).settled; blocks = (goes_on p s.event s.here (reply_word reply) s.frames i).same }
+stays_settled p s reply i = record {
+  settled = (goes_on p s.event s.here (reply_word reply) s.frames i).settled;
+  blocks =
+      (goes_on p s.event s.here (reply_word reply) s.frames i).same;
+}
 
 -- The beginning
 
@@ -464,7 +515,8 @@ closing_first (Raise kind cancels) (f ∷ k) i c = absurd (false≢true i)
 closing_first EndSync (f ∷ k) i c = absurd (false≢true i)
 closing_first e k i c = absurd (false≢true c)
 
-closed : (p : Program) (e : Event) (h : Here) (w : ℕ) (block : Open) (k : List Frame) → settled e (Closes block ∷ k) ≡ true → blocks_of (give p h w (Closes block ∷ k)).frames ≡ blocks_of k
+closed : (p : Program) (e : Event) (h : Here) (w : ℕ) (block : Open) (k : List Frame) → settled e (Closes block ∷ k) ≡ true
+    → blocks_of (give p h w (Closes block ∷ k)).frames ≡ blocks_of k
 closed p e h w block k i = (gives p h 0 k (right (closes e block) (quiet k) i)).same
 
 pub leaves_once : (p : Program) (s : State) (reply : Reply) → IsSettled s → closes_block s.event ≡ true → LeftOnce p s reply
@@ -475,12 +527,14 @@ leaves_once p s reply i c =
       others = f.1;
       first = f.2;
       before = ap blocks_of f.2;
-      after = ap (λ (k : List Frame). blocks_of (give p s.here (reply_word reply) k).frames) f.2 ∙ closed p s.event s.here (reply_word reply) f.0 f.1 (subst (λ (k : List Frame). settled s.event k ≡ true) f.2 i);
+      after = ap (λ (k : List Frame). blocks_of (give p s.here (reply_word reply) k).frames) f.2
+          ∙ closed p s.event s.here (reply_word reply) f.0 f.1 (subst (λ (k : List Frame). settled s.event k ≡ true) f.2 i);
     }
 
 -- An exception that comes to a function that stops it
 
-stops_at : (h caller : Here) (e : Exception) (passed k : List Frame) → list_all is_passed passed ≡ true → leave h (throws e) (passed ++ Called caller true ∷ k) ≡ halt h Terminate k
+stops_at : (h caller : Here) (e : Exception) (passed k : List Frame) → list_all is_passed passed ≡ true
+    → leave h (throws e) (passed ++ Called caller true ∷ k) ≡ halt h Terminate k
 stops_at h caller e [] k i = refl
 stops_at h caller e (Scope owner always ws ∷ passed) k i = absurd (false≢true i)
 stops_at h caller e (Full outer ∷ passed) k i = absurd (false≢true i)
@@ -490,5 +544,6 @@ stops_at h caller e (Tries handlers ∷ passed) k i = absurd (false≢true i)
 stops_at h caller e (Starts main ∷ passed) k i = absurd (false≢true i)
 stops_at h caller e (f ∷ passed) k i = stops_at h caller e passed k i
 
-pub terminates_at : (p : Program) (h caller : Here) (e : Exception) (passed k : List Frame) → list_all is_passed passed ≡ true → ((source p).next ((source p).after (at Silent h (Leaves (throws e) ∷ (passed ++ Called caller true ∷ k))) Nothing)) ≡ Stop Terminate
+pub terminates_at : (p : Program) (h caller : Here) (e : Exception) (passed k : List Frame) → list_all is_passed passed ≡ true
+    → ((source p).next ((source p).after (at Silent h (Leaves (throws e) ∷ (passed ++ Called caller true ∷ k))) Nothing)) ≡ Stop Terminate
 terminates_at p h caller e passed k i = ap (λ (s : State). s.event) (stops_at h caller e passed k i)

@@ -8,9 +8,15 @@ use Rattle.cpp_tree.specs.tx_events.declared.Trap.TheVariants.{Overflow}
 use Rattle.src_mean.specs.Source.{plus, stored_bytes}
 use Rattle.src_mean.specs.Notation.{bodies_fit}
 use Rattle.src_mean.specs.Runs.{outcome, ends}
-use Rattle.src_mean.specs.Blocks.{return_zero, return_zero_events, thin_path, thin_path_events, thin_path_overflow, thin_path_overflow_events, cancelled_block, cancelled_block_events, inner_cancel, inner_cancel_events, commit_on_throw, commit_on_throw_events, cancel_of_int, cancel_of_int_events}
-use Rattle.src_mean.specs.Objects.{destruction, destruction_events, destruction_of_parts, destruction_of_parts_events, virtual_in_constructor, virtual_in_constructor_events, lambda_capture, lambda_capture_events, conditional_temporary, conditional_temporary_events, argument_object, argument_object_events}
-use Rattle.src_mean.specs.Exits.{terminate, terminate_events, terminate_in_noexcept, terminate_in_noexcept_events, rethrow, rethrow_events, return_through_scopes, return_through_scopes_events, switch_skips_a_label, switch_skips_a_label_events, third_element_throws, third_element_throws_events}
+use Rattle.src_mean.specs.Blocks.{return_zero, return_zero_events, thin_path, thin_path_events, thin_path_overflow, thin_path_overflow_events, cancelled_block}
+use Rattle.src_mean.specs.Blocks.{cancelled_block_events, inner_cancel, inner_cancel_events, commit_on_throw, commit_on_throw_events, cancel_of_int}
+use Rattle.src_mean.specs.Blocks.{cancel_of_int_events}
+use Rattle.src_mean.specs.Objects.{destruction, destruction_events, destruction_of_parts, destruction_of_parts_events, virtual_in_constructor}
+use Rattle.src_mean.specs.Objects.{virtual_in_constructor_events, lambda_capture, lambda_capture_events, conditional_temporary, conditional_temporary_events}
+use Rattle.src_mean.specs.Objects.{argument_object, argument_object_events}
+use Rattle.src_mean.specs.Exits.{terminate, terminate_events, terminate_in_noexcept, terminate_in_noexcept_events, rethrow, rethrow_events}
+use Rattle.src_mean.specs.Exits.{return_through_scopes, return_through_scopes_events, switch_skips_a_label, switch_skips_a_label_events, third_element_throws}
+use Rattle.src_mean.specs.Exits.{third_element_throws_events}
 
 pub return_zero_runs : outcome 2000 return_zero ≡ ends return_zero_events (Exit (pos 0))
 unfolding apply_of reduced word_of memory_word read_at merge plus stored_bytes

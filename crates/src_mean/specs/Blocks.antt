@@ -9,7 +9,8 @@ use Rattle.cpp_tree.specs.tx_events.declared.Event.{Event}
 use Rattle.cpp_tree.specs.tx_events.declared.Event.TheVariants.{Load as Reads, Store as Writes, Out, BeginAtomic, EndAtomic, Raise, Stop}
 use Rattle.cpp_tree.specs.cpp_types.Typ.{int, ptr, ref, array, tx_ex, signature, none as none_typs}
 use Rattle.cpp_tree.specs.declared.kinds.Builtin.TheVariants.{PutChar}
-use Rattle.cpp_tree.specs.declared.kinds.TKind.TheVariants.{Literal, Local, Global, Load, Convert, Retype, Binary, Assign, Materialize, Builtin, Throw, Store, Block, Init, Return, Try, Handler, Atomic, Field}
+use Rattle.cpp_tree.specs.declared.kinds.TKind.TheVariants.{Literal, Local, Global, Load, Convert, Retype, Binary, Assign, Materialize, Builtin, Throw, Store}
+use Rattle.cpp_tree.specs.declared.kinds.TKind.TheVariants.{Block, Init, Return, Try, Handler, Atomic, Field}
 use Rattle.cpp_tree.specs.declared.program.FuncKind.TheVariants.{Plain}
 use Rattle.cpp_tree.specs.declared.program.CellKind.TheVariants.{Number}
 use Rattle.cpp_tree.specs.Units.{Func, TypedProgram}
@@ -184,7 +185,7 @@ cancelled_block_events =
     (Out 49) ∷ (Reads 65540 4 false) ∷ (Out 51) ∷ (Reads 16777216 4 false) ∷ (Out 52) ∷ (Reads 16777224 4 false) ∷ (Out 53) ∷
     (Stop (Exit (pos 0))) ∷ []
 
---     int x; int main() { atomic_commit { x = 1; try { atomic_cancel { x = 2; throw std::tx_exception<int>(0); } } catch (...) { } } putchar('0' + x); return 0; }
+-- int x; int main() { atomic_commit { x = 1; try { atomic_cancel { x = 2; throw std::tx_exception<int>(0); } } catch (...) { } } putchar('0' + x); return 0; }
 
 -- main()
 abbrev pub inner_cancel_main : Func

@@ -7,7 +7,9 @@ use Rattle.cpp_tree.specs.tx_events.declared.Event.{Event}
 use Rattle.cpp_tree.specs.tx_events.declared.Event.TheVariants.{Load as Reads, Store as Writes, Out, BeginSync, EndSync, Stop}
 use Rattle.cpp_tree.specs.cpp_types.Typ.{int, ptr, ref, array, class, void, signature, none as none_typs, more as more_typs}
 use Rattle.cpp_tree.specs.declared.kinds.Builtin.TheVariants.{PutChar}
-use Rattle.cpp_tree.specs.declared.kinds.TKind.TheVariants.{Literal, Local, Global, Load, Convert, Retype, Binary, Conditional, Assign, Update, Call, Builtin, Throw, Rethrow, Store, Construct, Elements, Block, Init, Switch, Case, Default, Break, Return, Try, Handler, Synchronized, Destroy, Field}
+use Rattle.cpp_tree.specs.declared.kinds.TKind.TheVariants.{Literal, Local, Global, Load, Convert, Retype, Binary, Conditional, Assign, Update, Call, Builtin}
+use Rattle.cpp_tree.specs.declared.kinds.TKind.TheVariants.{Throw, Rethrow, Store, Construct, Elements, Block, Init, Switch, Case, Default, Break, Return, Try}
+use Rattle.cpp_tree.specs.declared.kinds.TKind.TheVariants.{Handler, Synchronized, Destroy, Field}
 use Rattle.cpp_tree.specs.declared.program.FuncKind.TheVariants.{Plain, Constructor, Destructor}
 use Rattle.cpp_tree.specs.Units.{Func, TypedProgram}
 use Rattle.cpp_tree.specs.Notation.{plain, const, effect, prvalue, lvalue}

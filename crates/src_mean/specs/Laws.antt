@@ -1,9 +1,11 @@
 -- What the laws say of the source thread: which events come, and what they do to the open blocks.
 use Rattle.std.specs.Prelude.{◌≡◌, ℕ, ℤ, ◌^◌, ◌*◌, nat_lt, Bool, true, false, not, ◌&&◌, ◌||◌, List, [], ◌∷◌}
 use Rattle.cpp_tree.specs.tx_events.declared.Event.{Event}
-use Rattle.cpp_tree.specs.tx_events.declared.Event.TheVariants.{Load, Store, Out, Inp, Spawn, Join, BeginAtomic, EndAtomic, Raise, BeginSync, EndSync, Done, Stop}
+use Rattle.cpp_tree.specs.tx_events.declared.Event.TheVariants.{Load, Store, Out, Inp, Spawn, Join, BeginAtomic, EndAtomic, Raise, BeginSync, EndSync, Done}
+use Rattle.cpp_tree.specs.tx_events.declared.Event.TheVariants.{Stop}
 use Rattle.cpp_tree.specs.tx_events.declared.Reply.{Reply}
-use Rattle.cpp_tree.specs.tx_events.Thread.{Open, Atomic, Sync, same_kind, blocks_after, is_own_end, is_silent, is_size, is_empty, no_atomic, in_atomic, in_kind, in_sync}
+use Rattle.cpp_tree.specs.tx_events.Thread.{Open, Atomic, Sync, same_kind, blocks_after, is_own_end, is_silent, is_size, is_empty, no_atomic, in_atomic}
+use Rattle.cpp_tree.specs.tx_events.Thread.{in_kind, in_sync}
 use Rattle.src_mean.specs.Linked.{Program}
 use Rattle.src_mean.specs.Frames.{Frame, Run, Opens, Closes, Scope, Full, Within, Called, Tries, Starts, Halted, Ended, State, blocks_of}
 use Rattle.src_mean.specs.Source.{source}

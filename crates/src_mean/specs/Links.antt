@@ -1,5 +1,6 @@
 -- The linked program of typed units: which definitions are kept, their numbers and addresses.
-use Rattle.std.specs.Prelude.{ℕ, zero, suc, ◌+◌, ◌==◌, Bool, true, false, not, cond, nat_lt, ◌&&◌, ◌||◌, List, [], ◌∷◌, ◌++◌, map, filter, take, Option, Some, None, is_some, option_map, option_and_then, unwrap_or, slice_get, ◌%◌, ◌^◌}
+use Rattle.std.specs.Prelude.{ℕ, zero, suc, ◌+◌, ◌==◌, Bool, true, false, not, cond, nat_lt, ◌&&◌, ◌||◌, List, [], ◌∷◌, ◌++◌, map, filter, take, Option, Some}
+use Rattle.std.specs.Prelude.{None, is_some, option_map, option_and_then, unwrap_or, slice_get, ◌%◌, ◌^◌}
 use Rattle.std.specs.List.{list_any}
 use Rattle.cpp_tree.specs.tx_ints.declared.kinds.IntKind.{IntKind}
 use Rattle.cpp_tree.specs.tx_ints.declared.kinds.IntKind.TheVariants.{ULong}
@@ -191,12 +192,16 @@ abbrev pub linked : (ℕ → ℕ → Bool) → (SlotFunc → Option (List ℕ)) 
 linked safe symbol main t = record {
   number = λ u n. unwrap_or (option_map (λ (f : UnitFunc). number_in (def_of_func u n f) (kept_funcs t)) (func_at t u n)) 0;
   func = λ n. option_and_then (λ (d : Def). option_map (linked_func safe t.classes d) (func_at t d.unit d.place)) (slice_get (kept_funcs t) n);
-  global = λ u n. globals_start + unwrap_or (option_and_then (λ (g : Global). slice_get (global_offsets 0 (map (global_size t) (kept_globals t))) (number_in (def_of_global u n g) (kept_globals t))) (global_at t u n)) 0;
+  global = λ u n. globals_start + unwrap_or (option_and_then
+      (λ (g : Global). slice_get (global_offsets 0 (map (global_size t) (kept_globals t))) (number_in (def_of_global u n g) (kept_globals t)))
+      (global_at t u n)) 0;
   table = λ c. table_address (number_in (record { unit = 0; place = 0; symbol = class_name t.classes c; internal = false }) (kept_classes t));
   slot = λ a c s. option_and_then (λ (found : Def × ℕ). cond (is_or_has_base t.classes (found.0).place (class_name t.classes c))
-      (option_and_then (λ (f : SlotFunc). option_and_then (λ (name : List ℕ). number_of_symbol name (kept_funcs t)) (symbol f)) (option_and_then (λ (fs : List SlotFunc). slice_get fs s) (slice_get t.slots (found.0).place)))
+      (option_and_then (λ (f : SlotFunc). option_and_then (λ (name : List ℕ). number_of_symbol name (kept_funcs t)) (symbol f))
+      (option_and_then (λ (fs : List SlotFunc). slice_get fs s) (slice_get t.slots (found.0).place)))
       None) (numbered 0 table_address a (kept_classes t));
-  pointed = λ a sig. option_and_then (λ (found : Def × ℕ). option_and_then (λ (f : UnitFunc). number_if (has_type t.classes sig f) found.1) (func_at t (found.0).unit (found.0).place)) (numbered 0 function_address a (kept_funcs t));
+  pointed = λ a sig. option_and_then (λ (found : Def × ℕ). option_and_then (λ (f : UnitFunc). number_if (has_type t.classes sig f) found.1)
+      (func_at t (found.0).unit (found.0).place)) (numbered 0 function_address a (kept_funcs t));
   classes = t.classes;
   main = number_in (record { unit = 0; place = 0; symbol = main; internal = false }) (kept_funcs t);
 }

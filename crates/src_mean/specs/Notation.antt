@@ -15,15 +15,43 @@ use Rattle.src_mean.specs.Linked.{Program}
 use Rattle.src_mean.specs.Links.{linked, class_name}
 
 abbrev pub declared : List ℕ → Signature → (virtual no_except : Bool) → Function
-declared name s virtual no_except = record { name = name; signature = s; is_const = false; is_virtual = virtual; is_override = false; is_final = false; pure_virtual = false; safety = Unsaid; considered = false; no_except = no_except; at = nowhere }
+declared name s virtual no_except = record {
+  name = name;
+  signature = s;
+  is_const = false;
+  is_virtual = virtual;
+  is_override = false;
+  is_final = false;
+  pure_virtual = false;
+  safety = Unsaid;
+  considered = false;
+  no_except = no_except;
+  at = nowhere;
+}
 
 abbrev pub param : Typ → Param
 param t = record { typ = t; at = nowhere }
 
 -- a function: its symbol and name, its kind and class, its type, whether it is virtual and noexcept, the words of a call, its parameters, its frame
 -- and its body
-abbrev pub defined : (symbol name : List ℕ) → FuncKind → Option ℕ → Signature → (virtual no_except : Bool) → (words : ℕ) → (params frame : List Typ) → Tree → Func
-defined symbol name kind class s virtual no_except words params frame body = record { symbol = symbol; declared = declared name s virtual no_except; linkage = External; text = []; kind = kind; class = class; implicit = false; words = words; params = map param params; frame = frame; body = Some body; closed_at = 0 }
+abbrev pub defined : (symbol name : List ℕ) → FuncKind → Option ℕ → Signature → (virtual no_except : Bool) → (words : ℕ) → (params frame : List Typ) → Tree
+    → Func
+defined symbol name kind class s virtual no_except words params frame body =
+    record {
+      symbol = symbol;
+      declared = declared name s virtual no_except;
+      linkage = External;
+      text = [];
+      kind = kind;
+      class = class;
+      implicit = false;
+      words =
+          words;
+      params = map param params;
+      frame = frame;
+      body = Some body;
+      closed_at = 0;
+    }
 
 abbrev pub member : Typ → Member
 member t = record { name = []; typ = t }
@@ -34,7 +62,15 @@ virtual_functions false = []
 
 -- a class: its name, base and members, whether the class pointer is its own, and how many classes were completed before it
 abbrev pub class_of : List ℕ → Option ℕ → List Typ → (virtual : Bool) → ℕ → Class
-class_of name base members virtual number = record { name = name; base = base; members = map member members; functions = virtual_functions virtual; is_final = false; complete = Some number }
+class_of name base members virtual number = record {
+  name = name;
+  base = base;
+  members = map member members;
+  functions = virtual_functions virtual;
+  is_final =
+      false;
+  complete = Some number;
+}
 
 abbrev pub slot_of : List ℕ → Signature → ℕ → SlotFunc
 slot_of name s class = record { name = name; signature = s; class = class; func = 0; safe = false; dynamic = false }
@@ -68,4 +104,5 @@ fits_where_there s None = true
 fits_where_there s (Some body) = body_fits s body
 
 abbrev pub bodies_fit : TypedProgram → Bool
-bodies_fit t = list_all (λ (u : TypedUnit). list_all (λ (f : Func). fits_where_there (record { classes = t.classes; slots = t.slots; funcs = u.funcs; globals = u.globals; function = f }) f.body) u.funcs) t.units
+bodies_fit t = list_all (λ (u : TypedUnit). list_all (λ (f : Func). fits_where_there
+    (record { classes = t.classes; slots = t.slots; funcs = u.funcs; globals = u.globals; function = f }) f.body) u.funcs) t.units

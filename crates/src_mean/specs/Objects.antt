@@ -8,7 +8,9 @@ use Rattle.cpp_tree.specs.tx_events.declared.Event.{Event}
 use Rattle.cpp_tree.specs.tx_events.declared.Event.TheVariants.{Load as Reads, Store as Writes, Out, BeginAtomic, EndAtomic, Stop}
 use Rattle.cpp_tree.specs.cpp_types.Typ.{int, ptr, ref, class, closure, void, signature, none as none_typs, more as more_typs}
 use Rattle.cpp_tree.specs.declared.kinds.Builtin.TheVariants.{PutChar}
-use Rattle.cpp_tree.specs.declared.kinds.TKind.TheVariants.{Literal, Local, ClassTable, Load, Convert, Retype, Binary, Conditional, Assign, Update, Materialize, FullExpression, Call, VirtualCall, Builtin, Throw, Store, Construct, Pieces, Piece, Block, Init, Defer, Return, Try, Handler, Atomic, Destroy, Field}
+use Rattle.cpp_tree.specs.declared.kinds.TKind.TheVariants.{Literal, Local, ClassTable, Load, Convert, Retype, Binary, Conditional, Assign, Update, Materialize}
+use Rattle.cpp_tree.specs.declared.kinds.TKind.TheVariants.{FullExpression, Call, VirtualCall, Builtin, Throw, Store, Construct, Pieces, Piece, Block, Init}
+use Rattle.cpp_tree.specs.declared.kinds.TKind.TheVariants.{Defer, Return, Try, Handler, Atomic, Destroy, Field}
 use Rattle.cpp_tree.specs.declared.program.FuncKind.TheVariants.{Plain, Constructor, Destructor, ClosureCall}
 use Rattle.cpp_tree.specs.Units.{Func, TypedProgram}
 use Rattle.cpp_tree.specs.Notation.{plain, const, effect, prvalue, lvalue}

@@ -4,7 +4,8 @@ use Rattle.cpp_tree.specs.tx_events.declared.BlockKind.TheVariants.{NoExcept, Co
 use Rattle.cpp_tree.specs.tx_events.declared.End.{End}
 use Rattle.cpp_tree.specs.tx_events.declared.End.TheVariants.{Abort}
 use Rattle.cpp_tree.specs.tx_events.declared.Event.{Event}
-use Rattle.cpp_tree.specs.tx_events.declared.Event.TheVariants.{Silent, Load, Store, Out, Inp, Spawn, Join, BeginAtomic, EndAtomic, Raise, BeginSync, EndSync, Done, Stop}
+use Rattle.cpp_tree.specs.tx_events.declared.Event.TheVariants.{Silent, Load, Store, Out, Inp, Spawn, Join, BeginAtomic, EndAtomic, Raise, BeginSync, EndSync}
+use Rattle.cpp_tree.specs.tx_events.declared.Event.TheVariants.{Done, Stop}
 use Rattle.cpp_tree.specs.tx_events.declared.Reply.{Reply}
 use Rattle.cpp_tree.specs.tx_events.declared.Reply.TheVariants.{Nothing, Loaded, Byte}
 use Rattle.cpp_tree.specs.tx_events.declared.GlobalCell.{GlobalCell}

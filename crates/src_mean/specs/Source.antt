@@ -1,5 +1,6 @@
 -- The source thread: what a node does, event by event (C++14 clauses 5, 6, 8.5, 12, 15; the TS).
-use Rattle.std.specs.Prelude.{ℕ, zero, suc, ℤ, pos, ◌+◌, ◌*◌, ◌^◌, ◌%◌, ◌==◌, Bool, true, false, not, cond, nat_lt, ◌||◌, List, [], ◌∷◌, ◌++◌, Option, Some, None, Result, Ok, Err, slice_get, unwrap_or}
+use Rattle.std.specs.Prelude.{ℕ, zero, suc, ℤ, pos, ◌+◌, ◌*◌, ◌^◌, ◌%◌, ◌==◌, Bool, true, false, not, cond, nat_lt, ◌||◌, List, [], ◌∷◌, ◌++◌, Option, Some}
+use Rattle.std.specs.Prelude.{None, Result, Ok, Err, slice_get, unwrap_or}
 use Rattle.cpp_tree.specs.tx_ints.declared.kinds.IntKind.{IntKind}
 use Rattle.cpp_tree.specs.tx_ints.declared.kinds.IntKind.TheVariants.{Int, Long}
 use Rattle.cpp_tree.specs.tx_ints.declared.kinds.BinOp.{BinOp}
@@ -12,7 +13,8 @@ use Rattle.cpp_tree.specs.tx_events.declared.Trap.TheVariants.{Overflow, DivideB
 use Rattle.cpp_tree.specs.tx_events.declared.End.{End}
 use Rattle.cpp_tree.specs.tx_events.declared.End.TheVariants.{Exit as Exits, Abort as Aborts, Terminate, Trapped}
 use Rattle.cpp_tree.specs.tx_events.declared.Event.{Event}
-use Rattle.cpp_tree.specs.tx_events.declared.Event.TheVariants.{Silent, Load as Reads, Store as Writes, Out, Inp, Spawn as Spawns, Join as Joins, BeginAtomic, EndAtomic, Raise, BeginSync, EndSync, Done, Stop}
+use Rattle.cpp_tree.specs.tx_events.declared.Event.TheVariants.{Silent, Load as Reads, Store as Writes, Out, Inp, Spawn as Spawns, Join as Joins, BeginAtomic}
+use Rattle.cpp_tree.specs.tx_events.declared.Event.TheVariants.{EndAtomic, Raise, BeginSync, EndSync, Done, Stop}
 use Rattle.cpp_tree.specs.tx_events.declared.Reply.{Reply}
 use Rattle.cpp_tree.specs.tx_events.declared.Reply.TheVariants.{Nothing, Loaded as WasRead, Byte, Id}
 use Rattle.cpp_tree.specs.tx_events.Thread.{Thread, Open, Atomic as AtomicBlock, Sync, no_atomic}
@@ -22,11 +24,20 @@ use Rattle.cpp_tree.specs.cpp_layout.Layout.{kind_size, function_address}
 use Rattle.cpp_tree.specs.declared.kinds.Builtin.{Builtin}
 use Rattle.cpp_tree.specs.declared.kinds.Builtin.TheVariants.{PutChar, GetChar, Spawn as SpawnThread, Join as JoinThread, Abort as AbortProgram}
 use Rattle.cpp_tree.specs.declared.kinds.TKind.{TKind}
-use Rattle.cpp_tree.specs.declared.kinds.TKind.TheVariants.{Literal, Local, Global, Function, ClassTable, Load, Convert, Retype, Binary, Conditional, Comma, Assign, Update, CopyAssign, Materialize, FullExpression, Call, VirtualCall, PointerCall, Builtin as CallBuiltin, Throw, Rethrow, Store, CopyScalar, Construct, CopyConstruct, CopyFrom, Pieces, Piece, Elements, Block, Init, Defer, Loop, Switch, Case, Default, Break, Continue, Return, Try, Handler, Atomic, Synchronized, Destroy, Field}
+use Rattle.cpp_tree.specs.declared.kinds.TKind.TheVariants.{Literal, Local, Global, Function, ClassTable, Load, Convert, Retype, Binary, Conditional, Comma}
+use Rattle.cpp_tree.specs.declared.kinds.TKind.TheVariants.{Assign, Update, CopyAssign, Materialize, FullExpression, Call, VirtualCall, PointerCall}
+use Rattle.cpp_tree.specs.declared.kinds.TKind.TheVariants.{Builtin as CallBuiltin, Throw, Rethrow, Store, CopyScalar, Construct, CopyConstruct, CopyFrom}
+use Rattle.cpp_tree.specs.declared.kinds.TKind.TheVariants.{Pieces, Piece, Elements, Block, Init, Defer, Loop, Switch, Case, Default, Break, Continue, Return}
+use Rattle.cpp_tree.specs.declared.kinds.TKind.TheVariants.{Try, Handler, Atomic, Synchronized, Destroy, Field}
 use Rattle.cpp_tree.specs.Trees.{Tree, node, Trees, none, more, kind_of, typ_in, literal, first, rest, second, third}
 use Rattle.src_mean.specs.Linked.{Func, Program}
 use Rattle.src_mean.specs.Exceptions.{Exception, no_bytes, bytes_of, with_bytes, read_bytes, is_object_typ, cancels, catches, thrown_typ}
-use Rattle.src_mean.specs.Frames.{Here, Way, value, into, Exit, throws, returns, breaks, continues, Waiting, of_block, of_call, of_pieces, Change, Callee, known, virtual, pointer, builtin, Frame, Run, Then, Gives, Leaves, Loads, Loaded, Replied, StoreTo, Converts, Right, Apply, Choose, AssignTo, UpdateAt, UpdateOld, UpdateBy, CopyTo, CopyBy, From, Words, Object, Slot, Pointer, Passes, Called, Full, Keeps, Scope, Waits, InitAt, Cleans, Due, Destroys, Parts, Each, Items, Test, Body, Step, Picks, Compares, Switches, Opens, Within, Closes, Throws, Fills, Filled, Tries, Trying, Takes, Taking, Handling, Returning, Starts, Halted, Ended, State, at, blocks_of, handled, puts_some, waiting}
+use Rattle.src_mean.specs.Frames.{Here, Way, value, into, Exit, throws, returns, breaks, continues, Waiting, of_block, of_call, of_pieces, Change, Callee}
+use Rattle.src_mean.specs.Frames.{known, virtual, pointer, builtin, Frame, Run, Then, Gives, Leaves, Loads, Loaded, Replied, StoreTo, Converts, Right, Apply}
+use Rattle.src_mean.specs.Frames.{Choose, AssignTo, UpdateAt, UpdateOld, UpdateBy, CopyTo, CopyBy, From, Words, Object, Slot, Pointer, Passes, Called, Full}
+use Rattle.src_mean.specs.Frames.{Keeps, Scope, Waits, InitAt, Cleans, Due, Destroys, Parts, Each, Items, Test, Body, Step, Picks, Compares, Switches, Opens}
+use Rattle.src_mean.specs.Frames.{Within, Closes, Throws, Fills, Filled, Tries, Trying, Takes, Taking, Handling, Returning, Starts, Halted, Ended, State, at}
+use Rattle.src_mean.specs.Frames.{blocks_of, handled, puts_some, waiting}
 
 -- Words
 
@@ -369,7 +380,8 @@ give p h v (AssignTo kind volatile t ∷ k) = at Silent h (Run value t ∷ Store
 give p h v (UpdateAt c t ∷ k) = read h v c.stored c.volatile (UpdateOld c v t ∷ k)
 give p h v (UpdateOld c address t ∷ k) = at Silent h (Run value t ∷ UpdateBy c address v ∷ k)
 give p h v (UpdateBy c address old
-    ∷ k) = finish (applied c.op c.operation old v) h (λ z. write h address c.stored c.volatile (converted c.stored (word_of z)) (Gives (updated c address old) ∷ k)) k
+    ∷ k) = finish (applied c.op c.operation old v) h (λ z. write h address c.stored c.volatile (converted c.stored (word_of z))
+    (Gives (updated c address old) ∷ k)) k
 give p h v (CopyTo source init ∷ k) = at Silent h (Run value source ∷ CopyBy v init ∷ k)
 give p h v (CopyBy target init ∷ k) = at Silent h (Run (into target v) init ∷ Gives target ∷ k)
 give p h v (From target init ∷ k) = at Silent h (Run (into target v) init ∷ k)
@@ -434,7 +446,15 @@ reply_word (Id z) = word_of z
 
 -- the stack of this thread, on which nothing lies yet
 abbrev pub empty_stack : ℕ → Here
-empty_stack number = record { frame = stacks_start + stack_stride * number; end = stacks_start + stack_stride * number; limit = stacks_start + stack_stride * number + stack_size; unit = 0; places = []; temporaries = [] }
+empty_stack number = record {
+  frame = stacks_start + stack_stride * number;
+  end = stacks_start + stack_stride * number;
+  limit =
+      stacks_start + stack_stride * number + stack_size;
+  unit = 0;
+  places = [];
+  temporaries = [];
+}
 
 -- the first state of a thread that calls the function with this number with an argument
 abbrev pub begins : Program → (thread number : ℕ) → ℤ → State

@@ -1,5 +1,6 @@
 -- What an event of a thread does to the world, and what the code does.
-use Rattle.std.proofs.Common.{ℕ, ℤ, pos, zero, suc, ◌≡◌, ◌<◌, ◌≤◌, ◌+◌, ◌^◌, ◌*◌, ◌&&◌, Bool, true, false, cond, Option, Some, None, is_some, option_map, List, [], ◌∷◌, length, refl, ap, sym, ◌∙◌, subst, arith}
+use Rattle.std.proofs.Common.{ℕ, ℤ, pos, zero, suc, ◌≡◌, ◌<◌, ◌≤◌, ◌+◌, ◌^◌, ◌*◌, ◌&&◌, Bool, true, false, cond, Option, Some, None, is_some, option_map, List}
+use Rattle.std.proofs.Common.{[], ◌∷◌, length, refl, ap, sym, ◌∙◌, subst, arith}
 use Rattle.std.specs.Prelude.{nat_lt, if◌then◌else◌, slice_get}
 use Rattle.std.proofs.Math.Path.{fun_ext}
 use Rattle.std.proofs.lemmas.Bool.{false≢true, true≢false, ne_eqb}
@@ -9,7 +10,8 @@ use Rattle.tx_events.specs.declared.End.{End}
 use Rattle.tx_events.specs.declared.End.TheVariants.{Trapped}
 use Rattle.tx_events.specs.declared.Trap.TheVariants.{BadAddress, BadJoin}
 use Rattle.tx_events.specs.declared.Event.{Event}
-use Rattle.tx_events.specs.declared.Event.TheVariants.{Silent, Load, Store, Out, Inp, Spawn, Join, BeginAtomic, EndAtomic, Raise, BeginSync, EndSync, Done, Stop}
+use Rattle.tx_events.specs.declared.Event.TheVariants.{Silent, Load, Store, Out, Inp, Spawn, Join, BeginAtomic, EndAtomic, Raise, BeginSync, EndSync, Done}
+use Rattle.tx_events.specs.declared.Event.TheVariants.{Stop}
 use Rattle.tx_events.specs.declared.Reply.{Reply}
 use Rattle.tx_events.specs.declared.Reply.TheVariants.{Nothing, Loaded, Byte, Id}
 use Rattle.tx_events.specs.Memory.{MemoryLayout, update, can_access, load, store}
@@ -36,14 +38,21 @@ use Rattle.src_replay.proofs.Moves.{update_at, update_twice, update_between, mov
 
 -- one thread was changed
 pub set_world : (z : Worlds State) (program : Program) (p : MemoryLayout) (t : ℕ) (x : Started State) (xs ys : List Alive) → IsSet program p t x xs ys
-    → ◌≡◌ {A = Worlds State} (record z { threads = threads_of ys; started = length ys }) (record z { threads = update (threads_of xs) t (Some x); started = length xs })
-set_world z program p t x xs ys h = ap (λ f. record z { threads = f; started = length ys }) h.threads ∙ ap (λ n. record z { threads = update (threads_of xs) t (Some x); started = n }) h.count
+    → ◌≡◌ {A = Worlds State} (record z { threads = threads_of ys; started = length ys })
+    (record z { threads = update (threads_of xs) t (Some x); started = length xs })
+set_world z program p t x xs ys h = ap (λ f. record z { threads = f; started = length ys }) h.threads
+    ∙ ap (λ n. record z { threads = update (threads_of xs) t (Some x); started = n }) h.count
 
 -- the thread that stands there is between two events
 
 at_some : (o : Option Alive) (s : State) → alive_in o ≡ alive s → (x : Alive) × (o ≡ Some x) × (shown x.thread ≡ s)
 at_some None s e = let no : ◌≡◌ {A = Option (Started State)} None (alive s) = e in absurd cc
-at_some (Some x) s e = (x, refl, ap (λ (z : Started State). z.state) (same_Some (record { state = shown x.thread; ended = x.ended }) (record { state = s; ended = false }) e))
+at_some (Some x) s e = (
+  x,
+  refl,
+  ap (λ (z : Started State). z.state)
+      (same_Some (record { state = shown x.thread; ended = x.ended }) (record { state = s; ended = false }) e),
+)
 
 pub settled_at : (program : Program) (p : MemoryLayout) (xs : List Alive) (t : ℕ) (s : State) → Stand program p xs → threads_of xs t ≡ alive s → IsSettled s
 unfolding threads_of
@@ -65,7 +74,8 @@ sized EndSync bs h = refl
 sized Done bs h = refl
 sized (Stop end) bs h = refl
 
-pub sized_at : (program : Program) (p : MemoryLayout) (xs : List Alive) (t : ℕ) (s : State) → Stand program p xs → threads_of xs t ≡ alive s → has_size s.event ≡ true
+pub sized_at : (program : Program) (p : MemoryLayout) (xs : List Alive) (t : ℕ) (s : State) → Stand program p xs → threads_of xs t ≡ alive s
+    → has_size s.event ≡ true
 sized_at program p xs t s stand e = sized s.event ((source program).blocks s) (follows_blocks program s (settled_at program p xs t s stand e))
 
 module _ (t : ℕ) (w : Worlds State) (s : State) where
@@ -78,9 +88,12 @@ module _ (t : ℕ) (w : Worlds State) (s : State) where
     shows_going new v e = record { end_is = ap (λ (z : Worlds State). z.end) e; out_is = ap (λ (z : Worlds State). z.out) e; all = λ h. e }
 
     -- the world was changed beside its threads, and the thread went on
-    pub took_moved : (event : Event) (reply : Reply) (change : Worlds State → Worlds State) (old mid new : World) (r : Entry) → world_of old ≡ goes t w s → world_of mid ≡ change (world_of old)
-        → ((f : ℕ → Option (Started State)) → goes t (change (record w { threads = f })) ((source program).after s reply) ≡ record (change w) { threads = update f t (alive ((source program).after s reply)) })
-        → EventStep (source program) (layout_of old.memory) t w s event (record (change w) { threads = update w.threads t (alive ((source program).after s reply)) })
+    pub took_moved : (event : Event) (reply : Reply) (change : Worlds State → Worlds State) (old mid new : World) (r : Entry) → world_of old ≡ goes t w s
+        → world_of mid ≡ change (world_of old)
+        → ((f : ℕ → Option (Started State)) → goes t (change (record w { threads = f })) ((source program).after s reply)
+        ≡ record (change w) { threads = update f t (alive ((source program).after s reply)) })
+        → EventStep (source program) (layout_of old.memory) t w s event
+        (record (change w) { threads = update w.threads t (alive ((source program).after s reply)) })
         → layout_of mid.memory ≡ layout_of old.memory → mid.left ≡ old.left → WentOn program t s reply mid new r → Took program t w s event old new r
     took_moved event reply change old mid new r e m c does layout left g =
         let after = (source program).after s reply in
@@ -95,8 +108,10 @@ module _ (t : ℕ) (w : Worlds State) (s : State) where
         }
 
     -- the program ended
-    pub took_halted : (event : Event) (end : End) (old mid new : World) (r : Entry) → world_of old ≡ goes t w s → mid.out.items ≡ old.out.items → layout_of mid.memory ≡ layout_of old.memory → mid.left ≡ old.left → Stands program mid
-        → EventStep (source program) (layout_of old.memory) t w s event (ends w end) → (r ≡ Taken) × (new ≡ record mid { end = Some end }) → Took program t w s event old new r
+    pub took_halted : (event : Event) (end : End) (old mid new : World) (r : Entry) → world_of old ≡ goes t w s → mid.out.items ≡ old.out.items
+        → layout_of mid.memory ≡ layout_of old.memory → mid.left ≡ old.left → Stands program mid
+        → EventStep (source program) (layout_of old.memory) t w s event (ends w end) → (r ≡ Taken) × (new ≡ record mid { end = Some end })
+        → Took program t w s event old new r
     took_halted event end old mid new r e out layout left stands does h = record {
       taken = h.0;
       world = ends w end;
@@ -115,11 +130,13 @@ module _ (t : ℕ) (w : Worlds State) (s : State) where
 
 -- joins
 
-pub joins_some : (t : ℕ) (w : Worlds State) (r : State) (o : Option (Started State)) → is_joinable o ≡ true → is_some (option_map has_ended o) ≡ true → Joins t w r o (goes t w r)
+pub joins_some : (t : ℕ) (w : Worlds State) (r : State) (o : Option (Started State)) → is_joinable o ≡ true → is_some (option_map has_ended o) ≡ true
+    → Joins t w r o (goes t w r)
 joins_some t w r None h i = absurd (false≢true i)
 joins_some t w r (Some u) h i = (h, refl)
 
-pub joins_none : (t : ℕ) (w : Worlds State) (r : State) (o : Option (Started State)) → is_some (option_map has_ended o) ≡ false → Joins t w r o (ends w (Trapped BadJoin))
+pub joins_none : (t : ℕ) (w : Worlds State) (r : State) (o : Option (Started State)) → is_some (option_map has_ended o) ≡ false
+    → Joins t w r o (ends w (Trapped BadJoin))
 joins_none t w r None h = refl
 joins_none t w r (Some u) h = absurd (true≢false h)
 
@@ -145,19 +162,48 @@ cond_false b x y h = sym (ap (λ c. cond c x y) h)
 
 -- the start
 
-pub first_shown : (memory m : ℕ → ℕ) (xs : List Alive) (x : Alive) (s : State) (out input : List ℕ) → memory ≡ m → xs ≡ x ∷ [] → alive_in (Some x) ≡ alive s → out ≡ []
-    → ◌≡◌ {A = Worlds State} (record { memory = memory; threads = threads_of xs; started = length xs; lock = record { holder = None; depth = 0 }; out = out; input = input; end = None }) (first_world m input s)
+pub first_shown : (memory m : ℕ → ℕ) (xs : List Alive) (x : Alive) (s : State) (out input : List ℕ) → memory ≡ m → xs ≡ x ∷ [] → alive_in (Some x) ≡ alive s
+    → out ≡ []
+    → ◌≡◌ {A = Worlds State} (record {
+      memory = memory;
+      threads = threads_of xs;
+      started = length xs;
+      lock = record { holder = None; depth = 0 };
+      out = out;
+      input = input;
+      end = None;
+    }) (first_world m input s)
 first_shown memory m xs x s out input e f g h =
-    ap (λ z. record { memory = z; threads = threads_of xs; started = length xs; lock = record { holder = None; depth = 0 }; out = out; input = input; end = None }) e
-    ∙ (ap (λ (z : List Alive). record { memory = m; threads = threads_of z; started = length z; lock = record { holder = None; depth = 0 }; out = out; input = input; end = None }) f
-    ∙ (ap (λ z. record { memory = m; threads = z; started = 1; lock = record { holder = None; depth = 0 }; out = out; input = input; end = None }) (fun_ext (one_thread x s g))
+    ap (λ z. record {
+      memory = z;
+      threads = threads_of xs;
+      started = length xs;
+      lock = record { holder = None; depth = 0 };
+      out = out;
+      input = input;
+      end =
+          None;
+    }) e
+    ∙ (ap (λ (z : List Alive). record {
+      memory = m;
+      threads = threads_of z;
+      started = length z;
+      lock = record { holder = None; depth = 0 };
+      out = out;
+      input =
+          input;
+      end = None;
+    }) f
+    ∙ (ap (λ z. record { memory = m; threads = z; started = 1; lock = record { holder = None; depth = 0 }; out = out; input = input; end = None })
+    (fun_ext (one_thread x s g))
     ∙ ap (λ z. record { memory = m; threads = only_first s; started = 1; lock = record { holder = None; depth = 0 }; out = z; input = input; end = None }) h))
 
 alone_each : (program : Program) (x : Alive) → IsOf program x → (k : ℕ) (y : Alive) → slice_get (x ∷ []) k ≡ Some y → IsOf program y
 alone_each program x of zero y e = subst (IsOf program) (same_Some x y e) of
 alone_each program x of (suc k) y e = let no : None ≡ Some y = e in absurd cc
 
-pub first_stands : (program : Program) (p : MemoryLayout) (xs : List Alive) (x : Alive) → xs ≡ x ∷ [] → IsOf program x → p.limit ≡ THREAD_LIMIT → Stand program p xs
+pub first_stands : (program : Program) (p : MemoryLayout) (xs : List Alive) (x : Alive) → xs ≡ x ∷ [] → IsOf program x → p.limit ≡ THREAD_LIMIT
+    → Stand program p xs
 first_stands program p xs x e of h =
     let n : length xs ≡ 1 = ap (λ (z : List Alive). length z) e in
     record {
@@ -176,15 +222,20 @@ no_bytes_left [] h = refl
 no_bytes_left (x ∷ xs) h = absurd (omega (arith, h))
 
 -- the byte that stands in a reply
-pub byte_replied : (program : Program) (t : ℕ) (w : Worlds State) (s : State) (x : Worlds State) (reply : Reply) → x ≡ goes t w s → reply ≡ Byte (byte_of x.input)
-    → ◌≡◌ {A = Worlds State} (record w { input = input_after w.input; threads = update w.threads t (alive ((source program).after s reply)) }) (record w { input = input_after w.input; threads = update w.threads t (alive ((source program).after s (Byte (byte_of w.input)))) })
-byte_replied program t w s x reply e h = ap (λ z. record w { input = input_after w.input; threads = update w.threads t (alive ((source program).after s z)) }) (h ∙ ap (λ (z : Worlds State). Byte (byte_of z.input)) e)
+pub byte_replied : (program : Program) (t : ℕ) (w : Worlds State) (s : State) (x : Worlds State) (reply : Reply) → x ≡ goes t w s
+    → reply ≡ Byte (byte_of x.input)
+    → ◌≡◌ {A = Worlds State} (record w { input = input_after w.input; threads = update w.threads t (alive ((source program).after s reply)) })
+    (record w { input = input_after w.input; threads = update w.threads t (alive ((source program).after s (Byte (byte_of w.input)))) })
+byte_replied program t w s x reply e h = ap (λ z. record w { input = input_after w.input; threads = update w.threads t (alive ((source program).after s z)) })
+    (h ∙ ap (λ (z : Worlds State). Byte (byte_of z.input)) e)
 
 -- loads and stores
 
-pub load_does : (program : Program) (p : MemoryLayout) (t : ℕ) (w : Worlds State) (s : State) (x : Worlds State) (addr size value : ℕ) (r : Option ℕ) → x ≡ goes t w s
+pub load_does : (program : Program) (p : MemoryLayout) (t : ℕ) (w : Worlds State) (s : State) (x : Worlds State) (addr size value : ℕ) (r : Option ℕ)
+    → x ≡ goes t w s
     → r ≡ (if can_access p addr size then Some (load x.memory addr size) else None) → r ≡ Some value
-    → goes t w ((source program).after s (Loaded value)) ≡ cond (can_access p addr size) (goes t w ((source program).after s (Loaded (load w.memory addr size)))) (ends w (Trapped BadAddress))
+    → goes t w ((source program).after s (Loaded value))
+    ≡ cond (can_access p addr size) (goes t w ((source program).after s (Loaded (load w.memory addr size)))) (ends w (Trapped BadAddress))
 load_does program p t w s x addr size value r e read some =
     let h = read_some (can_access p addr size) (load x.memory addr size) value r read some in
     ap (λ z. goes t w ((source program).after s (Loaded z))) (h.1 ∙ ap (λ (z : Worlds State). load z.memory addr size) e)
@@ -194,7 +245,8 @@ load_does program p t w s x addr size value r e read some =
 pub load_sized : (e : Event) (addr size : ℕ) (volatile : Bool) → has_size e ≡ true → e ≡ Load addr size volatile → is_size size ≡ true
 load_sized e addr size volatile h f = sym (ap has_size f) ∙ h
 
-pub store_sized : (e : Event) (addr size value : ℕ) (volatile : Bool) → has_size e ≡ true → e ≡ Store addr size value volatile → (is_size size && nat_lt value (2 ^ (8 * size))) ≡ true
+pub store_sized : (e : Event) (addr size value : ℕ) (volatile : Bool) → has_size e ≡ true → e ≡ Store addr size value volatile
+    → (is_size size && nat_lt value (2 ^ (8 * size))) ≡ true
 store_sized e addr size value volatile h f = sym (ap has_size f) ∙ h
 
 pub stored_if : (b : Bool) (m n k : ℕ → ℕ) → b ≡ true → n ≡ (if b then k else m) → n ≡ k
@@ -204,9 +256,17 @@ stored_if false m n k h e = absurd (false≢true h)
 -- a store that may be done
 pub store_does : (program : Program) (p : MemoryLayout) (t : ℕ) (w : Worlds State) (s : State) (addr size value : ℕ) → can_access p addr size ≡ true
     → record w { memory = store w.memory addr size value; threads = update w.threads t (alive ((source program).after s Nothing)) }
-    ≡ cond (can_access p addr size) (record w { memory = store w.memory addr size value; threads = update w.threads t (alive ((source program).after s Nothing)) }) (ends w (Trapped BadAddress))
+    ≡ cond (can_access p addr size) (record w {
+      memory = store w.memory addr size value;
+      threads = update w.threads t
+          (alive ((source program).after s Nothing));
+    }) (ends w (Trapped BadAddress))
 store_does program p t w s addr size value h =
-    cond_true (can_access p addr size) (record w { memory = store w.memory addr size value; threads = update w.threads t (alive ((source program).after s Nothing)) }) (ends w (Trapped BadAddress)) h
+    cond_true (can_access p addr size) (record w {
+      memory = store w.memory addr size value;
+      threads = update w.threads t
+          (alive ((source program).after s Nothing));
+    }) (ends w (Trapped BadAddress)) h
 
 -- what is mapped did not change
 pub stand_on : (program : Program) (p q : MemoryLayout) (xs : List Alive) → q ≡ p → Stand program p xs → Stand program q xs
@@ -214,47 +274,76 @@ stand_on program p q xs e stand = subst (λ (z : MemoryLayout). Stand program z 
 
 -- starting a thread
 
-started_apart : (xs : List Alive) (t : ℕ) (s c : Started State) → t < length xs → threads_of xs t ≡ Some s → update (threads_of xs) (length xs) (Some c) t ≡ Some s
+started_apart : (xs : List Alive) (t : ℕ) (s c : Started State) → t < length xs → threads_of xs t ≡ Some s
+    → update (threads_of xs) (length xs) (Some c) t ≡ Some s
 started_apart xs t s c h e = ap (λ b. cond b (Some c) (threads_of xs t)) (ne_eqb t (length xs) (λ q. omega (arith, h, q))) ∙ e
 
-pub at_more : (program : Program) (xs ys : List Alive) (t : ℕ) (s c : State) → t < length xs → threads_of xs t ≡ alive s → IsMore program c xs ys → threads_of ys t ≡ alive s
+pub at_more : (program : Program) (xs ys : List Alive) (t : ℕ) (s c : State) → t < length xs → threads_of xs t ≡ alive s → IsMore program c xs ys
+    → threads_of ys t ≡ alive s
 at_more program xs ys t s c h e m = ap (λ f. f t) m.threads ∙ started_apart xs t (record { state = s; ended = false }) (record { state = c; ended = false }) h e
 
-pub stand_more : (program : Program) (p : MemoryLayout) (xs ys : List Alive) (c : State) → length xs < 64 → Stand program p xs → IsMore program c xs ys → Stand program p ys
+pub stand_more : (program : Program) (p : MemoryLayout) (xs ys : List Alive) (c : State) → length xs < 64 → Stand program p xs → IsMore program c xs ys
+    → Stand program p ys
 stand_more program p xs ys c h stand m = record { each = m.each; few = omega (arith, h, stand.limit, m.count); limit = stand.limit }
 
 -- the world after a thread was started, and the thread that did it went on
-pub spawned : (program : Program) (t func : ℕ) (arg : ℤ) (w : Worlds State) (s : State) (old mid new : World) (number : ℕ) (reply : Reply) → world_of old ≡ goes t w s → number ≡ length old.threads.alive.items → reply ≡ Id (pos number)
+pub spawned : (program : Program) (t func : ℕ) (arg : ℤ) (w : Worlds State) (s : State) (old mid new : World) (number : ℕ) (reply : Reply)
+    → world_of old ≡ goes t w s → number ≡ length old.threads.alive.items → reply ≡ Id (pos number)
     → IsMore program ((source program).child s number func arg) old.threads.alive.items mid.threads.alive.items
-    → world_of mid ≡ record (world_of old) { threads = threads_of mid.threads.alive.items; started = length mid.threads.alive.items } → world_of new ≡ goes t (world_of mid) ((source program).after s reply)
-    → world_of new ≡ record w { started = w.started + 1; threads = update (update w.threads w.started (alive ((source program).child s w.started func arg))) t (alive ((source program).after s (Id (pos w.started)))) }
+    → world_of mid ≡ record (world_of old) { threads = threads_of mid.threads.alive.items; started = length mid.threads.alive.items }
+    → world_of new ≡ goes t (world_of mid) ((source program).after s reply)
+    → world_of new ≡ record w {
+      started = w.started + 1;
+      threads = update (update w.threads w.started (alive ((source program).child s w.started func arg))) t
+          (alive ((source program).after s (Id (pos w.started))));
+    }
 spawned program t func arg w s old mid new number reply e n i m same g =
     let count : number ≡ w.started = n ∙ ap (λ (z : Worlds State). z.started) e in
     let child = (source program).child s number func arg in
     let after = (source program).after s reply in
-    let first : world_of mid ≡ record (world_of old) { threads = update (world_of old).threads (world_of old).started (alive child); started = (world_of old).started + 1 } =
+    let first : world_of mid ≡ record (world_of old) {
+      threads = update (world_of old).threads (world_of old).started (alive child);
+      started =
+          (world_of old).started + 1;
+    } =
     same ∙ (ap (λ f. record (world_of old) { threads = f; started = length mid.threads.alive.items }) m.threads
-    ∙ ap (λ k. record (world_of old) { threads = update (threads_of old.threads.alive.items) (length old.threads.alive.items) (alive child); started = k }) m.count) in
+    ∙ ap (λ k. record (world_of old) {
+      threads = update (threads_of old.threads.alive.items) (length old.threads.alive.items) (alive child);
+      started =
+          k;
+    }) m.count) in
     let second : world_of mid ≡ record w { threads = update (update w.threads t (alive s)) w.started (alive child); started = w.started + 1 } =
     first ∙ ap (λ (z : Worlds State). record z { threads = update z.threads z.started (alive child); started = z.started + 1 }) e in
     g ∙ (ap (λ (z : Worlds State). goes t z after) second
     ∙ (ap (λ f. record w { threads = f; started = w.started + 1 }) (update_between w.threads t w.started (alive s) (alive child) (alive after))
-    ∙ (ap (λ k. record w { threads = update (update w.threads w.started (alive ((source program).child s k func arg))) t (alive after); started = w.started + 1 }) count
-    ∙ ap (λ k. record w { threads = update (update w.threads w.started (alive ((source program).child s w.started func arg))) t (alive ((source program).after s k)); started = w.started + 1 }) (i ∙ ap (λ k. Id (pos k)) count))))
+    ∙ (ap (λ k. record w {
+      threads = update (update w.threads w.started (alive ((source program).child s k func arg))) t (alive after);
+      started =
+          w.started + 1;
+    }) count
+    ∙ ap (λ k. record w {
+      threads = update (update w.threads w.started (alive ((source program).child s w.started func arg))) t
+          (alive ((source program).after s k));
+      started = w.started + 1;
+    }) (i ∙ ap (λ k. Id (pos k)) count))))
 
 -- the thread ended
 pub finished : (program : Program) (p : MemoryLayout) (t : ℕ) (w : Worlds State) (s r : State) (old new : World) (mid : List Alive) → world_of old ≡ goes t w s
-    → IsSet program p t (record { state = r; ended = false }) old.threads.alive.items mid → IsSet program p t (record { state = r; ended = true }) mid new.threads.alive.items
+    → IsSet program p t (record { state = r; ended = false }) old.threads.alive.items mid
+    → IsSet program p t (record { state = r; ended = true }) mid new.threads.alive.items
     → world_of new ≡ record (world_of old) { threads = threads_of new.threads.alive.items; started = length new.threads.alive.items }
     → world_of new ≡ record w { threads = update w.threads t (Some (record { state = r; ended = true })) }
 finished program p t w s r old new mid e first second same =
     let over : Started State = record { state = r; ended = true } in
-    same ∙ (ap (λ f. record (world_of old) { threads = f; started = length new.threads.alive.items }) (second.threads ∙ ap (λ f. update f t (Some over)) first.threads)
-    ∙ (ap (λ k. record (world_of old) { threads = update (update (threads_of old.threads.alive.items) t (alive r)) t (Some over); started = k }) (second.count ∙ first.count)
+    same ∙ (ap (λ f. record (world_of old) { threads = f; started = length new.threads.alive.items })
+    (second.threads ∙ ap (λ f. update f t (Some over)) first.threads)
+    ∙ (ap (λ k. record (world_of old) { threads = update (update (threads_of old.threads.alive.items) t (alive r)) t (Some over); started = k })
+    (second.count ∙ first.count)
     ∙ (ap (λ f. record (world_of old) { threads = f }) (update_twice (threads_of old.threads.alive.items) t (alive r) (Some over))
     ∙ (ap (λ (z : Worlds State). record z { threads = update z.threads t (Some over) }) e
     ∙ ap (λ f. record w { threads = f }) (update_twice w.threads t (alive s) (Some over))))))
 
 -- the thread stands at its point of the block
-pub stands_at : (t : ℕ) (w : Worlds State) (i : Inner State) (now : World) (nested : Nested) → InBlock t w i now nested → threads_of now.threads.alive.items t ≡ alive i.state
+pub stands_at : (t : ℕ) (w : Worlds State) (i : Inner State) (now : World) (nested : Nested) → InBlock t w i now nested
+    → threads_of now.threads.alive.items t ≡ alive i.state
 stands_at t w i now nested at = ap (λ (z : Worlds State). z.threads t) at.world ∙ update_at w.threads t (alive i.state)

@@ -6,7 +6,8 @@ use Rattle.tx_events.specs.declared.BlockKind.{BlockKind}
 use Rattle.tx_events.specs.declared.BlockKind.TheVariants.{NoExcept, Commit, Cancel}
 use Rattle.tx_events.specs.declared.End.{End}
 use Rattle.tx_events.specs.declared.Event.{Event}
-use Rattle.tx_events.specs.declared.Event.TheVariants.{Silent, Load, Store, Out, Inp, Spawn, Join, BeginAtomic, EndAtomic, Raise, BeginSync, EndSync, Done, Stop}
+use Rattle.tx_events.specs.declared.Event.TheVariants.{Silent, Load, Store, Out, Inp, Spawn, Join, BeginAtomic, EndAtomic, Raise, BeginSync, EndSync, Done}
+use Rattle.tx_events.specs.declared.Event.TheVariants.{Stop}
 use Rattle.tx_events.specs.declared.Reply.{Reply}
 use Rattle.tx_events.specs.declared.Reply.TheVariants.{Nothing}
 use Rattle.tx_events.specs.Memory.{MemoryLayout, update, can_access}
@@ -123,22 +124,26 @@ module _ {S : Type 0} (a : Thread S) (p : MemoryLayout) where
   Alike r n alone.Never alone.Never = Unit {0}
   Alike r n x y = ⊥
 
-  alike_leave : (i : Inner S) (m : ℕ → ℕ) (cs : List (ℕ → ℕ)) → Alike (a.after i.state Nothing) (a.after i.state Nothing) (leave untold (inner_of i.memory i.copies) m cs) (leave a i m cs)
+  alike_leave : (i : Inner S) (m : ℕ → ℕ) (cs : List (ℕ → ℕ))
+      → Alike (a.after i.state Nothing) (a.after i.state Nothing) (leave untold (inner_of i.memory i.copies) m cs) (leave a i m cs)
   alike_leave i m [] = tt
   alike_leave i m (c ∷ []) = (refl, refl)
   alike_leave i m (c ∷ d ∷ cs) = (refl, refl, refl)
 
-  alike_raise : (i : Inner S) (kind : BlockKind) (cancels : Bool) → Alike (a.after i.state Nothing) (a.after i.state Nothing) (raise untold (inner_of i.memory i.copies) kind cancels) (raise a i kind cancels)
+  alike_raise : (i : Inner S) (kind : BlockKind) (cancels : Bool)
+      → Alike (a.after i.state Nothing) (a.after i.state Nothing) (raise untold (inner_of i.memory i.copies) kind cancels) (raise a i kind cancels)
   alike_raise i NoExcept cancels = refl
   alike_raise i Commit cancels = alike_leave i i.memory i.copies
   alike_raise i Cancel true = alike_leave i (newest i.copies i.memory) i.copies
   alike_raise i Cancel false = refl
 
-  alike_cond : (r n : S) (b : Bool) (x : Inner (Unit {0})) (j : Inner S) (end : End) → j.memory ≡ x.memory → j.copies ≡ x.copies → j.state ≡ r → Alike r n (cond b (alone.Goes x) (alone.Halts end)) (cond b (alone.Goes j) (alone.Halts end))
+  alike_cond : (r n : S) (b : Bool) (x : Inner (Unit {0})) (j : Inner S) (end : End) → j.memory ≡ x.memory → j.copies ≡ x.copies → j.state ≡ r
+      → Alike r n (cond b (alone.Goes x) (alone.Halts end)) (cond b (alone.Goes j) (alone.Halts end))
   alike_cond r n true x j end e f g = (e, f, g)
   alike_cond r n false x j end e f g = refl
 
-  alike : (i : Inner S) (e : Event) → Alike (a.after i.state (reply_in i.memory Goes e)) (a.after i.state Nothing) (comes_to p i.memory i.copies e) (inner_by a p i e)
+  alike : (i : Inner S) (e : Event) → Alike (a.after i.state (reply_in i.memory Goes e)) (a.after i.state Nothing) (comes_to p i.memory i.copies e)
+      (inner_by a p i e)
   alike i Silent = (refl, refl, refl)
   alike i (Load addr size volatile) = alike_cond _ _ (can_access p addr size) _ _ _ refl refl refl
   alike i (Store addr size value volatile) = alike_cond _ _ (can_access p addr size) _ _ _ refl refl refl
@@ -179,7 +184,8 @@ module _ {S : Type 0} (a : Thread S) (p : MemoryLayout) where
   to_left r n m cs (alone.Halts e) y h k = absurd h
   to_left r n m cs alone.Never y h k = absurd h
 
-  to_halt : (r n : S) (m : ℕ → ℕ) (cs : List (ℕ → ℕ)) (end : End) (x : BlockStep (Unit {0})) (y : BlockStep S) → Came m cs (Halts end) x → Alike r n x y → y ≡ alone.Halts end
+  to_halt : (r n : S) (m : ℕ → ℕ) (cs : List (ℕ → ℕ)) (end : End) (x : BlockStep (Unit {0})) (y : BlockStep S) → Came m cs (Halts end) x → Alike r n x y
+      → y ≡ alone.Halts end
   to_halt r n m cs end (alone.Halts e) (alone.Halts f) h k = ap (λ z. alone.Halts z) (k ∙ sym h)
   to_halt r n m cs end (alone.Halts e) (alone.Goes j) h k = absurd k
   to_halt r n m cs end (alone.Halts e) (alone.Leaves s l) h k = absurd k
@@ -199,35 +205,48 @@ module _ {S : Type 0} (a : Thread S) (p : MemoryLayout) where
 
 module _ (program : Program) (t : ℕ) (w : Worlds State) (i : Inner State) where
   -- what came, at the memory and the copies of the point where the thread is
-  pub came_there : (p : MemoryLayout) (old : World) (nested : Nested) (m : ℕ → ℕ) (cs : List (ℕ → ℕ)) (step : Step) (event : Event) → InBlock t w i old nested → event ≡ i.state.event
-      → Came m cs step (comes_to p (words_of old.memory) (copies nested (words_of old.memory)) event) → Came m cs step (comes_to p i.memory i.copies i.state.event)
+  pub came_there : (p : MemoryLayout) (old : World) (nested : Nested) (m : ℕ → ℕ) (cs : List (ℕ → ℕ)) (step : Step) (event : Event) → InBlock t w i old nested
+      → event ≡ i.state.event
+      → Came m cs step (comes_to p (words_of old.memory) (copies nested (words_of old.memory)) event)
+      → Came m cs step (comes_to p i.memory i.copies i.state.event)
   came_there p old nested m cs step event at e h =
       subst (λ (z : Event). Came m cs step (comes_to p i.memory i.copies z)) e
       (subst (λ (z : List (ℕ → ℕ)). Came m cs step (comes_to p i.memory z event)) at.noted
       (subst (λ (z : ℕ → ℕ). Came m cs step (comes_to p z (copies nested (words_of old.memory)) event)) (ap (λ (z : Worlds State). z.memory) at.world) h))
 
-  pub replied_there : (old : World) (nested : Nested) (step : Step) (event : Event) (reply : Reply) → InBlock t w i old nested → event ≡ i.state.event → reply ≡ reply_in (words_of old.memory) step event → reply ≡ reply_in i.memory step i.state.event
+  pub replied_there : (old : World) (nested : Nested) (step : Step) (event : Event) (reply : Reply) → InBlock t w i old nested → event ≡ i.state.event
+      → reply ≡ reply_in (words_of old.memory) step event → reply ≡ reply_in i.memory step i.state.event
   replied_there old nested step event reply at e h =
       h ∙ (ap (λ (z : ℕ → ℕ). reply_in z step event) (ap (λ (z : Worlds State). z.memory) at.world) ∙ ap (λ (z : Event). reply_in i.memory step z) e)
 
   -- the world after the thread went on in its block
-  gone : (old new : World) (nested : Nested) (r : State) → InBlock t w i old nested → IsSet program (layout_of new.memory) t (record { state = r; ended = false }) old.threads.alive.items new.threads.alive.items
-      → new ≡ record old { memory = new.memory; threads = new.threads } → world_of new ≡ record w { memory = words_of new.memory; threads = update w.threads t (alive r) }
+  gone : (old new : World) (nested : Nested) (r : State) → InBlock t w i old nested
+      → IsSet program (layout_of new.memory) t (record { state = r; ended = false }) old.threads.alive.items new.threads.alive.items
+      → new ≡ record old { memory = new.memory; threads = new.threads }
+      → world_of new ≡ record w { memory = words_of new.memory; threads = update w.threads t (alive r) }
   gone old new nested r at set same =
-      ap world_of same ∙ (set_world (record (world_of old) { memory = words_of new.memory }) program (layout_of new.memory) t (record { state = r; ended = false }) old.threads.alive.items new.threads.alive.items set
+      ap world_of same ∙ (set_world (record (world_of old) { memory = words_of new.memory }) program (layout_of new.memory) t
+      (record { state = r; ended = false }) old.threads.alive.items new.threads.alive.items set
       ∙ (ap (λ (z : Worlds State). record z { memory = words_of new.memory; threads = update z.threads t (alive r) }) at.world
       ∙ ap (λ f. record w { memory = words_of new.memory; threads = f }) (update_twice w.threads t (alive i.state) (alive r))))
 
-  pub went_in_block : (p : MemoryLayout) (old new : World) (nested after : Nested) (step : Step) (reply : Reply) → is_going_step step ≡ true → InBlock t w i old nested
-      → Came (words_of new.memory) (copies after (words_of new.memory)) step (comes_to p i.memory i.copies i.state.event) → reply ≡ reply_in i.memory step i.state.event
-      → IsSet program (layout_of new.memory) t (record { state = (source program).after i.state reply; ended = false }) old.threads.alive.items new.threads.alive.items
+  pub went_in_block : (p : MemoryLayout) (old new : World) (nested after : Nested) (step : Step) (reply : Reply) → is_going_step step ≡ true
+      → InBlock t w i old nested
+      → Came (words_of new.memory) (copies after (words_of new.memory)) step (comes_to p i.memory i.copies i.state.event)
+      → reply ≡ reply_in i.memory step i.state.event
+      → IsSet program (layout_of new.memory) t (record {
+        state = (source program).after i.state reply;
+        ended =
+            false;
+      }) old.threads.alive.items new.threads.alive.items
       → new ≡ record old { memory = new.memory; threads = new.threads } → InnerStep program p t w i new after step
   went_in_block p old new nested after (Halts end) reply going at came answered set same = absurd (false≢true going)
   went_in_block p old new nested after Never reply going at came answered set same = absurd (false≢true going)
   went_in_block p old new nested after Goes reply going at came answered set same =
       let a = source program in
       let m = words_of new.memory in
-      let to = to_next a p (a.after i.state (reply_in i.memory Goes i.state.event)) (a.after i.state Nothing) m (copies after m) (comes_to p i.memory i.copies i.state.event) (inner_by a p i i.state.event) came (alike a p i i.state.event) in
+      let to = to_next a p (a.after i.state (reply_in i.memory Goes i.state.event)) (a.after i.state Nothing) m (copies after m)
+      (comes_to p i.memory i.copies i.state.event) (inner_by a p i i.state.event) came (alike a p i i.state.event) in
       let r : a.after i.state reply ≡ to.next.state = ap (λ (z : Reply). a.after i.state z) answered ∙ sym to.state in
       record {
         stands = set.stand;
@@ -235,7 +254,8 @@ module _ (program : Program) (t : ℕ) (w : Worlds State) (i : Inner State) wher
           next = to.next;
           goes_to = to.goes_to;
           at = record {
-            world = gone old new nested (a.after i.state reply) at set same ∙ (ap (λ (z : ℕ → ℕ). record w { memory = z; threads = update w.threads t (alive (a.after i.state reply)) }) (sym to.memory)
+            world = gone old new nested (a.after i.state reply) at set same
+                ∙ (ap (λ (z : ℕ → ℕ). record w { memory = z; threads = update w.threads t (alive (a.after i.state reply)) }) (sym to.memory)
                 ∙ ap (λ (z : State). record w { memory = to.next.memory; threads = update w.threads t (alive z) }) r);
             noted = sym to.copies;
           };
@@ -248,8 +268,10 @@ module _ (program : Program) (t : ℕ) (w : Worlds State) (i : Inner State) wher
         stands = set.stand;
         steps = record {
           state = a.after i.state Nothing;
-          leaves = to_left a p (a.after i.state (reply_in i.memory Goes i.state.event)) (a.after i.state Nothing) m (copies after m) (comes_to p i.memory i.copies i.state.event) (inner_by a p i i.state.event) came (alike a p i i.state.event);
-          world = gone old new nested (a.after i.state reply) at set same ∙ ap (λ (z : Reply). record w { memory = m; threads = update w.threads t (alive (a.after i.state z)) }) answered;
+          leaves = to_left a p (a.after i.state (reply_in i.memory Goes i.state.event)) (a.after i.state Nothing) m (copies after m)
+              (comes_to p i.memory i.copies i.state.event) (inner_by a p i i.state.event) came (alike a p i i.state.event);
+          world = gone old new nested (a.after i.state reply) at set same
+              ∙ ap (λ (z : Reply). record w { memory = m; threads = update w.threads t (alive (a.after i.state z)) }) answered;
         };
       }
 
@@ -259,23 +281,36 @@ module _ (program : Program) (t : ℕ) (w : Worlds State) (i : Inner State) wher
   stopped_in_block p new after m cs Leaves stopped came stands = absurd (true≢false stopped)
   stopped_in_block p new after m cs (Halts end) stopped came stands =
       let a = source program in
-      record { stands = stands; steps = to_halt a p (a.after i.state (reply_in i.memory Goes i.state.event)) (a.after i.state Nothing) m cs end (comes_to p i.memory i.copies i.state.event) (inner_by a p i i.state.event) came (alike a p i i.state.event) }
+      record {
+        stands = stands;
+        steps = to_halt a p (a.after i.state (reply_in i.memory Goes i.state.event)) (a.after i.state Nothing) m cs end
+            (comes_to p i.memory i.copies i.state.event) (inner_by a p i i.state.event) came (alike a p i i.state.event);
+      }
   stopped_in_block p new after m cs Never stopped came stands =
       let a = source program in
-      record { stands = stands; steps = to_never a p (a.after i.state (reply_in i.memory Goes i.state.event)) (a.after i.state Nothing) m cs (comes_to p i.memory i.copies i.state.event) (inner_by a p i i.state.event) came (alike a p i i.state.event) }
+      record {
+        stands = stands;
+        steps = to_never a p (a.after i.state (reply_in i.memory Goes i.state.event)) (a.after i.state Nothing) m cs
+            (comes_to p i.memory i.copies i.state.event) (inner_by a p i i.state.event) came (alike a p i i.state.event);
+      }
 
-pub inner_on : (program : Program) (p q : MemoryLayout) (t : ℕ) (w : Worlds State) (i : Inner State) (new : World) (nested : Nested) (step : Step) → q ≡ p → InnerStep program q t w i new nested step → InnerStep program p t w i new nested step
+pub inner_on : (program : Program) (p q : MemoryLayout) (t : ℕ) (w : Worlds State) (i : Inner State) (new : World) (nested : Nested) (step : Step) → q ≡ p
+    → InnerStep program q t w i new nested step → InnerStep program p t w i new nested step
 inner_on program p q t w i new nested step e h = subst (λ (z : MemoryLayout). InnerStep program z t w i new nested step) e h
 
-pub at_goes : (program : Program) (p : MemoryLayout) (t : ℕ) (w : Worlds State) (i : Inner State) (new : World) (nested : Nested) (step : Step) → step ≡ Goes → InnerStep program p t w i new nested step → BlockGoes program p t w i new nested
+pub at_goes : (program : Program) (p : MemoryLayout) (t : ℕ) (w : Worlds State) (i : Inner State) (new : World) (nested : Nested) (step : Step) → step ≡ Goes
+    → InnerStep program p t w i new nested step → BlockGoes program p t w i new nested
 at_goes program p t w i new nested step e h = subst (λ (z : Step). BlockSteps program p t w i new nested z) e h.steps
 
-pub at_leaves : (program : Program) (p : MemoryLayout) (t : ℕ) (w : Worlds State) (i : Inner State) (new : World) (nested : Nested) (step : Step) → step ≡ Leaves → InnerStep program p t w i new nested step → BlockLeaves program p t w i new
+pub at_leaves : (program : Program) (p : MemoryLayout) (t : ℕ) (w : Worlds State) (i : Inner State) (new : World) (nested : Nested) (step : Step)
+    → step ≡ Leaves → InnerStep program p t w i new nested step → BlockLeaves program p t w i new
 at_leaves program p t w i new nested step e h = subst (λ (z : Step). BlockSteps program p t w i new nested z) e h.steps
 
-pub at_halts : (program : Program) (p : MemoryLayout) (t : ℕ) (w : Worlds State) (i : Inner State) (new : World) (nested : Nested) (step : Step) (end : End) → step ≡ Halts end → InnerStep program p t w i new nested step
+pub at_halts : (program : Program) (p : MemoryLayout) (t : ℕ) (w : Worlds State) (i : Inner State) (new : World) (nested : Nested) (step : Step) (end : End)
+    → step ≡ Halts end → InnerStep program p t w i new nested step
     → inner_by (source program) p i i.state.event ≡ alone.Halts end
 at_halts program p t w i new nested step end e h = subst (λ (z : Step). BlockSteps program p t w i new nested z) e h.steps
 
-pub at_never : (program : Program) (p : MemoryLayout) (t : ℕ) (w : Worlds State) (i : Inner State) (new : World) (nested : Nested) (step : Step) → step ≡ Never → InnerStep program p t w i new nested step → inner_by (source program) p i i.state.event ≡ alone.Never
+pub at_never : (program : Program) (p : MemoryLayout) (t : ℕ) (w : Worlds State) (i : Inner State) (new : World) (nested : Nested) (step : Step) → step ≡ Never
+    → InnerStep program p t w i new nested step → inner_by (source program) p i i.state.event ≡ alone.Never
 at_never program p t w i new nested step e h = subst (λ (z : Step). BlockSteps program p t w i new nested z) e h.steps

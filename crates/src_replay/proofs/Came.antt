@@ -19,7 +19,8 @@ use Rattle.src_replay.specs.Inner.{untold, inner_of, comes_to, Came}
 use Rattle.src_replay.proofs.Undone.{ended_copies, cancelled_copies, begun_copies}
 
 -- the newest copy is dropped
-left_by : (i : Inner (Unit {0})) (m c : ℕ → ℕ) (rest : List (ℕ → ℕ)) (n : ℕ) (b : Bool) → (n == 0) ≡ b → length rest ≡ n → Came m rest (cond b Leaves Goes) (leave untold i m (c ∷ rest))
+left_by : (i : Inner (Unit {0})) (m c : ℕ → ℕ) (rest : List (ℕ → ℕ)) (n : ℕ) (b : Bool) → (n == 0) ≡ b → length rest ≡ n
+    → Came m rest (cond b Leaves Goes) (leave untold i m (c ∷ rest))
 left_by i m c [] n true h e = (refl, refl)
 left_by i m c [] n false h e = absurd (false≢true (sym h ∙ eq-eqb n 0 (sym e)))
 left_by i m c (d ∷ ds) n true h e = let k : suc (length ds) ≡ n = e in let z : n ≡ 0 = eqb-true n 0 h in absurd (omega (arith, k, z))
@@ -29,50 +30,67 @@ copies_count : (n : Nested) (m : ℕ → ℕ) → length (copies n m) ≡ length
 copies_count n m = length-map (reverse n.marks.items) (λ (k : ℕ). undone n.notes.items k m) ∙ length-reverse n.marks.items
 
 module _ (p : MemoryLayout) (old new : Nested) where
-  pub ended_comes : (m after : ℕ → ℕ) (step : Step) → after ≡ m → step ≡ cond (length new.marks.items == 0) Leaves Goes → Ended old new → Came after (copies new after) step (comes_to p m (copies old m) EndAtomic)
+  pub ended_comes : (m after : ℕ → ℕ) (step : Step) → after ≡ m → step ≡ cond (length new.marks.items == 0) Leaves Goes → Ended old new
+      → Came after (copies new after) step (comes_to p m (copies old m) EndAtomic)
   ended_comes m after step e f d =
       subst (λ (z : ℕ → ℕ). Came z (copies new z) step (comes_to p m (copies old m) EndAtomic)) (sym e)
       (subst (λ (s : Step). Came m (copies new m) s (comes_to p m (copies old m) EndAtomic)) (sym f)
-      (subst (λ (z : List (ℕ → ℕ)). Came m (copies new m) (cond (length new.marks.items == 0) Leaves Goes) (comes_to p m z EndAtomic)) (sym (ended_copies p old new m d))
-      (left_by (inner_of m (undone old.notes.items d.mark m ∷ copies new m)) m (undone old.notes.items d.mark m) (copies new m) (length new.marks.items) (length new.marks.items == 0) refl (copies_count new m))))
+      (subst (λ (z : List (ℕ → ℕ)). Came m (copies new m) (cond (length new.marks.items == 0) Leaves Goes) (comes_to p m z EndAtomic))
+      (sym (ended_copies p old new m d))
+      (left_by (inner_of m (undone old.notes.items d.mark m ∷ copies new m)) m (undone old.notes.items d.mark m) (copies new m) (length new.marks.items)
+      (length new.marks.items == 0) refl (copies_count new m))))
 
-  pub cancelled_comes : (m after : ℕ → ℕ) (step : Step) → step ≡ cond (length new.marks.items == 0) Leaves Goes → Cancelled old new m after → IsNested p old → Came after (copies new after) step (comes_to p m (copies old m) (Raise Cancel true))
+  pub cancelled_comes : (m after : ℕ → ℕ) (step : Step) → step ≡ cond (length new.marks.items == 0) Leaves Goes → Cancelled old new m after → IsNested p old
+      → Came after (copies new after) step (comes_to p m (copies old m) (Raise Cancel true))
   cancelled_comes m after step f d a =
       subst (λ (s : Step). Came after (copies new after) s (comes_to p m (copies old m) (Raise Cancel true))) (sym f)
-      (subst (λ (z : List (ℕ → ℕ)). Came after (copies new after) (cond (length new.marks.items == 0) Leaves Goes) (comes_to p m z (Raise Cancel true))) (sym (cancelled_copies p old new m after d a))
-      (left_by (inner_of m (after ∷ copies new after)) after after (copies new after) (length new.marks.items) (length new.marks.items == 0) refl (copies_count new after)))
+      (subst (λ (z : List (ℕ → ℕ)). Came after (copies new after) (cond (length new.marks.items == 0) Leaves Goes) (comes_to p m z (Raise Cancel true)))
+      (sym (cancelled_copies p old new m after d a))
+      (left_by (inner_of m (after ∷ copies new after)) after after (copies new after) (length new.marks.items) (length new.marks.items == 0) refl
+      (copies_count new after)))
 
   store_by : (m after : ℕ → ℕ) (cs : List (ℕ → ℕ)) (addr size value : ℕ) (b : Bool) → b ≡ true → after ≡ store m addr size value → copies new after ≡ cs
       → Came after (copies new after) Goes (cond b (alone.Goes (inner_store untold (inner_of m cs) addr size value)) (alone.Halts (Trapped BadAddress)))
   store_by m after cs addr size value true h e f = (e, f)
   store_by m after cs addr size value false h e f = absurd (false≢true h)
 
-  pub store_comes : (m after : ℕ → ℕ) (addr size value : ℕ) (volatile : Bool) (step : Step) → step ≡ Goes → can_access p addr size ≡ true → after ≡ store m addr size value → copies new after ≡ copies old m
+  pub store_comes : (m after : ℕ → ℕ) (addr size value : ℕ) (volatile : Bool) (step : Step) → step ≡ Goes → can_access p addr size ≡ true
+      → after ≡ store m addr size value → copies new after ≡ copies old m
       → Came after (copies new after) step (comes_to p m (copies old m) (Store addr size value volatile))
   store_comes m after addr size value volatile step s h e f =
-      subst (λ (z : Step). Came after (copies new after) z (comes_to p m (copies old m) (Store addr size value volatile))) (sym s) (store_by m after (copies old m) addr size value (can_access p addr size) h e f)
+      subst (λ (z : Step). Came after (copies new after) z (comes_to p m (copies old m) (Store addr size value volatile))) (sym s)
+      (store_by m after (copies old m) addr size value (can_access p addr size) h e f)
 
-  trap_by : (after : ℕ → ℕ) (b : Bool) (i : Inner (Unit {0})) → b ≡ false → Came after (copies new after) (Halts (Trapped BadAddress)) (cond b (alone.Goes i) (alone.Halts (Trapped BadAddress)))
+  trap_by : (after : ℕ → ℕ) (b : Bool) (i : Inner (Unit {0})) → b ≡ false
+      → Came after (copies new after) (Halts (Trapped BadAddress)) (cond b (alone.Goes i) (alone.Halts (Trapped BadAddress)))
   trap_by after true i h = absurd (false≢true (sym h))
   trap_by after false i h = refl
 
-  pub store_traps : (m after : ℕ → ℕ) (addr size value : ℕ) (volatile : Bool) (step : Step) → step ≡ Halts (Trapped BadAddress) → can_access p addr size ≡ false → Came after (copies new after) step (comes_to p m (copies old m) (Store addr size value volatile))
+  pub store_traps : (m after : ℕ → ℕ) (addr size value : ℕ) (volatile : Bool) (step : Step) → step ≡ Halts (Trapped BadAddress) → can_access p addr size ≡ false
+      → Came after (copies new after) step (comes_to p m (copies old m) (Store addr size value volatile))
   store_traps m after addr size value volatile step s h =
-      subst (λ (z : Step). Came after (copies new after) z (comes_to p m (copies old m) (Store addr size value volatile))) (sym s) (trap_by after (can_access p addr size) (inner_store untold (inner_of m (copies old m)) addr size value) h)
+      subst (λ (z : Step). Came after (copies new after) z (comes_to p m (copies old m) (Store addr size value volatile))) (sym s)
+      (trap_by after (can_access p addr size) (inner_store untold (inner_of m (copies old m)) addr size value) h)
 
-  pub load_traps : (m after : ℕ → ℕ) (addr size : ℕ) (volatile : Bool) (step : Step) → step ≡ Halts (Trapped BadAddress) → can_access p addr size ≡ false → Came after (copies new after) step (comes_to p m (copies old m) (Load addr size volatile))
+  pub load_traps : (m after : ℕ → ℕ) (addr size : ℕ) (volatile : Bool) (step : Step) → step ≡ Halts (Trapped BadAddress) → can_access p addr size ≡ false
+      → Came after (copies new after) step (comes_to p m (copies old m) (Load addr size volatile))
   load_traps m after addr size volatile step s h =
-      subst (λ (z : Step). Came after (copies new after) z (comes_to p m (copies old m) (Load addr size volatile))) (sym s) (trap_by after (can_access p addr size) (inner_load untold (inner_of m (copies old m)) addr size) h)
+      subst (λ (z : Step). Came after (copies new after) z (comes_to p m (copies old m) (Load addr size volatile))) (sym s)
+      (trap_by after (can_access p addr size) (inner_load untold (inner_of m (copies old m)) addr size) h)
 
-  load_by : (m after : ℕ → ℕ) (cs : List (ℕ → ℕ)) (addr size : ℕ) (b : Bool) → b ≡ true → after ≡ m → copies new after ≡ cs → Came after (copies new after) Goes (cond b (alone.Goes (inner_load untold (inner_of m cs) addr size)) (alone.Halts (Trapped BadAddress)))
+  load_by : (m after : ℕ → ℕ) (cs : List (ℕ → ℕ)) (addr size : ℕ) (b : Bool) → b ≡ true → after ≡ m → copies new after ≡ cs
+      → Came after (copies new after) Goes (cond b (alone.Goes (inner_load untold (inner_of m cs) addr size)) (alone.Halts (Trapped BadAddress)))
   load_by m after cs addr size true h e f = (e, f)
   load_by m after cs addr size false h e f = absurd (false≢true h)
 
-  pub load_comes : (m after : ℕ → ℕ) (addr size : ℕ) (volatile : Bool) (step : Step) → step ≡ Goes → can_access p addr size ≡ true → after ≡ m → copies new after ≡ copies old m → Came after (copies new after) step (comes_to p m (copies old m) (Load addr size volatile))
+  pub load_comes : (m after : ℕ → ℕ) (addr size : ℕ) (volatile : Bool) (step : Step) → step ≡ Goes → can_access p addr size ≡ true → after ≡ m
+      → copies new after ≡ copies old m → Came after (copies new after) step (comes_to p m (copies old m) (Load addr size volatile))
   load_comes m after addr size volatile step s h e f =
-      subst (λ (z : Step). Came after (copies new after) z (comes_to p m (copies old m) (Load addr size volatile))) (sym s) (load_by m after (copies old m) addr size (can_access p addr size) h e f)
+      subst (λ (z : Step). Came after (copies new after) z (comes_to p m (copies old m) (Load addr size volatile))) (sym s)
+      (load_by m after (copies old m) addr size (can_access p addr size) h e f)
 
-  pub begun_comes : (m after : ℕ → ℕ) (kind : BlockKind) (step : Step) → step ≡ Goes → after ≡ m → new.notes.items ≡ old.notes.items → new.marks.items ≡ old.marks.items ++ length old.notes.items ∷ []
+  pub begun_comes : (m after : ℕ → ℕ) (kind : BlockKind) (step : Step) → step ≡ Goes → after ≡ m → new.notes.items ≡ old.notes.items
+      → new.marks.items ≡ old.marks.items ++ length old.notes.items ∷ []
       → Came after (copies new after) step (comes_to p m (copies old m) (BeginAtomic kind))
   begun_comes m after kind step s e f g =
       subst (λ (z : Step). Came after (copies new after) z (comes_to p m (copies old m) (BeginAtomic kind))) (sym s)

@@ -4,7 +4,8 @@ use Rattle.std.specs.Prelude.{Result, Ok, Err, OnOk, IfOk}
 use Rattle.std.specs.declared.alloc.AllocError.{AllocError}
 use Rattle.std.proofs.lemmas.Bool.{false≢true, true≢false}
 use Rattle.tx_events.specs.declared.Event.{Event}
-use Rattle.tx_events.specs.declared.Event.TheVariants.{Silent, Load, Store, Out, Inp, Spawn, Join, BeginAtomic, EndAtomic, Raise, BeginSync, EndSync, Done, Stop}
+use Rattle.tx_events.specs.declared.Event.TheVariants.{Silent, Load, Store, Out, Inp, Spawn, Join, BeginAtomic, EndAtomic, Raise, BeginSync, EndSync, Done}
+use Rattle.tx_events.specs.declared.Event.TheVariants.{Stop}
 use Rattle.tx_events.specs.declared.Reply.TheVariants.{Nothing}
 use Rattle.tx_events.specs.Memory.{MemoryLayout}
 use Rattle.tx_events.specs.Thread.{Thread, is_silent}
@@ -41,7 +42,8 @@ is_single EndSync = true
 is_single Done = true
 is_single (Stop end) = true
 
-one_unit : {S : Type 0} (a : Thread S) (p : MemoryLayout) (t : ℕ) (w : Worlds S) (s : S) (e : Event) (v : Worlds S) (d : EventStep a p t w s e v) → is_single e ≡ true → event_cost a p t w s e v d ≡ 1
+one_unit : {S : Type 0} (a : Thread S) (p : MemoryLayout) (t : ℕ) (w : Worlds S) (s : S) (e : Event) (v : Worlds S) (d : EventStep a p t w s e v)
+    → is_single e ≡ true → event_cost a p t w s e v d ≡ 1
 one_unit a p t w s (BeginAtomic kind) v d h = absurd (false≢true h)
 one_unit a p t w s Silent v d h = refl
 one_unit a p t w s (Load addr size volatile) v d h = refl
@@ -57,7 +59,8 @@ one_unit a p t w s EndSync v d h = refl
 one_unit a p t w s Done v d h = refl
 one_unit a p t w s (Stop end) v d h = refl
 
-pub took_acted : (program : Program) (t : ℕ) (w : Worlds State) (s : State) (event : Event) (old new : World) (r : Entry) → is_single event ≡ true → s.event ≡ event → Took program t w s event old new r
+pub took_acted : (program : Program) (t : ℕ) (w : Worlds State) (s : State) (event : Event) (old new : World) (r : Entry) → is_single event ≡ true
+    → s.event ≡ event → Took program t w s event old new r
     → Acted program (layout_of old.memory) t w s old.left new r
 took_acted program t w s event old new r single e h =
     let a = source program in
@@ -76,7 +79,8 @@ took_acted program t w s event old new r single e h =
 -- silent steps
 
 module _ (program : Program) (p : MemoryLayout) (t : ℕ) (w : Worlds State) (s : State) (left : ℕ) where
-  pub skips_none : (now : World) → w ≡ world_of now → left ≡ now.left → p ≡ layout_of now.memory → w.threads t ≡ alive s → Stands program now → Skips program p t w s left now
+  pub skips_none : (now : World) → w ≡ world_of now → left ≡ now.left → p ≡ layout_of now.memory → w.threads t ≡ alive s → Stands program now
+      → Skips program p t w s left now
   skips_none now e l q at stands = record {
     here = s;
     steps = none;
@@ -86,9 +90,15 @@ module _ (program : Program) (p : MemoryLayout) (t : ℕ) (w : Worlds State) (s 
     layout = sym q;
   }
 
-  pub skips_more : (mid paid new : World) (h : Skips program p t w s left mid) → paid ≡ record mid { left = paid.left } → paid.left + 1 ≡ mid.left → is_silent h.here.event ≡ true
-      → IsSet program (layout_of paid.memory) t (record { state = (source program).after h.here Nothing; ended = false }) paid.threads.alive.items new.threads.alive.items
-      → world_of new ≡ record (world_of paid) { threads = threads_of new.threads.alive.items; started = length new.threads.alive.items } → layout_of new.memory ≡ layout_of paid.memory → new.left ≡ paid.left
+  pub skips_more : (mid paid new : World) (h : Skips program p t w s left mid) → paid ≡ record mid { left = paid.left } → paid.left + 1 ≡ mid.left
+      → is_silent h.here.event ≡ true
+      → IsSet program (layout_of paid.memory) t (record {
+        state = (source program).after h.here Nothing;
+        ended =
+            false;
+      }) paid.threads.alive.items new.threads.alive.items
+      → world_of new ≡ record (world_of paid) { threads = threads_of new.threads.alive.items; started = length new.threads.alive.items }
+      → layout_of new.memory ≡ layout_of paid.memory → new.left ≡ paid.left
       → Skips program p t w s left new
   skips_more mid paid new h same less silent set world layout l =
       let r = (source program).after h.here Nothing in
@@ -98,14 +108,16 @@ module _ (program : Program) (p : MemoryLayout) (t : ℕ) (w : Worlds State) (s 
         here = r;
         steps = one_more h.steps (silent_is h.here.event silent);
         cost = omega (arith, h.cost, less, l);
-        world = world ∙ (set_world (world_of paid) program (layout_of paid.memory) t (record { state = r; ended = false }) paid.threads.alive.items new.threads.alive.items set
+        world = world ∙ (set_world (world_of paid) program (layout_of paid.memory) t
+            (record { state = r; ended = false }) paid.threads.alive.items new.threads.alive.items set
             ∙ (ap (λ (z : Worlds State). goes t z r) one ∙ goes_twice t w h.here r));
         stands = stand_on program (layout_of paid.memory) (layout_of new.memory) new.threads.alive.items layout set.stand;
         layout = layout ∙ mapped;
       }
 
   -- at the end no unit is left
-  pub skipped_end : (now : World) (h : Skips program p t w s left now) (b : Bool) → b ≡ is_silent h.here.event → now.left ≡ 0 → Skipped program p t w s left now (not b)
+  pub skipped_end : (now : World) (h : Skips program p t w s left now) (b : Bool) → b ≡ is_silent h.here.event → now.left ≡ 0
+      → Skipped program p t w s left now (not b)
   skipped_end now h true e spent = record { skips = h; silent = sym e; spent = spent }
   skipped_end now h false e spent = record { skips = h; loud = sym e }
 
@@ -135,18 +147,22 @@ module _ (program : Program) (p : MemoryLayout) (t : ℕ) (w : Worlds State) (s 
     further = either_true (is_silent h.skips.here.event) (is_enabled t w h.skips.here.event) h.silent;
   }
 
-  pub enabled_from : (now : World) (h : Skips program p t w s left now) (event : Event) (b : Bool) → event ≡ h.here.event → b ≡ is_enabled t (world_of now) event → is_enabled t w h.here.event ≡ b
+  pub enabled_from : (now : World) (h : Skips program p t w s left now) (event : Event) (b : Bool) → event ≡ h.here.event
+      → b ≡ is_enabled t (world_of now) event → is_enabled t w h.here.event ≡ b
   enabled_from now h event b e q =
-      sym (q ∙ (ap (λ (z : Event). is_enabled t (world_of now) z) e ∙ (ap (λ (z : Worlds State). is_enabled t z h.here.event) h.world ∙ enabled_same t w h.here h.here.event)))
+      sym (q ∙ (ap (λ (z : Event). is_enabled t (world_of now) z) e ∙
+      (ap (λ (z : Worlds State). is_enabled t z h.here.event) h.world ∙ enabled_same t w h.here h.here.event)))
 
   -- an event that is not enabled
-  unfoldable pub refused_there : (now : World) (h : SkipsAll program p t w s left now) (event : Event) (b : Bool) → event ≡ h.skips.here.event → b ≡ is_enabled t (world_of now) event → b ≡ false → entries.Refused (source program) p t w left
+  unfoldable pub refused_there : (now : World) (h : SkipsAll program p t w s left now) (event : Event) (b : Bool) → event ≡ h.skips.here.event
+      → b ≡ is_enabled t (world_of now) event → b ≡ false → entries.Refused (source program) p t w left
   refused_there now h event b e q f =
       stays (outside s h.skips.here at h.skips.steps) (omega (arith, h.skips.cost))
       (second_of (is_silent h.skips.here.event) (is_enabled t w h.skips.here.event) false h.loud (enabled_from now h.skips event b e q ∙ f))
 
   -- an event for which no unit is left
-  unfoldable pub spent_there : (now : World) (h : SkipsAll program p t w s left now) (event : Event) (b : Bool) → event ≡ h.skips.here.event → b ≡ is_enabled t (world_of now) event → b ≡ true → now.left ≡ 0 → entries.Unfinished (source program) p t w left
+  unfoldable pub spent_there : (now : World) (h : SkipsAll program p t w s left now) (event : Event) (b : Bool) → event ≡ h.skips.here.event
+      → b ≡ is_enabled t (world_of now) event → b ≡ true → now.left ≡ 0 → entries.Unfinished (source program) p t w left
   spent_there now h event b e q f l = record {
     going = going;
     moment = outside s h.skips.here at h.skips.steps;
@@ -155,7 +171,8 @@ module _ (program : Program) (p : MemoryLayout) (t : ℕ) (w : Worlds State) (s 
   }
 
   -- the event or the block
-  unfoldable pub stepped : (here : State) (steps : SilentSteps (source program) s here) (k : ℕ) (new : World) (r : Entry) → silent_cost steps + (k + 1) ≡ left → Acted program p t w here k new r → Stepped program p t w left new r
+  unfoldable pub stepped : (here : State) (steps : SilentSteps (source program) s here) (k : ℕ) (new : World) (r : Entry) → silent_cost steps + (k + 1) ≡ left
+      → Acted program p t w here k new r → Stepped program p t w left new r
   stepped here steps k new Taken c h = record {
     world = h.world;
     step = record { going = going; from = s; before = here; is = at; silents = steps; does = h.done.does };

@@ -3,7 +3,8 @@ use Rattle.std.proofs.Common.{ℕ, ℤ, pos, negsuc, ◌≡◌, ◌==◌, Bool, 
 use Rattle.std.proofs.Math.Path.{fun_ext}
 use Rattle.std.proofs.lemmas.Bool.{eq-eqb, eqb-true, false≢true}
 use Rattle.tx_events.specs.declared.Event.{Event}
-use Rattle.tx_events.specs.declared.Event.TheVariants.{Silent, Load, Store, Out, Inp, Spawn, Join, BeginAtomic, EndAtomic, Raise, BeginSync, EndSync, Done, Stop}
+use Rattle.tx_events.specs.declared.Event.TheVariants.{Silent, Load, Store, Out, Inp, Spawn, Join, BeginAtomic, EndAtomic, Raise, BeginSync, EndSync, Done}
+use Rattle.tx_events.specs.declared.Event.TheVariants.{Stop}
 use Rattle.tx_events.specs.Memory.{update}
 use Rattle.tx_events.specs.Thread.{is_silent}
 use Rattle.tx_events.specs.World.{World, Alive, alive, goes, target}
@@ -17,7 +18,8 @@ module _ {A : Type 0} where
   update_twice f t u v = fun_ext (λ x. elim (x == t) as (λ b. cond b v (cond b u (f x)) ≡ cond b v (f x)) [ true ↦ refl | false ↦ refl ])
 
   pub update_between : (f : ℕ → A) (t n : ℕ) (u c v : A) → update (update (update f t u) n c) t v ≡ update (update f n c) t v
-  update_between f t n u c v = fun_ext (λ x. elim (x == t) as (λ b. cond b v (cond (x == n) c (cond b u (f x))) ≡ cond b v (cond (x == n) c (f x))) [ true ↦ refl | false ↦ refl ])
+  update_between f t n u c v = fun_ext (λ x. elim (x == t) as (λ b. cond b v (cond (x == n) c (cond b u (f x))) ≡ cond b v
+      (cond (x == n) c (f x))) [ true ↦ refl | false ↦ refl ])
 
 -- a thread does not join itself
 other : {A : Type 0} (z b : Bool) (v o : Option A) → cond (z || b) None (cond b v o) ≡ cond (z || b) None o
@@ -59,9 +61,11 @@ module _ {S : Type 0} where
 
   -- a change of the world beside its threads, and the thread goes on
   pub moved : (t : ℕ) (w : World S) (s r : S) (x y : World S) (change : World S → World S) → x ≡ goes t w s → y ≡ goes t (change x) r
-      → ((f : ℕ → Option (Alive S)) → goes t (change (record w { threads = f })) r ≡ record (change w) { threads = update f t (alive r) }) → y ≡ record (change w) { threads = update w.threads t (alive r) }
+      → ((f : ℕ → Option (Alive S)) → goes t (change (record w { threads = f })) r ≡ record (change w) { threads = update f t (alive r) })
+      → y ≡ record (change w) { threads = update w.threads t (alive r) }
   moved t w s r x y change e h c =
-      h ∙ (ap (λ z. goes t (change z) r) e ∙ (c (update w.threads t (alive s)) ∙ ap (λ f. record (change w) { threads = f }) (update_twice w.threads t (alive s) (alive r))))
+      h ∙ (ap (λ z. goes t (change z) r) e ∙ (c (update w.threads t (alive s)) ∙ ap (λ f. record (change w) { threads = f })
+      (update_twice w.threads t (alive s) (alive r))))
 
 pub silent_is : (e : Event) → is_silent e ≡ true → e ≡ Silent
 silent_is Silent h = refl

@@ -47,7 +47,8 @@ module _ {S : Type 0} (a : Thread S) (p : MemoryLayout) where
       let there : Steps t w h.0 n = subst (λ (z : ℕ). Steps z w h.0 n) e own in
       record { world = w; replays = refl; next = h.0; step = there.step; part = omega (arith, there.is) }
 
-  part_at : (order : List ℕ) (index t : ℕ) (w v : World S) (h : Replays a p w order v) → slice_get order index ≡ Some t → Parted w order index t (cost a p w order v h)
+  part_at : (order : List ℕ) (index t : ℕ) (w v : World S) (h : Replays a p w order v) → slice_get order index ≡ Some t
+      → Parted w order index t (cost a p w order v h)
   part_at [] index t w v h e = absurd cc
   part_at (x ∷ xs) zero t w v h e = part_first x t xs w v h (same_Some x t e)
   part_at (x ∷ xs) (suc i) t w v h e =
@@ -55,7 +56,8 @@ module _ {S : Type 0} (a : Thread S) (p : MemoryLayout) where
       record { world = r.world; replays = (h.0, h.1, r.replays); next = r.next; step = r.step; part = omega (arith, r.part) }
 
   -- the entry, in the world that the entries before it lead to
-  entry_there : (first : World S) (order : List ℕ) (index t : ℕ) (w v : World S) (h : Replays a p first (take index order) w) (k : Replays a p first order v) → slice_get order index ≡ Some t
+  entry_there : (first : World S) (order : List ℕ) (index t : ℕ) (w v : World S) (h : Replays a p first (take index order) w) (k : Replays a p first order v)
+      → slice_get order index ≡ Some t
       → (u : World S) × (n : ℕ) × Steps t w u n × (cost a p first (take index order) w h + n ≤ cost a p first order v k)
   entry_there first order index t w v h k e =
       let r = part_at order index t first v k e in
@@ -64,11 +66,17 @@ module _ {S : Type 0} (a : Thread S) (p : MemoryLayout) where
       let one = one_cost (take index order) first w r.world h r.replays in
       (r.next, n, subst (λ (z : World S). Steps t z r.next n) (same_replays a p (take index order) first r.world w r.replays h) own, omega (arith, one, r.part))
 
-  pub only_replay : (first : World S) (order : List ℕ) (most : ℕ) (r : Replayed) (v : World S) → IsReplay a p first order most r → (k : Replays a p first order v) → IsOnly a p first order r v k
+  pub only_replay : (first : World S) (order : List ℕ) (most : ℕ) (r : Replayed) (v : World S) → IsReplay a p first order most r
+      → (k : Replays a p first order v) → IsOnly a p first order r v k
   only_replay first order most r v h k =
       let same = same_replays a p order first h.world v h.replays k in
       let one = one_cost order first h.world v h.replays k in
-      record { out_is = h.out_is ∙ ap (λ (z : World S). z.out) same; end_is = h.end_is ∙ ap (λ (z : World S). z.end) same; cost_is = omega (arith, h.cost_is, one) }
+      record {
+        out_is = h.out_is ∙ ap (λ (z : World S). z.out) same;
+        end_is = h.end_is ∙ ap (λ (z : World S). z.end) same;
+        cost_is =
+            omega (arith, h.cost_is, one);
+      }
 
   pub no_replay : (first : World S) (order : List ℕ) (most index : ℕ) (v : World S) → IsNotARun a p first order most index → Replays a p first order v → ⊥
   no_replay first order most index v h k =
@@ -76,7 +84,8 @@ module _ {S : Type 0} (a : Thread S) (p : MemoryLayout) where
       let there = entry_there first order index b.thread b.world v b.replays k b.entry in
       h.no_step there.0 (there.2).step
 
-  pub more_cost : (first : World S) (order : List ℕ) (most index : ℕ) (v : World S) → IsSpent a p first order most index → (k : Replays a p first order v) → most < cost a p first order v k
+  pub more_cost : (first : World S) (order : List ℕ) (most index : ℕ) (v : World S) → IsSpent a p first order most index → (k : Replays a p first order v)
+      → most < cost a p first order v k
   more_cost first order most index v h k =
       let b = h.begun in
       let there = entry_there first order index b.thread b.world v b.replays k b.entry in

@@ -3,14 +3,16 @@ use Rattle.std.proofs.Common.{ℕ, ◌≡◌, ◌<◌, ◌≤◌, ◌+◌, ◌||
 use Rattle.std.proofs.lemmas.Bool.{false≢true, true≢false}
 use Rattle.std.proofs.lemmas.Option.{same_Some}
 use Rattle.tx_events.specs.declared.Event.{Event}
-use Rattle.tx_events.specs.declared.Event.TheVariants.{Silent, Load, Store, Out, Inp, Spawn, Join, BeginAtomic, EndAtomic, Raise, BeginSync, EndSync, Done, Stop}
+use Rattle.tx_events.specs.declared.Event.TheVariants.{Silent, Load, Store, Out, Inp, Spawn, Join, BeginAtomic, EndAtomic, Raise, BeginSync, EndSync, Done}
+use Rattle.tx_events.specs.declared.Event.TheVariants.{Stop}
 use Rattle.tx_events.specs.declared.Reply.TheVariants.{Nothing}
 use Rattle.tx_events.specs.Memory.{MemoryLayout}
 use Rattle.tx_events.specs.Thread.{Thread, is_silent}
 use Rattle.tx_events.specs.Alone.{Inner, BlockStep, Goes, Leaves, Halts, Never, Inside, at_start, goes_on, inner_by, is_over, begin}
 use Rattle.tx_events.specs.World.{World, Alive, alive, SilentSteps, none, one_more, EventStep, Joins, Step, target}
 use Rattle.src_mean.specs.Cost.{silent_cost, inside_cost, event_cost, step_cost}
-use Rattle.src_replay.specs.Entries.{is_going, is_enabled, is_joinable, comes, Moment, outside, within, units, goes_further, Refused, over, absent, stays, Unfinished}
+use Rattle.src_replay.specs.Entries.{is_going, is_enabled, is_joinable, comes, Moment, outside, within, units, goes_further, Refused, over, absent, stays}
+use Rattle.src_replay.specs.Entries.{Unfinished}
 use Rattle.tx_events.proofs.OneReplay.{loud}
 
 one_state : {S : Type 0} (s r : S) → alive s ≡ alive r → s ≡ r
@@ -41,7 +43,12 @@ module _ {S : Type 0} (a : Thread S) (p : MemoryLayout) where
   in_order (ahead e k) here l = absurd (true≢false (sym (ap is_silent e) ∙ l))
   in_order (ahead {n} e k) (ahead {n = m} f g) l =
       let o = in_order k g l in
-      record { most = omega (arith, o.most); less = λ h. let less = o.less h in omega (arith, less); same = λ h. let x = o.same h in (ap (λ z. z + 1) x.0, x.1) }
+      record {
+        most = omega (arith, o.most);
+        less = λ h. let less = o.less h in omega (arith, less);
+        same = λ h. let x = o.same h in
+            (ap (λ z. z + 1) x.0, x.1);
+      }
 
   silents_order : {s q u : S} (h : SilentSteps a s q) (k : SilentSteps a s u) → is_silent (a.next u) ≡ false → Order q u (silent_cost h) (silent_cost k)
   silents_order h k l = in_order (from_front h) (from_front k) l
@@ -80,7 +87,8 @@ module _ {S : Type 0} (a : Thread S) (p : MemoryLayout) where
   block_most {j = j} {k = k} (onward {i} {k = x} {n = n} e f) (onward {k = y} {n = m} g h) o =
       let less : n ≤ m = block_most (subst (λ z. Onward z j n) (same_goes i x y e g) f) h o in omega (arith, less)
 
-  not_stuck : {i j k : Inner S} {n m : ℕ} → Onward i j n → Onward i k m → is_over (inner_by a p k (a.next k.state)) ≡ true → comes (inner_by a p j (a.next j.state)) ≡ false → ⊥
+  not_stuck : {i j k : Inner S} {n m : ℕ} → Onward i j n → Onward i k m → is_over (inner_by a p k (a.next k.state)) ≡ true
+      → comes (inner_by a p j (a.next j.state)) ≡ false → ⊥
   not_stuck {i} there there o c = never_over (inner_by a p i (a.next i.state)) c o
   not_stuck {i} there (onward {k = y} g h) o c = never_goes (inner_by a p i (a.next i.state)) y g c
   not_stuck (onward {i} {k = x} e f) there o c = over_goes (inner_by a p i (a.next i.state)) x e o
@@ -140,7 +148,8 @@ module _ {S : Type 0} (a : Thread S) (p : MemoryLayout) where
         let same : from ≡ d.from = one_state from d.from (sym is ∙ d.is) in
         let o = silents_order (subst (λ z. SilentSteps a z before) same silents) d.silents (loud a p t w v d.before (a.next d.before) d.does) in
         let at = (o.same (ap is_silent begins)).1 in
-        let does : EventStep a p t w before (BeginAtomic kind) v = subst (λ (e : Event). EventStep a p t w before e v) begins (subst (λ z. EventStep a p t w z (a.next z) v) (sym at) d.does) in
+        let does : EventStep a p t w before (BeginAtomic kind) v =
+        subst (λ (e : Event). EventStep a p t w before e v) begins (subst (λ z. EventStep a p t w z (a.next z) v) (sym at) d.does) in
         not_stuck (from_begin run) (from_begin (does.1).run) (does.1).over stuck
 
     -- an event costs a unit or more
@@ -171,16 +180,19 @@ module _ {S : Type 0} (a : Thread S) (p : MemoryLayout) where
         by_moment : (m : Moment a p t w) → units a p t w m ≡ most → goes_further a p t w m ≡ true → most < step_cost a p t w v d
         by_moment (outside from place is silents) all further =
             let same : from ≡ d.from = one_state from d.from (sym is ∙ d.is) in
-            let o = in_order (subst (λ z. Ahead z place (silent_cost silents)) same (from_front silents)) (from_front d.silents) (loud a p t w v d.before (a.next d.before) d.does) in
+            let o = in_order (subst (λ z. Ahead z place (silent_cost silents)) same (from_front silents)) (from_front d.silents)
+            (loud a p t w v d.before (a.next d.before) d.does) in
             let pays = event_pays d.before (a.next d.before) v d.does in
             omega (arith, all, o.most, pays)
         by_moment (within from before kind last is silents begins free run) all further =
             let same : from ≡ d.from = one_state from d.from (sym is ∙ d.is) in
-            let o = in_order (subst (λ z. Ahead z before (silent_cost silents)) same (from_front silents)) (from_front d.silents) (loud a p t w v d.before (a.next d.before) d.does) in
+            let o = in_order (subst (λ z. Ahead z before (silent_cost silents)) same (from_front silents)) (from_front d.silents)
+            (loud a p t w v d.before (a.next d.before) d.does) in
             let at = o.same (ap is_silent begins) in
             let n = event_cost a p t w d.before (a.next d.before) v d.does in
             let priced : Priced d.before (a.next d.before) v n = record { does = d.does; costs = refl } in
-            let first : Priced before (BeginAtomic kind) v n = subst (λ (e : Event). Priced before e v n) begins (subst (λ z. Priced z (a.next z) v n) (sym at.1) priced) in
+            let first : Priced before (BeginAtomic kind) v n =
+            subst (λ (e : Event). Priced before e v n) begins (subst (λ z. Priced z (a.next z) v n) (sym at.1) priced) in
             let less = block_most (from_begin run) (from_begin (first.does.1).run) (first.does.1).over in
             omega (arith, all, at.0, first.costs, less)
 
@@ -201,7 +213,8 @@ module _ {S : Type 0} (a : Thread S) (p : MemoryLayout) where
             let o = in_order (subst (λ z. Ahead z spot (silent_cost steps)) same (from_front steps)) (from_front silents) quiet.0 in
             still (is_silent (a.next spot)) refl o quiet.1 further all
           where
-            still : (b : Bool) → is_silent (a.next spot) ≡ b → Order spot place (silent_cost steps) (silent_cost silents) → is_enabled t w (a.next place) ≡ false → (is_silent (a.next spot) || is_enabled t w (a.next spot)) ≡ true → silent_cost steps ≡ most → ⊥
+            still : (b : Bool) → is_silent (a.next spot) ≡ b → Order spot place (silent_cost steps) (silent_cost silents)
+                → is_enabled t w (a.next place) ≡ false → (is_silent (a.next spot) || is_enabled t w (a.next spot)) ≡ true → silent_cost steps ≡ most → ⊥
             still true e o off further all = let less = o.less e in omega (arith, less, few, all)
             still false e o off further all =
                 let here_is = (o.same e).1 in
@@ -223,12 +236,14 @@ module _ {S : Type 0} (a : Thread S) (p : MemoryLayout) where
             let same : other ≡ from = one_state other from (sym at ∙ is) in
             let o = in_order (subst (λ z. Ahead z spot (silent_cost steps)) same (from_front steps)) (from_front silents) (ap is_silent begins) in
             let here_is = o.same (ap is_silent starts) in
-            let b = to_stuck (subst (λ z. Onward (begin (a.after z Nothing) w.memory) end (inside_cost path)) here_is.1 (from_begin path)) (from_begin run) stuck in
+            let b = to_stuck (subst (λ z. Onward (begin (a.after z Nothing) w.memory) end (inside_cost path)) here_is.1 (from_begin path))
+            (from_begin run) stuck in
             let last_is = b.same (omega (arith, b.most, few, all, here_is.0)) in
             true≢false (sym further ∙ (ap (λ z. comes (inner_by a p z (a.next z.state))) last_is ∙ stuck))
 
     -- an event, or a whole block, has one cost
-    one_event_cost : (s : S) (e : Event) (v u : World S) (d : EventStep a p t w s e v) (f : EventStep a p t w s e u) → event_cost a p t w s e v d ≡ event_cost a p t w s e u f
+    one_event_cost : (s : S) (e : Event) (v u : World S) (d : EventStep a p t w s e v) (f : EventStep a p t w s e u)
+        → event_cost a p t w s e v d ≡ event_cost a p t w s e u f
     one_event_cost s (BeginAtomic kind) v u d f =
         let most = block_most (from_begin (d.1).run) (from_begin (f.1).run) (f.1).over in
         let least = block_most (from_begin (f.1).run) (from_begin (d.1).run) (d.1).over in
@@ -251,7 +266,8 @@ module _ {S : Type 0} (a : Thread S) (p : MemoryLayout) where
     pub one_step_cost : (v u : World S) (d : Step a p t w v) (f : Step a p t w u) → step_cost a p t w v d ≡ step_cost a p t w u f
     one_step_cost v u d f =
         let same : d.from ≡ f.from = one_state d.from f.from (sym d.is ∙ f.is) in
-        let o = in_order (subst (λ z. Ahead z d.before (silent_cost d.silents)) same (from_front d.silents)) (from_front f.silents) (loud a p t w u f.before (a.next f.before) f.does) in
+        let o = in_order (subst (λ z. Ahead z d.before (silent_cost d.silents)) same (from_front d.silents)) (from_front f.silents)
+        (loud a p t w u f.before (a.next f.before) f.does) in
         let at = o.same (loud a p t w v d.before (a.next d.before) d.does) in
         let n = event_cost a p t w d.before (a.next d.before) v d.does in
         let priced : Priced d.before (a.next d.before) v n = record { does = d.does; costs = refl } in

@@ -29,9 +29,11 @@ module _ {S : Type 0} (a : Thread S) (p : MemoryLayout) where
 
   last_entry : (w v u : Worlds S) (t : ℕ) → v ≡ w → (d : Step a p t v u) → More w (t ∷ []) u (step_cost a p t v u d)
   last_entry w v u t h d =
-      subst (λ (z : Worlds S). (e : Step a p t z u) → More w (t ∷ []) u (step_cost a p t z u e)) (sym h) (λ e. record { replays = (u, e, refl); costs = omega arith }) d
+      subst (λ (z : Worlds S). (e : Step a p t z u) → More w (t ∷ []) u (step_cost a p t z u e)) (sym h)
+      (λ e. record { replays = (u, e, refl); costs = omega arith }) d
 
-  pub replays_more : (w v u : Worlds S) (ts : List ℕ) (t : ℕ) (h : Replays a p w ts v) (d : Step a p t v u) → More w (ts ++ t ∷ []) u (cost a p w ts v h + step_cost a p t v u d)
+  pub replays_more : (w v u : Worlds S) (ts : List ℕ) (t : ℕ) (h : Replays a p w ts v) (d : Step a p t v u)
+      → More w (ts ++ t ∷ []) u (cost a p w ts v h + step_cost a p t v u d)
   replays_more w v u [] t h d = let m = last_entry w v u t h d in record { replays = m.replays; costs = omega (arith, m.costs) }
   replays_more w v u (x ∷ ts) t h d = let m = replays_more h.0 v u ts t h.2 d in record { replays = (h.0, h.1, m.replays); costs = omega (arith, m.costs) }
 
@@ -40,12 +42,14 @@ module _ {S : Type 0} (a : Thread S) (p : MemoryLayout) where
 some_none : (o q : Option End) (e : End) → o ≡ Some e → q ≡ None → o ≡ q → ⊥
 some_none o q e h n s = let no : Some e ≡ None = sym h ∙ (s ∙ n) in absurd cc
 
-stepped_over : (program : Program) (p : MemoryLayout) (t : ℕ) (old : World) (v : Worlds State) (left : ℕ) (new : World) (e : End) (r : Entry) → Shows old v → old.end ≡ Some e → Stepped program p t (world_of old) left new r → Stepped program p t v left new r
+stepped_over : (program : Program) (p : MemoryLayout) (t : ℕ) (old : World) (v : Worlds State) (left : ℕ) (new : World) (e : End) (r : Entry) → Shows old v
+    → old.end ≡ Some e → Stepped program p t (world_of old) left new r → Stepped program p t v left new r
 stepped_over program p t old v left new e Taken shows some h = absurd (some_none old.end old.end e some h.step.going refl)
 stepped_over program p t old v left new e Refused shows some h = over (ap is_some (sym shows.end_is ∙ some))
 stepped_over program p t old v left new e Spent shows some h = absurd (some_none old.end old.end e some h.going refl)
 
-pub stepped_shown : (program : Program) (p : MemoryLayout) (t : ℕ) (old : World) (v : Worlds State) (left : ℕ) (new : World) (r : Entry) → Shows old v → Stepped program p t (world_of old) left new r → Stepped program p t v left new r
+pub stepped_shown : (program : Program) (p : MemoryLayout) (t : ℕ) (old : World) (v : Worlds State) (left : ℕ) (new : World) (r : Entry) → Shows old v
+    → Stepped program p t (world_of old) left new r → Stepped program p t v left new r
 stepped_shown program p t old v left new r shows h = by_end old.end refl
   where
     by_end : (o : Option End) → old.end ≡ o → Stepped program p t v left new r
@@ -53,7 +57,8 @@ stepped_shown program p t old v left new r shows h = by_end old.end refl
     by_end (Some e) some = stepped_over program p t old v left new e r shows some h
 
 module _ (b : Given) (input order : List ℕ) (most : ℕ) where
-  pub ran_first : (now : World) → world_of now ≡ first_in b input → layout_of now.memory ≡ layout_in b → Stands (program_in b) now → now.left ≡ most → Ran b input order most 0 now
+  pub ran_first : (now : World) → world_of now ≡ first_in b input → layout_of now.memory ≡ layout_in b → Stands (program_in b) now → now.left ≡ most
+      → Ran b input order most 0 now
   ran_first now e layout stands left = record {
     world = first_in b input;
     replays = refl;
@@ -64,18 +69,22 @@ module _ (b : Given) (input order : List ℕ) (most : ℕ) where
   }
 
   module _ (i t : ℕ) (old new : World) (ran : Ran b input order most i old) (within : i < length order) (is : t ≡ get_or order i 0) where
-    from_there : (r : Entry) → Stepped (program_in b) (layout_of old.memory) t (world_of old) old.left new r → Stepped (program_in b) (layout_in b) t ran.world old.left new r
-    from_there r h = subst (λ (z : MemoryLayout). Stepped (program_in b) z t ran.world old.left new r) ran.layout (stepped_shown (program_in b) (layout_of old.memory) t old ran.world old.left new r ran.shows h)
+    from_there : (r : Entry) → Stepped (program_in b) (layout_of old.memory) t (world_of old) old.left new r
+        → Stepped (program_in b) (layout_in b) t ran.world old.left new r
+    from_there r h = subst (λ (z : MemoryLayout). Stepped (program_in b) z t ran.world old.left new r) ran.layout
+        (stepped_shown (program_in b) (layout_of old.memory) t old ran.world old.left new r ran.shows h)
 
     pub ran_taken : (r : Entry) → r ≡ Taken → Stepped (program_in b) (layout_of old.memory) t (world_of old) old.left new r → Ran b input order most (i + 1) new
     ran_taken r e h =
         let a = source (program_in b) in
         let p = layout_in b in
         let first = first_in b input in
-        let s : StepTaken (program_in b) p t ran.world old.left new = subst (λ (z : Entry). Stepped (program_in b) p t ran.world old.left new z) e (from_there r h) in
+        let s : StepTaken (program_in b) p t ran.world old.left new =
+        subst (λ (z : Entry). Stepped (program_in b) p t ran.world old.left new z) e (from_there r h) in
         let n = cost a p first (take i order) ran.world ran.replays + step_cost a p t ran.world s.world s.step in
         let same : take i order ++ t ∷ [] ≡ take (i + 1) order = ap (λ (z : ℕ). take i order ++ z ∷ []) is ∙ sym (take_more order i 0 within) in
-        let m : More a p first (take (i + 1) order) s.world n = subst (λ (z : List ℕ). More a p first z s.world n) same (replays_more a p first ran.world s.world (take i order) t ran.replays s.step) in
+        let m : More a p first (take (i + 1) order) s.world n =
+        subst (λ (z : List ℕ). More a p first z s.world n) same (replays_more a p first ran.world s.world (take i order) t ran.replays s.step) in
         record {
           world = s.world;
           replays = m.replays;
@@ -86,19 +95,39 @@ module _ (b : Given) (input order : List ℕ) (most : ℕ) where
         }
 
     abbrev begun : IsBegun (source (program_in b)) (layout_in b) (first_in b input) order most i
-    begun = record { thread = t; entry = slice_get-get_or order i 0 within ∙ ap Some (sym is); world = ran.world; replays = ran.replays; left = old.left; paid = ran.cost_is }
+    begun = record {
+      thread = t;
+      entry = slice_get-get_or order i 0 within ∙ ap Some (sym is);
+      world = ran.world;
+      replays = ran.replays;
+      left = old.left;
+      paid =
+          ran.cost_is;
+    }
 
-    pub ran_refused : (index : ℕ) (r : Entry) → index ≡ i → r ≡ Refused → Stepped (program_in b) (layout_of old.memory) t (world_of old) old.left new r → IsNotARun (source (program_in b)) (layout_in b) (first_in b input) order most index
+    pub ran_refused : (index : ℕ) (r : Entry) → index ≡ i → r ≡ Refused → Stepped (program_in b) (layout_of old.memory) t (world_of old) old.left new r
+        → IsNotARun (source (program_in b)) (layout_in b) (first_in b input) order most index
     ran_refused index r n e h =
-        let there : Stepped (program_in b) (layout_in b) t ran.world old.left new Refused = subst (λ (z : Entry). Stepped (program_in b) (layout_in b) t ran.world old.left new z) e (from_there r h) in
-        subst (λ (z : ℕ). IsNotARun (source (program_in b)) (layout_in b) (first_in b input) order most z) (sym n) (record { begun = begun; refused = there; no_step = λ v d. refused_no_step (source (program_in b)) (layout_in b) t ran.world old.left v there d })
+        let there : Stepped (program_in b) (layout_in b) t ran.world old.left new Refused =
+        subst (λ (z : Entry). Stepped (program_in b) (layout_in b) t ran.world old.left new z) e (from_there r h) in
+        subst (λ (z : ℕ). IsNotARun (source (program_in b)) (layout_in b) (first_in b input) order most z) (sym n)
+        (record { begun = begun; refused = there; no_step = λ v d. refused_no_step (source (program_in b)) (layout_in b) t ran.world old.left v there d })
 
-    pub ran_spent : (index : ℕ) (r : Entry) → index ≡ i → r ≡ Spent → Stepped (program_in b) (layout_of old.memory) t (world_of old) old.left new r → IsSpent (source (program_in b)) (layout_in b) (first_in b input) order most index
+    pub ran_spent : (index : ℕ) (r : Entry) → index ≡ i → r ≡ Spent → Stepped (program_in b) (layout_of old.memory) t (world_of old) old.left new r
+        → IsSpent (source (program_in b)) (layout_in b) (first_in b input) order most index
     ran_spent index r n e h =
-        let there : Stepped (program_in b) (layout_in b) t ran.world old.left new Spent = subst (λ (z : Entry). Stepped (program_in b) (layout_in b) t ran.world old.left new z) e (from_there r h) in
-        subst (λ (z : ℕ). IsSpent (source (program_in b)) (layout_in b) (first_in b input) order most z) (sym n) (record { begun = begun; unfinished = there; costs_more = λ v d. unfinished_more (source (program_in b)) (layout_in b) t ran.world old.left v there d })
+        let there : Stepped (program_in b) (layout_in b) t ran.world old.left new Spent =
+        subst (λ (z : Entry). Stepped (program_in b) (layout_in b) t ran.world old.left new z) e (from_there r h) in
+        subst (λ (z : ℕ). IsSpent (source (program_in b)) (layout_in b) (first_in b input) order most z) (sym n)
+        (record {
+          begun = begun;
+          unfinished = there;
+          costs_more =
+              λ v d. unfinished_more (source (program_in b)) (layout_in b) t ran.world old.left v there d;
+        })
 
-  pub ran_all : (i : ℕ) (now : World) (r : Replayed) → Ran b input order most i now → length order ≤ i → r.out.items ≡ now.out.items → r.end ≡ now.end → r.cost + now.left ≡ most
+  pub ran_all : (i : ℕ) (now : World) (r : Replayed) → Ran b input order most i now → length order ≤ i → r.out.items ≡ now.out.items → r.end ≡ now.end
+      → r.cost + now.left ≡ most
       → IsReplay (source (program_in b)) (layout_in b) (first_in b input) order most r
   ran_all i now r ran past out end costs =
       let a = source (program_in b) in

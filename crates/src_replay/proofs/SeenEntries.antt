@@ -3,7 +3,8 @@ use Rattle.std.proofs.Common.{ℕ, ◌≡◌, true, false, List, [], ◌∷◌, 
 use Rattle.std.proofs.lemmas.Bool.{true≢false}
 use Rattle.tx_events.specs.declared.BlockKind.{BlockKind}
 use Rattle.tx_events.specs.declared.Event.{Event}
-use Rattle.tx_events.specs.declared.Event.TheVariants.{Silent, Load, Store, Out, Inp, Spawn, Join, BeginAtomic, EndAtomic, Raise, BeginSync, EndSync, Done, Stop}
+use Rattle.tx_events.specs.declared.Event.TheVariants.{Silent, Load, Store, Out, Inp, Spawn, Join, BeginAtomic, EndAtomic, Raise, BeginSync, EndSync, Done}
+use Rattle.tx_events.specs.declared.Event.TheVariants.{Stop}
 use Rattle.tx_events.specs.Memory.{MemoryLayout}
 use Rattle.tx_events.specs.Thread.{Thread}
 use Rattle.tx_events.specs.World.{World as Worlds, EventStep}
@@ -18,7 +19,8 @@ use Rattle.src_replay.specs.Seen.{is_begin, SeenAct}
 use Rattle.src_replay.specs.Shown.{Acted}
 
 -- an event that begins no block comes alone
-one_event : {S : Type 0} (a : Thread S) (p : MemoryLayout) (t : ℕ) (w : Worlds S) (s : S) (e : Event) (v : Worlds S) (d : EventStep a p t w s e v) → is_begin e ≡ false → event_events a p t w s e v d ≡ e ∷ []
+one_event : {S : Type 0} (a : Thread S) (p : MemoryLayout) (t : ℕ) (w : Worlds S) (s : S) (e : Event) (v : Worlds S) (d : EventStep a p t w s e v)
+    → is_begin e ≡ false → event_events a p t w s e v d ≡ e ∷ []
 one_event a p t w s (BeginAtomic kind) v d h = absurd (true≢false h)
 one_event a p t w s Silent v d h = refl
 one_event a p t w s (Load addr size volatile) v d h = refl
@@ -55,10 +57,12 @@ not_begin : (e : Event) (kind : BlockKind) → is_begin e ≡ false → e ≡ Be
 not_begin e kind h is = true≢false (sym (ap is_begin is) ∙ h)
 
 module _ (program : Program) (p : MemoryLayout) (t : ℕ) (w : Worlds State) (s : State) (left : ℕ) (new : World) (before after : List Event) where
-  pub seen_once : (event : Event) (r : Entry) → is_begin event ≡ false → s.event ≡ event → after ≡ before ++ event ∷ [] → Acted program p t w s left new r → SeenAct program p t w s left new before after r
+  pub seen_once : (event : Event) (r : Entry) → is_begin event ≡ false → s.event ≡ event → after ≡ before ++ event ∷ [] → Acted program p t w s left new r
+      → SeenAct program p t w s left new before after r
   seen_once event Taken once e told h = record {
     taken = h;
-    seen = told ∙ (ap (λ (z : Event). before ++ z ∷ []) (sym e) ∙ ap (λ (z : List Event). before ++ z) (sym (one_event (source program) p t w s s.event h.world h.done.does (ap is_begin e ∙ once))));
+    seen = told ∙ (ap (λ (z : Event). before ++ z ∷ []) (sym e) ∙ ap (λ (z : List Event). before ++ z)
+        (sym (one_event (source program) p t w s s.event h.world h.done.does (ap is_begin e ∙ once))));
   }
   seen_once event Refused once e told h = absurd (not_begin s.event h.at.kind (ap is_begin e ∙ once) h.at.begins)
   seen_once event Spent once e told h = absurd (not_begin s.event h.at.kind (ap is_begin e ∙ once) h.at.begins)

@@ -1,5 +1,6 @@
 -- A thread is looked at whose entry may be next, and takes it.
-use Rattle.std.proofs.Common.{ℕ, ◌≡◌, ◌==◌, ◌<◌, ◌≤◌, ◌+◌, ◌-◌, ◌*◌, ◌/◌, ◌%◌, Bool, true, false, not, cond, Option, Some, None, List, [], ◌++◌, length, refl, ap, sym, ◌∙◌, subst, arith, append-nil, inl, inr}
+use Rattle.std.proofs.Common.{ℕ, ◌≡◌, ◌==◌, ◌<◌, ◌≤◌, ◌+◌, ◌-◌, ◌*◌, ◌/◌, ◌%◌, Bool, true, false, not, cond, Option, Some, None, List, [], ◌++◌, length, refl}
+use Rattle.std.proofs.Common.{ap, sym, ◌∙◌, subst, arith, append-nil, inl, inr}
 use Rattle.std.proofs.lemmas.Bool.{eqb-true, cases_lt, ne_eqb, false≢true}
 use Rattle.std.proofs.lemmas.Nat.{div-add-mod', mod_below, mod-mul-add}
 use Rattle.std.proofs.lemmas.Option.{slice_get_past}
@@ -63,10 +64,12 @@ both program (Some x) (Some y) n h k =
     }
 
 -- one thread has gone on
-moved_on : (program : Program) (f g h : ℕ → Option (Started State)) (ns ms : ℕ → ℕ) (t m : ℕ) (from here : State) → AllAhead (source program) f g ns → h ≡ update g t (alive here) → ((k : ℕ) → ms k ≡ update ns t m k) → f t ≡ alive from
+moved_on : (program : Program) (f g h : ℕ → Option (Started State)) (ns ms : ℕ → ℕ) (t m : ℕ) (from here : State) → AllAhead (source program) f g ns
+    → h ≡ update g t (alive here) → ((k : ℕ) → ms k ≡ update ns t m k) → f t ≡ alive from
     → (steps : SilentSteps (source program) from here) → silent_cost steps ≡ m → AllAhead (source program) f h ms
 moved_on program f g h ns ms t m from here each e same is steps cost k =
-    subst (λ z. AheadAt (source program) (f k) (z k) (ms k)) (sym e) (subst (λ z. AheadAt (source program) (f k) (update g t (alive here) k) z) (sym (same k)) (at (k == t) refl))
+    subst (λ z. AheadAt (source program) (f k) (z k) (ms k)) (sym e)
+    (subst (λ z. AheadAt (source program) (f k) (update g t (alive here) k) z) (sym (same k)) (at (k == t) refl))
   where
     at : (b : Bool) → (k == t) ≡ b → AheadAt (source program) (f k) (cond b (alive here) (g k)) (cond b m (ns k))
     at true q =
@@ -136,7 +139,8 @@ module _ (program : Program) (p : MemoryLayout) (t : ℕ) (w : Worlds State) (ol
         pub looked_on : IsAhead program ms w new
         looked_on = record {
           world = world_now;
-          each = moved_on program w.threads (threads_of old.threads.alive.items) (threads_of new.threads.alive.items) ns ms t (left - new.left) (there).from h.skips.here ahead.each threads_now counted (there).is (all_steps).steps taken;
+          each = moved_on program w.threads (threads_of old.threads.alive.items) (threads_of new.threads.alive.items) ns ms t (left - new.left)
+              (there).from h.skips.here ahead.each threads_now counted (there).is (all_steps).steps taken;
         }
 
         enabled_there : (event : Event) (b : Bool) → event ≡ h.skips.here.event → b ≡ is_enabled t (world_of new) event → is_enabled t w h.skips.here.event ≡ b
@@ -145,7 +149,8 @@ module _ (program : Program) (p : MemoryLayout) (t : ℕ) (w : Worlds State) (ol
             ∙ (ap (λ (z : Worlds State). is_enabled t z h.skips.here.event) (sym world_now)
             ∙ (ap (λ (z : Event). is_enabled t (world_of new) z) (sym e) ∙ sym q))
 
-        pub ready_there : (event : Event) (b : Bool) → event ≡ h.skips.here.event → b ≡ is_enabled t (world_of new) event → b ≡ true → layout_of new.memory ≡ p → IsReady program p t w left new ms
+        pub ready_there : (event : Event) (b : Bool) → event ≡ h.skips.here.event → b ≡ is_enabled t (world_of new) event → b ≡ true → layout_of new.memory ≡ p
+            → IsReady program p t w left new ms
         ready_there event b e q there_is layout =
             let own : ms t ≡ left - new.left = counted t ∙ update_at ns t (left - new.left) in
             record {
@@ -157,7 +162,8 @@ module _ (program : Program) (p : MemoryLayout) (t : ℕ) (w : Worlds State) (ol
               enabled = enabled_there event b e q ∙ there_is;
             }
 
-        pub waits_there : (event : Event) (b : Bool) → event ≡ h.skips.here.event → b ≡ is_enabled t (world_of new) event → b ≡ false → layout_of new.memory ≡ p → IsWaiting program p t w left (record new { left = left }) ms
+        pub waits_there : (event : Event) (b : Bool) → event ≡ h.skips.here.event → b ≡ is_enabled t (world_of new) event → b ≡ false → layout_of new.memory ≡ p
+            → IsWaiting program p t w left (record new { left = left }) ms
         waits_there event b e q there_is_none layout = record {
           looked = record { ahead = record { world = world_now; each = (looked_on).each }; stands = h.skips.stands; layout = layout };
           left_is = refl;
@@ -167,7 +173,8 @@ module _ (program : Program) (p : MemoryLayout) (t : ℕ) (w : Worlds State) (ol
 
 -- a thread that was not started or has ended
 
-pub waits_absent : (program : Program) (p : MemoryLayout) (t : ℕ) (w : Worlds State) (old : World) (ns : ℕ → ℕ) (left : ℕ) → IsAhead program ns w old → Stands program old → layout_of old.memory ≡ p → old.left ≡ left → is_going (threads_of old.threads.alive.items t) ≡ false
+pub waits_absent : (program : Program) (p : MemoryLayout) (t : ℕ) (w : Worlds State) (old : World) (ns : ℕ → ℕ) (left : ℕ) → IsAhead program ns w old
+    → Stands program old → layout_of old.memory ≡ p → old.left ≡ left → is_going (threads_of old.threads.alive.items t) ≡ false
     → IsWaiting program p t w left old ns
 waits_absent program p t w old ns left ahead stands layout same e = record {
   looked = record { ahead = ahead; stands = stands; layout = layout };
@@ -179,14 +186,16 @@ none_past : (xs : List Alive) (t : ℕ) → length xs ≤ t → threads_of xs t 
 unfolding threads_of
 none_past xs t h = ap alive_in (slice_get_past xs t h)
 
-absent_past : (program : Program) (p : MemoryLayout) (w : Worlds State) (now : World) (ns : ℕ → ℕ) (left : ℕ) → IsAhead program ns w now → (u : ℕ) → length now.threads.alive.items ≤ u → entries.Refused (source program) p u w left
+absent_past : (program : Program) (p : MemoryLayout) (w : Worlds State) (now : World) (ns : ℕ → ℕ) (left : ℕ) → IsAhead program ns w now → (u : ℕ)
+    → length now.threads.alive.items ≤ u → entries.Refused (source program) p u w left
 absent_past program p w now ns left ahead u h =
     let none : threads_of now.threads.alive.items u ≡ None = none_past now.threads.alive.items u h in
     absent (sym (going_same (source program) (w.threads u) (threads_of now.threads.alive.items u) (ns u) (ahead.each u)) ∙ ap is_going none)
 
 -- the turns from one on, one more
 
-module _ (program : Program) (p : MemoryLayout) (from i t : ℕ) (w : Worlds State) (left : ℕ) (old : World) (ns : ℕ → ℕ) (a : AllWait program p from i w left old ns) (is : t ≡ i % w.started) (new : World) (ms : ℕ → ℕ) (k : Look)
+module _ (program : Program) (p : MemoryLayout) (from i t : ℕ) (w : Worlds State) (left : ℕ) (old : World) (ns : ℕ → ℕ)
+    (a : AllWait program p from i w left old ns) (is : t ≡ i % w.started) (new : World) (ms : ℕ → ℕ) (k : Look)
     (h : Looked program (layout_of old.memory) t w old.left new ms k) where
   looked_there : (l : Look) → k ≡ l → Looked program p t w left new ms l
   looked_there l e =
@@ -217,7 +226,8 @@ module _ (program : Program) (p : MemoryLayout) (from i t : ℕ) (w : Worlds Sta
     pub spent_first : k ≡ SpentThere → IsFirst program p from i t w left × EntrySpent program p t w left new [] []
     spent_first e = (first_there, looked_there SpentThere e)
 
-pub none_waits : (program : Program) (from to : ℕ) (w : Worlds State) (old : World) (ns : ℕ → ℕ) → to ≡ from → IsAhead program ns w old → Stands program old → AllWait program (layout_of old.memory) from to w old.left old ns
+pub none_waits : (program : Program) (from to : ℕ) (w : Worlds State) (old : World) (ns : ℕ → ℕ) → to ≡ from → IsAhead program ns w old → Stands program old
+    → AllWait program (layout_of old.memory) from to w old.left old ns
 none_waits program from to w old ns e ahead stands = record {
   looked = record { ahead = ahead; stands = stands; layout = refl };
   left_is = refl;
@@ -244,22 +254,31 @@ in_round from s u h =
     let low : from % s < s = mod_below from s (omega (arith, h)) in
     let next : (q + 1) * s ≡ q * s + s = omega arith in
     elim (cases_lt u (from % s)) [
-      | inl l ↦ record { turn = (q + 1) * s + u; behind = omega (arith, split, low, next); near = omega (arith, split, next, l); is = mod-mul-add (q + 1) s u h }
+      | inl l ↦ record {
+        turn = (q + 1) * s + u;
+        behind = omega (arith, split, low, next);
+        near = omega (arith, split, next, l);
+        is = mod-mul-add
+            (q + 1) s u h;
+      }
       | inr l ↦ record { turn = q * s + u; behind = omega (arith, split, l); near = omega (arith, split, h); is = mod-mul-add q s u h }
     ]
 
-pub nobody_goes : (program : Program) (p : MemoryLayout) (from to : ℕ) (w : Worlds State) (left : ℕ) (now : World) (ns : ℕ → ℕ) → from + w.started ≤ to → AllWait program p from to w left now ns → NobodyGoes program p w left now
+pub nobody_goes : (program : Program) (p : MemoryLayout) (from to : ℕ) (w : Worlds State) (left : ℕ) (now : World) (ns : ℕ → ℕ) → from + w.started ≤ to
+    → AllWait program p from to w left now ns → NobodyGoes program p w left now
 nobody_goes program p from to w left now ns all a = record {
   left_is = a.left_is;
   out = ap (λ (z : Worlds State). z.out) a.looked.ahead.world;
   refused = λ u. elim (cases_lt u w.started) [
-    | inl l ↦ let r = in_round from w.started u l in subst (λ z. entries.Refused (source program) p z w left) r.is (a.refused r.turn r.behind (omega (arith, r.near, all)))
+    | inl l ↦ let r = in_round from w.started u l in subst (λ z. entries.Refused (source program) p z w left) r.is
+        (a.refused r.turn r.behind (omega (arith, r.near, all)))
     | inr l ↦ absent_past program p w now ns left a.looked.ahead u (omega (arith, l, started_is program w now ns a.looked.ahead))
   ];
 }
 
 -- it is near
-pub near_turn : (program : Program) (p : MemoryLayout) (from k t : ℕ) (w : Worlds State) (left : ℕ) (now : World) (ns : ℕ → ℕ) → IsAhead program ns w now → Stands program now → IsFirst program p from k t w left → k < from + 256
+pub near_turn : (program : Program) (p : MemoryLayout) (from k t : ℕ) (w : Worlds State) (left : ℕ) (now : World) (ns : ℕ → ℕ) → IsAhead program ns w now
+    → Stands program now → IsFirst program p from k t w left → k < from + 256
 near_turn program p from k t w left now ns ahead stand f = omega (arith, f.near, started_is program w now ns ahead, stand.few, stand.limit)
 
 -- a choice by its cases
@@ -271,7 +290,8 @@ module _ (program : Program) (p : MemoryLayout) (from : ℕ) (w : Worlds State) 
   pub ready_is : (k t : ℕ) → c ≡ ReadyThread k t → Chosen program p from w left new ns c → IsFirst program p from k t w left × IsReady program p t w left new ns
   ready_is k t e h = subst (λ z. Chosen program p from w left new ns z) e h
 
-  pub spent_is : (k t : ℕ) → c ≡ SpentThread k t → Chosen program p from w left new ns c → IsFirst program p from k t w left × EntrySpent program p t w left new [] []
+  pub spent_is : (k t : ℕ) → c ≡ SpentThread k t → Chosen program p from w left new ns c → IsFirst program p from k t w left
+      × EntrySpent program p t w left new [] []
   spent_is k t e h = subst (λ z. Chosen program p from w left new ns z) e h
 
 -- The entry
@@ -284,9 +304,16 @@ pub record From (program : Program) (o : Option (Started State)) (here : State) 
 
 from_there : (program : Program) (o : Option (Started State)) (here : State) (n : ℕ) → AheadAt (source program) o (alive here) n → From program o here n
 from_there program None here n h = absurd h
-from_there program (Some x) here n h = record { from = x.state; is = ap (λ b. Some (record { state = x.state; ended = b })) h.ended; steps = h.steps; cost = h.cost }
+from_there program (Some x) here n h = record {
+  from = x.state;
+  is = ap (λ b. Some (record { state = x.state; ended = b })) h.ended;
+  steps = h.steps;
+  cost =
+      h.cost;
+}
 
-module _ (program : Program) (p : MemoryLayout) (t : ℕ) (w : Worlds State) (left : ℕ) (old : World) (ns : ℕ → ℕ) (r : IsReady program p t w left old ns) (going : w.end ≡ None) where
+module _ (program : Program) (p : MemoryLayout) (t : ℕ) (w : Worlds State) (left : ℕ) (old : World) (ns : ℕ → ℕ) (r : IsReady program p t w left old ns)
+    (going : w.end ≡ None) where
   abbrev pub further : Worlds State
   further = record w { threads = threads_of old.threads.alive.items }
 
@@ -303,7 +330,8 @@ module _ (program : Program) (p : MemoryLayout) (t : ℕ) (w : Worlds State) (le
       ∙ (enabled_further (source program) p t w (threads_of old.threads.alive.items) ns (λ k far. r.looked.ahead.each k) r.here.event ∙ r.enabled)
 
   -- no unit is left for the event
-  pub spent_unpaid : (paid : World) (told : List Event) → old.left ≡ 0 → paid ≡ record old { left = paid.left } → paid.left ≤ old.left → EntrySpent program p t w left paid told told
+  pub spent_unpaid : (paid : World) (told : List Event) → old.left ≡ 0 → paid ≡ record old { left = paid.left } → paid.left ≤ old.left
+      → EntrySpent program p t w left paid told told
   spent_unpaid paid told none same less = record {
     unfinished = record {
       going = going;
@@ -318,7 +346,8 @@ module _ (program : Program) (p : MemoryLayout) (t : ℕ) (w : Worlds State) (le
 
   module _ (ms : ℕ → ℕ) (counted : (k : ℕ) → ms k ≡ update ns t 0 k) where
     others : (k : ℕ) → (k ≡ t → ⊥) → AheadAt (source program) (w.threads k) (threads_of old.threads.alive.items k) (ms k)
-    others k far = subst (λ n. AheadAt (source program) (w.threads k) (threads_of old.threads.alive.items k) n) (sym (counted k ∙ ap (λ b. cond b 0 (ns k)) (ne_eqb k t far))) (r.looked.ahead.each k)
+    others k far = subst (λ n. AheadAt (source program) (w.threads k) (threads_of old.threads.alive.items k) n)
+        (sym (counted k ∙ ap (λ b. cond b 0 (ns k)) (ne_eqb k t far))) (r.looked.ahead.each k)
 
     free : threads_of old.threads.alive.items w.started ≡ None
     free =
@@ -341,11 +370,14 @@ module _ (program : Program) (p : MemoryLayout) (t : ℕ) (w : Worlds State) (le
           };
     }
 
-    pub entered : (k : ℕ) (new : World) (before after : List Event) (q : Entry) → k + 1 ≡ old.left → SeenAct program p t further r.here k new before after q → Entered program p t w left new ms before after q
+    pub entered : (k : ℕ) (new : World) (before after : List Event) (q : Entry) → k + 1 ≡ old.left → SeenAct program p t further r.here k new before after q
+        → Entered program p t w left new ms before after q
     entered k new before after Taken less h =
         let c : Carried (source program) p t w (threads_of old.threads.alive.items) ms others (counted t ∙ update_at ns t 0) r.here r.here.event h.taken.world
-        (event_cost (source program) p t further r.here r.here.event h.taken.world h.taken.done.does) (event_events (source program) p t further r.here r.here.event h.taken.world h.taken.done.does) =
-        carried (source program) p t w (threads_of old.threads.alive.items) ms others (counted t ∙ update_at ns t 0) r.here r.here.event h.taken.world h.taken.done.does free (others w.started apart) in
+        (event_cost (source program) p t further r.here r.here.event h.taken.world h.taken.done.does)
+        (event_events (source program) p t further r.here r.here.event h.taken.world h.taken.done.does) =
+        carried (source program) p t w (threads_of old.threads.alive.items) ms others
+        (counted t ∙ update_at ns t 0) r.here r.here.event h.taken.world h.taken.done.does free (others w.started apart) in
         record {
           world = c.world;
           step = record { going = going; from = (began).from; before = r.here; is = (began).is; silents = (began).steps; does = c.does };
@@ -356,7 +388,8 @@ module _ (program : Program) (p : MemoryLayout) (t : ℕ) (w : Worlds State) (le
           layout = h.taken.layout;
         }
     entered k new before after Refused less h = record {
-      refused = stays (within (began).from r.here h.at.kind h.at.last (began).is (began).steps h.at.begins h.at.free h.at.run) (omega (arith, (began).cost, h.cost, less, r.paid)) h.never;
+      refused = stays (within (began).from r.here h.at.kind h.at.last (began).is (began).steps h.at.begins h.at.free h.at.run)
+          (omega (arith, (began).cost, h.cost, less, r.paid)) h.never;
       cost = omega (arith, (began).cost, h.cost, less, r.paid);
       out = h.out;
       seen = h.seen;

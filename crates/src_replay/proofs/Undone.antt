@@ -1,5 +1,6 @@
 -- Putting notes back.
-use Rattle.std.proofs.Common.{◌≡◌, ◌≤◌, ◌-◌, ◌==◌, ℕ, zero, suc, Bool, true, false, cond, List, [], ◌∷◌, ◌++◌, map, length, drop, take, refl, sym, ap, ◌∙◌, subst, arith, eqb-true}
+use Rattle.std.proofs.Common.{◌≡◌, ◌≤◌, ◌-◌, ◌==◌, ℕ, zero, suc, Bool, true, false, cond, List, [], ◌∷◌, ◌++◌, map, length, drop, take, refl, sym, ap, ◌∙◌}
+use Rattle.std.proofs.Common.{subst, arith, eqb-true}
 use Rattle.std.specs.Prelude.{reverse, nat_le}
 use Rattle.std.specs.Cmp.Derive.{both_true}
 use Rattle.std.proofs.Math.Path.{fun_ext}
@@ -40,25 +41,30 @@ drop_whole [] = refl
 drop_whole (x ∷ xs) = drop_whole xs
 
 -- a note of what a store wrote over makes it of no account
-noted : (notes : List Note) (m : ℕ → ℕ) (addr size value k : ℕ) → k ≤ length notes → undone (notes ++ record { word = word_of addr; old = m (word_of addr) } ∷ []) k (store m addr size value) ≡ undone notes k m
+noted : (notes : List Note) (m : ℕ → ℕ) (addr size value k : ℕ) → k ≤ length notes
+    → undone (notes ++ record { word = word_of addr; old = m (word_of addr) } ∷ []) k (store m addr size value) ≡ undone notes k m
 noted notes m addr size value k h =
     let n : Note = record { word = word_of addr; old = m (word_of addr) } in
-    ap (λ (z : List Note). undo z (store m addr size value)) (drop_front k notes (n ∷ []) h) ∙ undo_append (drop k notes) (n ∷ []) (store m addr size value) ∙ ap (undo (drop k notes)) (put_same m (word_of addr) _)
+    ap (λ (z : List Note). undo z (store m addr size value)) (drop_front k notes (n ∷ []) h) ∙ undo_append (drop k notes) (n ∷ []) (store m addr size value)
+    ∙ ap (undo (drop k notes)) (put_same m (word_of addr) _)
 
 noted_each : (notes : List Note) (m : ℕ → ℕ) (addr size value most : ℕ) (ks : List ℕ) → most ≤ length notes → are_falling most ks ≡ true
-    → map (λ (k : ℕ). undone (notes ++ record { word = word_of addr; old = m (word_of addr) } ∷ []) k (store m addr size value)) ks ≡ map (λ (k : ℕ). undone notes k m) ks
+    → map (λ (k : ℕ). undone (notes ++ record { word = word_of addr; old = m (word_of addr) } ∷ []) k (store m addr size value)) ks
+    ≡ map (λ (k : ℕ). undone notes k m) ks
 noted_each notes m addr size value most [] h f = refl
 noted_each notes m addr size value most (k ∷ ks) h f =
     let p = and_parts (nat_le k most) (are_falling k ks) f in
     let l : k ≤ most = leb-true k most p.0 in
-    ap (λ (z : ℕ → ℕ). z ∷ map (λ (k : ℕ). undone (notes ++ record { word = word_of addr; old = m (word_of addr) } ∷ []) k (store m addr size value)) ks) (noted notes m addr size value k (omega (arith, l, h)))
+    ap (λ (z : ℕ → ℕ). z ∷ map (λ (k : ℕ). undone (notes ++ record { word = word_of addr; old = m (word_of addr) } ∷ []) k (store m addr size value)) ks)
+    (noted notes m addr size value k (omega (arith, l, h)))
     ∙ ap (λ (z : List (ℕ → ℕ)). undone notes k m ∷ z) (noted_each notes m addr size value k ks (omega (arith, l, h)) p.1)
 
 -- what was put back to a mark, put back further
 back_twice : (notes : List Note) (m : ℕ → ℕ) (mark k : ℕ) → k ≤ mark → undone (take mark notes) k (undone notes mark m) ≡ undone notes k m
 back_twice notes m mark k h = sym (undo_append (drop k (take mark notes)) (drop mark notes) m) ∙ ap (λ (z : List Note). undo z m) (drop_parts k mark notes h)
 
-back_each : (notes : List Note) (m : ℕ → ℕ) (mark most : ℕ) (ks : List ℕ) → most ≤ mark → are_falling most ks ≡ true → map (λ (k : ℕ). undone (take mark notes) k (undone notes mark m)) ks ≡ map (λ (k : ℕ). undone notes k m) ks
+back_each : (notes : List Note) (m : ℕ → ℕ) (mark most : ℕ) (ks : List ℕ) → most ≤ mark → are_falling most ks ≡ true
+    → map (λ (k : ℕ). undone (take mark notes) k (undone notes mark m)) ks ≡ map (λ (k : ℕ). undone notes k m) ks
 back_each notes m mark most [] h f = refl
 back_each notes m mark most (k ∷ ks) h f =
     let p = and_parts (nat_le k most) (are_falling k ks) f in
@@ -89,7 +95,8 @@ take_short (suc j) (suc k) [] h = refl
 take_short (suc j) (suc k) (x ∷ xs) h = ap (λ (z : List Note). x ∷ z) (take_short j k xs (omega (arith, h)))
 
 -- one note more is put back
-pub put_one : (all notes new : List Note) (start m after : ℕ → ℕ) (k j : ℕ) → k ≡ suc j → k ≤ length all → notes ≡ take k all → m ≡ undone all k start → new ≡ take (length notes - 1) notes → after ≡ undone notes (length notes - 1) m
+pub put_one : (all notes new : List Note) (start m after : ℕ → ℕ) (k j : ℕ) → k ≡ suc j → k ≤ length all → notes ≡ take k all → m ≡ undone all k start
+    → new ≡ take (length notes - 1) notes → after ≡ undone notes (length notes - 1) m
     → (new ≡ take j all) × (after ≡ undone all j start)
 put_one all notes new start m after k j s h e f g w =
     let n : length notes ≡ k = ap length e ∙ length-take-le k all h in
@@ -104,12 +111,14 @@ reversed ks k = reverse-append ks (k ∷ [])
 
 module _ (p : MemoryLayout) where
   -- one note more, of a mapped word
-  pub more_notes : (notes new : List Note) (marks after : List ℕ) (word old : ℕ) → can_access p word 8 ≡ true → new ≡ notes ++ record { word = word; old = old } ∷ [] → after ≡ marks → AreNotes p notes marks → AreNotes p new after
+  pub more_notes : (notes new : List Note) (marks after : List ℕ) (word old : ℕ) → can_access p word 8 ≡ true
+      → new ≡ notes ++ record { word = word; old = old } ∷ [] → after ≡ marks → AreNotes p notes marks → AreNotes p new after
   more_notes notes new marks after word old h e f a =
       let n : Note = record { word = word; old = old } in
       record {
         words = ap (are_words p) e ∙ list_all-append (λ (n : Note). can_access p n.word 8) notes (n ∷ []) ∙ both_true a.words (both_true h refl);
-        marks = ap (λ (z : List ℕ). are_falling (length new) (reverse z)) f ∙ falls_more (length notes) (length new) (reverse marks) (subst (λ (z : List Note). length notes ≤ length z) (sym e) (length_more notes n)) a.marks;
+        marks = ap (λ (z : List ℕ). are_falling (length new) (reverse z)) f
+            ∙ falls_more (length notes) (length new) (reverse marks) (subst (λ (z : List Note). length notes ≤ length z) (sym e) (length_more notes n)) a.marks;
       }
 
   -- nothing was noted, and no block began or was left
@@ -120,7 +129,8 @@ module _ (p : MemoryLayout) where
   pub begun : (notes new : List Note) (marks after : List ℕ) → new ≡ notes → after ≡ marks ++ length notes ∷ [] → AreNotes p notes marks → AreNotes p new after
   begun notes new marks after e f a = record {
     words = ap (are_words p) e ∙ a.words;
-    marks = ap (λ (z : List ℕ). are_falling (length new) (reverse z)) f ∙ ap (are_falling (length new)) (reversed marks (length notes)) ∙ ap (λ (z : List Note). are_falling (length z) (length notes ∷ reverse marks)) e
+    marks = ap (λ (z : List ℕ). are_falling (length new) (reverse z)) f ∙ ap (are_falling (length new)) (reversed marks (length notes))
+        ∙ ap (λ (z : List Note). are_falling (length z) (length notes ∷ reverse marks)) e
         ∙ both_true (le-leb (length notes) (length notes) (omega arith)) a.marks;
   }
 
@@ -130,7 +140,8 @@ module _ (p : MemoryLayout) where
   falling_parts : (most k : ℕ) (ks : List ℕ) → are_falling most (k ∷ ks) ≡ true → (k ≤ most) × (are_falling k ks ≡ true)
   falling_parts most k ks f = let q = and_parts (nat_le k most) (are_falling k ks) f in (leb-true k most q.0, q.1)
 
-  pub marks_in : (notes : List Note) (marks ks : List ℕ) (k : ℕ) → marks ≡ ks ++ k ∷ [] → AreNotes p notes marks → (k ≤ length notes) × (are_falling k (reverse ks) ≡ true)
+  pub marks_in : (notes : List Note) (marks ks : List ℕ) (k : ℕ) → marks ≡ ks ++ k ∷ [] → AreNotes p notes marks → (k ≤ length notes)
+      × (are_falling k (reverse ks) ≡ true)
   marks_in notes marks ks k e a = falling_parts (length notes) k (reverse ks) (sym (ap (are_falling (length notes)) (ap reverse e ∙ reversed ks k)) ∙ a.marks)
 
   -- a block is left
@@ -139,7 +150,8 @@ module _ (p : MemoryLayout) where
       let q = marks_in old.notes.items old.marks.items new.marks.items d.mark d.marks a in
       record {
         words = ap (are_words p) d.notes ∙ a.words;
-        marks = ap (λ (z : List Note). are_falling (length z) (reverse new.marks.items)) d.notes ∙ falls_more d.mark (length old.notes.items) (reverse new.marks.items) q.0 q.1;
+        marks = ap (λ (z : List Note). are_falling (length z) (reverse new.marks.items)) d.notes
+            ∙ falls_more d.mark (length old.notes.items) (reverse new.marks.items) q.0 q.1;
       }
 
   pub cancelled_nested : (old new : Nested) (before after : ℕ → ℕ) → Cancelled old new before after → IsNested p old → IsNested p new
@@ -157,7 +169,8 @@ module _ (p : MemoryLayout) where
       ap (map (λ (k : ℕ). undone old.notes.items k m)) (ap reverse d.marks ∙ reversed new.marks.items d.mark)
       ∙ sym (ap (λ (z : List Note). undone old.notes.items d.mark m ∷ map (λ (k : ℕ). undone z k m) (reverse new.marks.items)) d.notes)
 
-  pub cancelled_copies : (old new : Nested) (before after : ℕ → ℕ) (d : Cancelled old new before after) → IsNested p old → copies old before ≡ after ∷ copies new after
+  pub cancelled_copies : (old new : Nested) (before after : ℕ → ℕ) (d : Cancelled old new before after) → IsNested p old
+      → copies old before ≡ after ∷ copies new after
   cancelled_copies old new before after d a =
       let q = marks_in old.notes.items old.marks.items new.marks.items d.mark d.marks a in
       let each : copies new after ≡ map (λ (k : ℕ). undone old.notes.items k before) (reverse new.marks.items) =
@@ -165,17 +178,22 @@ module _ (p : MemoryLayout) where
       ∙ ap (λ (z : ℕ → ℕ). map (λ (k : ℕ). undone (take d.mark old.notes.items) k z) (reverse new.marks.items)) d.words
       ∙ back_each old.notes.items before d.mark d.mark (reverse new.marks.items) (omega arith) q.1 in
       ap (map (λ (k : ℕ). undone old.notes.items k before)) (ap reverse d.marks ∙ reversed new.marks.items d.mark)
-      ∙ ap (λ (z : ℕ → ℕ). z ∷ map (λ (k : ℕ). undone old.notes.items k before) (reverse new.marks.items)) (sym d.words) ∙ ap (λ (z : List (ℕ → ℕ)). after ∷ z) (sym each)
+      ∙ ap (λ (z : ℕ → ℕ). z ∷ map (λ (k : ℕ). undone old.notes.items k before) (reverse new.marks.items)) (sym d.words)
+      ∙ ap (λ (z : List (ℕ → ℕ)). after ∷ z) (sym each)
 
-  pub begun_copies : (old new : Nested) (m : ℕ → ℕ) → new.notes.items ≡ old.notes.items → new.marks.items ≡ old.marks.items ++ length old.notes.items ∷ [] → copies new m ≡ m ∷ copies old m
+  pub begun_copies : (old new : Nested) (m : ℕ → ℕ) → new.notes.items ≡ old.notes.items → new.marks.items ≡ old.marks.items ++ length old.notes.items ∷ []
+      → copies new m ≡ m ∷ copies old m
   begun_copies old new m e f =
-      ap (λ (z : List Note). map (λ (k : ℕ). undone z k m) (reverse new.marks.items)) e ∙ ap (map (λ (k : ℕ). undone old.notes.items k m)) (ap reverse f ∙ reversed old.marks.items (length old.notes.items))
+      ap (λ (z : List Note). map (λ (k : ℕ). undone z k m) (reverse new.marks.items)) e
+      ∙ ap (map (λ (k : ℕ). undone old.notes.items k m)) (ap reverse f ∙ reversed old.marks.items (length old.notes.items))
       ∙ ap (λ (z : List Note). undo z m ∷ copies old m) (drop_whole old.notes.items)
 
-  pub stored_copies : (old new : Nested) (m after : ℕ → ℕ) (addr size value : ℕ) → new.notes.items ≡ old.notes.items ++ record { word = word_of addr; old = m (word_of addr) } ∷ [] → new.marks.items ≡ old.marks.items
+  pub stored_copies : (old new : Nested) (m after : ℕ → ℕ) (addr size value : ℕ)
+      → new.notes.items ≡ old.notes.items ++ record { word = word_of addr; old = m (word_of addr) } ∷ [] → new.marks.items ≡ old.marks.items
       → after ≡ store m addr size value → IsNested p old → copies new after ≡ copies old m
   stored_copies old new m after addr size value e f g a =
       ap (λ (z : List Note). map (λ (k : ℕ). undone z k after) (reverse new.marks.items)) e
       ∙ ap (λ (z : List ℕ). map (λ (k : ℕ). undone (old.notes.items ++ record { word = word_of addr; old = m (word_of addr) } ∷ []) k after) (reverse z)) f
-      ∙ ap (λ (z : ℕ → ℕ). map (λ (k : ℕ). undone (old.notes.items ++ record { word = word_of addr; old = m (word_of addr) } ∷ []) k z) (reverse old.marks.items)) g
+      ∙ ap (λ (z : ℕ → ℕ). map (λ (k : ℕ). undone (old.notes.items ++ record { word = word_of addr; old = m (word_of addr) } ∷ []) k z)
+      (reverse old.marks.items)) g
       ∙ noted_each old.notes.items m addr size value (length old.notes.items) (reverse old.marks.items) (omega arith) a.marks

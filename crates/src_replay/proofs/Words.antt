@@ -3,7 +3,8 @@ use Rattle.std.proofs.Common.{ℕ, ◌≡◌, ◌<◌, ◌≤◌, ◌/◌, ◌%�
 use Rattle.std.specs.Prelude.{◌&&◌, ◌||◌, nat_lt, nat_le, if◌then◌else◌}
 use Rattle.std.specs.Cmp.Derive.{both_true}
 use Rattle.std.proofs.lemmas.Bool.{false≢true, and_parts, ltb-true, leb-true, lt-ltb, le-leb}
-use Rattle.tx_events.specs.Memory.{MemoryLayout, word_of, can_access, is_mapped, is_aligned, in_globals, in_stacks, globals_start, globals_end, stacks_start, stack_stride, stack_size}
+use Rattle.tx_events.specs.Memory.{MemoryLayout, word_of, can_access, is_mapped, is_aligned, in_globals, in_stacks, globals_start, globals_end, stacks_start}
+use Rattle.tx_events.specs.Memory.{stack_stride, stack_size}
 use Rattle.tx_events.proofs.WordLemmas.{is_accessed}
 
 globals_down : (p : MemoryLayout) (addr : ℕ) → in_globals p addr ≡ true → in_globals p (addr - addr % 8) ≡ true
@@ -25,7 +26,8 @@ stacks_down p addr s =
     let deep : (addr - 16777216) % 131072 < 65536 = ltb-true ((addr - 16777216) % 131072) 65536 all.1 in
     let same : (addr - addr % 8 - 16777216) / 131072 ≡ (addr - 16777216) / 131072 = omega (arith, least) in
     let near : (addr - addr % 8 - 16777216) % 131072 ≤ (addr - 16777216) % 131072 = omega (arith, least) in
-    both_true (both_true (le-leb 16777216 (addr - addr % 8) (omega (arith, least))) (lt-ltb ((addr - addr % 8 - 16777216) / 131072) p.limit (subst (λ (z : ℕ). z < p.limit) (sym same) few)))
+    both_true (both_true (le-leb 16777216 (addr - addr % 8) (omega (arith, least)))
+    (lt-ltb ((addr - addr % 8 - 16777216) / 131072) p.limit (subst (λ (z : ℕ). z < p.limit) (sym same) few)))
     (lt-ltb ((addr - addr % 8 - 16777216) % 131072) 65536 (omega (arith, near, deep)))
 
 mapped_down : (p : MemoryLayout) (addr : ℕ) → is_mapped p addr ≡ true → is_mapped p (addr - addr % 8) ≡ true
@@ -40,7 +42,8 @@ mapped_down p addr m = either (in_globals p addr) (in_stacks p addr) refl refl m
     or_right true c h = refl
     or_right false c h = h
 
-    either : (b c : Bool) → in_globals p addr ≡ b → in_stacks p addr ≡ c → (b || c) ≡ true → (in_globals p (addr - addr % 8) || in_stacks p (addr - addr % 8)) ≡ true
+    either : (b c : Bool) → in_globals p addr ≡ b → in_stacks p addr ≡ c → (b || c) ≡ true
+        → (in_globals p (addr - addr % 8) || in_stacks p (addr - addr % 8)) ≡ true
     either true c g s o = or_left (in_globals p (addr - addr % 8)) (in_stacks p (addr - addr % 8)) (globals_down p addr g)
     either false true g s o = or_right (in_globals p (addr - addr % 8)) (in_stacks p (addr - addr % 8)) (stacks_down p addr s)
     either false false g s o = absurd (false≢true o)

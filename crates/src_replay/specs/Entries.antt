@@ -2,7 +2,8 @@
 use Rattle.std.specs.Prelude.{◌≡◌, ◌≤◌, ◌+◌, ℕ, Bool, true, false, not, ◌||◌, Option, Some, None, is_some}
 use Rattle.tx_events.specs.declared.BlockKind.{BlockKind}
 use Rattle.tx_events.specs.declared.Event.{Event}
-use Rattle.tx_events.specs.declared.Event.TheVariants.{Silent, Load, Store, Out, Inp, Spawn, Join, BeginAtomic, EndAtomic, Raise, BeginSync, EndSync, Done, Stop}
+use Rattle.tx_events.specs.declared.Event.TheVariants.{Silent, Load, Store, Out, Inp, Spawn, Join, BeginAtomic, EndAtomic, Raise, BeginSync, EndSync, Done}
+use Rattle.tx_events.specs.declared.Event.TheVariants.{Stop}
 use Rattle.tx_events.specs.declared.Reply.TheVariants.{Nothing}
 use Rattle.tx_events.specs.Memory.{MemoryLayout}
 use Rattle.tx_events.specs.Thread.{Thread, is_silent}
@@ -50,7 +51,8 @@ comes Never = false
 -- Where thread t is in its step from the world w, before that is over: behind some silent steps, or inside its outermost atomic block.
 pub data Moment {S : Type 0} (a : Thread S) (p : MemoryLayout) (t : ℕ) (w : World S) : Type 0 where
   outside : (from here : S) → w.threads t ≡ alive from → SilentSteps a from here → Moment a p t w
-  within : (from before : S) (kind : BlockKind) (last : Inner S) → w.threads t ≡ alive from → SilentSteps a from before → a.next before ≡ BeginAtomic kind → lock_free t w.lock ≡ true
+  within : (from before : S) (kind : BlockKind) (last : Inner S) → w.threads t ≡ alive from → SilentSteps a from before → a.next before ≡ BeginAtomic kind
+      → lock_free t w.lock ≡ true
       → Inside a p (begin (a.after before Nothing) w.memory) last → Moment a p t w
 
 -- the units of Cost up to there

@@ -28,7 +28,8 @@ inside_events a p at_start = []
 inside_events a p (goes_on {j} {k} steps e) = inside_events a p steps ++ loud (a.next j.state)
 
 -- the first event of a block, those inside it, and its last; any other event alone
-abbrev pub event_events : {S : Type 0} (a : Thread S) (p : MemoryLayout) (t : ℕ) (w : World S) (s : S) (e : Event) (v : World S) → EventStep a p t w s e v → List Event
+abbrev pub event_events : {S : Type 0} (a : Thread S) (p : MemoryLayout) (t : ℕ) (w : World S) (s : S) (e : Event) (v : World S) → EventStep a p t w s e v
+    → List Event
 event_events a p t w s (BeginAtomic kind) v step = BeginAtomic kind ∷ (inside_events a p (step.1).run ++ loud (a.next (step.1).last.state))
 event_events a p t w s e v step = e ∷ []
 
@@ -58,7 +59,8 @@ refused_units a p t w most (stays m few stuck) = units a p t w m
 
 -- Turns
 
--- Turn k is an entry of thread t: the turns from n on are of thread 0, 1, .. in a circle, as many as were started (the picker `round:1`), and those before turn k pass, since their threads have no step.
+-- Turn k is an entry of thread t: the turns from n on are of thread 0, 1, .. in a circle, as many as were started (the picker `round:1`), and those before turn
+-- k pass, since their threads have no step.
 pub record IsTurn {S : Type 0} (a : Thread S) (p : MemoryLayout) (w : World S) (n k t : ℕ) : Type 0 where
   pub behind : n ≤ k
   pub passes : (i : ℕ) (v : World S) → n ≤ i → i < k → Step a p (i % w.started) w v → ⊥

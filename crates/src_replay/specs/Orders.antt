@@ -46,7 +46,8 @@ pub record IsSpent {S : Type 0} (a : Thread S) (p : MemoryLayout) (first : World
   pub costs_more : (v : World S) (step : Step a p begun.thread begun.world v) → begun.left < step_cost a p begun.thread begun.world v step
 
 -- a replay of that order has this output, end and cost
-pub record IsOnly {S : Type 0} (a : Thread S) (p : MemoryLayout) (first : World S) (order : List ℕ) (r : Replayed) (v : World S) (replay : Replays a p first order v) : Type 0 where
+pub record IsOnly {S : Type 0} (a : Thread S) (p : MemoryLayout) (first : World S) (order : List ℕ) (r : Replayed) (v : World S)
+    (replay : Replays a p first order v) : Type 0 where
   pub out_is : r.out.items ≡ v.out
   pub end_is : r.end ≡ v.end
   pub cost_is : r.cost ≡ cost a p first order v replay

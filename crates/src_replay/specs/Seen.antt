@@ -1,7 +1,8 @@
 -- What a step of a thread did, and which events were written down of it.
 use Rattle.std.specs.Prelude.{◌≡◌, ◌+◌, ℕ, Bool, false, true, List, ◌∷◌, ◌++◌}
 use Rattle.tx_events.specs.declared.Event.{Event}
-use Rattle.tx_events.specs.declared.Event.TheVariants.{Silent, Load, Store, Out, Inp, Spawn, Join, BeginAtomic, EndAtomic, Raise, BeginSync, EndSync, Done, Stop}
+use Rattle.tx_events.specs.declared.Event.TheVariants.{Silent, Load, Store, Out, Inp, Spawn, Join, BeginAtomic, EndAtomic, Raise, BeginSync, EndSync, Done}
+use Rattle.tx_events.specs.declared.Event.TheVariants.{Stop}
 use Rattle.tx_events.specs.Alone.{inner_by}
 use Rattle.tx_events.specs.Memory.{MemoryLayout}
 use Rattle.tx_events.specs.World.{World as Worlds}
@@ -36,28 +37,33 @@ is_begin Done = false
 is_begin (Stop end) = false
 
 -- the steps so far in the block that begins with this event in the state s, and what was written down of them
-pub record SeenBlock (program : Program) (p : MemoryLayout) (t : ℕ) (w : Worlds State) (s : State) (event : Event) (left : ℕ) (now : World) (nested : Nested) (before after : List Event) : Type 0 where
+pub record SeenBlock (program : Program) (p : MemoryLayout) (t : ℕ) (w : Worlds State) (s : State) (event : Event) (left : ℕ) (now : World) (nested : Nested)
+    (before after : List Event) : Type 0 where
   pub block : BlockRun program p t w s left now nested
   pub seen : after ≡ before ++ event ∷ inside_events (source program) p block.run
 
 -- what an event did, or a whole block, with all that came
-pub record SeenDoes (program : Program) (p : MemoryLayout) (t : ℕ) (w : Worlds State) (s : State) (event : Event) (world : Worlds State) (left now : ℕ) (came : List Event) : Type 0 where
+pub record SeenDoes (program : Program) (p : MemoryLayout) (t : ℕ) (w : Worlds State) (s : State) (event : Event) (world : Worlds State) (left now : ℕ)
+    (came : List Event) : Type 0 where
   pub done : Does program p t w s event world left now
   pub all : came ≡ event_events (source program) p t w s event world done.does
 
-pub record SeenTaken (program : Program) (p : MemoryLayout) (t : ℕ) (w : Worlds State) (s : State) (left : ℕ) (new : World) (before after : List Event) : Type 0 where
+pub record SeenTaken (program : Program) (p : MemoryLayout) (t : ℕ) (w : Worlds State) (s : State) (left : ℕ) (new : World)
+    (before after : List Event) : Type 0 where
   pub taken : ActTaken program p t w s left new
   pub seen : after ≡ before ++ event_events (source program) p t w s s.event taken.world taken.done.does
 
 -- the block does not come to its end
-pub record SeenRefused (program : Program) (p : MemoryLayout) (t : ℕ) (w : Worlds State) (s : State) (left : ℕ) (new : World) (before after : List Event) : Type 0 where
+pub record SeenRefused (program : Program) (p : MemoryLayout) (t : ℕ) (w : Worlds State) (s : State) (left : ℕ) (new : World)
+    (before after : List Event) : Type 0 where
   pub at : Inmost program p t w s
   pub cost : inside_cost at.run + new.left ≡ left
   pub never : comes (inner_by (source program) p at.last at.last.state.event) ≡ false
   pub out : new.out.items ≡ w.out
   pub seen : after ≡ before ++ BeginAtomic at.kind ∷ inside_events (source program) p at.run
 
-pub record SeenSpent (program : Program) (p : MemoryLayout) (t : ℕ) (w : Worlds State) (s : State) (left : ℕ) (new : World) (before after : List Event) : Type 0 where
+pub record SeenSpent (program : Program) (p : MemoryLayout) (t : ℕ) (w : Worlds State) (s : State) (left : ℕ) (new : World)
+    (before after : List Event) : Type 0 where
   pub at : Inmost program p t w s
   pub cost : inside_cost at.run ≡ left
   pub further : comes (inner_by (source program) p at.last at.last.state.event) ≡ true

@@ -103,7 +103,8 @@ pub record Took (program : Program) (t : ℕ) (w : Worlds State) (s : State) (ev
   pub left : new.left ≡ old.left
 
 -- what an event of thread t, in the state s, did, and its cost, for which one unit was paid already
-pub record Does (program : Program) (p : MemoryLayout) (t : ℕ) (w : Worlds State) (s : State) (event : Event) (world : Worlds State) (left now : ℕ) : Type 0 where
+pub record Does (program : Program) (p : MemoryLayout) (t : ℕ) (w : Worlds State) (s : State) (event : Event) (world : Worlds State)
+    (left now : ℕ) : Type 0 where
   pub does : EventStep (source program) p t w s event world
   pub cost : event_cost (source program) p t w s event world does + now ≡ left + 1
 
@@ -189,7 +190,8 @@ BlockSteps program p t w i new nested (Halts end) = inner_by (source program) p 
 BlockSteps program p t w i new nested Never = inner_by (source program) p i i.state.event ≡ NeverIn
 
 -- the threads are still those of the program
-pub record InnerStep (program : Program) (p : MemoryLayout) (t : ℕ) (w : Worlds State) (i : Inner State) (new : World) (nested : Nested) (step : Step) : Type 0 where
+pub record InnerStep (program : Program) (p : MemoryLayout) (t : ℕ) (w : Worlds State) (i : Inner State) (new : World) (nested : Nested)
+    (step : Step) : Type 0 where
   pub stands : Stands program new
   pub steps : BlockSteps program p t w i new nested step
 

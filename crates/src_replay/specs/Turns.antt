@@ -106,7 +106,8 @@ Chosen program p from w left new ns (ReadyThread turn t) = IsFirst program p fro
 Chosen program p from w left new ns (SpentThread turn t) = IsFirst program p from turn t w left × EntrySpent program p t w left new [] []
 
 -- a whole entry
-pub record IsTaken (program : Program) (p : MemoryLayout) (t : ℕ) (w : Worlds State) (left : ℕ) (new : World) (ns : ℕ → ℕ) (before after : List Event) : Type 0 where
+pub record IsTaken (program : Program) (p : MemoryLayout) (t : ℕ) (w : Worlds State) (left : ℕ) (new : World) (ns : ℕ → ℕ)
+    (before after : List Event) : Type 0 where
   pub world : Worlds State
   pub step : Step (source program) p t w world
   pub cost : step_cost (source program) p t w world step + new.left ≡ left

@@ -4,7 +4,8 @@ use Rattle.cpp_tree.specs.declared.program.Program.{Program}
 use Rattle.src_mean.specs.Frames as frames
 use Rattle.src_mean.specs.Source.{leave}
 use Rattle.src_frames.specs.declared.frames.ValueFrame.{ValueFrame}
-use Rattle.src_frames.specs.declared.frames.ValueFrame.TheVariants.{Loads, Loaded, Replied, StoreTo, Converts, Right, Apply, Choose, AssignTo, UpdateAt, UpdateOld, UpdateBy, CopyTo, CopyBy, From}
+use Rattle.src_frames.specs.declared.frames.ValueFrame.TheVariants.{Loads, Loaded, Replied, StoreTo, Converts, Right, Apply, Choose, AssignTo, UpdateAt}
+use Rattle.src_frames.specs.declared.frames.ValueFrame.TheVariants.{UpdateOld, UpdateBy, CopyTo, CopyBy, From}
 use Rattle.src_frames.specs.Shown.{value_shown}
 
 pub skip_value : (p : Program) (f : ValueFrame) (h : frames.Here) (x : frames.Exit) (k : List frames.Frame) → leave h x (value_shown p f ∷ k) ≡ leave h x k

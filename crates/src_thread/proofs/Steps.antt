@@ -4,12 +4,18 @@ use Rattle.std.specs.Prelude.{Some, None}
 use Rattle.cpp_tree.specs.tx_events.declared.Event.TheVariants.{Silent}
 use Rattle.cpp_tree.specs.cpp_types.Typ.{Typ}
 use Rattle.cpp_tree.specs.declared.kinds.TKind.{TKind}
-use Rattle.cpp_tree.specs.declared.kinds.TKind.TheVariants.{Literal, Local, Global, Function, ClassTable, Load, Convert, Retype, Binary, Conditional, Comma, Assign, Update, CopyAssign, Materialize, FullExpression, Call, VirtualCall, PointerCall, Builtin, Throw, Rethrow, Store, CopyScalar, Construct, CopyConstruct, CopyFrom, Pieces, Piece, Elements, Block, Init, Defer, Loop, Switch, Case, Default, Break, Continue, Return, Try, Handler, Atomic, Synchronized, Destroy, Field}
+use Rattle.cpp_tree.specs.declared.kinds.TKind.TheVariants.{Literal, Local, Global, Function, ClassTable, Load, Convert, Retype, Binary, Conditional, Comma}
+use Rattle.cpp_tree.specs.declared.kinds.TKind.TheVariants.{Assign, Update, CopyAssign, Materialize, FullExpression, Call, VirtualCall, PointerCall, Builtin}
+use Rattle.cpp_tree.specs.declared.kinds.TKind.TheVariants.{Throw, Rethrow, Store, CopyScalar, Construct, CopyConstruct, CopyFrom, Pieces, Piece, Elements}
+use Rattle.cpp_tree.specs.declared.kinds.TKind.TheVariants.{Block, Init, Defer, Loop, Switch, Case, Default, Break, Continue, Return, Try, Handler, Atomic}
+use Rattle.cpp_tree.specs.declared.kinds.TKind.TheVariants.{Synchronized, Destroy, Field}
 use Rattle.cpp_tree.specs.Trees.{Tree, node, Trees, none, more, first, rest, kind_of, kids_of}
 use Rattle.src_mean.specs.Linked.{Program}
 use Rattle.src_mean.specs.Exceptions.{Exception}
-use Rattle.src_mean.specs.Frames.{Here, Way, value, into, Owner, Frame, at, throws, returns, Run, Gives, Due, Parts, Items, Fills, Takes, Trying, Tries, Handling, Then, Compares, Returning, Waiting, waiting, puts, puts_some}
-use Rattle.src_mean.specs.Source.{give, run_node, leave, destroy, fill_field, take_field, taken, handle, place_address, compare, run_items, from_label, is_default, return_value}
+use Rattle.src_mean.specs.Frames.{Here, Way, value, into, Owner, Frame, at, throws, returns, Run, Gives, Due, Parts, Items, Fills, Takes, Trying, Tries}
+use Rattle.src_mean.specs.Frames.{Handling, Then, Compares, Returning, Waiting, waiting, puts, puts_some}
+use Rattle.src_mean.specs.Source.{give, run_node, leave, destroy, fill_field, take_field, taken, handle, place_address, compare, run_items, from_label}
+use Rattle.src_mean.specs.Source.{is_default, return_value}
 use Rattle.src_frames.specs.Trees.{are_none}
 use Rattle.src_thread.specs.declared.roots.FieldAt.{FieldAt}
 use Rattle.src_thread.specs.declared.roots.Destruction.{Destruction}
@@ -27,7 +33,8 @@ module _ (p : Program) (h : Here) where
   due_none v none k e = refl
   due_none v (more t us) k e = absurd cc
 
-  pub parts_more : (v : ℕ) (ts : Trees) (target : ℕ) (source : ℕ) (k : List Frame) → are_none ts ≡ false → give p h v (Parts ts target source ∷ k) ≡ at Silent h (Run (into target source) (first ts) ∷ Parts (rest ts) target source ∷ k)
+  pub parts_more : (v : ℕ) (ts : Trees) (target : ℕ) (source : ℕ) (k : List Frame) → are_none ts ≡ false
+      → give p h v (Parts ts target source ∷ k) ≡ at Silent h (Run (into target source) (first ts) ∷ Parts (rest ts) target source ∷ k)
   parts_more v none target source k e = absurd cc
   parts_more v (more t us) target source k e = refl
 
@@ -35,7 +42,8 @@ module _ (p : Program) (h : Here) where
   parts_none v none target source k e = refl
   parts_none v (more t us) target source k e = absurd cc
 
-  pub items_more : (v : ℕ) (ts : Trees) (k : List Frame) → are_none ts ≡ false → give p h v (Items ts ∷ k) ≡ at Silent h (Run value (first ts) ∷ Items (rest ts) ∷ k)
+  pub items_more : (v : ℕ) (ts : Trees) (k : List Frame) → are_none ts ≡ false
+      → give p h v (Items ts ∷ k) ≡ at Silent h (Run value (first ts) ∷ Items (rest ts) ∷ k)
   items_more v none k e = absurd cc
   items_more v (more t us) k e = refl
 
@@ -43,15 +51,18 @@ module _ (p : Program) (h : Here) where
   items_none v none k e = refl
   items_none v (more t us) k e = absurd cc
 
-  pub fills_more : (v : ℕ) (ty : Typ) (from : ℕ) (ts : Trees) (bytes : List ℕ) (k : List Frame) → are_none ts ≡ false → give p h v (Fills ty from ts bytes ∷ k) ≡ fill_field h ty from (kind_of (first ts)) (rest ts) bytes k
+  pub fills_more : (v : ℕ) (ty : Typ) (from : ℕ) (ts : Trees) (bytes : List ℕ) (k : List Frame) → are_none ts ≡ false
+      → give p h v (Fills ty from ts bytes ∷ k) ≡ fill_field h ty from (kind_of (first ts)) (rest ts) bytes k
   fills_more v ty from none bytes k e = absurd cc
   fills_more v ty from (more t us) bytes k e = refl
 
-  pub fills_none : (v : ℕ) (ty : Typ) (from : ℕ) (ts : Trees) (bytes : List ℕ) (k : List Frame) → are_none ts ≡ true → give p h v (Fills ty from ts bytes ∷ k) ≡ leave h (throws (record { typ = ty; bytes = bytes })) k
+  pub fills_none : (v : ℕ) (ty : Typ) (from : ℕ) (ts : Trees) (bytes : List ℕ) (k : List Frame) → are_none ts ≡ true
+      → give p h v (Fills ty from ts bytes ∷ k) ≡ leave h (throws (record { typ = ty; bytes = bytes })) k
   fills_none v ty from none bytes k e = refl
   fills_none v ty from (more t us) bytes k e = absurd cc
 
-  pub takes_more : (v : ℕ) (x : Exception) (base : ℕ) (ts : Trees) (k : List Frame) → are_none ts ≡ false → give p h v (Takes x base ts ∷ k) ≡ take_field h x base (kind_of (first ts)) (rest ts) k
+  pub takes_more : (v : ℕ) (x : Exception) (base : ℕ) (ts : Trees) (k : List Frame) → are_none ts ≡ false
+      → give p h v (Takes x base ts ∷ k) ≡ take_field h x base (kind_of (first ts)) (rest ts) k
   takes_more v x base none k e = absurd cc
   takes_more v x base (more t us) k e = refl
 
@@ -59,15 +70,18 @@ module _ (p : Program) (h : Here) where
   takes_none v x base none k e = refl
   takes_none v x base (more t us) k e = absurd cc
 
-  pub compare_more : (w : ℕ) (ts : Trees) (items : Trees) (k : List Frame) → are_none ts ≡ false → compare h w ts items k ≡ at Silent h (Compares w (kind_of (first ts)) (rest ts) items ∷ k)
+  pub compare_more : (w : ℕ) (ts : Trees) (items : Trees) (k : List Frame) → are_none ts ≡ false
+      → compare h w ts items k ≡ at Silent h (Compares w (kind_of (first ts)) (rest ts) items ∷ k)
   compare_more w none items k e = absurd cc
   compare_more w (more t us) items k e = refl
 
-  pub compare_none : (w : ℕ) (ts : Trees) (items : Trees) (k : List Frame) → are_none ts ≡ true → compare h w ts items k ≡ run_items h (from_label is_default items) k
+  pub compare_none : (w : ℕ) (ts : Trees) (items : Trees) (k : List Frame) → are_none ts ≡ true
+      → compare h w ts items k ≡ run_items h (from_label is_default items) k
   compare_none w none items k e = refl
   compare_none w (more t us) items k e = absurd cc
 
-  pub tries_more : (x : Exception) (ts : Trees) (k : List Frame) → are_none ts ≡ false → leave h (throws x) (Tries ts ∷ k) ≡ at Silent h (Trying x (first ts) (rest ts) ∷ k)
+  pub tries_more : (x : Exception) (ts : Trees) (k : List Frame) → are_none ts ≡ false
+      → leave h (throws x) (Tries ts ∷ k) ≡ at Silent h (Trying x (first ts) (rest ts) ∷ k)
   tries_more x none k e = absurd cc
   tries_more x (more t us) k e = refl
 
@@ -83,7 +97,8 @@ module _ (p : Program) (h : Here) where
   return_none none k e = refl
   return_none (more t us) k e = absurd cc
 
-  pub waiting_more : (address : Tree) (ts : Trees) (ws : List Waiting) → are_none ts ≡ false → waiting address ts ws ≡ record { address = address; destroys = ts } ∷ ws
+  pub waiting_more : (address : Tree) (ts : Trees) (ws : List Waiting) → are_none ts ≡ false
+      → waiting address ts ws ≡ record { address = address; destroys = ts } ∷ ws
   waiting_more address none ws e = absurd cc
   waiting_more address (more t us) ws e = refl
 
@@ -91,7 +106,8 @@ module _ (p : Program) (h : Here) where
   waiting_none address none ws e = refl
   waiting_none address (more t us) ws e = absurd cc
 
-  pub puts_more : (o : Owner) (address : Tree) (ts : Trees) (k : List Frame) → are_none ts ≡ false → puts_some o address ts k ≡ puts o (record { address = address; destroys = ts }) k
+  pub puts_more : (o : Owner) (address : Tree) (ts : Trees) (k : List Frame) → are_none ts ≡ false
+      → puts_some o address ts k ≡ puts o (record { address = address; destroys = ts }) k
   puts_more o address none k e = absurd cc
   puts_more o address (more t us) k e = refl
 
@@ -99,7 +115,8 @@ module _ (p : Program) (h : Here) where
   puts_none o address none k e = refl
   puts_none o address (more t us) k e = absurd cc
 
-  pub destroy_some : (address : ℕ) (kind : TKind) (others : Trees) (k : List Frame) (q : Destruction) → destroy_in kind ≡ Some q → destroy p h address kind others k ≡ destroy p h address (Destroy q.func q.offset q.count q.stride) others k
+  pub destroy_some : (address : ℕ) (kind : TKind) (others : Trees) (k : List Frame) (q : Destruction) → destroy_in kind ≡ Some q
+      → destroy p h address kind others k ≡ destroy p h address (Destroy q.func q.offset q.count q.stride) others k
   destroy_some address (Literal w) others k q e = absurd cc
   destroy_some address (Local place) others k q e = absurd cc
   destroy_some address (Global n) others k q e = absurd cc
@@ -144,10 +161,12 @@ module _ (p : Program) (h : Here) where
   destroy_some address (Handler place) others k q e = absurd cc
   destroy_some address (Atomic kind) others k q e = absurd cc
   destroy_some address Synchronized others k q e = absurd cc
-  destroy_some address (Destroy f offset count stride) others k q e = let is : record { func = f; offset = offset; count = count; stride = stride } ≡ q = cc in ap (λ (z : Destruction). destroy p h address (Destroy z.func z.offset z.count z.stride) others k) is
+  destroy_some address (Destroy f offset count stride) others k q e = let is : record { func = f; offset = offset; count = count; stride = stride } ≡ q = cc in
+      ap (λ (z : Destruction). destroy p h address (Destroy z.func z.offset z.count z.stride) others k) is
   destroy_some address (Field offset kind) others k q e = absurd cc
 
-  pub destroy_other : (address : ℕ) (kind : TKind) (others : Trees) (k : List Frame) → destroy_in kind ≡ None → destroy p h address kind others k ≡ at Silent h (Gives address ∷ Due others ∷ k)
+  pub destroy_other : (address : ℕ) (kind : TKind) (others : Trees) (k : List Frame) → destroy_in kind ≡ None
+      → destroy p h address kind others k ≡ at Silent h (Gives address ∷ Due others ∷ k)
   destroy_other address (Literal w) others k e = refl
   destroy_other address (Local place) others k e = refl
   destroy_other address (Global n) others k e = refl
@@ -195,7 +214,8 @@ module _ (p : Program) (h : Here) where
   destroy_other address (Destroy f offset count stride) others k e = absurd cc
   destroy_other address (Field offset kind) others k e = refl
 
-  pub take_some : (x : Exception) (base : ℕ) (kind : TKind) (others : Trees) (k : List Frame) (q : FieldAt) → field_in kind ≡ Some q → take_field h x base kind others k ≡ take_field h x base (Field q.offset q.kind) others k
+  pub take_some : (x : Exception) (base : ℕ) (kind : TKind) (others : Trees) (k : List Frame) (q : FieldAt) → field_in kind ≡ Some q
+      → take_field h x base kind others k ≡ take_field h x base (Field q.offset q.kind) others k
   take_some x base (Literal w) others k q e = absurd cc
   take_some x base (Local place) others k q e = absurd cc
   take_some x base (Global n) others k q e = absurd cc
@@ -241,9 +261,11 @@ module _ (p : Program) (h : Here) where
   take_some x base (Atomic kind) others k q e = absurd cc
   take_some x base Synchronized others k q e = absurd cc
   take_some x base (Destroy f offset count stride) others k q e = absurd cc
-  take_some x base (Field offset kind) others k q e = let is : record { offset = offset; kind = kind } ≡ q = cc in ap (λ (z : FieldAt). take_field h x base (Field z.offset z.kind) others k) is
+  take_some x base (Field offset kind) others k q e = let is : record { offset = offset; kind = kind } ≡ q = cc in
+      ap (λ (z : FieldAt). take_field h x base (Field z.offset z.kind) others k) is
 
-  pub take_other : (x : Exception) (base : ℕ) (kind : TKind) (others : Trees) (k : List Frame) → field_in kind ≡ None → take_field h x base kind others k ≡ at Silent h (Takes x base others ∷ k)
+  pub take_other : (x : Exception) (base : ℕ) (kind : TKind) (others : Trees) (k : List Frame) → field_in kind ≡ None
+      → take_field h x base kind others k ≡ at Silent h (Takes x base others ∷ k)
   take_other x base (Literal w) others k e = refl
   take_other x base (Local place) others k e = refl
   take_other x base (Global n) others k e = refl
@@ -291,7 +313,8 @@ module _ (p : Program) (h : Here) where
   take_other x base (Destroy f offset count stride) others k e = refl
   take_other x base (Field offset kind) others k e = absurd cc
 
-  pub fill_some : (ty : Typ) (from : ℕ) (kind : TKind) (others : Trees) (bytes : List ℕ) (k : List Frame) (q : FieldAt) → field_in kind ≡ Some q → fill_field h ty from kind others bytes k ≡ fill_field h ty from (Field q.offset q.kind) others bytes k
+  pub fill_some : (ty : Typ) (from : ℕ) (kind : TKind) (others : Trees) (bytes : List ℕ) (k : List Frame) (q : FieldAt) → field_in kind ≡ Some q
+      → fill_field h ty from kind others bytes k ≡ fill_field h ty from (Field q.offset q.kind) others bytes k
   fill_some ty from (Literal w) others bytes k q e = absurd cc
   fill_some ty from (Local place) others bytes k q e = absurd cc
   fill_some ty from (Global n) others bytes k q e = absurd cc
@@ -337,9 +360,11 @@ module _ (p : Program) (h : Here) where
   fill_some ty from (Atomic kind) others bytes k q e = absurd cc
   fill_some ty from Synchronized others bytes k q e = absurd cc
   fill_some ty from (Destroy f offset count stride) others bytes k q e = absurd cc
-  fill_some ty from (Field offset kind) others bytes k q e = let is : record { offset = offset; kind = kind } ≡ q = cc in ap (λ (z : FieldAt). fill_field h ty from (Field z.offset z.kind) others bytes k) is
+  fill_some ty from (Field offset kind) others bytes k q e = let is : record { offset = offset; kind = kind } ≡ q = cc in
+      ap (λ (z : FieldAt). fill_field h ty from (Field z.offset z.kind) others bytes k) is
 
-  pub fill_other : (ty : Typ) (from : ℕ) (kind : TKind) (others : Trees) (bytes : List ℕ) (k : List Frame) → field_in kind ≡ None → fill_field h ty from kind others bytes k ≡ at Silent h (Fills ty from others bytes ∷ k)
+  pub fill_other : (ty : Typ) (from : ℕ) (kind : TKind) (others : Trees) (bytes : List ℕ) (k : List Frame) → field_in kind ≡ None
+      → fill_field h ty from kind others bytes k ≡ at Silent h (Fills ty from others bytes ∷ k)
   fill_other ty from (Literal w) others bytes k e = refl
   fill_other ty from (Local place) others bytes k e = refl
   fill_other ty from (Global n) others bytes k e = refl
@@ -387,7 +412,8 @@ module _ (p : Program) (h : Here) where
   fill_other ty from (Destroy f offset count stride) others bytes k e = refl
   fill_other ty from (Field offset kind) others bytes k e = absurd cc
 
-  pub taken_some : (x : Exception) (kind : TKind) (fields : Trees) (k : List Frame) (q : ℕ) → place_in kind ≡ Some q → taken h x kind fields k ≡ Takes x (place_address h q) fields ∷ k
+  pub taken_some : (x : Exception) (kind : TKind) (fields : Trees) (k : List Frame) (q : ℕ) → place_in kind ≡ Some q
+      → taken h x kind fields k ≡ Takes x (place_address h q) fields ∷ k
   taken_some x (Literal w) fields k q e = absurd cc
   taken_some x (Local place) fields k q e = absurd cc
   taken_some x (Global n) fields k q e = absurd cc
@@ -485,5 +511,6 @@ module _ (p : Program) (h : Here) where
   taken_other x (Destroy f offset count stride) fields k e = refl
   taken_other x (Field offset kind) fields k e = refl
 
-  pub handle_tree : (x : Exception) (t : Tree) (k : List Frame) → handle h x t k ≡ at Silent h (taken h x (kind_of t) (rest (kids_of t)) (Then value (first (kids_of t)) ∷ Handling x ∷ k))
+  pub handle_tree : (x : Exception) (t : Tree) (k : List Frame)
+      → handle h x t k ≡ at Silent h (taken h x (kind_of t) (rest (kids_of t)) (Then value (first (kids_of t)) ∷ Handling x ∷ k))
   handle_tree x (node kind t cat place kids) k = refl

@@ -127,24 +127,33 @@ trap_same DivideByZero = refl
 trap_same ShiftRange = refl
 
 -- sums and products of addresses
-pub sum_same : (a b : ℕ) → a < 2 ^ 64 → b < 2 ^ 64 → (z : ℤ) × (apply_of Add ULong (value_of_word ULong a) (value_of_word ULong b) ≡ Ok z) × (word_of z ≡ plus a b)
+pub sum_same : (a b : ℕ) → a < 2 ^ 64 → b < 2 ^ 64 → (z : ℤ) × (apply_of Add ULong (value_of_word ULong a) (value_of_word ULong b) ≡ Ok z)
+    × (word_of z ≡ plus a b)
 unfolding apply_of plus
 sum_same a b h g = (reduced ULong (pos (a + b)), ap₂ (λ u v. apply_of Add ULong u v) (value_plain a h) (value_plain b g), address_word (a + b))
 
-pub product_same : (a b : ℕ) → a < 2 ^ 64 → b < 2 ^ 64 → (z : ℤ) × (apply_of Mul ULong (value_of_word ULong a) (value_of_word ULong b) ≡ Ok z) × (word_of z ≡ (a * b) % 2 ^ 64)
+pub product_same : (a b : ℕ) → a < 2 ^ 64 → b < 2 ^ 64 → (z : ℤ) × (apply_of Mul ULong (value_of_word ULong a) (value_of_word ULong b) ≡ Ok z)
+    × (word_of z ≡ (a * b) % 2 ^ 64)
 unfolding apply_of
 product_same a b h g = (reduced ULong (pos (a * b)), ap₂ (λ u v. apply_of Mul ULong u v) (value_plain a h) (value_plain b g), address_word (a * b))
 
 -- a difference is taken modulo 2^64
-pub difference_same : (a n : ℕ) → a < 2 ^ 64 → n < 2 ^ 64 → (z : ℤ) × (apply_of Sub ULong (value_of_word ULong a) (value_of_word ULong n) ≡ Ok z) × (word_of z ≡ (a + (2 ^ 64 - n)) % 2 ^ 64)
+pub difference_same : (a n : ℕ) → a < 2 ^ 64 → n < 2 ^ 64 → (z : ℤ) × (apply_of Sub ULong (value_of_word ULong a) (value_of_word ULong n) ≡ Ok z)
+    × (word_of z ≡ (a + (2 ^ 64 - n)) % 2 ^ 64)
 unfolding apply_of
-difference_same a n h g = (reduced ULong (pos (a + (2 ^ 64 - n))), ap₂ (λ u v. apply_of Sub ULong u v) (value_plain a h) (value_plain n g) ∙ ap (λ z. Ok z) (turned a n g), address_word (a + (2 ^ 64 - n)))
+difference_same a n h g = (
+  reduced ULong (pos (a + (2 ^ 64 - n))),
+  ap₂ (λ u v. apply_of Sub ULong u v) (value_plain a h) (value_plain n g) ∙ ap (λ z. Ok z)
+      (turned a n g),
+  address_word (a + (2 ^ 64 - n)),
+)
   where
     around : (a n : ℕ) → n < 2 ^ 64 → Turns (2 ^ 64) (pos a -ℤ pos n) (pos (a + (2 ^ 64 - n)))
     around a n g = record { up = 1; down = 0; meet = omega (arith, ints, g) }
 
     turned : (a n : ℕ) → n < 2 ^ 64 → reduced ULong (pos a -ℤ pos n) ≡ reduced ULong (pos (a + (2 ^ 64 - n)))
-    turned a n g = convert_same ULong (pos a -ℤ pos n) (pos (a + (2 ^ 64 - n))) (λ e. cc) (rem_same (2 ^ 64) (pos a -ℤ pos n) (pos (a + (2 ^ 64 - n))) (omega arith) (around a n g))
+    turned a n g = convert_same ULong (pos a -ℤ pos n) (pos (a + (2 ^ 64 - n))) (λ e. cc)
+        (rem_same (2 ^ 64) (pos a -ℤ pos n) (pos (a + (2 ^ 64 - n))) (omega arith) (around a n g))
 
 pub one_from : (a : ℕ) → a < 2 ^ 64 → (a ≡ 0 → ⊥) → (a + (2 ^ 64 - 1)) % 2 ^ 64 ≡ a - 1
 one_from zero h g = absurd (g refl)

@@ -78,7 +78,8 @@ pub bytes_low : (n w : ℕ) → bytes_of n (w % 2 ^ (8 * n)) ≡ bytes_of n w
 bytes_low zero w = refl
 bytes_low (suc n) w = ap₂ (λ (b : ℕ) (bs : List ℕ). b ∷ bs)
     (ap (λ z. z % 256) (low_next n w) ∙ first_byte (w / 256 % 2 ^ (8 * n)) (w % 256) (byte_below w))
-    (ap (λ z. bytes_of n (z / 256)) (low_next n w) ∙ (ap (λ z. bytes_of n z) (other_bytes (w / 256 % 2 ^ (8 * n)) (w % 256) (byte_below w)) ∙ bytes_low n (w / 256)))
+    (ap (λ z. bytes_of n (z / 256)) (low_next n w) ∙ (ap (λ z. bytes_of n z) (other_bytes (w / 256 % 2 ^ (8 * n)) (w % 256) (byte_below w)) ∙ bytes_low n
+    (w / 256)))
 
 -- Bytes that were put, and are read again
 
@@ -174,6 +175,7 @@ read_before (suc m) ns (b ∷ bs) (suc n) size h = read_before m ns bs n size (s
     shorter : (n k m : ℕ) → suc n + k ≤ suc m → n + k ≤ m
     shorter n k m h = omega (arith, h)
 
-pub read_apart : (m k v : ℕ) (bs : List ℕ) (n size : ℕ) → (m + k ≤ n) ⊎ (n + size ≤ m) → read_bytes (with_bytes m (bytes_of k v) bs) n size ≡ read_bytes bs n size
+pub read_apart : (m k v : ℕ) (bs : List ℕ) (n size : ℕ) → (m + k ≤ n) ⊎ (n + size ≤ m)
+    → read_bytes (with_bytes m (bytes_of k v) bs) n size ≡ read_bytes bs n size
 read_apart m k v bs n size (inl h) = read_behind m (bytes_of k v) bs n size (subst (λ z. m + z ≤ n) (sym (bytes_length k v)) h)
 read_apart m k v bs n size (inr h) = read_before m (bytes_of k v) bs n size h

@@ -49,7 +49,8 @@ module _ (p : Program) (f : Func) (x : Values) where
   all_among [] js m h = tt
   all_among (k ∷ ks) js m h = (holds_among k js m.0 h, all_among ks js m.1 h)
 
-  either_known : (a : Bool) (v w : Term) (ks : List Fact) → same_term v w ≡ a → (a || is_not_zero ks w) ≡ true → (eval p f x v ≡ 0 → ⊥) → (is_not_zero ks w ≡ true → eval p f x w ≡ 0 → ⊥) → eval p f x w ≡ 0 → ⊥
+  either_known : (a : Bool) (v w : Term) (ks : List Fact) → same_term v w ≡ a → (a || is_not_zero ks w) ≡ true → (eval p f x v ≡ 0 → ⊥)
+      → (is_not_zero ks w ≡ true → eval p f x w ≡ 0 → ⊥) → eval p f x w ≡ 0 → ⊥
   either_known true v w ks s e h go z = h (ap (λ t. eval p f x t) (term_same v w s) ∙ z)
   either_known false v w ks s e h go z = go e z
 
@@ -59,11 +60,13 @@ module _ (p : Program) (f : Func) (x : Values) where
   known_not_zero (has_function class slot address ∷ ks) w e h z = known_not_zero ks w e h.1 z
 
   -- what is foreseen comes also where decisions are made by what is known
-  settled_by : (rest : List frames.Frame) (s : State) (b : Bool) (ks : List Fact) (w : Term) (first other : Outcome) → is_not_zero ks w ≡ b → AllHold p f x ks → (Shows p f x rest other s → Shows p f x rest (settled ks other) s)
+  settled_by : (rest : List frames.Frame) (s : State) (b : Bool) (ks : List Fact) (w : Term) (first other : Outcome) → is_not_zero ks w ≡ b → AllHold p f x ks
+      → (Shows p f x rest other s → Shows p f x rest (settled ks other) s)
       → Shows p f x rest (chooses w first other) s → Shows p f x rest (cond b (settled ks other) (chooses w first other)) s
   settled_by rest s true ks w first other e h go g = go (g.1 (known_not_zero ks w e h))
   settled_by rest s false ks w first other e h go g = g
 
-  pub settled_shown : (rest : List frames.Frame) (s : State) (ks : List Fact) (o : Outcome) → AllHold p f x ks → Shows p f x rest o s → Shows p f x rest (settled ks o) s
+  pub settled_shown : (rest : List frames.Frame) (s : State) (ks : List Fact) (o : Outcome) → AllHold p f x ks → Shows p f x rest o s
+      → Shows p f x rest (settled ks o) s
   settled_shown rest s ks (chooses w first other) h g = settled_by rest s (is_not_zero ks w) ks w first other refl h (λ i. settled_shown rest s ks other h i) g
   settled_shown rest s ks o h g = g

@@ -35,8 +35,21 @@ module _ (p : Program) (f : Func) (numbers : Typ → ℕ) (x : Values) (reply : 
   module _ (home : Home) (below_frames : List Frame) where
     -- a frame of this nest and with these words, but for the values of variables
     pub frame_later : (index : ℕ) (q : Place) (opens : List Open) (words : List ℕ) (ws : List Term) → words ≡ words_of p f y ws
-        → Runs (record { home = home; nest = nest opens (all_coded p f numbers x q.caught) (hold_of p f numbers x q.hold); index = index; words = words }) below_frames
+        → Runs (record {
+          home = home;
+          nest = nest opens (all_coded p f numbers x q.caught) (hold_of p f numbers x q.hold);
+          index = index;
+          words =
+              words;
+        }) below_frames
         ≡ Runs (frame_at p f numbers y home index (record { operands = ws; opens = opens; caught = all_later q.caught; hold = hold_later q.hold })) below_frames
     frame_later index q opens words ws e =
-        ap₂ (λ (u : List code.Exception) (v : code.Held). Runs (record { home = home; nest = nest opens u v; index = index; words = words }) below_frames) (sym (caught_later q.caught)) (sym (held_later q.hold))
-        ∙ ap (λ (z : List ℕ). Runs (record { home = home; nest = nest opens (all_coded p f numbers y (all_later q.caught)) (hold_of p f numbers y (hold_later q.hold)); index = index; words = z }) below_frames) e
+        ap₂ (λ (u : List code.Exception) (v : code.Held). Runs (record { home = home; nest = nest opens u v; index = index; words = words }) below_frames)
+        (sym (caught_later q.caught)) (sym (held_later q.hold))
+        ∙ ap (λ (z : List ℕ). Runs (record {
+          home = home;
+          nest = nest opens (all_coded p f numbers y (all_later q.caught))
+              (hold_of p f numbers y (hold_later q.hold));
+          index = index;
+          words = z;
+        }) below_frames) e

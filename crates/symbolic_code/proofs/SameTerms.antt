@@ -7,7 +7,8 @@ use Rattle.tx_ints.specs.declared.kinds.IntKind.TheVariants.{Bool as BoolKind, C
 use Rattle.tx_ints.specs.declared.kinds.BinOp.{BinOp}
 use Rattle.tx_ints.specs.declared.kinds.BinOp.TheVariants.{Add, Sub, Mul, Div, Rem, Shl, Shr, And, Xor, Or, Lt, Gt, Le, Ge, Eq, Ne}
 use Rattle.tx_code.specs.Meaning.{kinds, operators}
-use Rattle.symbolic_source.specs.Terms.{Term, number, variable, local, global, function, table, slot_function, sum, product, before, low_byte, converted_to, result, field, Exception, unknown}
+use Rattle.symbolic_source.specs.Terms.{Term, number, variable, local, global, function, table, slot_function, sum, product, before, low_byte, converted_to}
+use Rattle.symbolic_source.specs.Terms.{result, field, Exception, unknown}
 use Rattle.symbolic_code.specs.Same.{kind_place, operator_place, same_number, same_operator, same_exception, same_term}
 
 pub kind_found : (k : IntKind) → slice_get kinds (kind_place k) ≡ Some k
@@ -46,10 +47,12 @@ some_same : {A : Type 0} (a b : A) (o : Option A) → o ≡ Some a → o ≡ Som
 some_same a b o e h = cc
 
 pub number_same : (j k : IntKind) → same_number j k ≡ true → j ≡ k
-number_same j k e = some_same j k (slice_get kinds (kind_place j)) (kind_found j) (ap (λ z. slice_get kinds z) (eqb-true (kind_place j) (kind_place k) e) ∙ kind_found k)
+number_same j k e = some_same j k (slice_get kinds (kind_place j)) (kind_found j)
+    (ap (λ z. slice_get kinds z) (eqb-true (kind_place j) (kind_place k) e) ∙ kind_found k)
 
 pub operator_same : (o q : BinOp) → same_operator o q ≡ true → o ≡ q
-operator_same o q e = some_same o q (slice_get operators (operator_place o)) (operator_found o) (ap (λ z. slice_get operators z) (eqb-true (operator_place o) (operator_place q) e) ∙ operator_found q)
+operator_same o q e = some_same o q (slice_get operators (operator_place o)) (operator_found o)
+    (ap (λ z. slice_get operators z) (eqb-true (operator_place o) (operator_place q) e) ∙ operator_found q)
 
 exception_same : (e g : Exception) → same_exception e g ≡ true → e ≡ g
 exception_same (unknown m) (unknown n) h = ap unknown (eqb-true m n h)
@@ -70,7 +73,8 @@ term_same (sum a b) (sum c d) h = let g = and_parts (same_term a c) (same_term b
 term_same (product a b) (product c d) h = let g = and_parts (same_term a c) (same_term b d) h in ap₂ product (term_same a c g.0) (term_same b d g.1)
 term_same (before a) (before c) h = ap before (term_same a c h)
 term_same (low_byte a) (low_byte c) h = ap low_byte (term_same a c h)
-term_same (converted_to j a) (converted_to k c) h = let g = and_parts (same_number j k) (same_term a c) h in ap₂ converted_to (number_same j k g.0) (term_same a c g.1)
+term_same (converted_to j a) (converted_to k c) h = let g = and_parts (same_number j k) (same_term a c) h in
+    ap₂ converted_to (number_same j k g.0) (term_same a c g.1)
 term_same (result o j a b) (result q k c d) h =
     let g = and_parts (same_operator o q && same_number j k) (same_term a c && same_term b d) h in
     let s = and_parts (same_operator o q) (same_number j k) g.0 in

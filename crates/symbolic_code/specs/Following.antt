@@ -1,5 +1,6 @@
 -- What an instruction does, with terms as operands, where the source does this next.
-use Rattle.std.specs.Prelude.{ℕ, ◌+◌, ◌-◌, ◌%◌, ◌==◌, ◌^◌, ℤ, ◌≡◌, Bool, true, false, not, cond, nat_lt, nat_le, ◌&&◌, ◌||◌, List, [], ◌∷◌, Option, Some, None, Ok, Err, slice_get}
+use Rattle.std.specs.Prelude.{ℕ, ◌+◌, ◌-◌, ◌%◌, ◌==◌, ◌^◌, ℤ, ◌≡◌, Bool, true, false, not, cond, nat_lt, nat_le, ◌&&◌, ◌||◌, List, [], ◌∷◌, Option, Some, None}
+use Rattle.std.specs.Prelude.{Ok, Err, slice_get}
 use Rattle.tx_ints.specs.declared.kinds.IntKind.{IntKind}
 use Rattle.tx_ints.specs.declared.kinds.IntKind.TheVariants.{Bool as BoolKind, ULong}
 use Rattle.tx_ints.specs.declared.kinds.BinOp.{BinOp}
@@ -13,7 +14,9 @@ use Rattle.tx_events.specs.declared.Event.TheVariants.{Stop}
 use Rattle.tx_events.specs.declared.Reply.{Reply}
 use Rattle.tx_events.specs.Thread.{Atomic, Sync, Answers, same_kind, rest_of}
 use Rattle.tx_code.specs.declared.instr.Instr.{Instr}
-use Rattle.tx_code.specs.declared.instr.Instr.TheVariants.{Push, Dup, Pop, Swap, FrameAddr, GlobalAddr, FuncAddr, ClassAddr, Load, Store, TLoad, TStore, VLoad, VStore, Bin, Conv, Jump, JumpZero, Begin, End, BeginSync, EndSync, Out, Inp, Spawn, Join, Abort, Slot, NewException, PutException, Throw, Rethrow, GetException, EndHandler, Resume, Over}
+use Rattle.tx_code.specs.declared.instr.Instr.TheVariants.{Push, Dup, Pop, Swap, FrameAddr, GlobalAddr, FuncAddr, ClassAddr, Load, Store, TLoad, TStore, VLoad}
+use Rattle.tx_code.specs.declared.instr.Instr.TheVariants.{VStore, Bin, Conv, Jump, JumpZero, Begin, End, BeginSync, EndSync, Out, Inp, Spawn, Join, Abort}
+use Rattle.tx_code.specs.declared.instr.Instr.TheVariants.{Slot, NewException, PutException, Throw, Rethrow, GetException, EndHandler, Resume, Over}
 use Rattle.tx_code.specs.Meaning.{kinds, operators, block_kinds, size_of, Frame, Home, Runs, Unwinds, Act, Does, Ends, if_some, current, goes as acts, traps}
 use Rattle.tx_code.specs.Meaning as code
 use Rattle.tx_code.specs.Renaming.{Numbering}
@@ -23,10 +26,12 @@ use Rattle.src_mean.specs.Linked.{Func, Program}
 use Rattle.src_mean.specs.Frames.{State}
 use Rattle.src_mean.specs.Frames as frames
 use Rattle.src_mean.specs.Source.{applied, trap_of, rethrow, thread_signature}
-use Rattle.symbolic_source.specs.Terms.{Term, number, variable, local, global, function, table, slot_function, sum, product, low_byte, converted_to, result, field, Exception, unknown, made, Puts, untouched, put, Values, eval, exception_of, at_offset, plus_number, one_less}
+use Rattle.symbolic_source.specs.Terms.{Term, number, variable, local, global, function, table, slot_function, sum, product, low_byte, converted_to, result}
+use Rattle.symbolic_source.specs.Terms.{field, Exception, unknown, made, Puts, untouched, put, Values, eval, exception_of, at_offset, plus_number, one_less}
 use Rattle.symbolic_source.specs.Frames.{Waiting, Exit, throws, returns, breaks, continues, Replied, below, here_of}
 use Rattle.symbolic_source.specs.Frames as symbolic
-use Rattle.symbolic_source.specs.Outcomes.{Doing, reads, writes, puts_out, takes_in, joins, spawns_thread, begins_atomic, begins_sync, ends_block, leaves_block, Outcome, goes, chooses, results, finds, spawns, rethrows, halts, Shows, Stops, event_of}
+use Rattle.symbolic_source.specs.Outcomes.{Doing, reads, writes, puts_out, takes_in, joins, spawns_thread, begins_atomic, begins_sync, ends_block, leaves_block}
+use Rattle.symbolic_source.specs.Outcomes.{Outcome, goes, chooses, results, finds, spawns, rethrows, halts, Shows, Stops, event_of}
 use Rattle.symbolic_source.specs.Replacing.{in_terms}
 use Rattle.symbolic_code.specs.Same.{kind_place, same_term, same_number, same_operator}
 use Rattle.symbolic_code.specs.Facts.{Fact, is_not_zero}
@@ -52,7 +57,8 @@ pub data Next : Type 0 where
   loudly : Doing → (temporaries : List Waiting) → List symbolic.Frame → (index : ℕ) → Place → Next  -- an event, and the place after its reply
   throwing : Exception → (index : ℕ) → Place → Outcome → Next  -- a silent step, and the exception is in flight at this index
   finding : (class slot : ℕ) → Term → Next → Next  -- whether the slot of the class at this address has a function
-  starting : (address argument : Term) → (temporaries : List Waiting) → List symbolic.Frame → (index : ℕ) → Place → Next  -- a thread, and the place after the reply
+  starting : (address argument : Term) → (temporaries : List Waiting) → List symbolic.Frame → (index : ℕ) → Place → Next  -- a thread,
+      and the place after the reply
   rethrowing : (temporaries : List Waiting) → List symbolic.Frame → (index : ℕ) → Place → Next  -- what a caller's handler has
   ends : Ending → Next
 
@@ -100,12 +106,14 @@ stored_term BoolKind w = converted_to BoolKind w
 stored_term k w = w
 
 abbrev pub stores : ℕ → Place → IntKind → Bool → Term → Term → List Term → Outcome → Next
-stores i q k volatile a w ws (goes (writes b j u v) temporaries rest) = cond (same_term a b && (kind_size k == kind_size j) && (same_term (kept (kind_size k) (stored_term k w)) (kept (kind_size k) u) && same_flag volatile v))
+stores i q k volatile a w ws (goes (writes b j u v) temporaries rest) =
+    cond (same_term a b && (kind_size k == kind_size j) && (same_term (kept (kind_size k) (stored_term k w)) (kept (kind_size k) u) && same_flag volatile v))
     (loudly (writes b j u v) temporaries rest (i + 1) (place_later q (in_terms later ws))) refused
 stores i q k volatile a w ws o = refused
 
 abbrev pub outputs : ℕ → Place → Term → List Term → Outcome → Next
-outputs i q a ws (goes (puts_out b) temporaries rest) = cond (same_term (low_byte a) b) (loudly (puts_out b) temporaries rest (i + 1) (place_later q (in_terms later (b ∷ ws)))) refused
+outputs i q a ws (goes (puts_out b) temporaries rest) =
+    cond (same_term (low_byte a) b) (loudly (puts_out b) temporaries rest (i + 1) (place_later q (in_terms later (b ∷ ws)))) refused
 outputs i q a ws o = refused
 
 abbrev pub inputs : ℕ → Place → Outcome → Next
@@ -113,11 +121,13 @@ inputs i q (goes takes_in temporaries rest) = loudly takes_in temporaries rest (
 inputs i q o = refused
 
 abbrev pub joining : ℕ → Place → Term → List Term → Outcome → Next
-joining i q a ws (goes (joins b) temporaries rest) = cond (same_term a b) (loudly (joins b) temporaries rest (i + 1) (place_later q (in_terms later ws))) refused
+joining i q a ws (goes (joins b) temporaries rest) = cond (same_term a b)
+    (loudly (joins b) temporaries rest (i + 1) (place_later q (in_terms later ws))) refused
 joining i q a ws o = refused
 
 abbrev pub begins : ℕ → Place → BlockKind → Outcome → Next
-begins i q kind (goes (begins_atomic k) temporaries rest) = cond (same_kind kind k) (loudly (begins_atomic k) temporaries rest (i + 1) (opened_later q (Atomic k ∷ q.opens))) refused
+begins i q kind (goes (begins_atomic k) temporaries rest) =
+    cond (same_kind kind k) (loudly (begins_atomic k) temporaries rest (i + 1) (opened_later q (Atomic k ∷ q.opens))) refused
 begins i q kind o = refused
 
 abbrev pub begins_locked : ℕ → Place → Outcome → Next
@@ -127,9 +137,12 @@ begins_locked i q o = refused
 -- a block is left by its end or outward, but not by an exception
 abbrev pub ends_atomic : ℕ → Place → Outcome → Next
 ends_atomic i q (goes (ends_block (Atomic k)) temporaries rest) = loudly (ends_block (Atomic k)) temporaries rest (i + 1) (opened_later q (rest_of q.opens))
-ends_atomic i q (goes (leaves_block (Atomic k) (returns w)) temporaries rest) = loudly (leaves_block (Atomic k) (returns w)) temporaries rest (i + 1) (opened_later q (rest_of q.opens))
-ends_atomic i q (goes (leaves_block (Atomic k) breaks) temporaries rest) = loudly (leaves_block (Atomic k) breaks) temporaries rest (i + 1) (opened_later q (rest_of q.opens))
-ends_atomic i q (goes (leaves_block (Atomic k) continues) temporaries rest) = loudly (leaves_block (Atomic k) continues) temporaries rest (i + 1) (opened_later q (rest_of q.opens))
+ends_atomic i q (goes (leaves_block (Atomic k) (returns w)) temporaries rest) =
+    loudly (leaves_block (Atomic k) (returns w)) temporaries rest (i + 1) (opened_later q (rest_of q.opens))
+ends_atomic i q (goes (leaves_block (Atomic k) breaks) temporaries rest) =
+    loudly (leaves_block (Atomic k) breaks) temporaries rest (i + 1) (opened_later q (rest_of q.opens))
+ends_atomic i q (goes (leaves_block (Atomic k) continues) temporaries rest) =
+    loudly (leaves_block (Atomic k) continues) temporaries rest (i + 1) (opened_later q (rest_of q.opens))
 ends_atomic i q o = refused
 
 abbrev pub ends_locked : ℕ → Place → Outcome → Next
@@ -179,14 +192,16 @@ operates ks i q op k a b ws (results oq j c d o) = cond (same_operator op oq && 
 operates ks i q op k a b ws o = if_found (addresses ks op k a b) (λ w. pushes i q o w ws)
 
 abbrev pub jumps_zero : ℕ → ℕ → Place → Term → List Term → Outcome → Next
-jumps_zero i n q a ws (chooses w first other) = cond (same_term a w) (either_way a (quietly n (with_operands q ws) first) (quietly (i + 1) (with_operands q ws) other)) refused
+jumps_zero i n q a ws (chooses w first other) = cond (same_term a w)
+    (either_way a (quietly n (with_operands q ws) first) (quietly (i + 1) (with_operands q ws) other)) refused
 jumps_zero i n q (number m) ws o = cond (m % 2 ^ 64 == 0) (quietly n (with_operands q ws) o) (quietly (i + 1) (with_operands q ws) o)
 jumps_zero i n q a ws o = either_way a (quietly n (with_operands q ws) o) (quietly (i + 1) (with_operands q ws) o)
 
 -- ---- exceptions
 
 abbrev pub puts_in : ℕ → (offset : ℕ) → IntKind → Place → Outcome → Hold → Next
-puts_in i n k q o (making t puts) = cond (not (is_bool k)) (one_of q.operands (λ w ws. quietly (i + 1) (holding (with_operands q ws) (making t (put n (size_of k) w puts))) o)) refused
+puts_in i n k q o (making t puts) = cond (not (is_bool k))
+    (one_of q.operands (λ w ws. quietly (i + 1) (holding (with_operands q ws) (making t (put n (size_of k) w puts))) o)) refused
 puts_in i n k q o h = refused
 
 abbrev pub throws_made : ℕ → Place → Outcome → Hold → Next
@@ -237,11 +252,13 @@ bare_address (converted_to ULong w) = w
 bare_address w = w
 
 abbrev pub slots_follow : ℕ → (class slot : ℕ) → Place → Term → List Term → Outcome → Next
-slots_follow i class slot q a ws (finds c s v o) = cond ((class == c) && (slot == s) && same_term (bare_address a) v) (finding c s v (pushes i q o (slot_function c s v) ws)) refused
+slots_follow i class slot q a ws (finds c s v o) = cond ((class == c) && (slot == s) && same_term (bare_address a) v)
+    (finding c s v (pushes i q o (slot_function c s v) ws)) refused
 slots_follow i class slot q a ws o = refused
 
 abbrev pub spawning : ℕ → Place → Term → Term → List Term → Outcome → Next
-spawning i q a v ws (spawns b u temporaries rest) = cond (same_term a b && same_term v u) (starting b u temporaries rest (i + 1) (place_later q (variable 0 ∷ in_terms later ws))) refused
+spawning i q a v ws (spawns b u temporaries rest) = cond (same_term a b && same_term v u)
+    (starting b u temporaries rest (i + 1) (place_later q (variable 0 ∷ in_terms later ws))) refused
 spawning i q a v ws o = refused
 
 -- ---- instructions
@@ -262,7 +279,8 @@ followed t ks i (VLoad n) q o = if_found (slice_get kinds n) (λ k. one_of q.ope
 followed t ks i (Store n) q o = if_found (slice_get kinds n) (λ k. two_of q.operands (λ a w ws. stores i q k false a w ws o))
 followed t ks i (TStore n) q o = if_found (slice_get kinds n) (λ k. two_of q.operands (λ a w ws. stores i q k false a w ws o))
 followed t ks i (VStore n) q o = if_found (slice_get kinds n) (λ k. two_of q.operands (λ a w ws. stores i q k true a w ws o))
-followed t ks i (Bin op n) q o = if_found (slice_get operators op) (λ b. if_found (slice_get kinds n) (λ k. two_of q.operands (λ a c ws. operates ks i q b k a c ws o)))
+followed t ks i (Bin op n) q o = if_found (slice_get operators op)
+    (λ b. if_found (slice_get kinds n) (λ k. two_of q.operands (λ a c ws. operates ks i q b k a c ws o)))
 followed t ks i (Conv m n) q o = cond (m == 9) (if_found (slice_get kinds n) (λ k. one_of q.operands (λ a ws. pushes i q o (converted_to k a) ws))) refused
 followed t ks i (Jump n) q o = quietly n q o
 followed t ks i (JumpZero n) q o = one_of q.operands (λ a ws. jumps_zero i n q a ws o)
@@ -300,15 +318,19 @@ module _ (p : Program) (f : Func) (numbers : Typ → ℕ) (x : Values) (home : H
   Follows (quietly index q o) act s = (act ≡ acts (Runs (frame_at p f numbers x home index q) below_frames)) × Shows p f x rest o s
   Follows (either_way w first other) act s = (eval p f x w ≡ 0 → Follows first act s) × ((eval p f x w ≡ 0 → ⊥) → Follows other act s)
   Follows (unless_trap op kind a b next) act s = ((v : ℤ) → applied op kind (eval p f x a) (eval p f x b) ≡ Ok v → Follows next act s)
-      × ((trap : ArithTrap) → applied op kind (eval p f x a) (eval p f x b) ≡ Err trap → (act ≡ Ends (Stop (Trapped (trap_of trap)))) × Stops (Trapped (trap_of trap)) s)
+      × ((trap : ArithTrap) → applied op kind (eval p f x a) (eval p f x b) ≡ Err trap → (act ≡ Ends (Stop (Trapped (trap_of trap))))
+      × Stops (Trapped (trap_of trap)) s)
   Follows (loudly doing ws k index q) act s = Loud doing index q act × (s ≡ frames.at (event_of p f x doing) (here_of p f x ws) (below p f x k rest))
-  Follows (throwing e index q o) act s = (act ≡ acts (Unwinds (coded numbers (exception_of p f x e)) (frame_at p f numbers x home index q) below_frames)) × Shows p f x rest o s
+  Follows (throwing e index q o) act s = (act ≡ acts (Unwinds (coded numbers (exception_of p f x e)) (frame_at p f numbers x home index q) below_frames))
+      × Shows p f x rest o s
   Follows (finding class slot w next) act s = ((n : ℕ) → p.slot (eval p f x w) class slot ≡ Some n → Follows next act s)
       × (p.slot (eval p f x w) class slot ≡ None → (act ≡ Ends (Stop (Trapped BadVirtual))) × Stops (Trapped BadVirtual) s)
   Follows (starting address argument ws k index q) act s = ((n : ℕ) → p.pointed (eval p f x address) thread_signature ≡ Some n
-      → Loud (spawns_thread n argument) index q act × (s ≡ frames.at (event_of p f x (spawns_thread n argument)) (here_of p f x ws) (below p f x (Replied ∷ k) rest)))
+      → Loud (spawns_thread n argument) index q act ×
+      (s ≡ frames.at (event_of p f x (spawns_thread n argument)) (here_of p f x ws) (below p f x (Replied ∷ k) rest)))
       × (p.pointed (eval p f x address) thread_signature ≡ None → (act ≡ Ends (Stop (Trapped BadCall))) × Stops (Trapped BadCall) s)
-  Follows (rethrowing ws k index q) act s = (act ≡ if_some (current below_frames) (Ends (Stop Terminate)) (λ e. acts (Unwinds e (frame_at p f numbers x home index q) below_frames)))
+  Follows (rethrowing ws k index q) act s = (act ≡ if_some (current below_frames) (Ends (Stop Terminate))
+      (λ e. acts (Unwinds e (frame_at p f numbers x home index q) below_frames)))
       × (s ≡ rethrow (here_of p f x ws) (frames.handled rest) (below p f x k rest))
   Follows (ends end) act s = (act ≡ Ends (Stop end)) × Stops end s
 
@@ -322,4 +344,5 @@ pub record AreNames (p : Program) (f : Func) (numbers : Typ → ℕ) (names : co
   pub slots : (s class : ℕ) → t.class_of s ≡ Some class → (a slot : ℕ) → names.slot_of (numbering.class s) a slot ≡ p.slot a class slot
   pub spawned : (a : ℕ) → names.spawned a ≡ p.pointed a thread_signature
   pub signatures : (s : ℕ) (sig : Signature) → t.is_signature s sig ≡ true → (a : ℕ) → names.called (numbering.ty s) a ≡ p.pointed a sig
-  pub methods : (s class slot a n : ℕ) → t.is_slot s class slot ≡ true → p.slot a class slot ≡ Some n → names.called (numbering.ty s) (function_address n) ≡ Some n
+  pub methods : (s class slot a n : ℕ) → t.is_slot s class slot ≡ true → p.slot a class slot ≡ Some n
+      → names.called (numbering.ty s) (function_address n) ≡ Some n

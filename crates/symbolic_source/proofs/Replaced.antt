@@ -11,12 +11,20 @@ use Rattle.src_mean.specs.Exceptions as exceptions
 use Rattle.src_mean.specs.Frames.{State}
 use Rattle.src_mean.specs.Frames as frames
 use Rattle.src_mean.specs.Source.{plus, converted, applied, stored_bytes, closing, give, leave, invoke, spawn, rethrow, thread_signature}
-use Rattle.symbolic_source.specs.Terms.{Term, number, variable, local, global, function, table, slot_function, sum, product, before, low_byte, converted_to, result, field, Exception, unknown, made, Puts, untouched, put, Values, word_or_zero, number_found, eval, exception_of, bytes_put}
-use Rattle.symbolic_source.specs.Frames.{Spot, at_word, at_tree, Waiting, Way, value, into, Exit, throws, returns, breaks, continues, Callee, known, virtual, pointer, builtin, Frame, Run, Address, Then, Gives, Leaves, StoreTo, Apply, Choose, UpdateOld, UpdateBy, CopyBy, From, Words, Object, Slot, Pointer, Passes, Full, Keeps, Scope, Waits, Cleans, Destroys, Parts, Each, Compares, Fills, Filled, Trying, Takes, Taking, Handling, spot_of, waitings_of, words_of, way_of, exit_of, callee_of, frame_of, below, here_of}
-use Rattle.symbolic_source.specs.Outcomes.{Doing, reads, writes, puts_out, joins, spawns_thread, leaves_block, Outcome, stuck, goes, hands, goes_out, chooses, results, finds, calls, spawns, rethrows, halts, Shows, event_of}
+use Rattle.symbolic_source.specs.Terms.{Term, number, variable, local, global, function, table, slot_function, sum, product, before, low_byte, converted_to}
+use Rattle.symbolic_source.specs.Terms.{result, field, Exception, unknown, made, Puts, untouched, put, Values, word_or_zero, number_found, eval, exception_of}
+use Rattle.symbolic_source.specs.Terms.{bytes_put}
+use Rattle.symbolic_source.specs.Frames.{Spot, at_word, at_tree, Waiting, Way, value, into, Exit, throws, returns, breaks, continues, Callee, known, virtual}
+use Rattle.symbolic_source.specs.Frames.{pointer, builtin, Frame, Run, Address, Then, Gives, Leaves, StoreTo, Apply, Choose, UpdateOld, UpdateBy, CopyBy, From}
+use Rattle.symbolic_source.specs.Frames.{Words, Object, Slot, Pointer, Passes, Full, Keeps, Scope, Waits, Cleans, Destroys, Parts, Each, Compares, Fills}
+use Rattle.symbolic_source.specs.Frames.{Filled, Trying, Takes, Taking, Handling, spot_of, waitings_of, words_of, way_of, exit_of, callee_of, frame_of, below}
+use Rattle.symbolic_source.specs.Frames.{here_of}
+use Rattle.symbolic_source.specs.Outcomes.{Doing, reads, writes, puts_out, joins, spawns_thread, leaves_block, Outcome, stuck, goes, hands, goes_out, chooses}
+use Rattle.symbolic_source.specs.Outcomes.{results, finds, calls, spawns, rethrows, halts, Shows, event_of}
 use Rattle.std.proofs.lemmas.Bool.{eqb-true}
 use Rattle.symbolic_source.proofs.TermLemmas.{one_less_is}
-use Rattle.symbolic_source.specs.Replacing.{joined, summed, multiplied, Replacing, seen_by, in_term, in_exception, in_puts, in_terms, in_spot, in_waitings, in_way, in_exit, in_callee, in_frame, in_frames, in_doing, in_outcome}
+use Rattle.symbolic_source.specs.Replacing.{joined, summed, multiplied, Replacing, seen_by, in_term, in_exception, in_puts, in_terms, in_spot, in_waitings}
+use Rattle.symbolic_source.specs.Replacing.{in_way, in_exit, in_callee, in_frame, in_frames, in_doing, in_outcome}
 
 module _ (p : Program) (f : Func) (x : Values) where
   joined_is : (a : Term) (n : ℕ) → eval p f x (joined a n) ≡ plus (eval p f x a) (n % 2 ^ 64)
@@ -89,7 +97,8 @@ module _ (p : Program) (f : Func) (r : Replacing) (x : Values) where
 
   waitings_replaced : (ws : List Waiting) → waitings_of p f x (in_waitings r ws) ≡ waitings_of p f y ws
   waitings_replaced [] = refl
-  waitings_replaced (w ∷ ws) = ap₂ (λ (u : _) (v : List frames.Waiting). record { address = u; destroys = w.destroys } ∷ v) (spot_replaced w.address) (waitings_replaced ws)
+  waitings_replaced (w ∷ ws) = ap₂ (λ (u : _) (v : List frames.Waiting). record { address = u; destroys = w.destroys } ∷ v) (spot_replaced w.address)
+      (waitings_replaced ws)
 
   way_replaced : (way : Way) → way_of p f x (in_way r way) ≡ way_of p f y way
   way_replaced value = refl
@@ -132,7 +141,8 @@ module _ (p : Program) (f : Func) (r : Replacing) (x : Values) where
   frame_replaced (Cleans ws) = ap frames.Cleans (waitings_replaced ws)
   frame_replaced (Destroys n address stride left) = ap₂ (λ u v. frames.Destroys n u stride v) (term_replaced address) (term_replaced left)
   frame_replaced (Parts parts target from) = ap₂ (λ u v. frames.Parts parts u v) (term_replaced target) (term_replaced from)
-  frame_replaced (Each init destroys stride left target from) = ap (λ z. frames.Each init destroys stride z (eval p f x (in_term r target)) (eval p f x (in_term r from))) (term_replaced left)
+  frame_replaced (Each init destroys stride left target from) =
+      ap (λ z. frames.Each init destroys stride z (eval p f x (in_term r target)) (eval p f x (in_term r from))) (term_replaced left)
       ∙ ap₂ (λ u v. frames.Each init destroys stride (eval p f y left) u v) (term_replaced target) (term_replaced from)
   frame_replaced (Compares w label behind items) = ap (λ z. frames.Compares z label behind items) (term_replaced w)
   frame_replaced (Fills t from fields puts) = ap₂ (λ u v. frames.Fills t u fields v) (term_replaced from) (puts_replaced puts)
@@ -145,7 +155,8 @@ module _ (p : Program) (f : Func) (r : Replacing) (x : Values) where
 
   doing_replaced : (doing : Doing) → event_of p f x (in_doing r doing) ≡ event_of p f y doing
   doing_replaced (reads address size volatile) = ap (λ z. Reads z size volatile) (term_replaced address)
-  doing_replaced (writes address kind w volatile) = ap₂ (λ u v. Writes u (kind_size kind) (stored_bytes kind v) volatile) (term_replaced address) (term_replaced w)
+  doing_replaced (writes address kind w volatile) = ap₂ (λ u v. Writes u (kind_size kind) (stored_bytes kind v) volatile) (term_replaced address)
+      (term_replaced w)
   doing_replaced (puts_out byte) = ap Out (term_replaced byte)
   doing_replaced (joins id) = ap (λ z. Joins (value_of_word Int z)) (term_replaced id)
   doing_replaced (spawns_thread func argument) = ap (λ z. Spawns func (value_of_word Long z)) (term_replaced argument)
@@ -158,17 +169,24 @@ module _ (p : Program) (f : Func) (r : Replacing) (x : Values) where
     frames_replaced (g ∷ k) = ap₂ (λ u v. u ∷ v) (frame_replaced g) (frames_replaced k)
 
     pub here_replaced : (ws : List Waiting) → here_of p f x (in_waitings r ws) ≡ here_of p f y ws
-    here_replaced ws = ap (λ (z : List frames.Waiting). record { frame = x.base; end = x.base + f.size; limit = x.limit; unit = f.unit; places = f.places; temporaries = z }) (waitings_replaced ws)
+    here_replaced ws = ap (λ (z : List frames.Waiting).
+        record { frame = x.base; end = x.base + f.size; limit = x.limit; unit = f.unit; places = f.places; temporaries = z }) (waitings_replaced ws)
 
-    at_both : (ws : List Waiting) (k : List Frame) (go : frames.Here → List frames.Frame → State) → go (here_of p f x (in_waitings r ws)) (below p f x (in_frames r k) rest) ≡ go (here_of p f y ws) (below p f y k rest)
+    at_both : (ws : List Waiting) (k : List Frame) (go : frames.Here → List frames.Frame → State)
+        → go (here_of p f x (in_waitings r ws)) (below p f x (in_frames r k) rest) ≡ go (here_of p f y ws) (below p f y k rest)
     at_both ws k go = ap₂ go (here_replaced ws) (frames_replaced k)
 
     pub outcome_replaced : (o : Outcome) (s : State) → Shows p f x rest (in_outcome r o) s → Shows p f y rest o s
     outcome_replaced stuck s h = tt
-    outcome_replaced (goes doing ws k) s h = h ∙ (at_both ws k (λ a b. frames.at (event_of p f x (in_doing r doing)) a b) ∙ ap (λ z. frames.at z (here_of p f y ws) (below p f y k rest)) (doing_replaced doing))
+    outcome_replaced (goes doing ws k) s h = h ∙ (at_both ws k (λ a b. frames.at (event_of p f x (in_doing r doing)) a b) ∙ ap
+        (λ z. frames.at z (here_of p f y ws) (below p f y k rest)) (doing_replaced doing))
     outcome_replaced (hands w ws) s h = h ∙ ap₂ (λ a b. give p a b rest) (here_replaced ws) (term_replaced w)
     outcome_replaced (goes_out exit ws) s h = h ∙ ap₂ (λ a b. leave a b rest) (here_replaced ws) (exit_replaced exit)
-    outcome_replaced (chooses w zero other) s h = (λ e. outcome_replaced zero s (h.0 (term_replaced w ∙ e)), λ e. outcome_replaced other s (h.1 (λ i. e (sym (term_replaced w) ∙ i))))
+    outcome_replaced (chooses w zero other) s h = (
+      λ e. outcome_replaced zero s (h.0 (term_replaced w ∙ e)),
+      λ e. outcome_replaced other s
+          (h.1 (λ i. e (sym (term_replaced w) ∙ i))),
+    )
     outcome_replaced (results op kind a b o) s h = (
       λ v e. outcome_replaced o s (h.0 v (ap₂ (λ u w. applied op kind u w) (term_replaced a) (term_replaced b) ∙ e)),
       λ trap e. h.1 trap (ap₂ (λ u w. applied op kind u w) (term_replaced a) (term_replaced b) ∙ e),
@@ -177,8 +195,11 @@ module _ (p : Program) (f : Func) (r : Replacing) (x : Values) where
       λ n e. outcome_replaced o s (h.0 n (ap (λ z. p.slot z class slot) (term_replaced address) ∙ e)),
       λ e. h.1 (ap (λ z. p.slot z class slot) (term_replaced address) ∙ e),
     )
-    outcome_replaced (calls callee words ws k) s h = h ∙ (at_both ws k (λ a b. invoke p a (callee_of p f x (in_callee r callee)) (words_of p f x (in_terms r words)) b) ∙ ap₂ (λ a b. invoke p (here_of p f y ws) a b (below p f y k rest)) (callee_replaced callee) (terms_replaced words))
-    outcome_replaced (spawns address argument ws k) s h = h ∙ (at_both ws k (λ a b. spawn a (p.pointed (eval p f x (in_term r address)) thread_signature) (eval p f x (in_term r argument)) b)
+    outcome_replaced (calls callee words ws k) s h = h
+        ∙ (at_both ws k (λ a b. invoke p a (callee_of p f x (in_callee r callee)) (words_of p f x (in_terms r words)) b)
+        ∙ ap₂ (λ a b. invoke p (here_of p f y ws) a b (below p f y k rest)) (callee_replaced callee) (terms_replaced words))
+    outcome_replaced (spawns address argument ws k) s h = h
+        ∙ (at_both ws k (λ a b. spawn a (p.pointed (eval p f x (in_term r address)) thread_signature) (eval p f x (in_term r argument)) b)
         ∙ ap₂ (λ u v. spawn (here_of p f y ws) (p.pointed u thread_signature) v (below p f y k rest)) (term_replaced address) (term_replaced argument))
     outcome_replaced (rethrows ws k) s h = h ∙ at_both ws k (λ a b. rethrow a (frames.handled rest) b)
     outcome_replaced (halts end) s h = h
@@ -186,10 +207,15 @@ module _ (p : Program) (f : Func) (r : Replacing) (x : Values) where
     -- and the other way round
     pub outcome_placed : (o : Outcome) (s : State) → Shows p f y rest o s → Shows p f x rest (in_outcome r o) s
     outcome_placed stuck s h = tt
-    outcome_placed (goes doing ws k) s h = h ∙ sym (at_both ws k (λ a b. frames.at (event_of p f x (in_doing r doing)) a b) ∙ ap (λ z. frames.at z (here_of p f y ws) (below p f y k rest)) (doing_replaced doing))
+    outcome_placed (goes doing ws k) s h = h ∙ sym (at_both ws k (λ a b. frames.at (event_of p f x (in_doing r doing)) a b) ∙ ap
+        (λ z. frames.at z (here_of p f y ws) (below p f y k rest)) (doing_replaced doing))
     outcome_placed (hands w ws) s h = h ∙ sym (ap₂ (λ a b. give p a b rest) (here_replaced ws) (term_replaced w))
     outcome_placed (goes_out exit ws) s h = h ∙ sym (ap₂ (λ a b. leave a b rest) (here_replaced ws) (exit_replaced exit))
-    outcome_placed (chooses w zero other) s h = (λ e. outcome_placed zero s (h.0 (sym (term_replaced w) ∙ e)), λ e. outcome_placed other s (h.1 (λ i. e (term_replaced w ∙ i))))
+    outcome_placed (chooses w zero other) s h = (
+      λ e. outcome_placed zero s (h.0 (sym (term_replaced w) ∙ e)),
+      λ e. outcome_placed other s
+          (h.1 (λ i. e (term_replaced w ∙ i))),
+    )
     outcome_placed (results op kind a b o) s h = (
       λ v e. outcome_placed o s (h.0 v (sym (ap₂ (λ u w. applied op kind u w) (term_replaced a) (term_replaced b)) ∙ e)),
       λ trap e. h.1 trap (sym (ap₂ (λ u w. applied op kind u w) (term_replaced a) (term_replaced b)) ∙ e),
@@ -198,8 +224,11 @@ module _ (p : Program) (f : Func) (r : Replacing) (x : Values) where
       λ n e. outcome_placed o s (h.0 n (sym (ap (λ z. p.slot z class slot) (term_replaced address)) ∙ e)),
       λ e. h.1 (sym (ap (λ z. p.slot z class slot) (term_replaced address)) ∙ e),
     )
-    outcome_placed (calls callee words ws k) s h = h ∙ sym (at_both ws k (λ a b. invoke p a (callee_of p f x (in_callee r callee)) (words_of p f x (in_terms r words)) b) ∙ ap₂ (λ a b. invoke p (here_of p f y ws) a b (below p f y k rest)) (callee_replaced callee) (terms_replaced words))
-    outcome_placed (spawns address argument ws k) s h = h ∙ sym (at_both ws k (λ a b. spawn a (p.pointed (eval p f x (in_term r address)) thread_signature) (eval p f x (in_term r argument)) b)
+    outcome_placed (calls callee words ws k) s h = h ∙ sym
+        (at_both ws k (λ a b. invoke p a (callee_of p f x (in_callee r callee)) (words_of p f x (in_terms r words)) b)
+        ∙ ap₂ (λ a b. invoke p (here_of p f y ws) a b (below p f y k rest)) (callee_replaced callee) (terms_replaced words))
+    outcome_placed (spawns address argument ws k) s h = h
+        ∙ sym (at_both ws k (λ a b. spawn a (p.pointed (eval p f x (in_term r address)) thread_signature) (eval p f x (in_term r argument)) b)
         ∙ ap₂ (λ u v. spawn (here_of p f y ws) (p.pointed u thread_signature) v (below p f y k rest)) (term_replaced address) (term_replaced argument))
     outcome_placed (rethrows ws k) s h = h ∙ sym (at_both ws k (λ a b. rethrow a (frames.handled rest) b))
     outcome_placed (halts end) s h = h

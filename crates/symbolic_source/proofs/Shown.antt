@@ -1,5 +1,6 @@
 -- Symbolic decisions, waiting objects, ways out and calls, as those of the thread.
-use Rattle.std.proofs.Common.{ℕ, ℤ, ◌≡◌, ◌%◌, ◌^◌, ◌==◌, ◌||◌, ◌++◌, nat_lt, Bool, true, false, cond, refl, ap, ap₂, sym, ◌∙◌, List, [], ◌∷◌, Option, Some, None, Result, Ok, Err}
+use Rattle.std.proofs.Common.{ℕ, ℤ, ◌≡◌, ◌%◌, ◌^◌, ◌==◌, ◌||◌, ◌++◌, nat_lt, Bool, true, false, cond, refl, ap, ap₂, sym, ◌∙◌, List, [], ◌∷◌, Option, Some}
+use Rattle.std.proofs.Common.{None, Result, Ok, Err}
 use Rattle.std.proofs.lemmas.Bool.{true≢false, eqb-true}
 use Rattle.cpp_tree.specs.tx_ints.declared.kinds.ArithTrap.{ArithTrap}
 use Rattle.cpp_tree.specs.tx_ints.declared.kinds.IntKind.TheVariants.{Int}
@@ -14,9 +15,12 @@ use Rattle.src_mean.specs.Frames.{Owner, same_owner, State}
 use Rattle.src_mean.specs.Frames as frames
 use Rattle.src_mean.specs.Source as source
 use Rattle.symbolic_source.specs.Terms.{Term, number, Exception, Values, eval, exception_of}
-use Rattle.symbolic_source.specs.Frames.{Spot, Waiting, Way, value, into, Exit, throws, returns, breaks, continues, Callee, known, virtual, pointer, builtin, Frame, Scope, Full, Within, Tries, Body, Switches, spot_of, waiting_of, waitings_of, words_of, way_of, exit_of, callee_of, frame_of, below, here_of, put_into, behind, puts, puts_some, waiting}
+use Rattle.symbolic_source.specs.Frames.{Spot, Waiting, Way, value, into, Exit, throws, returns, breaks, continues, Callee, known, virtual, pointer, builtin}
+use Rattle.symbolic_source.specs.Frames.{Frame, Scope, Full, Within, Tries, Body, Switches, spot_of, waiting_of, waitings_of, words_of, way_of, exit_of}
+use Rattle.symbolic_source.specs.Frames.{callee_of, frame_of, below, here_of, put_into, behind, puts, puts_some, waiting}
 use Rattle.symbolic_source.specs.Outcomes.{Outcome, stuck, either, Shows, Stops}
-use Rattle.symbolic_source.specs.Steps.{if_word, goes_if, try_first, left, result_words, first_word, second_word, target_of, source_of, built_in, invoked, next_word, called}
+use Rattle.symbolic_source.specs.Steps.{if_word, goes_if, try_first, left, result_words, first_word, second_word, target_of, source_of, built_in, invoked}
+use Rattle.symbolic_source.specs.Steps.{next_word, called}
 
 module _ (p : Program) (f : Func) (x : Values) (rest : List frames.Frame) where
   abbrev pub Shown : Outcome → State → Type 0
@@ -60,7 +64,8 @@ module _ (p : Program) (f : Func) (x : Values) (rest : List frames.Frame) where
   if_word_shown n o s h = word_shown n o s (nat_lt n (2 ^ 64)) refl h
 
   pub finished : (r : Result ℤ ArithTrap) (h : frames.Here) (go : ℤ → State) (k : List frames.Frame) (o : Outcome) → ((v : ℤ) → r ≡ Ok v → Shown o (go v))
-      → ((v : ℤ) → r ≡ Ok v → Shown o (source.finish r h go k)) × ((trap : ArithTrap) → r ≡ Err trap → Stops (Trapped (source.trap_of trap)) (source.finish r h go k))
+      → ((v : ℤ) → r ≡ Ok v → Shown o (source.finish r h go k))
+      × ((trap : ArithTrap) → r ≡ Err trap → Stops (Trapped (source.trap_of trap)) (source.finish r h go k))
   finished (Ok v) h go k o g = (λ z e. g v refl, λ trap e. absurd cc)
   finished (Err t) h go k o g = (
     λ z e. absurd cc,
@@ -77,7 +82,8 @@ module _ (p : Program) (f : Func) (x : Values) (rest : List frames.Frame) where
       let same : g ∷ i ≡ j = cc in
       (i, refl, sym same)
 
-  put_shown : (b : Bool) (w : Waiting) (owner : Owner) (always : Bool) (ws : List Waiting) (k : List Frame) (o : Option (List Frame)) (j : List Frame) (s : List frames.Frame)
+  put_shown : (b : Bool) (w : Waiting) (owner : Owner) (always : Bool) (ws : List Waiting) (k : List Frame) (o : Option (List Frame)) (j : List Frame)
+      (s : List frames.Frame)
       → ((i : List Frame) → o ≡ Some i → s ≡ on i) → put_into b w owner always ws k o ≡ Some j
       → cond b (frames.Scope owner always (waiting_of p f x w ∷ waitings_of p f x ws) ∷ on k) (frames.Scope owner always (waitings_of p f x ws) ∷ s) ≡ on j
   put_shown true w owner always ws k o j s h e =
@@ -95,17 +101,20 @@ module _ (p : Program) (f : Func) (x : Values) (rest : List frames.Frame) where
       let b = behind_is g (puts owner w k) j e in
       ap (λ z. frame_of p f x g ∷ z) (puts_shown owner w k b.0 b.1) ∙ ap (λ z. on z) (sym b.2)
 
-  pub puts_some_shown : (owner : Owner) (address : Spot) (destroys : Trees) (k j : List Frame) → puts_some owner address destroys k ≡ Some j → frames.puts_some owner (spot_of p f x address) destroys (on k) ≡ on j
+  pub puts_some_shown : (owner : Owner) (address : Spot) (destroys : Trees) (k j : List Frame) → puts_some owner address destroys k ≡ Some j
+      → frames.puts_some owner (spot_of p f x address) destroys (on k) ≡ on j
   puts_some_shown owner address none k j e =
       let same : k ≡ j = cc in
       ap (λ z. on z) same
   puts_some_shown owner address (more d ds) k j e = puts_shown owner (record { address = address; destroys = more d ds }) k j e
 
-  pub waiting_shown : (address : Spot) (destroys : Trees) (ws : List Waiting) → frames.waiting (spot_of p f x address) destroys (waitings_of p f x ws) ≡ waitings_of p f x (waiting address destroys ws)
+  pub waiting_shown : (address : Spot) (destroys : Trees) (ws : List Waiting)
+      → frames.waiting (spot_of p f x address) destroys (waitings_of p f x ws) ≡ waitings_of p f x (waiting address destroys ws)
   waiting_shown address none ws = refl
   waiting_shown address (more d ds) ws = refl
 
-  pub goes_if_shown : (ws : List Waiting) (g : Frame) (o : Option (List Frame)) (s : List frames.Frame) → ((i : List Frame) → o ≡ Some i → s ≡ on i) → Shown (goes_if ws (behind g o)) (frames.at Silent (here ws) (frame_of p f x g ∷ s))
+  pub goes_if_shown : (ws : List Waiting) (g : Frame) (o : Option (List Frame)) (s : List frames.Frame) → ((i : List Frame) → o ≡ Some i → s ≡ on i)
+      → Shown (goes_if ws (behind g o)) (frames.at Silent (here ws) (frame_of p f x g ∷ s))
   goes_if_shown ws g None s h = tt
   goes_if_shown ws g (Some i) s h = ap (λ z. frames.at Silent (here ws) (frame_of p f x g ∷ z)) (h i refl)
 
@@ -156,22 +165,26 @@ module _ (p : Program) (f : Func) (x : Values) (rest : List frames.Frame) where
   source_is value = refl
   source_is (into target from) = refl
 
-  built_in_shown : (ws : List Waiting) (which : Builtin) (words : List Term) (k : List Frame) → Shown (built_in ws which words k) (source.built_in p (here ws) which (words_of p f x words) (on k))
+  built_in_shown : (ws : List Waiting) (which : Builtin) (words : List Term) (k : List Frame)
+      → Shown (built_in ws which words k) (source.built_in p (here ws) which (words_of p f x words) (on k))
   built_in_shown ws PutChar words k = ap (λ z. frames.at (Out (z % 256)) (here ws) (frames.Gives (z % 256) ∷ on k)) (first_is words)
   built_in_shown ws GetChar words k = refl
   built_in_shown ws SpawnThread words k = ap₂ (λ a b. source.spawn (here ws) (p.pointed a source.thread_signature) b (on k)) (first_is words) (second_is words)
   built_in_shown ws JoinThread words k = ap (λ z. frames.at (Joins (value_of_word Int z)) (here ws) (frames.Gives 0 ∷ on k)) (first_is words)
   built_in_shown ws AbortProgram words k = record { here = here ws; others = on k; is = refl }
 
-  invoked_shown : (ws : List Waiting) (callee : Callee) (words : List Term) (k : List Frame) → Shown (invoked ws callee words k) (source.invoke p (here ws) (callee_of p f x callee) (words_of p f x words) (on k))
+  invoked_shown : (ws : List Waiting) (callee : Callee) (words : List Term) (k : List Frame)
+      → Shown (invoked ws callee words k) (source.invoke p (here ws) (callee_of p f x callee) (words_of p f x words) (on k))
   invoked_shown ws (known n) words k = refl
   invoked_shown ws (virtual class slot address) words k = refl
   invoked_shown ws (pointer address sig) words k = refl
   invoked_shown ws (builtin which) words k = built_in_shown ws which words k
 
-  pub next_shown : (ws : List Waiting) (callee : Callee) (words : List Term) (others : Trees) (k : List Frame) → Shown (next_word ws callee words others k) (source.next_word p (here ws) (callee_of p f x callee) (words_of p f x words) others (on k))
+  pub next_shown : (ws : List Waiting) (callee : Callee) (words : List Term) (others : Trees) (k : List Frame)
+      → Shown (next_word ws callee words others k) (source.next_word p (here ws) (callee_of p f x callee) (words_of p f x words) others (on k))
   next_shown ws callee words none k = invoked_shown ws callee words k
   next_shown ws callee words (more t ts) k = refl
 
-  pub called_shown : (ws : List Waiting) (callee : Callee) (words : List Term) (others : Trees) (k : List Frame) → Shown (called ws callee words others k) (source.call p (here ws) (callee_of p f x callee) (words_of p f x words) others (on k))
+  pub called_shown : (ws : List Waiting) (callee : Callee) (words : List Term) (others : Trees) (k : List Frame)
+      → Shown (called ws callee words others k) (source.call p (here ws) (callee_of p f x callee) (words_of p f x words) others (on k))
   called_shown ws callee words others k = next_shown ws callee words others (Scope frames.of_call true [] ∷ k)

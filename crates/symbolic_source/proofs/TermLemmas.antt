@@ -5,13 +5,15 @@ use Rattle.std.proofs.Math.Pow.{mod-mod-pow}
 use Rattle.std.proofs.lemmas.Nat.{pow_pos, mul-mod_second}
 use Rattle.std.proofs.lemmas.Bool.{ltb-true, eqb-true}
 use Rattle.cpp_tree.specs.tx_ints.declared.kinds.IntKind.{IntKind}
-use Rattle.cpp_tree.specs.tx_ints.declared.kinds.IntKind.TheVariants.{Bool as BoolKind, Char, SChar, UChar, Short, UShort, Int, UInt, Long, ULong, LLong, ULLong}
+use Rattle.cpp_tree.specs.tx_ints.declared.kinds.IntKind.TheVariants.{Bool as BoolKind, Char, SChar, UChar, Short, UShort, Int, UInt, Long, ULong, LLong}
+use Rattle.cpp_tree.specs.tx_ints.declared.kinds.IntKind.TheVariants.{ULLong}
 use Rattle.cpp_tree.specs.tx_ints.declared.kinds.ArithTrap.{ArithTrap}
 use Rattle.tx_ints.proofs.WordLaws.{word_below}
 use Rattle.cpp_tree.specs.cpp_layout.Layout.{function_address}
 use Rattle.src_mean.specs.Linked.{Func, Program}
 use Rattle.src_mean.specs.Source.{plus, stored_bytes}
-use Rattle.symbolic_source.specs.Terms.{Term, number, variable, local, global, function, table, slot_function, sum, product, before, low_byte, converted_to, result, field, Values, word_or_zero, number_found, eval, plus_number, one_less}
+use Rattle.symbolic_source.specs.Terms.{Term, number, variable, local, global, function, table, slot_function, sum, product, before, low_byte, converted_to}
+use Rattle.symbolic_source.specs.Terms.{result, field, Values, word_or_zero, number_found, eval, plus_number, one_less}
 use Rattle.symbolic_source.specs.Steps.{element_at}
 use Rattle.symbolic_source.specs.Small.{AreWords}
 
@@ -39,7 +41,8 @@ module _ (p : Program) (f : Func) (x : Values) where
 
   numbers : (a m n : ℕ) → plus a ((m + n) % 2 ^ 64) ≡ plus (plus a (m % 2 ^ 64)) n
   unfolding plus
-  numbers a m n = add-mod-mod a (m + n) (2 ^ 64) ∙ (ap (λ z. z % 2 ^ 64) (first a m n) ∙ (sym (add-mod-mod (a + n) m (2 ^ 64)) ∙ (ap (λ z. z % 2 ^ 64) (second a (m % 2 ^ 64) n) ∙ sym (mod-add-mod (a + m % 2 ^ 64) (2 ^ 64) n))))
+  numbers a m n = add-mod-mod a (m + n) (2 ^ 64) ∙ (ap (λ z. z % 2 ^ 64) (first a m n) ∙
+      (sym (add-mod-mod (a + n) m (2 ^ 64)) ∙ (ap (λ z. z % 2 ^ 64) (second a (m % 2 ^ 64) n) ∙ sym (mod-add-mod (a + m % 2 ^ 64) (2 ^ 64) n))))
     where
       first : (a m n : ℕ) → a + (m + n) ≡ a + n + m
       first a m n = omega arith

@@ -10,7 +10,8 @@ use Rattle.cpp_tree.specs.tx_events.declared.Trap.TheVariants.{BadVirtual}
 use Rattle.cpp_tree.specs.tx_events.declared.End.{End}
 use Rattle.cpp_tree.specs.tx_events.declared.End.TheVariants.{Trapped}
 use Rattle.cpp_tree.specs.tx_events.declared.Event.{Event}
-use Rattle.cpp_tree.specs.tx_events.declared.Event.TheVariants.{Silent, Load as Reads, Store as Writes, Out, Inp, Spawn as Spawns, Join as Joins, BeginAtomic, BeginSync, Stop}
+use Rattle.cpp_tree.specs.tx_events.declared.Event.TheVariants.{Silent, Load as Reads, Store as Writes, Out, Inp, Spawn as Spawns, Join as Joins, BeginAtomic}
+use Rattle.cpp_tree.specs.tx_events.declared.Event.TheVariants.{BeginSync, Stop}
 use Rattle.cpp_tree.specs.tx_events.Thread.{Open}
 use Rattle.cpp_tree.specs.cpp_layout.Layout.{kind_size}
 use Rattle.src_mean.specs.Linked.{Func, Program}
@@ -82,8 +83,10 @@ module _ (p : Program) (f : Func) (x : Values) where
     Shows (chooses w zero other) s = (eval p f x w ≡ 0 → Shows zero s) × ((eval p f x w ≡ 0 → ⊥) → Shows other s)
     Shows (results op kind left right o) s = ((v : ℤ) → applied op kind (eval p f x left) (eval p f x right) ≡ Ok v → Shows o s)
         × ((trap : ArithTrap) → applied op kind (eval p f x left) (eval p f x right) ≡ Err trap → Stops (Trapped (trap_of trap)) s)
-    Shows (finds class slot address o) s = ((n : ℕ) → p.slot (eval p f x address) class slot ≡ Some n → Shows o s) × (p.slot (eval p f x address) class slot ≡ None → Stops (Trapped BadVirtual) s)
+    Shows (finds class slot address o) s = ((n : ℕ) → p.slot (eval p f x address) class slot ≡ Some n → Shows o s)
+        × (p.slot (eval p f x address) class slot ≡ None → Stops (Trapped BadVirtual) s)
     Shows (calls callee words ws k) s = s ≡ invoke p (here_of p f x ws) (callee_of p f x callee) (words_of p f x words) (below p f x k rest)
-    Shows (spawns address argument ws k) s = s ≡ spawn (here_of p f x ws) (p.pointed (eval p f x address) thread_signature) (eval p f x argument) (below p f x k rest)
+    Shows (spawns address argument ws k) s = s ≡ spawn (here_of p f x ws) (p.pointed (eval p f x address) thread_signature) (eval p f x argument)
+        (below p f x k rest)
     Shows (rethrows ws k) s = s ≡ rethrow (here_of p f x ws) (frames.handled rest) (below p f x k rest)
     Shows (halts end) s = Stops end s

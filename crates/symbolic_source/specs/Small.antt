@@ -25,7 +25,8 @@ AreWords x = (n : ℕ) → x.word n < 2 ^ 64
 
 -- the answers on unknown exceptions are those of the program
 abbrev pub AreRight : Program → Values → Answers → Type 0
-AreRight p x answers = (n : ℕ) (handler : Tree) (answer : Bool) → answers n handler ≡ Some answer → catches p.classes (typ_in handler) (x.exception n).typ ≡ answer
+AreRight p x answers = (n : ℕ) (handler : Tree) (answer : Bool) → answers n handler ≡ Some answer
+    → catches p.classes (typ_in handler) (x.exception n).typ ≡ answer
 
 abbrev pub is_stuck : Outcome → Bool
 is_stuck stuck = true

@@ -10,15 +10,26 @@ use Rattle.cpp_tree.specs.cpp_layout.Layout.{kind_size}
 use Rattle.cpp_tree.specs.declared.kinds.Builtin.{Builtin}
 use Rattle.cpp_tree.specs.declared.kinds.Builtin.TheVariants.{PutChar, GetChar, Spawn as SpawnThread, Join as JoinThread, Abort as AbortProgram}
 use Rattle.cpp_tree.specs.declared.kinds.TKind.{TKind}
-use Rattle.cpp_tree.specs.declared.kinds.TKind.TheVariants.{Literal, Local, Global, Function, ClassTable, Load, Convert, Retype, Binary, Conditional, Comma, Assign, Update, CopyAssign, Materialize, FullExpression, Call, VirtualCall, PointerCall, Builtin as CallBuiltin, Throw, Rethrow, Store, CopyScalar, Construct, CopyConstruct, CopyFrom, Pieces, Piece, Elements, Block, Init, Defer, Loop, Switch, Case, Default, Break, Continue, Return, Try, Handler, Atomic, Synchronized, Destroy, Field}
+use Rattle.cpp_tree.specs.declared.kinds.TKind.TheVariants.{Literal, Local, Global, Function, ClassTable, Load, Convert, Retype, Binary, Conditional, Comma}
+use Rattle.cpp_tree.specs.declared.kinds.TKind.TheVariants.{Assign, Update, CopyAssign, Materialize, FullExpression, Call, VirtualCall, PointerCall}
+use Rattle.cpp_tree.specs.declared.kinds.TKind.TheVariants.{Builtin as CallBuiltin, Throw, Rethrow, Store, CopyScalar, Construct, CopyConstruct, CopyFrom}
+use Rattle.cpp_tree.specs.declared.kinds.TKind.TheVariants.{Pieces, Piece, Elements, Block, Init, Defer, Loop, Switch, Case, Default, Break, Continue, Return}
+use Rattle.cpp_tree.specs.declared.kinds.TKind.TheVariants.{Try, Handler, Atomic, Synchronized, Destroy, Field}
 use Rattle.cpp_tree.specs.Trees.{Tree, node, Trees, none, more, kind_of, typ_in, first, rest, second, third}
 use Rattle.src_mean.specs.Linked.{Func, Program}
 use Rattle.src_mean.specs.Exceptions.{is_object_typ, catches, thrown_typ}
 use Rattle.src_mean.specs.Frames.{of_block, of_call, of_pieces, Change}
 use Rattle.src_mean.specs.Source.{called_signature, from_label, is_case, is_default, case_word}
-use Rattle.symbolic_source.specs.Terms.{Term, Exception, unknown, made, Puts, untouched, put, number, local, global, function, table, sum, product, low_byte, converted_to, result, field, plus_number, one_less}
-use Rattle.symbolic_source.specs.Frames.{at_word, at_tree, Waiting, Way, value, into, Exit, throws, returns, breaks, continues, Callee, known, virtual, pointer, builtin, Frame, Run, Address, Then, Gives, Leaves, Loads, Loaded, Replied, StoreTo, Converts, Right, Apply, Choose, AssignTo, UpdateAt, UpdateOld, UpdateBy, CopyTo, CopyBy, From, Words, Object, Slot, Pointer, Passes, Full, Keeps, Scope, Waits, InitAt, Cleans, Due, Destroys, Parts, Each, Items, Test, Body, Step, Picks, Compares, Switches, Returning, Opens, Within, Closes, Throws, Fills, Filled, Tries, Trying, Takes, Taking, Handling, spot_frame, puts_some, waiting, behind, handled}
-use Rattle.symbolic_source.specs.Outcomes.{silent, reads, writes, puts_out, takes_in, joins, begins_atomic, begins_sync, ends_block, leaves_block, Outcome, stuck, goes, hands, goes_out, results, finds, calls, spawns, rethrows, halts, either}
+use Rattle.symbolic_source.specs.Terms.{Term, Exception, unknown, made, Puts, untouched, put, number, local, global, function, table, sum, product, low_byte}
+use Rattle.symbolic_source.specs.Terms.{converted_to, result, field, plus_number, one_less}
+use Rattle.symbolic_source.specs.Frames.{at_word, at_tree, Waiting, Way, value, into, Exit, throws, returns, breaks, continues, Callee, known, virtual, pointer}
+use Rattle.symbolic_source.specs.Frames.{builtin, Frame, Run, Address, Then, Gives, Leaves, Loads, Loaded, Replied, StoreTo, Converts, Right, Apply, Choose}
+use Rattle.symbolic_source.specs.Frames.{AssignTo, UpdateAt, UpdateOld, UpdateBy, CopyTo, CopyBy, From, Words, Object, Slot, Pointer, Passes, Full, Keeps}
+use Rattle.symbolic_source.specs.Frames.{Scope, Waits, InitAt, Cleans, Due, Destroys, Parts, Each, Items, Test, Body, Step, Picks, Compares, Switches}
+use Rattle.symbolic_source.specs.Frames.{Returning, Opens, Within, Closes, Throws, Fills, Filled, Tries, Trying, Takes, Taking, Handling, spot_frame, puts_some}
+use Rattle.symbolic_source.specs.Frames.{waiting, behind, handled}
+use Rattle.symbolic_source.specs.Outcomes.{silent, reads, writes, puts_out, takes_in, joins, begins_atomic, begins_sync, ends_block, leaves_block, Outcome}
+use Rattle.symbolic_source.specs.Outcomes.{stuck, goes, hands, goes_out, results, finds, calls, spawns, rethrows, halts, either}
 
 -- whether a handler catches an unknown exception, where that is known
 abbrev pub Answers : Type 0
@@ -171,7 +182,8 @@ module _ (p : Program) (f : Func) (answers : Answers) where
   -- Destructions
 
   abbrev pub destroyed : List Waiting → Term → TKind → Trees → List Frame → Outcome
-  destroyed ws address (Destroy g offset count stride) others k = if_word count (goes silent ws (Destroys (p.number f.unit g) (plus_number address offset) stride (number count)
+  destroyed ws address (Destroy g offset count stride) others k =
+      if_word count (goes silent ws (Destroys (p.number f.unit g) (plus_number address offset) stride (number count)
       ∷ Gives address ∷ Due others ∷ k))
   destroyed ws address kind others k = goes silent ws (Gives address ∷ Due others ∷ k)
 
@@ -215,14 +227,16 @@ module _ (p : Program) (f : Func) (answers : Answers) where
   ran ws way Throw kids done k = goes silent ws (Run value (first kids) ∷ Throws (thrown_typ (typ_in (first kids))) (rest kids) ∷ k)
   ran ws way Rethrow kids done k = rethrown ws (handled k) k
   ran ws way (Store kind volatile) kids done k = goes silent ws (Run value (first kids) ∷ StoreTo (target_of way) kind volatile (number 0) ∷ k)
-  ran ws way (CopyScalar kind volatile) kids done k = goes (reads (source_of way) (kind_size kind) volatile) ws (Loaded kind ∷ StoreTo (target_of way) kind volatile (number 0) ∷ k)
+  ran ws way (CopyScalar kind volatile) kids done k =
+      goes (reads (source_of way) (kind_size kind) volatile) ws (Loaded kind ∷ StoreTo (target_of way) kind volatile (number 0) ∷ k)
   ran ws way (Construct g) kids done k = called ws (known (p.number f.unit g)) (target_of way ∷ []) kids k
   ran ws way (CopyConstruct g) kids done k = calls (known (p.number f.unit g)) (target_of way ∷ source_of way ∷ []) ws k
   ran ws way CopyFrom kids done k = goes silent ws (Run value (first kids) ∷ From (target_of way) (second kids) ∷ k)
   ran ws way Pieces kids done k = goes silent ws (Parts kids (target_of way) (source_of way) ∷ Scope of_pieces false [] ∷ k)
   ran ws way (Piece offset) kids done k = goes silent ws (Run (into (plus_number (target_of way) offset) (plus_number (source_of way) offset)) (first kids)
       ∷ Waits of_pieces (at_word (plus_number (target_of way) offset)) (rest kids) ∷ k)
-  ran ws way (Elements count stride) kids done k = if_word count (goes silent ws (Each (first kids) (rest kids) stride (number count) (target_of way) (source_of way)
+  ran ws way (Elements count stride) kids done k = if_word count
+      (goes silent ws (Each (first kids) (rest kids) stride (number count) (target_of way) (source_of way)
       ∷ Scope of_pieces false [] ∷ k))
   ran ws way (Block subobjects) kids done k = goes silent ws (Items kids ∷ Scope of_block (not subobjects) [] ∷ k)
   ran ws way Init kids done k = goes silent ws (Run value (first kids) ∷ InitAt (second kids) (rest (rest kids)) ∷ k)
@@ -288,14 +302,16 @@ module _ (p : Program) (f : Func) (answers : Answers) where
   given ws v (Destroys n address stride count ∷ k) = either count (given ws v k) (destroys_next ws n address stride (one_less count) k)
   given ws v (Parts none target source ∷ k) = given ws v k
   given ws v (Parts (more t ts) target source ∷ k) = goes silent ws (Run (into target source) t ∷ Parts ts target source ∷ k)
-  given ws v (Each init destroys stride count target source ∷ k) = either count (given ws v k) (each_next ws init destroys stride (one_less count) target source k)
+  given ws v (Each init destroys stride count target source ∷ k) =
+      either count (given ws v k) (each_next ws init destroys stride (one_less count) target source k)
   given ws v (Items none ∷ k) = given ws (number 0) k
   given ws v (Items (more t ts) ∷ k) = goes silent ws (Run value t ∷ Items ts ∷ k)
   given ws v (Test test body step ∷ k) = either v (goes silent ws (Gives (number 0) ∷ k)) (goes silent ws (Run value body ∷ Body test body step ∷ k))
   given ws v (Body test body step ∷ k) = goes silent ws (Run value step ∷ Step test body step ∷ k)
   given ws v (Step test body step ∷ k) = goes silent ws (Run value test ∷ Test test body step ∷ k)
   given ws v (Picks items ∷ k) = compared ws v (from_label is_case items) items k
-  given ws v (Compares w label ts items ∷ k) = if_word (case_word label) (either (same_word w (case_word label)) (compared ws w (from_label is_case ts) items k) (run_items ws ts k))
+  given ws v (Compares w label ts items ∷ k) = if_word (case_word label)
+      (either (same_word w (case_word label)) (compared ws w (from_label is_case ts) items k) (run_items ws ts k))
   given ws v (Switches ∷ k) = given ws (number 0) k
   given ws v (Returning ∷ k) = left ws (returns v) k
   given ws v (Opens block body ∷ k) = goes silent ws (Run value body ∷ Within block ∷ k)

@@ -24,4 +24,8 @@ exception_or_first (Some e) = exception_of e
 abbrev pub replacing_of : Replacing → source.Replacing
 replacing_of Later = later
 replacing_of Rising = rising
-replacing_of (Table words exceptions) = record { word = λ n. word_or_zero (slice_get words.now n); exception = λ n. exception_or_first (slice_get exceptions.now n) }
+replacing_of (Table words exceptions) = record {
+  word = λ n. word_or_zero (slice_get words.now n);
+  exception = λ n. exception_or_first
+      (slice_get exceptions.now n);
+}

@@ -29,9 +29,11 @@ use Rattle.symbolic_terms.specs.declared.frames.Exit.TheVariants.{Throws as Thro
 use Rattle.symbolic_terms.specs.declared.frames.Callee.{Callee}
 use Rattle.symbolic_terms.specs.declared.frames.Callee.TheVariants.{Known, Virtual, Pointer as ByPointer, Builtin as BuiltIn}
 use Rattle.symbolic_terms.specs.declared.frames.Frame.{Frame}
-use Rattle.symbolic_terms.specs.declared.frames.Frame.TheVariants.{Run, Address, Then, Gives, Leaves, Value, Call, Object, Statement, Block, Exception as AtException}
+use Rattle.symbolic_terms.specs.declared.frames.Frame.TheVariants.{Run, Address, Then, Gives, Leaves, Value, Call, Object, Statement, Block}
+use Rattle.symbolic_terms.specs.declared.frames.Frame.TheVariants.{Exception as AtException}
 use Rattle.symbolic_terms.specs.declared.frames.ValueFrame.{ValueFrame}
-use Rattle.symbolic_terms.specs.declared.frames.ValueFrame.TheVariants.{Loads, Loaded, Replied, StoreTo, Converts, Right, Apply, Choose, AssignTo, UpdateAt, UpdateOld, UpdateBy, CopyTo, CopyBy, From}
+use Rattle.symbolic_terms.specs.declared.frames.ValueFrame.TheVariants.{Loads, Loaded, Replied, StoreTo, Converts, Right, Apply, Choose, AssignTo, UpdateAt}
+use Rattle.symbolic_terms.specs.declared.frames.ValueFrame.TheVariants.{UpdateOld, UpdateBy, CopyTo, CopyBy, From}
 use Rattle.symbolic_terms.specs.declared.frames.CallFrame.{CallFrame}
 use Rattle.symbolic_terms.specs.declared.frames.CallFrame.TheVariants.{Words, Object as ObjectOf, Slot, Pointer, Passes}
 use Rattle.symbolic_terms.specs.declared.frames.ObjectFrame.{ObjectFrame}
@@ -43,7 +45,8 @@ use Rattle.symbolic_terms.specs.declared.frames.BlockFrame.TheVariants.{Opens, W
 use Rattle.symbolic_terms.specs.declared.frames.ExceptionFrame.{ExceptionFrame}
 use Rattle.symbolic_terms.specs.declared.frames.ExceptionFrame.TheVariants.{Throws, Fills, Filled, Tries, Trying, Takes, Taking, Handling}
 use Rattle.symbolic_terms.specs.declared.outcomes.Doing.{Doing}
-use Rattle.symbolic_terms.specs.declared.outcomes.Doing.TheVariants.{Silent, Reads, Writes, PutsOut, TakesIn, Joins, BeginsAtomic, BeginsSync, EndsBlock, LeavesBlock}
+use Rattle.symbolic_terms.specs.declared.outcomes.Doing.TheVariants.{Silent, Reads, Writes, PutsOut, TakesIn, Joins, BeginsAtomic, BeginsSync, EndsBlock}
+use Rattle.symbolic_terms.specs.declared.outcomes.Doing.TheVariants.{LeavesBlock}
 use Rattle.symbolic_terms.specs.declared.outcomes.Leading.{Leading}
 use Rattle.symbolic_terms.specs.declared.outcomes.Leading.TheVariants.{Does, Calls, Spawns, Rethrows}
 use Rattle.symbolic_terms.specs.declared.outcomes.Outcome.{Outcome}
@@ -128,7 +131,8 @@ module _ (p : Program) where
   object_of (Due kids) = frames.Due (kids_shown p kids)
   object_of (Destroys number address stride left) = frames.Destroys number (term_of address) stride (term_of left)
   object_of (Parts kids target source) = frames.Parts (kids_shown p kids) (term_of target) (term_of source)
-  object_of (Each init destroys stride left target source) = frames.Each (tree_shown p init) (kids_shown p destroys) stride (term_of left) (term_of target) (term_of source)
+  object_of (Each init destroys stride left target source) =
+      frames.Each (tree_shown p init) (kids_shown p destroys) stride (term_of left) (term_of target) (term_of source)
 
   abbrev pub statement_of : StatementFrame → frames.Frame
   statement_of (Items kids) = frames.Items (kids_shown p kids)

@@ -3,7 +3,8 @@ use Rattle.std.specs.Prelude.{List, [], ◌∷◌}
 use Rattle.cpp_tree.specs.cpp_types.Typ.{typ_of}
 use Rattle.symbolic_source.specs.Terms as symbolic
 use Rattle.symbolic_terms.specs.declared.terms.Term.{Term}
-use Rattle.symbolic_terms.specs.declared.terms.Term.TheVariants.{Number, Variable, Local, Global, Function, Table, SlotFunction', Sum', Product', Before', LowByte', Converted', Applied', Field'}
+use Rattle.symbolic_terms.specs.declared.terms.Term.TheVariants.{Number, Variable, Local, Global, Function, Table, SlotFunction', Sum', Product', Before'}
+use Rattle.symbolic_terms.specs.declared.terms.Term.TheVariants.{LowByte', Converted', Applied', Field'}
 use Rattle.symbolic_terms.specs.declared.terms.Exception.{Exception}
 use Rattle.symbolic_terms.specs.declared.terms.Exception.TheVariants.{Unknown, Made}
 use Rattle.symbolic_terms.specs.declared.terms.Puts.{Puts}

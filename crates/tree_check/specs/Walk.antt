@@ -16,7 +16,8 @@ use Rattle.cpp_tree.specs.Trees.{Tree, Trees, kind_of}
 use Rattle.cpp_tree.specs.Typing.{is_statement_typ}
 use Rattle.cpp_tree.specs.Roles.{Kids, role_at}
 use Rattle.cpp_tree.specs.Rows.{Setting, result_of}
-use Rattle.cpp_tree.specs.WellFormed.{heads_of, kids_in, stands, enough, is_switch, labels_fit, is_kid, is_zero_role, zeroes, fits, is_body_of, ends_well, words_fit, is_item, places_of, is_free_place, are_distinct, HasBody, WellFormedUnit}
+use Rattle.cpp_tree.specs.WellFormed.{heads_of, kids_in, stands, enough, is_switch, labels_fit, is_kid, is_zero_role, zeroes, fits, is_body_of, ends_well}
+use Rattle.cpp_tree.specs.WellFormed.{words_fit, is_item, places_of, is_free_place, are_distinct, HasBody, WellFormedUnit}
 
 abbrev pub has_none : List TNodeId → Bool
 has_none [] = true

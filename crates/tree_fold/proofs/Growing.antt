@@ -1,5 +1,6 @@
 -- Lists of trees that grow.
-use Rattle.std.proofs.Common.{◌≡◌, ℕ, zero, suc, ◌+◌, ◌<◌, ◌≤◌, Bool, true, List, [], ◌∷◌, ◌++◌, length, drop, get_or, add-one, refl, sym, ◌∙◌, ap, subst, arith, nat_lt, ◌&&◌, append_assoc, append-nil, length-append, Result, Ok, Err, IfOk}
+use Rattle.std.proofs.Common.{◌≡◌, ℕ, zero, suc, ◌+◌, ◌<◌, ◌≤◌, Bool, true, List, [], ◌∷◌, ◌++◌, length, drop, get_or, add-one, refl, sym, ◌∙◌, ap, subst}
+use Rattle.std.proofs.Common.{arith, nat_lt, ◌&&◌, append_assoc, append-nil, length-append, Result, Ok, Err, IfOk}
 use Rattle.std.proofs.Math.Seq.{drop-cons}
 use Rattle.std.proofs.lemmas.Bool.{ltb-true, lt-ltb, and_parts}
 use Rattle.std.proofs.lemmas.List.{get_or_append_left}
@@ -16,7 +17,11 @@ pub grows_refl : (ts : List Tree) → Grows ts ts
 grows_refl ts = record { extra = []; appended = sym (append-nil ts) }
 
 pub grows_trans : {a b c : List Tree} → Grows a b → Grows b c → Grows a c
-grows_trans {a} x y = record { extra = x.extra ++ y.extra; appended = y.appended ∙ ap (λ (z : List Tree). z ++ y.extra) x.appended ∙ append_assoc a x.extra y.extra }
+grows_trans {a} x y = record {
+  extra = x.extra ++ y.extra;
+  appended = y.appended ∙ ap (λ (z : List Tree). z ++ y.extra) x.appended
+      ∙ append_assoc a x.extra y.extra;
+}
 
 pub within_grown : (old new : List Tree) (n : ℕ) → Grows old new → n < length old → n < length new
 within_grown old new n g h = rw g.appended (simp length-append (omega arith))
@@ -57,15 +62,18 @@ within_pushed n (i ∷ is) r h g = let p = and_parts (nat_lt i.0 n) (are_within 
 pub adding_first : (old : List Tree) (ids : List TNodeId) (all : Trees) → ids ≡ [] → Adding old old ids all all
 adding_first old ids all e = record { grows = grows_refl old; within = rw e refl; are = rw e refl }
 
-pub adding_one : (old now new : List Tree) (ids next : List TNodeId) (r : TNodeId) (t : Tree) (rest left all : Trees) → Adding old now ids left all → left ≡ more t rest → Adds now new r t → next ≡ ids ++ r ∷ [] → Adding old new next rest all
+pub adding_one : (old now new : List Tree) (ids next : List TNodeId) (r : TNodeId) (t : Tree) (rest left all : Trees) → Adding old now ids left all
+    → left ≡ more t rest → Adds now new r t → next ≡ ids ++ r ∷ [] → Adding old new next rest all
 adding_one old now new ids next r t rest left all a l m n =
     let before : trees_at new ids ≡ trees_at now ids = trees_grown now new ids m.grows a.within in
     let added : trees_at new (r ∷ []) ≡ more t none = ap (λ (z : Tree). more z none) m.is in
-    let here : trees_at new next ≡ followed_by (trees_at now ids) (more t none) = ap (trees_at new) n ∙ trees_append new ids (r ∷ []) ∙ ap (λ (z : Trees). followed_by z (trees_at new (r ∷ []))) before ∙ ap (followed_by (trees_at now ids)) added in
+    let here : trees_at new next ≡ followed_by (trees_at now ids) (more t none) = ap (trees_at new) n ∙ trees_append new ids (r ∷ [])
+    ∙ ap (λ (z : Trees). followed_by z (trees_at new (r ∷ []))) before ∙ ap (followed_by (trees_at now ids)) added in
     record {
       grows = grows_trans a.grows m.grows;
       within = ap (are_within (length new)) n ∙ within_pushed (length new) ids r (all_within_grown now new ids m.grows a.within) m.within;
-      are = ap (λ (z : Trees). followed_by z rest) here ∙ followed_twice (trees_at now ids) (more t none) rest ∙ ap (followed_by (trees_at now ids)) (sym l) ∙ a.are;
+      are = ap (λ (z : Trees). followed_by z rest) here ∙ followed_twice (trees_at now ids) (more t none) rest ∙ ap (followed_by (trees_at now ids)) (sym l)
+          ∙ a.are;
     }
 
 pub adding_done : (old now : List Tree) (ids : List TNodeId) (left all : Trees) → Adding old now ids left all → left ≡ none → trees_at now ids ≡ all
@@ -84,12 +92,14 @@ drop_past (x ∷ xs) (suc i) h = drop_past xs i (omega arith)
 
 -- What is added
 
-pub adds_same : (a b : List Tree) (r : Result TNodeId AllocError) (t u : Tree) → t ≡ u → IfOk r (λ (id : TNodeId). Adds a b id t) → IfOk r (λ (id : TNodeId). Adds a b id u)
+pub adds_same : (a b : List Tree) (r : Result TNodeId AllocError) (t u : Tree) → t ≡ u → IfOk r (λ (id : TNodeId). Adds a b id t)
+    → IfOk r (λ (id : TNodeId). Adds a b id u)
 adds_same a b r t u e m = subst (λ (z : Tree). IfOk r (λ (id : TNodeId). Adds a b id z)) e m
 
 adds_after : (a b c : List Tree) (r : TNodeId) (t u : Tree) → Grows a b → t ≡ u → Adds b c r t → Adds a c r u
 adds_after a b c r t u g e m = record { grows = grows_trans g m.grows; within = m.within; is = m.is ∙ e }
 
-pub last_adds : (a b c : List Tree) (r : Result TNodeId AllocError) (t u : Tree) → Grows a b → t ≡ u → IfOk r (λ (id : TNodeId). Adds b c id t) → IfOk r (λ (id : TNodeId). Adds a c id u)
+pub last_adds : (a b c : List Tree) (r : Result TNodeId AllocError) (t u : Tree) → Grows a b → t ≡ u → IfOk r (λ (id : TNodeId). Adds b c id t)
+    → IfOk r (λ (id : TNodeId). Adds a c id u)
 last_adds a b c (Ok r) t u g e m = adds_after a b c r t u g e m
 last_adds a b c (Err x) t u g e m = tt

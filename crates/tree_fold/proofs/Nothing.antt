@@ -1,5 +1,6 @@
 -- Nothing is left to fold in a folded tree.
-use Rattle.std.proofs.Common.{◌≡◌, ℕ, zero, suc, ◌==◌, Bool, true, false, List, [], ◌∷◌, map, slice_get, refl, sym, ◌∙◌, ap, ◌&&◌, Option, Some, None, cond, Result, Ok, Err}
+use Rattle.std.proofs.Common.{◌≡◌, ℕ, zero, suc, ◌==◌, Bool, true, false, List, [], ◌∷◌, map, slice_get, refl, sym, ◌∙◌, ap, ◌&&◌, Option, Some, None, cond}
+use Rattle.std.proofs.Common.{Result, Ok, Err}
 use Rattle.std.specs.Prelude.{ℤ, not, option_map, unwrap_or}
 use Rattle.std.proofs.lemmas.Bool.{and_parts}
 use Rattle.std.proofs.lemmas.Option.{cond_some}
@@ -55,7 +56,8 @@ value_not : (r : Result ℤ ArithTrap) → value_word r ≡ None → has_value r
 value_not (Ok z) e = absurd cc
 value_not (Err trap) e = refl
 
-binary_not : (b : Bool) (op : BinOp) (k : IntKind) (o p : Option ℕ) (x y : ℕ) → ((w : ℕ) → o ≡ Some w → x ≡ w) → ((w : ℕ) → p ≡ Some w → y ≡ w) → cond b (operator_word op k (both_words o p)) None ≡ None
+binary_not : (b : Bool) (op : BinOp) (k : IntKind) (o p : Option ℕ) (x y : ℕ) → ((w : ℕ) → o ≡ Some w → x ≡ w) → ((w : ℕ) → p ≡ Some w → y ≡ w)
+    → cond b (operator_word op k (both_words o p)) None ≡ None
     → (b && is_there o && is_there p && has_value (applied op k x y)) ≡ false
 binary_not false op k o p x y f g e = refl
 binary_not true op k None p x y f g e = refl
@@ -75,16 +77,19 @@ cond_not true false d x y e = refl
 cond_not false c true x y e = absurd cc
 cond_not false c false x y e = refl
 
-conditional_not : (v : ℕ → Bool) (t : Typ) (cat : Cat) (o : Option ℕ) (x : ℕ) (chosen other : Tree) → ((w : ℕ) → o ≡ Some w → x ≡ w) → taken_by v t cat o chosen other ≡ None
+conditional_not : (v : ℕ → Bool) (t : Typ) (cat : Cat) (o : Option ℕ) (x : ℕ) (chosen other : Tree) → ((w : ℕ) → o ≡ Some w → x ≡ w)
+    → taken_by v t cat o chosen other ≡ None
     → (is_there o && cond (x == 0) (may_drop v t cat other chosen) (may_drop v t cat chosen other)) ≡ false
 conditional_not v t cat None x chosen other f e = refl
 conditional_not v t cat (Some w) x chosen other f e =
     ap (λ (z : ℕ). cond (z == 0) (may_drop v t cat other chosen) (may_drop v t cat chosen other)) (f w refl)
     ∙ cond_not (w == 0) (may_drop v t cat other chosen) (may_drop v t cat chosen other) other chosen e
 
-not_foldable : (v : ℕ → Bool) (kind : TKind) (t : Typ) (cat : Cat) (at : At) (kids : Trees) → constant kind t cat kids ≡ None → taken v kind t cat kids ≡ None → is_foldable v (node kind t cat at kids) ≡ false
+not_foldable : (v : ℕ → Bool) (kind : TKind) (t : Typ) (cat : Cat) (at : At) (kids : Trees) → constant kind t cat kids ≡ None → taken v kind t cat kids ≡ None
+    → is_foldable v (node kind t cat at kids) ≡ false
 not_foldable v (Convert to) t cat at none c e = refl
-not_foldable v (Convert to) t cat at (more a none) c e = ap (λ (z : Bool). is_integer_value t cat && z) (literal_known a) ∙ convert_not (is_integer_value t cat) to (integer_word a) c
+not_foldable v (Convert to) t cat at (more a none) c e = ap (λ (z : Bool). is_integer_value t cat && z) (literal_known a)
+    ∙ convert_not (is_integer_value t cat) to (integer_word a) c
 not_foldable v (Convert to) t cat at (more a (more b ts)) c e = refl
 not_foldable v (Binary op k) t cat at none c e = refl
 not_foldable v (Binary op k) t cat at (more a none) c e = refl
@@ -114,7 +119,8 @@ not_foldable v kind t cat at kids c e = refl
 one_taken : (v : ℕ → Bool) (b : Bool) (x tree : Tree) → is_folded v x ≡ true → cond b (Some x) None ≡ Some tree → is_folded v tree ≡ true
 one_taken v b x tree p e = ap (is_folded v) (sym (cond_some b x tree e).1) ∙ p
 
-either_taken : (v : ℕ → Bool) (b c d : Bool) (x y tree : Tree) → is_folded v x ≡ true → is_folded v y ≡ true → cond b (cond c (Some x) None) (cond d (Some y) None) ≡ Some tree → is_folded v tree ≡ true
+either_taken : (v : ℕ → Bool) (b c d : Bool) (x y tree : Tree) → is_folded v x ≡ true → is_folded v y ≡ true
+    → cond b (cond c (Some x) None) (cond d (Some y) None) ≡ Some tree → is_folded v tree ≡ true
 either_taken v true c d x y tree p q e = one_taken v c x tree p e
 either_taken v false c d x y tree p q e = one_taken v d y tree q e
 
@@ -124,11 +130,13 @@ first_folded v t ts k = (and_parts (is_folded v t) (are_folded v ts) k).0
 rest_folded : (v : ℕ → Bool) (t : Tree) (ts : Trees) → are_folded v (more t ts) ≡ true → are_folded v ts ≡ true
 rest_folded v t ts k = (and_parts (is_folded v t) (are_folded v ts) k).1
 
-by_word_folded : (v : ℕ → Bool) (t : Typ) (cat : Cat) (o : Option ℕ) (chosen other tree : Tree) → is_folded v chosen ≡ true → is_folded v other ≡ true → taken_by v t cat o chosen other ≡ Some tree → is_folded v tree ≡ true
+by_word_folded : (v : ℕ → Bool) (t : Typ) (cat : Cat) (o : Option ℕ) (chosen other tree : Tree) → is_folded v chosen ≡ true → is_folded v other ≡ true
+    → taken_by v t cat o chosen other ≡ Some tree → is_folded v tree ≡ true
 by_word_folded v t cat None chosen other tree p q e = absurd cc
 by_word_folded v t cat (Some w) chosen other tree p q e = either_taken v (w == 0) _ _ other chosen tree q p e
 
-taken_folded : (v : ℕ → Bool) (kind : TKind) (t : Typ) (cat : Cat) (kids : Trees) (tree : Tree) → are_folded v kids ≡ true → taken v kind t cat kids ≡ Some tree → is_folded v tree ≡ true
+taken_folded : (v : ℕ → Bool) (kind : TKind) (t : Typ) (cat : Cat) (kids : Trees) (tree : Tree) → are_folded v kids ≡ true → taken v kind t cat kids ≡ Some tree
+    → is_folded v tree ≡ true
 taken_folded v Conditional t cat none tree k e = absurd cc
 taken_folded v Conditional t cat (more a none) tree k e = absurd cc
 taken_folded v Conditional t cat (more a (more b none)) tree k e = absurd cc
@@ -140,17 +148,21 @@ taken_folded v kind t cat kids tree k e = absurd cc
 
 -- Nodes and trees
 
-literal_or_folded : (v : ℕ → Bool) (o : Option ℕ) (t : Typ) (at : At) (tree : Tree) → (o ≡ None → is_folded v tree ≡ true) → is_folded v (literal_or o t at tree) ≡ true
+literal_or_folded : (v : ℕ → Bool) (o : Option ℕ) (t : Typ) (at : At) (tree : Tree) → (o ≡ None → is_folded v tree ≡ true)
+    → is_folded v (literal_or o t at tree) ≡ true
 literal_or_folded v None t at tree h = h refl
 literal_or_folded v (Some w) t at tree h = refl
 
-unwrapped_folded : (v : ℕ → Bool) (o : Option Tree) (tree : Tree) → ((x : Tree) → o ≡ Some x → is_folded v x ≡ true) → (o ≡ None → is_folded v tree ≡ true) → is_folded v (unwrap_or o tree) ≡ true
+unwrapped_folded : (v : ℕ → Bool) (o : Option Tree) (tree : Tree) → ((x : Tree) → o ≡ Some x → is_folded v x ≡ true) → (o ≡ None → is_folded v tree ≡ true)
+    → is_folded v (unwrap_or o tree) ≡ true
 unwrapped_folded v None tree f g = g refl
 unwrapped_folded v (Some x) tree f g = f x refl
 
-node_is_folded : (v : ℕ → Bool) (kind : TKind) (t : Typ) (cat : Cat) (at : At) (kids : Trees) → are_folded v kids ≡ true → is_folded v (folded_node v kind t cat at kids) ≡ true
+node_is_folded : (v : ℕ → Bool) (kind : TKind) (t : Typ) (cat : Cat) (at : At) (kids : Trees) → are_folded v kids ≡ true
+    → is_folded v (folded_node v kind t cat at kids) ≡ true
 node_is_folded v kind t cat at kids k = literal_or_folded v (constant kind t cat kids) t at _ (λ c.
-    unwrapped_folded v (taken v kind t cat kids) (node kind t cat at kids) (λ x e. taken_folded v kind t cat kids x k e) (λ e. both_true _ _ (ap not (not_foldable v kind t cat at kids c e)) k))
+    unwrapped_folded v (taken v kind t cat kids) (node kind t cat at kids) (λ x e. taken_folded v kind t cat kids x k e)
+    (λ e. both_true _ _ (ap not (not_foldable v kind t cat at kids c e)) k))
 
 mutual
   pub folded_is_folded : (v : ℕ → Bool) (t : Tree) → is_folded v (folded v t) ≡ true

@@ -3,7 +3,9 @@
 use Rattle.std.specs.Prelude.{ℕ, Bool, true, false, not, ◌&&◌, ◌||◌}
 use Rattle.cpp_tree.specs.cpp_types.Typ.{Typ, typ, closure}
 use Rattle.cpp_tree.specs.declared.kinds.TKind.{TKind}
-use Rattle.cpp_tree.specs.declared.kinds.TKind.TheVariants.{Literal, Local, ClassTable, Load, Convert, Retype, Binary, Conditional, Comma, Assign, Update, CopyAssign, Materialize, FullExpression, Throw, Rethrow, Store, CopyScalar, CopyFrom, Pieces, Piece, Elements, Field}
+use Rattle.cpp_tree.specs.declared.kinds.TKind.TheVariants.{Literal, Local, ClassTable, Load, Convert, Retype, Binary, Conditional, Comma, Assign, Update}
+use Rattle.cpp_tree.specs.declared.kinds.TKind.TheVariants.{CopyAssign, Materialize, FullExpression, Throw, Rethrow, Store, CopyScalar, CopyFrom, Pieces, Piece}
+use Rattle.cpp_tree.specs.declared.kinds.TKind.TheVariants.{Elements, Field}
 use Rattle.cpp_tree.specs.Trees.{Tree, node, Trees, none, more}
 use Rattle.cpp_tree.specs.Typing.{is_void}
 use Rattle.tx_unsafe.specs.Volatile.{is_volatile_object, is_volatile_class}

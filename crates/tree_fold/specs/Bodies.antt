@@ -33,7 +33,8 @@ pub record HaveRootsFrom (i : ℕ) (nodes : List TNode) (funcs : List TFunc) : T
 -- the functions before an index have the folded bodies, those from there on the old ones
 pub record FoldedUpTo (volatile : ℕ → Bool) (from now : List Tree) (i : ℕ) (start funcs : List TFunc) : Type 0 where
   pub within : are_bodies_within (length now) (take i funcs) ≡ true
-  pub are : map (func_of now) (take i funcs) ++ map (folded_func volatile) (map (func_of from) (drop i funcs)) ≡ map (folded_func volatile) (map (func_of from) start)
+  pub are : map (func_of now) (take i funcs) ++ map (folded_func volatile) (map (func_of from) (drop i funcs))
+      ≡ map (folded_func volatile) (map (func_of from) start)
 
 -- the units from an index on can be read
 pub record ReadableFrom (i : ℕ) (units : List UnitTree) : Type 0 where

@@ -17,4 +17,5 @@ folded_program p = record p { units = map (folded_unit (has_volatile_part p.clas
 
 -- no body of the program has anything left to fold
 pub record IsFolded (p : TypedProgram) : Type 0 where
-  pub bodies : (i n : ℕ) (u : TypedUnit) (f : Func) (body : Tree) → slice_get p.units i ≡ Some u → slice_get u.funcs n ≡ Some f → f.body ≡ Some body → is_folded (has_volatile_part p.classes) body ≡ true
+  pub bodies : (i n : ℕ) (u : TypedUnit) (f : Func) (body : Tree) → slice_get p.units i ≡ Some u → slice_get u.funcs n ≡ Some f → f.body ≡ Some body
+      → is_folded (has_volatile_part p.classes) body ≡ true

@@ -1,5 +1,6 @@
 -- What is known of each node's folded tree, and what becomes of a node by that of its kids.
-use Rattle.std.specs.Prelude.{◌≡◌, ◌==◌, ℕ, Bool, true, false, nat_lt, ◌&&◌, List, [], ◌∷◌, length, get_or, slice_get, Option, Some, None, option_map, unwrap_or, cond}
+use Rattle.std.specs.Prelude.{◌≡◌, ◌==◌, ℕ, Bool, true, false, nat_lt, ◌&&◌, List, [], ◌∷◌, length, get_or, slice_get, Option, Some, None, option_map}
+use Rattle.std.specs.Prelude.{unwrap_or, cond}
 use Rattle.std.specs.List.{list_all}
 use Rattle.cpp_tree.specs.cpp_types.Typ.{Typ, typ_of}
 use Rattle.cpp_tree.specs.cpp_types.declared.ranks.Cat.{Cat}
@@ -78,7 +79,12 @@ has_none [] = true
 has_none (id ∷ ids) = false
 
 abbrev pub own_sight : (volatile : ℕ → Bool) → List Sight → TKind → Typ → List TNodeId → Sight
-own_sight volatile sights kind t ids = record { kind = kind; word = literal_word kind (is_integer t && has_none ids); bare = is_bare_node volatile kind t && all_bare sights ids }
+own_sight volatile sights kind t ids = record {
+  kind = kind;
+  word = literal_word kind (is_integer t && has_none ids);
+  bare = is_bare_node volatile kind t
+      && all_bare sights ids;
+}
 
 abbrev pub kid_or : List Sight → Option TNodeId → Sight → Sight
 kid_or sights None s = s

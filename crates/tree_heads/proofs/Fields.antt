@@ -1,5 +1,6 @@
 -- Fields, one scalar after another.
-use Rattle.std.proofs.Common.{◌≡◌, ◌∙◌, ℕ, zero, suc, ◌+◌, ◌/◌, ◌<◌, ◌≤◌, Bool, true, false, ◌&&◌, ◌==◌, length, map, drop, List, [], ◌∷◌, ◌++◌, Option, Some, None, cond, refl, sym, ap, arith}
+use Rattle.std.proofs.Common.{◌≡◌, ◌∙◌, ℕ, zero, suc, ◌+◌, ◌/◌, ◌<◌, ◌≤◌, Bool, true, false, ◌&&◌, ◌==◌, length, map, drop, List, [], ◌∷◌, ◌++◌, Option, Some}
+use Rattle.std.proofs.Common.{None, cond, refl, sym, ap, arith}
 use Rattle.std.specs.Prelude.{nat_le}
 use Rattle.std.proofs.lemmas.Bool.{leb-true, leb-false}
 use Rattle.cpp_tree.specs.cpp_types.Class.{Class}
@@ -14,10 +15,11 @@ use Rattle.tree_heads.specs.Shown.{shown}
 pub behind_both : (ss ts : List Scalar) (hs rest : List Head) → Some rest ≡ behind ss hs → behind (ss ++ ts) hs ≡ behind ts rest
 behind_both [] ts hs rest e = let k : rest ≡ hs = cc in ap (behind ts) (sym k)
 behind_both (s ∷ ss) ts [] rest e = absurd cc
-behind_both (s ∷ ss) ts (h ∷ hs) rest e = elim (is_field_of s h.kind) as (λ b. Some rest ≡ cond b (behind ss hs) None → cond b (behind (ss ++ ts) hs) None ≡ behind ts rest) [
-  | true ↦ λ g. behind_both ss ts hs rest g
-  | false ↦ λ g. absurd cc
-] e
+behind_both (s ∷ ss) ts (h ∷ hs) rest e = elim (is_field_of s h.kind) as (λ b. Some rest ≡ cond b (behind ss hs) None → cond b (behind (ss ++ ts) hs) None
+    ≡ behind ts rest) [
+      | true ↦ λ g. behind_both ss ts hs rest g
+      | false ↦ λ g. absurd cc
+    ] e
 
 pub not_behind : (ss ts : List Scalar) (hs : List Head) → None ≡ behind ss hs → behind (ss ++ ts) hs ≡ None
 not_behind [] ts hs e = absurd cc
@@ -57,17 +59,22 @@ no_fields (s ∷ ss) (h ∷ hs) e = elim (is_field_of s h.kind) as (λ b. None �
 -- Elements
 
 pub counted : (one : ℕ → List Scalar) (stride k at : ℕ) → at ≤ 64 → element_scalars one stride (suc k) at ≡ one at ++ element_scalars one stride k (at + stride)
-counted one stride k at h = let low : nat_le at 64 ≡ true = grind (arith, h) in ap (λ (b : Bool). cond b (one at ++ element_scalars one stride k (at + stride)) []) low
+counted one stride k at h = let low : nat_le at 64 ≡ true = grind (arith, h) in
+    ap (λ (b : Bool). cond b (one at ++ element_scalars one stride k (at + stride)) []) low
 
 pub not_counted : (one : ℕ → List Scalar) (stride k at : ℕ) → 64 < at → element_scalars one stride (suc k) at ≡ []
-not_counted one stride k at h = let high : nat_le at 64 ≡ false = grind (arith, h) in ap (λ (b : Bool). cond b (one at ++ element_scalars one stride k (at + stride)) []) high
+not_counted one stride k at h = let high : nat_le at 64 ≡ false = grind (arith, h) in
+    ap (λ (b : Bool). cond b (one at ++ element_scalars one stride k (at + stride)) []) high
 
-pub object_is : (classes : List Class) (of_class : ℕ → ℕ → List Scalar) (t e : Typ) (stride many at : ℕ) → e ≡ element_of t → stride ≡ stride_of classes e → (stride ≡ 0 → ⊥) → many ≡ stride_of classes t / stride → object_scalars classes of_class t at ≡ element_scalars (one_element of_class (form_in e)) stride many at
+pub object_is : (classes : List Class) (of_class : ℕ → ℕ → List Scalar) (t e : Typ) (stride many at : ℕ) → e ≡ element_of t → stride ≡ stride_of classes e
+    → (stride ≡ 0 → ⊥) → many ≡ stride_of classes t / stride
+    → object_scalars classes of_class t at ≡ element_scalars (one_element of_class (form_in e)) stride many at
 object_is classes of_class t e stride many at same is some all =
     let one : stride ≡ stride_of classes (element_of t) = is ∙ ap (stride_of classes) same in
     let there : (stride == 0) ≡ false = grind (arith, some) in
     let found : (stride_of classes (element_of t) == 0) ≡ false = ap (λ (z : ℕ). z == 0) (sym one) ∙ there in
-    ap (λ (b : Bool). cond b [] (element_scalars (one_element of_class (form_in (element_of t))) (stride_of classes (element_of t)) (stride_of classes t / stride_of classes (element_of t)) at)) found
+    ap (λ (b : Bool). cond b [] (element_scalars (one_element of_class (form_in (element_of t))) (stride_of classes (element_of t))
+    (stride_of classes t / stride_of classes (element_of t)) at)) found
     ∙ ap (λ (z : ℕ). element_scalars (one_element of_class (form_in (element_of t))) z (stride_of classes t / z) at) (sym one)
     ∙ ap (λ (z : ℕ). element_scalars (one_element of_class (form_in (element_of t))) stride z at) (sym all)
     ∙ ap (λ (z : Typ). element_scalars (one_element of_class (form_in z)) stride many at) (sym same)
@@ -85,7 +92,8 @@ some_left [] n h = absurd (omega (arith, h))
 some_left (x ∷ hs) zero h = (shown x, map shown hs, refl)
 some_left (x ∷ hs) (suc n) h = some_left hs n (omega (arith, h))
 
-pub fields_end : (ss : List Scalar) (hs : List KidHead) (n : ℕ) → Some (left hs n) ≡ behind ss (map shown hs) → nat_le (length hs) n ≡ are_fields ss (map shown hs)
+pub fields_end : (ss : List Scalar) (hs : List KidHead) (n : ℕ) → Some (left hs n) ≡ behind ss (map shown hs)
+    → nat_le (length hs) n ≡ are_fields ss (map shown hs)
 fields_end ss hs n e = elim (nat_le (length hs) n) as (λ b. nat_le (length hs) n ≡ b → b ≡ are_fields ss (map shown hs)) [
   | true ↦ λ h.
       let few : length hs ≤ n = leb-true (length hs) n h in

@@ -1,5 +1,6 @@
 -- The kids of a node, kid by kid.
-use Rattle.std.proofs.Common.{◌≡◌, ◌∙◌, ◌<◌, ◌≤◌, ℕ, zero, suc, ◌+◌, Bool, true, false, not, ◌&&◌, ◌||◌, List, [], ◌∷◌, Some, None, slice_get, get_or, length, drop, ap, sym, arith, refl}
+use Rattle.std.proofs.Common.{◌≡◌, ◌∙◌, ◌<◌, ◌≤◌, ℕ, zero, suc, ◌+◌, Bool, true, false, not, ◌&&◌, ◌||◌, List, [], ◌∷◌, Some, None, slice_get, get_or, length}
+use Rattle.std.proofs.Common.{drop, ap, sym, arith, refl}
 use Rattle.std.specs.Cmp.Derive.{both_true}
 use Rattle.std.proofs.lemmas.Bool.{and_parts, ltb-true, lt-ltb}
 use Rattle.std.proofs.lemmas.List.{at_drop_more, at_drop_all}
@@ -25,7 +26,8 @@ below_more a b (id ∷ ids) l h =
     let n : id.0 < b = omega arith in
     both_true (lt-ltb id.0 b n) (below_more a b ids l k.1)
 
-pub kids_below : (nodes : List TNode) (id : ℕ) (n : TNode) → IsOrdered nodes → id < length nodes → slice_get nodes id ≡ Some n → are_below (length nodes) n.kids.items ≡ true
+pub kids_below : (nodes : List TNode) (id : ℕ) (n : TNode) → IsOrdered nodes → id < length nodes → slice_get nodes id ≡ Some n
+    → are_below (length nodes) n.kids.items ≡ true
 kids_below nodes id n o l h = below_more id (length nodes) n.kids.items (omega arith) (o.lower id n h)
 
 pub below_at : (n : ℕ) (ids : List TNodeId) (i : ℕ) (d : TNodeId) → i < length ids → are_below n ids ≡ true → (get_or ids i d).0 < n
@@ -74,11 +76,13 @@ zero_not trees ids i d l h = at_drop_more (λ z. are_zero (trees_at trees z)) id
 pub zero_end : (trees : List Tree) (ids : List TNodeId) (i : ℕ) → length ids ≤ i → are_zero (trees_at trees (drop i ids)) ≡ true
 zero_end trees ids i l = at_drop_all (λ z. are_zero (trees_at trees z)) ids i l
 
-pub zero_whole : (trees : List Tree) (id : TNodeId) (n : TNode) (ids : List TNodeId) → tree_at trees id ≡ tree_of trees n → ids ≡ n.kids.items → is_zeroing n.kind ≡ true
+pub zero_whole : (trees : List Tree) (id : TNodeId) (n : TNode) (ids : List TNodeId) → tree_at trees id ≡ tree_of trees n → ids ≡ n.kids.items
+    → is_zeroing n.kind ≡ true
     → is_zero (tree_at trees id) ≡ are_zero (trees_at trees ids)
 zero_whole trees id n ids e k z = ap is_zero e ∙ ap (λ b. b && are_zero (trees_at trees n.kids.items)) z ∙ ap (λ x. are_zero (trees_at trees x)) (sym k)
 
-pub zero_no : (trees : List Tree) (id : TNodeId) (n : TNode) → tree_at trees id ≡ tree_of trees n → is_zeroing n.kind ≡ false → is_zero (tree_at trees id) ≡ false
+pub zero_no : (trees : List Tree) (id : TNodeId) (n : TNode) → tree_at trees id ≡ tree_of trees n → is_zeroing n.kind ≡ false
+    → is_zero (tree_at trees id) ≡ false
 zero_no trees id n e z = ap is_zero e ∙ ap (λ b. b && are_zero (trees_at trees n.kids.items)) z
 
 -- Labels
@@ -96,7 +100,9 @@ skips_other t c a (more x (more y none)) h = absurd cc
 skips_other t c a (more x (more y (more z ts))) h = refl
 
 pub labels_next : (skipping : Bool) (trees : List Tree) (ids : List TNodeId) (i : ℕ) (d : TNodeId) → i < length ids
-    → labels_fit skipping (trees_at trees (drop i ids)) ≡ (not (skipping && is_label (kind_of (tree_at trees (get_or ids i d)))) && labels_fit (skipping || skips (tree_at trees (get_or ids i d))) (trees_at trees (drop (i + 1) ids)))
+    → labels_fit skipping (trees_at trees (drop i ids))
+    ≡ (not (skipping && is_label (kind_of (tree_at trees (get_or ids i d))))
+    && labels_fit (skipping || skips (tree_at trees (get_or ids i d))) (trees_at trees (drop (i + 1) ids)))
 labels_next skipping trees ids i d l = at_drop_more (λ z. labels_fit skipping (trees_at trees z)) ids i d l
 
 pub labels_end : (skipping : Bool) (trees : List Tree) (ids : List TNodeId) (i : ℕ) → length ids ≤ i → labels_fit skipping (trees_at trees (drop i ids)) ≡ true

@@ -1,5 +1,6 @@
 -- Marks of the numbers of a list: a number that is marked already stands in it twice.
-use Rattle.std.proofs.Common.{◌≡◌, ◌∙◌, ◌<◌, ◌≤◌, inl, inr, ℕ, zero, suc, ◌+◌, Bool, true, false, List, [], ◌∷◌, get_or, set, length, take, ap, sym, subst, arith, refl, eq-eqb}
+use Rattle.std.proofs.Common.{◌≡◌, ◌∙◌, ◌<◌, ◌≤◌, inl, inr, ℕ, zero, suc, ◌+◌, Bool, true, false, List, [], ◌∷◌, get_or, set, length, take, ap, sym, subst}
+use Rattle.std.proofs.Common.{arith, refl, eq-eqb}
 use Rattle.std.specs.Prelude.{cond, nat_eq, nat_lt}
 use Rattle.std.specs.List.{list_all}
 use Rattle.std.proofs.lemmas.Bool.{cases_eq, cases_Bool, and_parts, ne_eqb, ltb-true}
@@ -14,7 +15,8 @@ number_below bound [] i d l h = absurd (omega arith)
 number_below bound (n ∷ ns) zero d l h = ltb-true n bound ((and_parts (nat_lt n bound) (list_all (λ n. nat_lt n bound) ns) h).0)
 number_below bound (n ∷ ns) (suc i) d l h = number_below bound ns i d (omega arith) ((and_parts (nat_lt n bound) (list_all (λ n. nat_lt n bound) ns) h).1)
 
-once_more : (marks : List Bool) (ns : List ℕ) (i d n : ℕ) → Marked marks (take i ns) → i < length ns → get_or ns i d < length marks → get_or marks (get_or ns i d) false ≡ false
+once_more : (marks : List Bool) (ns : List ℕ) (i d n : ℕ) → Marked marks (take i ns) → i < length ns → get_or ns i d < length marks
+    → get_or marks (get_or ns i d) false ≡ false
     → times n (take (i + 1) ns) ≡ cond (get_or (set marks (get_or ns i d) true) n false) 1 0
 once_more marks ns i d n m l b h = elim (cases_eq n (get_or ns i d)) [
   | inl e ↦
@@ -23,14 +25,16 @@ once_more marks ns i d n m l b h = elim (cases_eq n (get_or ns i d)) [
       let unmarked : get_or marks n false ≡ false = subst (λ (z : ℕ). get_or marks z false ≡ false) (sym e) h in
       let none : times n (take i ns) ≡ 0 = m.once n ∙ ap (λ z. cond z 1 0) unmarked in
       let one : times n (take (i + 1) ns) ≡ 1 = omega (arith, more, none) in
-      let set_there : get_or (set marks (get_or ns i d) true) n false ≡ true = subst (λ (z : ℕ). get_or (set marks (get_or ns i d) true) z false ≡ true) (sym e) (get_or-set_same marks (get_or ns i d) true false b) in
+      let set_there : get_or (set marks (get_or ns i d) true) n false ≡ true =
+      subst (λ (z : ℕ). get_or (set marks (get_or ns i d) true) z false ≡ true) (sym e) (get_or-set_same marks (get_or ns i d) true false b) in
       one ∙ sym (ap (λ z. cond z 1 0) set_there)
   | inr ne ↦
       let no : nat_eq (get_or ns i d) n ≡ false = ne_eqb (get_or ns i d) n (λ e. ne (sym e)) in
       count_by_more_no (λ k. nat_eq k n) ns i d l no ∙ m.once n ∙ sym (ap (λ z. cond z 1 0) (get_or-set_other marks (get_or ns i d) n true false ne))
 ]
 
-pub marked_more : (marks : List Bool) (ns : List ℕ) (i d : ℕ) → Marked marks (take i ns) → i < length ns → get_or ns i d < length marks → get_or marks (get_or ns i d) false ≡ false
+pub marked_more : (marks : List Bool) (ns : List ℕ) (i d : ℕ) → Marked marks (take i ns) → i < length ns → get_or ns i d < length marks
+    → get_or marks (get_or ns i d) false ≡ false
     → Marked (set marks (get_or ns i d) true) (take (i + 1) ns)
 marked_more marks ns i d m l b h = record { once = λ n. once_more marks ns i d n m l b h }
 
@@ -42,7 +46,8 @@ read_same (x ∷ xs) (suc i) d e h = read_same xs i d e (omega arith)
 pub marked_there : (marks : List Bool) (x : ℕ) (r : Bool) → x < length marks → r ≡ get_or marks x r → r ≡ true → get_or marks x false ≡ true
 marked_there marks x r h e t = read_same marks x false r h ∙ sym e ∙ t
 
-pub marked_twice : (marks : List Bool) (ns : List ℕ) (i d : ℕ) → Marked marks (take i ns) → i < length ns → get_or marks (get_or ns i d) false ≡ true → are_distinct ns ≡ false
+pub marked_twice : (marks : List Bool) (ns : List ℕ) (i d : ℕ) → Marked marks (take i ns) → i < length ns → get_or marks (get_or ns i d) false ≡ true
+    → are_distinct ns ≡ false
 marked_twice marks ns i d m l h =
     let x : ℕ = get_or ns i d in
     let yes : nat_eq x x ≡ true = eq-eqb x x refl in
@@ -56,5 +61,6 @@ marked_twice marks ns i d m l h =
 
 pub marked_all : (marks : List Bool) (ns : List ℕ) (i : ℕ) → Marked marks (take i ns) → length ns ≤ i → are_distinct ns ≡ true
 marked_all marks ns i m l = once_distinct ns (λ n.
-    let few : times n (take i ns) ≤ 1 = subst (λ (z : ℕ). z ≤ 1) (sym (m.once n)) (elim (get_or marks n false) as (λ b. cond b 1 0 ≤ 1) [ true ↦ omega arith | false ↦ omega arith ]) in
+    let few : times n (take i ns) ≤ 1 = subst (λ (z : ℕ). z ≤ 1) (sym (m.once n))
+    (elim (get_or marks n false) as (λ b. cond b 1 0 ≤ 1) [ true ↦ omega arith | false ↦ omega arith ]) in
     subst (λ (z : List ℕ). times n z ≤ 1) (take_all i ns l) few)

@@ -15,7 +15,8 @@ pub params_differ : (ts : List Ty) (hs : List Head) → (length ts ≡ length hs
 params_differ [] [] h = absurd (h refl)
 params_differ [] (x ∷ hs) h = refl
 params_differ (t ∷ ts) [] h = refl
-params_differ (t ∷ ts) (x ∷ hs) h = and_false (is_word (passed (typ_of t)) x) ∙ ap (λ (b : Bool). is_word (passed (typ_of t)) x && b) (params_differ ts hs (λ e. h (ap suc e)))
+params_differ (t ∷ ts) (x ∷ hs) h = and_false (is_word (passed (typ_of t)) x)
+    ∙ ap (λ (b : Bool). is_word (passed (typ_of t)) x && b) (params_differ ts hs (λ e. h (ap suc e)))
 
 -- more than one type
 pub many_types : (t : Typ) (ts : List Ty) → 2 ≤ length ts → false ≡ typs_eq (more t none) (typs_of ts)

@@ -26,7 +26,8 @@ use Rattle.tx_events.specs.declared.What.{What}
 use Rattle.tx_events.specs.declared.What.TheVariants.{Read, Write}
 use Rattle.tx_events.specs.Thread.{Thread}
 use Rattle.tx_events.specs.Memory.{MemoryLayout, can_access}
-use Rattle.tx_events.specs.Alone.{Inner, inner_by, inner_load, inner_store, leave, raise, newest, BlockStep, Goes, Leaves, Halts, Never, Inside, at_start, goes_on}
+use Rattle.tx_events.specs.Alone.{Inner, inner_by, inner_load, inner_store, leave, raise, newest, BlockStep, Goes, Leaves, Halts, Never, Inside, at_start}
+use Rattle.tx_events.specs.Alone.{goes_on}
 use Rattle.tx_serial.specs.Trace.{item_if, access_items, inside_items}
 use Rattle.turn_traces.specs.Keeping.{named}
 use Rattle.turn_traces.proofs.Notes.{Note, note_in, whats_of, noted}

@@ -1,5 +1,6 @@
 -- What the trace gains in a turn is the items of the step that the order gains.
-use Rattle.std.proofs.Common.{ℕ, ℤ, pos, negsuc, ◌≡◌, ◌==◌, Bool, true, false, cond, refl, ap, sym, ◌∙◌, subst, length, List, [], ◌∷◌, ◌++◌, append_assoc, append-nil, Option, Some, None, is_some, arith}
+use Rattle.std.proofs.Common.{ℕ, ℤ, pos, negsuc, ◌≡◌, ◌==◌, Bool, true, false, cond, refl, ap, sym, ◌∙◌, subst, length, List, [], ◌∷◌, ◌++◌, append_assoc}
+use Rattle.std.proofs.Common.{append-nil, Option, Some, None, is_some, arith}
 use Rattle.std.specs.Prelude.{nat_lt, not, ◌&&◌, ◌||◌}
 use Rattle.std.proofs.lemmas.Bool.{true≢false, false≢true, eq-eqb, ne_eqb}
 use Rattle.choosers.specs.declared.Clash.{Clash}
@@ -39,7 +40,8 @@ use Rattle.tx_events.specs.World.{World, Alive, EventStep, target}
 use Rattle.tx_events.proofs.BlockRuns.{update_same}
 use Rattle.tx_events.proofs.OneReplay.{From, at, then, inner_or, same_outcome}
 use Rattle.tx_serial.specs.Machine.{Machine, Local, OpenTx, Save, no_save, least, blocker, lock_owner, busy, clash_of, hand, note, is_noted}
-use Rattle.tx_serial.specs.Turn.{Turned, ran, stays, steps, number_of, load_out, store_out, joins, sync_in, sync_idle, halts, clashes, closes, load_in, store_in, outermost, commits, cancels_by, cancels, raises, in_does, out_does}
+use Rattle.tx_serial.specs.Turn.{Turned, ran, stays, steps, number_of, load_out, store_out, joins, sync_in, sync_idle, halts, clashes, closes, load_in}
+use Rattle.tx_serial.specs.Turn.{store_in, outermost, commits, cancels_by, cancels, raises, in_does, out_does}
 use Rattle.tx_serial.specs.Kinds.{is_ran}
 use Rattle.tx_serial.specs.Run.{is_open}
 use Rattle.tx_serial.specs.Order.{enters_order, open_in}
@@ -179,7 +181,8 @@ module _ {S : Type 0} (a : Thread S) (p : MemoryLayout) (t : ℕ) (m : Machine S
     out_gains (Raise kind can) here d o k = absurd d
     out_gains (Load addr size vol) here d o k = access_gains (Load addr size vol) (Read addr size) (can_access p addr size) _ (Trapped BadAddress) refl
         (load_gains addr size vol (blocker t false (word_of addr) m)) k
-    out_gains (Store addr size value vol) here d o k = access_gains (Store addr size value vol) (Write addr size) (can_access p addr size) _ (Trapped BadAddress)
+    out_gains (Store addr size value vol) here d o k =
+        access_gains (Store addr size value vol) (Write addr size) (can_access p addr size) _ (Trapped BadAddress)
         refl (store_gains addr size value vol (blocker t true (word_of addr) m)) k
     out_gains BeginSync here d o k = sync_gains (lock_owner t m.lock.holder) k
         ∙ ap (λ b. item_if b t Enter) (empty_is (a.blocks l.state) x.open_blocks all)
@@ -345,6 +348,7 @@ module _ {S : Type 0} (a : Thread S) (p : MemoryLayout) (t : ℕ) (w v : World S
     where
       by_state : (run : Alone a p (a.after q Nothing) w.memory) → whole q run ≡ whole q other
       by_state = subst (λ s. (run : Alone a p s w.memory) → whole q run ≡ whole q other) kept (λ run.
-          ap (λ zs. item_if (is_empty (a.blocks q)) t Enter ++ (zs ++ leave_items (is_empty (a.blocks q)) t (outcome run))) (same_block a p t k w.memory run other)
+          ap (λ zs. item_if (is_empty (a.blocks q)) t Enter ++ (zs ++ leave_items (is_empty (a.blocks q)) t (outcome run)))
+          (same_block a p t k w.memory run other)
           ∙ ap (λ y. item_if (is_empty (a.blocks q)) t Enter ++ (inside_items t other.run ++ leave_items (is_empty (a.blocks q)) t y))
           (same_outcome a p k w.memory run other))

@@ -1,5 +1,6 @@
 -- What a keeper keeps, after a change of it.
-use Rattle.std.proofs.Common.{ℕ, zero, suc, ◌≡◌, ◌==◌, ◌<◌, ◌≤◌, inl, inr, subst, ◌+◌, true, false, cond, refl, ap, sym, ◌∙◌, length, List, [], ◌∷◌, ◌++◌, append_assoc, append-nil, get_or, take, Option, Some}
+use Rattle.std.proofs.Common.{ℕ, zero, suc, ◌≡◌, ◌==◌, ◌<◌, ◌≤◌, inl, inr, subst, ◌+◌, true, false, cond, refl, ap, sym, ◌∙◌, length, List, [], ◌∷◌, ◌++◌}
+use Rattle.std.proofs.Common.{append_assoc, append-nil, get_or, take, Option, Some}
 use Rattle.std.specs.Prelude.{slice_get, Result, Ok, Err, OnOk}
 use Rattle.std.proofs.Math.ListN.{set, length-set}
 use Rattle.std.proofs.Math.Path.{fun_ext}

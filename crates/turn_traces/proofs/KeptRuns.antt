@@ -151,7 +151,12 @@ module _ {S : Type 0} (R : S → Type 0) (a : Thread S) (laws : Lawful S R a) (p
       where
         never_noted : (l : Local S) → GoesOn t (erase m) l → (o : Option (Local (S × Note))) → m.threads t ≡ o → ⊥
         never_noted l g None i = none-some l (sym (ap erase_opt i) ∙ g.is)
-        never_noted l g (Some n) i = never n (record { going = g.going; is = i; up = ap (λ v. v.ended) (one (erase_local n) l (sym (ap erase_opt i) ∙ g.is)) ∙ g.up })
+        never_noted l g (Some n) i = never n (record {
+          going = g.going;
+          is = i;
+          up = ap (λ v. v.ended) (one (erase_local n) l (sym (ap erase_opt i) ∙ g.is))
+              ∙ g.up;
+        })
           where
             one : (v w : Local S) → Some v ≡ Some w → v ≡ w
             one v w e = cc

@@ -1,5 +1,6 @@
 -- What is kept turn by turn is the trace of the order.
-use Rattle.std.proofs.Common.{ℕ, zero, suc, ◌≡◌, ◌==◌, ◌≤◌, Bool, true, false, cond, refl, ap, sym, ◌∙◌, subst, length, List, [], ◌∷◌, ◌++◌, append_assoc, Option, Some, None, is_some, arith}
+use Rattle.std.proofs.Common.{ℕ, zero, suc, ◌≡◌, ◌==◌, ◌≤◌, Bool, true, false, cond, refl, ap, sym, ◌∙◌, subst, length, List, [], ◌∷◌, ◌++◌, append_assoc}
+use Rattle.std.proofs.Common.{Option, Some, None, is_some, arith}
 use Rattle.std.specs.Prelude.{not, ◌&&◌, ◌||◌}
 use Rattle.std.proofs.lemmas.Bool.{true≢false, false≢true, eq-eqb, ne_eqb}
 use Rattle.std.proofs.lemmas.List.{append_cancel_left}
@@ -227,7 +228,8 @@ module _ {S : Type 0} (R : S → Type 0) (a : Thread S) (laws : Lawful S R a) (p
             × (inside_items t other.run ≡ named t x.accesses) × (outcome other ≡ inner_by a p (bare_inner a p t i) e)
         whole_of over =
             let next = ap (λ (z : S × Note). inner_by a p (bare_inner a p t i) (a.next z.0)) state in
-            subst (λ z. (other : Alone a p k.0 z) × (inside_items t other.run ≡ named t x.accesses) × (outcome other ≡ inner_by a p (bare_inner a p t i) e)) same
+            subst (λ z. (other : Alone a p k.0 z) × (inside_items t other.run ≡ named t x.accesses) ×
+            (outcome other ≡ inner_by a p (bare_inner a p t i) e)) same
             (record { last = bare_inner a p t i; run = bare.run; over = ap is_over next ∙ over }, accesses, next)
 
         items : (zs : List Item) → (is_over (inner_by a p (bare_inner a p t i) e) ≡ true)

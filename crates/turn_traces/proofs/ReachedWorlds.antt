@@ -1,5 +1,6 @@
 -- In a world to which an order replays each thread is in a state that threads come to.
-use Rattle.std.proofs.Common.{ℕ, pos, zero, suc, ◌≡◌, ◌==◌, ◌<◌, ◌≤◌, ◌^◌, Bool, true, false, cond, refl, ap, sym, subst, List, [], ◌∷◌, Option, Some, None, arith}
+use Rattle.std.proofs.Common.{ℕ, pos, zero, suc, ◌≡◌, ◌==◌, ◌<◌, ◌≤◌, ◌^◌, Bool, true, false, cond, refl, ap, sym, subst, List, [], ◌∷◌, Option, Some, None}
+use Rattle.std.proofs.Common.{arith}
 use Rattle.std.specs.Prelude.{nat_lt}
 use Rattle.std.proofs.lemmas.Bool.{ltb-true}
 use Rattle.std.proofs.lemmas.Option.{none-some}
@@ -30,8 +31,10 @@ use Rattle.tx_events.specs.declared.Reply.{Reply}
 use Rattle.tx_events.specs.declared.Reply.TheVariants.{Nothing, Byte, Id}
 use Rattle.tx_events.specs.Thread.{Thread, Lawful, Answers}
 use Rattle.tx_events.specs.Memory.{update, MemoryLayout, can_access, word_of}
-use Rattle.tx_events.specs.Alone.{Inner, inner_by, inner_load, inner_store, leave, raise, newest, BlockStep, Goes, Leaves, Halts, Never, Inside, at_start, goes_on, outcome}
-use Rattle.tx_events.specs.World.{Alive, alive, World, Replays, EventStep, Joins, BlockEffect, target, byte_of, SilentSteps, none, one_more, first_world, only_first}
+use Rattle.tx_events.specs.Alone.{Inner, inner_by, inner_load, inner_store, leave, raise, newest, BlockStep, Goes, Leaves, Halts, Never, Inside, at_start}
+use Rattle.tx_events.specs.Alone.{goes_on, outcome}
+use Rattle.tx_events.specs.World.{Alive, alive, World, Replays, EventStep, Joins, BlockEffect, target, byte_of, SilentSteps, none, one_more, first_world}
+use Rattle.tx_events.specs.World.{only_first}
 use Rattle.tx_events.proofs.WordLemmas.{read_fits, byte_int}
 
 module _ {S : Type 0} (R : S → Type 0) (a : Thread S) (laws : Lawful S R a) (p : MemoryLayout) (small : p.limit ≤ THREAD_LIMIT) where

@@ -87,7 +87,9 @@ use Rattle.tx_serial.specs.Machine.{
   forget,
   is_noted,
 }
-use Rattle.tx_serial.specs.Turn.{Turned, ran, bare, number_of, waited, load_out, store_out, joins, begins, sync_in, sync_idle, spawns, halts, clashes, gives_up, closes, without, load_in, store_in, outermost, commits, cancels_by, cancels, raises, in_does, out_does, lets_go, given_back, gives_back, turn_in}
+use Rattle.tx_serial.specs.Turn.{Turned, ran, bare, number_of, waited, load_out, store_out, joins, begins, sync_in, sync_idle, spawns, halts, clashes, gives_up}
+use Rattle.tx_serial.specs.Turn.{closes, without, load_in, store_in, outermost, commits, cancels_by, cancels, raises, in_does, out_does, lets_go, given_back}
+use Rattle.tx_serial.specs.Turn.{gives_back, turn_in}
 use Rattle.tx_serial.proofs.HistoryErased.{erase, erase_tx, erase_local, erase_opt}
 use Rattle.turn_traces.specs.Keeping.{Kept, with_atomic, kept_after, kept_told, started_after, started_told, given_up}
 use Rattle.turn_traces.proofs.Notes.{Note, no_note, note_in, whats_of, noted, Counts, counts_after}

@@ -2,13 +2,15 @@
 use Rattle.std.specs.Prelude.{ℕ, List, ◌++◌, codes}
 use Rattle.std.specs.Fmt.{decimal, signed_decimal}
 use Rattle.tx_events.specs.declared.Trap.{Trap}
-use Rattle.tx_events.specs.declared.Trap.TheVariants.{Overflow, DivideByZero, ShiftRange, BadAddress, StackOverflow, UnsafeCall, BadCall, BadVirtual, TooManyThreads, BadJoin}
+use Rattle.tx_events.specs.declared.Trap.TheVariants.{Overflow, DivideByZero, ShiftRange, BadAddress, StackOverflow, UnsafeCall, BadCall, BadVirtual}
+use Rattle.tx_events.specs.declared.Trap.TheVariants.{TooManyThreads, BadJoin}
 use Rattle.tx_events.specs.declared.End.{End}
 use Rattle.tx_events.specs.declared.End.TheVariants.{Exit, Abort, Terminate, Trapped, StepsOut}
 use Rattle.tx_machine.specs.declared.run.Ran.{Ran}
 use Rattle.vm_thread.specs.declared.thread.Here.{Here}
 use Rattle.tx_answers.specs.declared.answer.Status.{Status}
-use Rattle.tx_answers.specs.declared.answer.Status.TheVariants.{Done, Refused, Usage, Abort as Aborted, Terminate as Terminated, Trapped as TrapStatus, StepsOut as CutShort, HostFault, Memory, Limit, BadSchedule, CostOut}
+use Rattle.tx_answers.specs.declared.answer.Status.TheVariants.{Done, Refused, Usage, Abort as Aborted, Terminate as Terminated, Trapped as TrapStatus}
+use Rattle.tx_answers.specs.declared.answer.Status.TheVariants.{StepsOut as CutShort, HostFault, Memory, Limit, BadSchedule, CostOut}
 
 abbrev pub trap_name : Trap → List ℕ
 trap_name Overflow = codes "Overflow"
@@ -33,7 +35,8 @@ end_line StepsOut = codes "steps out\n"
 -- the turn line
 abbrev pub turn_line : (ran waited rolled idle : ℕ) → List ℕ
 turn_line ran waited rolled idle =
-    codes "turns ran " ++ (decimal ran ++ (codes " waited " ++ (decimal waited ++ (codes " rolled " ++ (decimal rolled ++ (codes " idle " ++ (decimal idle ++ codes "\n")))))))
+    codes "turns ran " ++ (decimal ran ++ (codes " waited " ++
+    (decimal waited ++ (codes " rolled " ++ (decimal rolled ++ (codes " idle " ++ (decimal idle ++ codes "\n")))))))
 
 abbrev pub end_lines : Ran Here → List ℕ
 end_lines r = end_line r.end ++ turn_line r.ran r.waited r.rolled r.idle

@@ -1,7 +1,8 @@
 -- Two threads that take the same steps, one for one.
 use Rattle.std.proofs.Common.{Bool, true, false, ◌≡◌, ℕ, zero, suc, inr, refl, sym, ◌∙◌, arith}
 use Rattle.tx_events.specs.declared.Event.{Event}
-use Rattle.tx_events.specs.declared.Event.TheVariants.{Silent, Load, Store, Out, Inp, Spawn, Join, BeginAtomic, EndAtomic, Raise, BeginSync, EndSync, Done, Stop}
+use Rattle.tx_events.specs.declared.Event.TheVariants.{Silent, Load, Store, Out, Inp, Spawn, Join, BeginAtomic, EndAtomic, Raise, BeginSync, EndSync, Done}
+use Rattle.tx_events.specs.declared.Event.TheVariants.{Stop}
 use Rattle.tx_events.specs.declared.Reply.{Reply}
 use Rattle.tx_events.specs.declared.Reply.TheVariants.{Nothing}
 use Rattle.tx_events.specs.Thread.{Thread, is_silent}
@@ -26,14 +27,34 @@ silent_is EndSync h = absurd (true≢false (sym h))
 silent_is Done h = absurd (true≢false (sym h))
 silent_is (Stop e) h = absurd (true≢false (sym h))
 
-module _ {S T : Type 0} (a : Thread S) (b : Thread T) (R : S → T → Type 0) (same : (s : S) (t : T) → R s t → b.next t ≡ a.next s) (on : (s : S) (t : T) (r : Reply) → R s t → R (a.after s r) (b.after t r)) where
+module _ {S T : Type 0} (a : Thread S) (b : Thread T) (R : S → T → Type 0) (same : (s : S) (t : T) → R s t → b.next t ≡ a.next s)
+    (on : (s : S) (t : T) (r : Reply) → R s t → R (a.after s r) (b.after t r)) where
   terms : SimulationBound S T
   terms = record { first = a; second = b; rate = 1; most = 0 }
 
-  stepped : (n : ℕ) (s : S) (t : T) (w : Bool) → is_silent (a.next s) ≡ w → R s t → Sim terms n 0 0 (a.after s Nothing) (b.after t Nothing) → ((r : Reply) → Sim terms n 0 0 (a.after s r) (b.after t r)) → Stepped terms (Sim terms n) 0 0 s t w
+  stepped : (n : ℕ) (s : S) (t : T) (w : Bool) → is_silent (a.next s) ≡ w → R s t → Sim terms n 0 0 (a.after s Nothing) (b.after t Nothing)
+      → ((r : Reply) → Sim terms n 0 0 (a.after s r) (b.after t r)) → Stepped terms (Sim terms n) 0 0 s t w
   unfolding terms
-  stepped n s t true e h one each = record { steps = 1; patience_left = 0; credit_left = 0; to = b.after t Nothing; path = step (same s t h ∙ silent_is (a.next s) e) here; waits = inr (omega arith, omega arith); pays = omega arith; goes = one }
-  stepped n s t false e h one each = record { steps = 0; to = t; path = here; same = same s t h; pays = omega arith; on = λ r fits. record { patience_left = 0; credit_left = 0; waits = omega arith; pays = omega arith; goes = each r } }
+  stepped n s t true e h one each = record {
+    steps = 1;
+    patience_left = 0;
+    credit_left = 0;
+    to = b.after t Nothing;
+    path = step
+        (same s t h ∙ silent_is (a.next s) e) here;
+    waits = inr (omega arith, omega arith);
+    pays = omega arith;
+    goes = one;
+  }
+  stepped n s t false e h one each = record {
+    steps = 0;
+    to = t;
+    path = here;
+    same = same s t h;
+    pays = omega arith;
+    on = λ r fits.
+        record { patience_left = 0; credit_left = 0; waits = omega arith; pays = omega arith; goes = each r };
+  }
 
   lockstep : (n : ℕ) (s : S) (t : T) → R s t → Sim terms n 0 0 s t
   unfolding terms

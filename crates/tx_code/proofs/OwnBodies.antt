@@ -5,13 +5,18 @@ use Rattle.std.specs.Option.{option_map, option_map_or, option_and_then}
 use Rattle.tx_events.specs.declared.Reply.{Reply}
 use Rattle.tx_events.specs.Same.{SameEvents, StepsWithin}
 use Rattle.tx_code.specs.declared.instr.Instr.{Instr}
-use Rattle.tx_code.specs.declared.instr.Instr.TheVariants.{Push, Dup, Pop, Swap, FrameAddr, GlobalAddr, FuncAddr, ClassAddr, Load, Store, TLoad, TStore, VLoad, VStore, Bin, Neg, Conv, Jump, JumpZero, Call, TCall, CallIndirect, TCallIndirect, Slot, Ret, Begin, End, BeginSync, EndSync, Out, Inp, Spawn, Join, Abort, NewException, PutException, Throw, Rethrow, GetException, EndHandler, Resume, Over}
+use Rattle.tx_code.specs.declared.instr.Instr.TheVariants.{Push, Dup, Pop, Swap, FrameAddr, GlobalAddr, FuncAddr, ClassAddr, Load, Store, TLoad, TStore, VLoad}
+use Rattle.tx_code.specs.declared.instr.Instr.TheVariants.{VStore, Bin, Neg, Conv, Jump, JumpZero, Call, TCall, CallIndirect, TCallIndirect, Slot, Ret, Begin}
+use Rattle.tx_code.specs.declared.instr.Instr.TheVariants.{End, BeginSync, EndSync, Out, Inp, Spawn, Join, Abort, NewException, PutException, Throw, Rethrow}
+use Rattle.tx_code.specs.declared.instr.Instr.TheVariants.{GetException, EndHandler, Resume, Over}
 use Rattle.tx_code.specs.declared.body.Row.{Row}
 use Rattle.tx_code.specs.Objects.{BodyView, ObjectView}
 use Rattle.tx_code.specs.Images.{ImageFuncView, ImageView}
 use Rattle.tx_code.specs.Renaming.{Numbering, itself, renamed, renamed_row, renamed_body}
 use Rattle.tx_events.specs.declared.Trap.TheVariants.{UnsafeCall}
-use Rattle.tx_code.specs.Meaning.{Names, Home, Frame, State, Runs, Unwinds, Exception, Act, Lost, traps, one, moved, at, if_some, act, enter_act, entered_act, checked_act, call_act, call_indirect_act, in_transaction, row_act, leave_act, unwind_act, find, cut, code_of, rows_of, fetch, rows_in, step_act, event_of, state_after, thread}
+use Rattle.tx_code.specs.Meaning.{Names, Home, Frame, State, Runs, Unwinds, Exception, Act, Lost, traps, one, moved, at, if_some, act, enter_act, entered_act}
+use Rattle.tx_code.specs.Meaning.{checked_act, call_act, call_indirect_act, in_transaction, row_act, leave_act, unwind_act, find, cut, code_of, rows_of, fetch}
+use Rattle.tx_code.specs.Meaning.{rows_in, step_act, event_of, state_after, thread}
 use Rattle.tx_code.specs.Program.{names_of, body_in}
 use Rattle.tx_code.specs.Linked.{FuncDef, ImageOf, image_func, kept_funcs, own_body, own_names, numbering_at}
 use Rattle.tx_code.proofs.Lockstep.{lock_same, lock_within}
@@ -76,9 +81,11 @@ module _ (x : Numbering) where
 
   rows_again : (rs : List Row) → map (renamed_row itself) (map (renamed_row x) rs) ≡ map (renamed_row x) rs
   rows_again [] = refl
-  rows_again (r ∷ rs) = ap (λ z. z ∷ map (renamed_row itself) (map (renamed_row x) rs)) (same_row (renamed_row x r)) ∙ ap (λ z. renamed_row x r ∷ z) (rows_again rs)
+  rows_again (r ∷ rs) = ap (λ z. z ∷ map (renamed_row itself) (map (renamed_row x) rs)) (same_row (renamed_row x r))
+      ∙ ap (λ z. renamed_row x r ∷ z) (rows_again rs)
 
-  code_same : (o : Option BodyView) (n : ℕ) → option_map (renamed itself) (slice_get (code_of (option_map (renamed_body x) o)) n) ≡ option_map (renamed x) (slice_get (code_of o) n)
+  code_same : (o : Option BodyView) (n : ℕ) → option_map (renamed itself) (slice_get (code_of (option_map (renamed_body x) o)) n)
+      ≡ option_map (renamed x) (slice_get (code_of o) n)
   code_same None n = refl
   code_same (Some b) n = fetched b.code n
 
@@ -99,16 +106,20 @@ module _ (os : List ObjectView) (i : ImageView) (image : ImageOf os i) where
   y = names_of i
 
   -- a function's body in the image, by what it is in its object
-  body_is : (o : Option FuncDef) (safe : Bool) → option_and_then (λ (g : ImageFuncView). body_in g safe) (option_map (image_func os i.types) o) ≡ option_map (renamed_body (option_map_or (numbering_at os i.types) o itself)) (option_and_then (own_body safe) o)
+  body_is : (o : Option FuncDef) (safe : Bool) → option_and_then (λ (g : ImageFuncView). body_in g safe) (option_map (image_func os i.types) o)
+      ≡ option_map (renamed_body (option_map_or (numbering_at os i.types) o itself)) (option_and_then (own_body safe) o)
   body_is None safe = refl
   body_is (Some d) true = refl
   body_is (Some d) false = refl
 
   body_same : (f : ℕ) (safe : Bool) → y.body f safe ≡ option_map (renamed_body (x.numbering f)) (x.body f safe)
-  body_same f safe = ap (λ fs. option_and_then (λ (g : ImageFuncView). body_in g safe) (slice_get fs f)) image.funcs ∙ ap (option_and_then (λ (g : ImageFuncView). body_in g safe)) (got (image_func os i.types) (kept_funcs os) f) ∙ body_is (slice_get (kept_funcs os) f) safe
+  body_same f safe = ap (λ fs. option_and_then (λ (g : ImageFuncView). body_in g safe) (slice_get fs f)) image.funcs
+      ∙ ap (option_and_then (λ (g : ImageFuncView). body_in g safe)) (got (image_func os i.types) (kept_funcs os) f)
+      ∙ body_is (slice_get (kept_funcs os) f) safe
 
   fetch_same : (h : Home) (n : ℕ) → fetch y h n ≡ fetch x h n
-  fetch_same h n = ap (λ o. option_map (renamed itself) (slice_get (code_of o) n)) (body_same h.func h.safe) ∙ code_same (x.numbering h.func) (x.body h.func h.safe) n
+  fetch_same h n = ap (λ o. option_map (renamed itself) (slice_get (code_of o) n)) (body_same h.func h.safe)
+      ∙ code_same (x.numbering h.func) (x.body h.func h.safe) n
 
   rows_in_same : (h : Home) → rows_in y h ≡ rows_in x h
   rows_in_same h = ap (λ o. map (renamed_row itself) (rows_of o)) (body_same h.func h.safe) ∙ rows_same (x.numbering h.func) (x.body h.func h.safe)
@@ -118,12 +129,15 @@ module _ (os : List ObjectView) (i : ImageView) (image : ImageOf os i) where
   there n None a c = refl
   there n (Some b) a c = refl
 
-  entered_same : (func : ℕ) (safe : Bool) (args : List ℕ) (f : Frame) (rest : List Frame) → entered_act y func safe args f rest ≡ entered_act x func safe args f rest
-  entered_same func safe args f rest = ap (λ o. if_some o Lost (λ b. enter_act x func safe args f rest)) (body_same func safe) ∙ there (x.numbering func) (x.body func safe) Lost (enter_act x func safe args f rest)
+  entered_same : (func : ℕ) (safe : Bool) (args : List ℕ) (f : Frame) (rest : List Frame)
+      → entered_act y func safe args f rest ≡ entered_act x func safe args f rest
+  entered_same func safe args f rest = ap (λ o. if_some o Lost (λ b. enter_act x func safe args f rest)) (body_same func safe)
+      ∙ there (x.numbering func) (x.body func safe) Lost (enter_act x func safe args f rest)
 
   checked_same : (func : ℕ) (inside : Bool) (a c : Act) → a ≡ c → checked_act y func inside a ≡ checked_act x func inside c
   checked_same func false a c e = e
-  checked_same func true a c e = ap (λ z. if_some (y.body func true) (traps UnsafeCall) (λ b. z)) e ∙ ap (λ o. if_some o (traps UnsafeCall) (λ b. c)) (body_same func true) ∙ there (x.numbering func) (x.body func true) (traps UnsafeCall) c
+  checked_same func true a c e = ap (λ z. if_some (y.body func true) (traps UnsafeCall) (λ b. z)) e
+      ∙ ap (λ o. if_some o (traps UnsafeCall) (λ b. c)) (body_same func true) ∙ there (x.numbering func) (x.body func true) (traps UnsafeCall) c
 
   moved_same : (n : ℕ) (ws args : List ℕ) (p q : List ℕ → List ℕ → Act) → ((args ws : List ℕ) → p args ws ≡ q args ws) → moved n ws args p ≡ moved n ws args q
   moved_same zero ws args p q h = h args ws
@@ -142,7 +156,9 @@ module _ (os : List ObjectView) (i : ImageView) (image : ImageOf os i) where
   call_same func safe n f rest = moved_same n f.words [] _ _ (λ args ws. entered_same func safe args (at f f.index ws) rest)
 
   indirect_same : (ty : ℕ) (safe : Bool) (n : ℕ) (f : Frame) (rest : List Frame) → call_indirect_act y ty safe n f rest ≡ call_indirect_act x ty safe n f rest
-  indirect_same ty safe n f rest = moved_same n f.words [] _ _ (λ args ws. one_same ws _ _ (λ a below. some_same (x.called ty a) _ _ _ (λ func. checked_same func (in_transaction f rest) _ _ (entered_same func safe args (at f f.index below) rest))))
+  indirect_same ty safe n f rest = moved_same n f.words [] _ _
+      (λ args ws. one_same ws _ _ (λ a below. some_same (x.called ty a) _ _ _
+      (λ func. checked_same func (in_transaction f rest) _ _ (entered_same func safe args (at f f.index below) rest))))
 
   act_same : (i : Instr) (f : Frame) (rest : List Frame) → act y i f rest ≡ act x i f rest
   act_same (Push v) f rest = refl
@@ -188,7 +204,8 @@ module _ (os : List ObjectView) (i : ImageView) (image : ImageOf os i) where
   act_same EndHandler f rest = refl
   act_same Resume f rest = refl
 
-  row_same : (what target : ℕ) (ws : List ℕ) (e : Exception) (f : Frame) (rest : List Frame) → row_act y what target ws e f rest ≡ row_act x what target ws e f rest
+  row_same : (what target : ℕ) (ws : List ℕ) (e : Exception) (f : Frame) (rest : List Frame)
+      → row_act y what target ws e f rest ≡ row_act x what target ws e f rest
   row_same zero target ws e f rest = refl
   row_same (suc zero) target ws e f rest = refl
   row_same (suc (suc zero)) target ws e f rest = refl
@@ -207,8 +224,10 @@ module _ (os : List ObjectView) (i : ImageView) (image : ImageOf os i) where
   unwind_same (Some r) e f rest = row_same r.what r.target (cut r.depth f.words) e f rest
 
   step_same : (s : State) → step_act y s ≡ step_act x s
-  step_same (Runs f rest) = ap (λ o. if_some o Lost (λ i. act y i f rest)) (fetch_same f.home f.index) ∙ some_same (fetch x f.home f.index) Lost _ _ (λ i. act_same i f rest)
-  step_same (Unwinds e f rest) = ap (λ rs. unwind_act y (find rs f.index e.ty) e f rest) (rows_in_same f.home) ∙ unwind_same (find (rows_in x f.home) f.index e.ty) e f rest
+  step_same (Runs f rest) = ap (λ o. if_some o Lost (λ i. act y i f rest)) (fetch_same f.home f.index)
+      ∙ some_same (fetch x f.home f.index) Lost _ _ (λ i. act_same i f rest)
+  step_same (Unwinds e f rest) = ap (λ rs. unwind_act y (find rs f.index e.ty) e f rest) (rows_in_same f.home)
+      ∙ unwind_same (find (rows_in x f.home) f.index e.ty) e f rest
 
   next_same : (s t : State) → s ≡ t → (thread y).next t ≡ (thread x).next s
   next_same s t e = subst (λ z. event_of (step_act y z) ≡ event_of (step_act x s)) e (ap event_of (step_same s))

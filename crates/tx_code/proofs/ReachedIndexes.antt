@@ -1,12 +1,16 @@
 -- What the clauses of sound code say at an index that is reached.
-use Rattle.std.proofs.Common.{Bool, true, false, ◌≡◌, ◌<◌, ◌≤◌, ◌⊎◌, ℕ, zero, suc, ◌+◌, List, [], ◌∷◌, length, Some, refl, sym, ap, ◌∙◌, subst, arith, inl, inr, ⊎_elim}
+use Rattle.std.proofs.Common.{Bool, true, false, ◌≡◌, ◌<◌, ◌≤◌, ◌⊎◌, ℕ, zero, suc, ◌+◌, List, [], ◌∷◌, length, Some, refl, sym, ap, ◌∙◌, subst, arith, inl, inr}
+use Rattle.std.proofs.Common.{⊎_elim}
 use Rattle.std.specs.Prelude.{slice_get, nat_lt, nat_le, ◌&&◌, ◌||◌}
 use Rattle.std.specs.List.{list_all}
 use Rattle.std.specs.Option.{option_map_or}
 use Rattle.std.proofs.lemmas.Bool.{true≢false, ltb-true, ltb-false}
 use Rattle.std.proofs.lemmas.Option.{same_Some}
 use Rattle.tx_code.specs.declared.instr.Instr.{Instr}
-use Rattle.tx_code.specs.declared.instr.Instr.TheVariants.{Push, Dup, Pop, Swap, FrameAddr, GlobalAddr, FuncAddr, ClassAddr, Load, Store, TLoad, TStore, VLoad, VStore, Bin, Neg, Conv, Jump, JumpZero, Call, TCall, CallIndirect, TCallIndirect, Slot, Ret, Begin, End, BeginSync, EndSync, Out, Inp, Spawn, Join, Abort, NewException, PutException, Throw, Rethrow, GetException, EndHandler, Resume, Over}
+use Rattle.tx_code.specs.declared.instr.Instr.TheVariants.{Push, Dup, Pop, Swap, FrameAddr, GlobalAddr, FuncAddr, ClassAddr, Load, Store, TLoad, TStore, VLoad}
+use Rattle.tx_code.specs.declared.instr.Instr.TheVariants.{VStore, Bin, Neg, Conv, Jump, JumpZero, Call, TCall, CallIndirect, TCallIndirect, Slot, Ret, Begin}
+use Rattle.tx_code.specs.declared.instr.Instr.TheVariants.{End, BeginSync, EndSync, Out, Inp, Spawn, Join, Abort, NewException, PutException, Throw, Rethrow}
+use Rattle.tx_code.specs.declared.instr.Instr.TheVariants.{GetException, EndHandler, Resume, Over}
 use Rattle.tx_code.specs.Objects.{BodyView}
 use Rattle.tx_code.specs.Shapes.{Shape, Table, targets, Among, here, there, Reaches, enters, falls, lands}
 use Rattle.tx_code.specs.Sound.{Signature, entry, target_lies, row_lies, is_last, SoundBody}
@@ -117,8 +121,11 @@ module _ (x : Table) (g : Signature) (safe : Bool) (b : BodyView) (sound : Sound
 
   pub within : {i : ℕ} {s : Shape} → Reaches x g.gives b (entry g) i s → i < length b.code
   within enters = ltb-true 0 (length b.code) sound.filled
-  within (falls {i} {j} reached e m) = led e.instr i j (length b.code) (all_at (target_lies (length b.code)) b.code i e.instr sound.targets e.is) (last_one i e.instr e.is) (within reached) m
-  within (lands reached e r m c) = ltb-true r.target (length b.code) (and_right (nat_lt r.from (length b.code) && nat_le r.to (length b.code)) (nat_lt r.target (length b.code)) (all_among (row_lies (length b.code)) m sound.rows))
+  within (falls {i} {j} reached e m) = led e.instr i j (length b.code) (all_at (target_lies (length b.code)) b.code i e.instr sound.targets e.is)
+      (last_one i e.instr e.is) (within reached) m
+  within (lands reached e r m c) = ltb-true r.target (length b.code)
+      (and_right (nat_lt r.from (length b.code) && nat_le r.to (length b.code)) (nat_lt r.target (length b.code))
+      (all_among (row_lies (length b.code)) m sound.rows))
 
   -- the instruction at an index that is reached
   pub instr_at : {i : ℕ} {s : Shape} → Reaches x g.gives b (entry g) i s → (a : Instr) × (slice_get b.code i ≡ Some a)

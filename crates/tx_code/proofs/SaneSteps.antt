@@ -1,5 +1,6 @@
 -- Each step of a thread of a sound image keeps its state in shape.
-use Rattle.std.proofs.Common.{Bool, true, false, ◌≡◌, ◌≤◌, ℕ, zero, suc, ◌+◌, ◌-◌, ℤ, List, [], ◌∷◌, ◌++◌, length, Option, Some, None, Result, Ok, Err, refl, sym, ap, ◌∙◌, subst, arith, length-drop}
+use Rattle.std.proofs.Common.{Bool, true, false, ◌≡◌, ◌≤◌, ℕ, zero, suc, ◌+◌, ◌-◌, ℤ, List, [], ◌∷◌, ◌++◌, length, Option, Some, None, Result, Ok, Err, refl}
+use Rattle.std.proofs.Common.{sym, ap, ◌∙◌, subst, arith, length-drop}
 use Rattle.std.specs.Prelude.{slice_get, nat_lt, nat_le, nat_eq, not, ◌&&◌, ◌||◌, IfSome, is_some, if◌then◌else◌}
 use Rattle.std.specs.Option.{option_map_or}
 use Rattle.std.proofs.lemmas.Bool.{true≢false, leb-true, eqb-true}
@@ -7,7 +8,8 @@ use Rattle.std.proofs.lemmas.Option.{same_Some}
 use Rattle.tx_ints.specs.declared.kinds.ArithTrap.{ArithTrap}
 use Rattle.tx_events.specs.declared.BlockKind.{BlockKind}
 use Rattle.tx_events.specs.declared.Event.{Event}
-use Rattle.tx_events.specs.declared.Event.TheVariants.{Silent, Load as LoadOf, Store as StoreOf, Out as OutOf, Inp as InpOf, Spawn as SpawnOf, Join as JoinOf, BeginAtomic, EndAtomic, Raise, BeginSync as BeginSyncOf, EndSync as EndSyncOf, Done, Stop}
+use Rattle.tx_events.specs.declared.Event.TheVariants.{Silent, Load as LoadOf, Store as StoreOf, Out as OutOf, Inp as InpOf, Spawn as SpawnOf, Join as JoinOf}
+use Rattle.tx_events.specs.declared.Event.TheVariants.{BeginAtomic, EndAtomic, Raise, BeginSync as BeginSyncOf, EndSync as EndSyncOf, Done, Stop}
 use Rattle.tx_events.specs.declared.Reply.{Reply}
 use Rattle.tx_events.specs.Thread.{Open, Atomic, Sync, Answers, rest_of, no_atomic, in_atomic, in_kind, in_sync, is_empty, may_come, blocks_after}
 use Rattle.tx_code.specs.declared.instr.Instr.{Instr}
@@ -15,10 +17,14 @@ use Rattle.tx_code.specs.declared.body.Row.{Row}
 use Rattle.tx_code.specs.Objects.{BodyView}
 use Rattle.tx_code.specs.Images.{ImageFuncView, ImageView}
 use Rattle.tx_code.specs.Signatures.{takes_of, gives_of}
-use Rattle.tx_code.specs.Meaning.{Names, Held, Free, Building, Flying, Exception, Home, Nest, Frame, State, Runs, Unwinds, Act, Does, Ends, Lost, goes, asks, traps, one, two, moved, if_some, with_kind, kinds, size_of, at, nested, on_with, on_in, holding, opening, closing, catching, handled, rest_caught, bare, first_frame, blocks_in, in_transaction, covers, takes, find, cut, first_or, current, blocks_of}
+use Rattle.tx_code.specs.Meaning.{Names, Held, Free, Building, Flying, Exception, Home, Nest, Frame, State, Runs, Unwinds, Act, Does, Ends, Lost, goes, asks}
+use Rattle.tx_code.specs.Meaning.{traps, one, two, moved, if_some, with_kind, kinds, size_of, at, nested, on_with, on_in, holding, opening, closing, catching}
+use Rattle.tx_code.specs.Meaning.{handled, rest_caught, bare, first_frame, blocks_in, in_transaction, covers, takes, find, cut, first_or, current, blocks_of}
 use Rattle.tx_code.specs.Program.{body_in, names_of}
-use Rattle.tx_code.specs.Shapes.{Hand, Empty, Builds, Flies, Shape, shape, Table, less, more, moves, outgoing, targets, landed, Among, here, there, Effect, Reaches, enters, falls, lands}
-use Rattle.tx_code.specs.Sound.{signature, table_of, has_edge, is_edge, is_inside, left_at, kept, SoundBody, SoundFunc, Sound, is_known, row_is_known, names_right, passes, exception_right, inside_right, closes_right}
+use Rattle.tx_code.specs.Shapes.{Hand, Empty, Builds, Flies, Shape, shape, Table, less, more, moves, outgoing, targets, landed, Among, here, there, Effect}
+use Rattle.tx_code.specs.Shapes.{Reaches, enters, falls, lands}
+use Rattle.tx_code.specs.Sound.{signature, table_of, has_edge, is_edge, is_inside, left_at, kept, SoundBody, SoundFunc, Sound, is_known, row_is_known}
+use Rattle.tx_code.specs.Sound.{names_right, passes, exception_right, inside_right, closes_right}
 use Rattle.tx_code.specs.InShape.{hand_of, shape_of, Spot, Ready, Unwindable, Below, InShape}
 use Rattle.tx_code.proofs.ReachedIndexes.{and_left, all_at, all_among}
 
@@ -76,7 +82,8 @@ less_one_more zero (suc d) m h = ap (λ z. Some (suc z)) (same_Some d m h)
 less_one_more (suc n) zero m h = absurd (cc)
 less_one_more (suc n) (suc d) m h = less_one_more n d m h
 
-pub there_less : (x : Option ℕ) (s : Shape) (g : ℕ) → is_some (Rattle.tx_code.specs.Shapes.with_depth s (Rattle.tx_code.specs.Shapes.grown g x)) ≡ true → (m : ℕ) × (x ≡ Some m)
+pub there_less : (x : Option ℕ) (s : Shape) (g : ℕ) → is_some (Rattle.tx_code.specs.Shapes.with_depth s (Rattle.tx_code.specs.Shapes.grown g x)) ≡ true
+    → (m : ℕ) × (x ≡ Some m)
 there_less None s g h = absurd (true≢false (sym h))
 there_less (Some m) s g h = (m, refl)
 
@@ -88,7 +95,8 @@ kept_is n d m h = ap (λ o. option_map_or (λ rest. rest) o d) h
 
 -- ---- rows
 
-found_step : (q : Row) (rs : List Row) (n ty : ℕ) (r : Row) (b : Bool) → (covers q n && takes q ty) ≡ b → (if b then Some q else find rs n ty) ≡ Some r → (find rs n ty ≡ Some r → Among r rs × (covers r n ≡ true)) → Among r (q ∷ rs) × (covers r n ≡ true)
+found_step : (q : Row) (rs : List Row) (n ty : ℕ) (r : Row) (b : Bool) → (covers q n && takes q ty) ≡ b → (if b then Some q else find rs n ty) ≡ Some r
+    → (find rs n ty ≡ Some r → Among r rs × (covers r n ≡ true)) → Among r (q ∷ rs) × (covers r n ≡ true)
 found_step q rs n ty r true e g next = subst (λ z. Among z (q ∷ rs) × (covers z n ≡ true)) (same_Some q r g) (here, and_left (covers q n) (takes q ty) e)
 found_step q rs n ty r false e g next = (there (next g).0, (next g).1)
 
@@ -104,7 +112,8 @@ takes_all w ty n false e h = refl
 edge_takes : (r : Row) (ty : ℕ) → is_edge r ≡ true → takes r ty ≡ true
 edge_takes r ty h = takes_all r.what r.ty ty (nat_eq r.what 1) refl (leb-true 3 r.what h)
 
-none_step : (q : Row) (o : Option Row) (b c t e : Bool) → (b ≡ true → t ≡ true) → (if c && t then Some q else o) ≡ None → (o ≡ None → e ≡ false) → ((b && c) || e) ≡ false
+none_step : (q : Row) (o : Option Row) (b c t e : Bool) → (b ≡ true → t ≡ true) → (if c && t then Some q else o) ≡ None → (o ≡ None → e ≡ false)
+    → ((b && c) || e) ≡ false
 none_step q o true true true e f g next = absurd (cc)
 none_step q o true true false e f g next = absurd (true≢false (sym (f refl)))
 none_step q o true false t e f g next = next g
@@ -169,13 +178,15 @@ module _ (i : ImageView) (sound : Sound i) where
   pub quiet : (bs : List Open) (s : State) → InShape i s → blocks_of s ≡ bs → Sane bs (goes s)
   quiet bs s h b = record { comes = refl; goes_on = λ r a. h; blocks = λ r a. b; starts = no_start Silent refl }
 
-  pub event : (bs : List Open) (e : Event) (s : State) → may_come e bs ≡ true → is_spawn e ≡ false → InShape i s → blocks_of s ≡ blocks_after e bs → Sane bs (asks e s)
+  pub event : (bs : List Open) (e : Event) (s : State) → may_come e bs ≡ true → is_spawn e ≡ false → InShape i s → blocks_of s ≡ blocks_after e bs
+      → Sane bs (asks e s)
   event bs e s m n h b = record { comes = m; goes_on = λ r a. h; blocks = λ r a. b; starts = no_start e n }
 
   pub trapped : (bs : List Open) (t : Rattle.tx_events.specs.declared.Trap.Trap) → Sane bs (traps t)
   trapped bs t = record { comes = refl; blocks = refl; no_spawn = refl }
 
-  pub some_sane : {A : Type 0} (bs : List Open) (o : Option A) (a : Act) (p : A → Act) → Sane bs a → ((z : A) → o ≡ Some z → Sane bs (p z)) → Sane bs (if_some o a p)
+  pub some_sane : {A : Type 0} (bs : List Open) (o : Option A) (a : Act) (p : A → Act) → Sane bs a → ((z : A) → o ≡ Some z → Sane bs (p z))
+      → Sane bs (if_some o a p)
   some_sane bs None a p h k = h
   some_sane bs (Some z) a p h k = k z refl
 
@@ -192,7 +203,8 @@ module _ (i : ImageView) (sound : Sound i) where
 
   -- ---- bodies
 
-  pub body_sound : (safe : Bool) (func : ImageFuncView) (body : BodyView) → SoundFunc t func → body_in func safe ≡ Some body → SoundBody t (signature func.ty) safe body
+  pub body_sound : (safe : Bool) (func : ImageFuncView) (body : BodyView) → SoundFunc t func → body_in func safe ≡ Some body
+      → SoundBody t (signature func.ty) safe body
   body_sound false func body s e = subst (λ b. SoundBody t (signature func.ty) false b) (same_Some func.plain body e) s.plain
   body_sound true func body s e = some_body func.safe e s.safe where
     some_body : (o : Option BodyView) → o ≡ Some body → IfSome o (SoundBody t (signature func.ty) true) → SoundBody t (signature func.ty) true body
@@ -221,11 +233,14 @@ module _ (i : ImageView) (sound : Sound i) where
   pub outside_below : (words : ℕ) (safe : Bool) (fs : List Frame) → Below i words safe fs → safe ≡ false → no_atomic (blocks_in fs) ≡ true
   outside_below words safe [] b e = refl
   outside_below words safe (f ∷ fs) b e =
-      let o : (f.home.safe ≡ false) × (no_atomic f.nest.opens ≡ true) = outside_front f.home.safe f.nest.opens (outside_of (is_inside f.home.safe f.nest.opens) safe b.1 e) in
+      let o : (f.home.safe ≡ false) × (no_atomic f.nest.opens ≡ true) =
+      outside_front f.home.safe f.nest.opens (outside_of (is_inside f.home.safe f.nest.opens) safe b.1 e) in
       outside_both f.nest.opens (blocks_in fs) o.1 (outside_below (t.gives f.home.func) f.home.safe fs b.2 o.0)
 
-  pub outside_all : (f : Frame) (rest : List Frame) → Below i (t.gives f.home.func) f.home.safe rest → is_inside f.home.safe f.nest.opens ≡ false → no_atomic (blocks_in (f ∷ rest)) ≡ true
-  outside_all f rest b e = let o = outside_front f.home.safe f.nest.opens e in outside_both f.nest.opens (blocks_in rest) o.1 (outside_below (t.gives f.home.func) f.home.safe rest b o.0)
+  pub outside_all : (f : Frame) (rest : List Frame) → Below i (t.gives f.home.func) f.home.safe rest → is_inside f.home.safe f.nest.opens ≡ false
+      → no_atomic (blocks_in (f ∷ rest)) ≡ true
+  outside_all f rest b e = let o = outside_front f.home.safe f.nest.opens e in
+      outside_both f.nest.opens (blocks_in rest) o.1 (outside_below (t.gives f.home.func) f.home.safe rest b o.0)
 
   pub inside_all : (safe : Bool) (os bs : List Open) → is_inside safe os ≡ true → (safe || not (no_atomic (os ++ bs))) ≡ true
   inside_all true os bs h = refl
@@ -236,7 +251,8 @@ module _ (i : ImageView) (sound : Sound i) where
 
   -- ---- one frame that runs, and its instruction
 
-  module _ (f : Frame) (rest : List Frame) (ready : Ready i f) (below : Below i (t.gives f.home.func) f.home.safe rest) (a : Instr) (is : slice_get ready.spot.body.code f.index ≡ Some a) where
+  module _ (f : Frame) (rest : List Frame) (ready : Ready i f) (below : Below i (t.gives f.home.func) f.home.safe rest) (a : Instr)
+      (is : slice_get ready.spot.body.code f.index ≡ Some a) where
     abbrev pub bs : List Open
     bs = blocks_in (f ∷ rest)
 
@@ -274,11 +290,13 @@ module _ (i : ImageView) (sound : Sound i) where
     effect u e = record { instr = a; is = is; next = u; makes = e }
 
     -- on at an index to which the instruction leads, with what it leaves
-    pub on_to : (g : Nest) (j : ℕ) (ws : List ℕ) → Among j (targets a f.index) → outgoing t own a (shape_of f) ≡ Some (shape_of (nested f g j ws)) → InShape i (Runs (nested f g j ws) rest)
+    pub on_to : (g : Nest) (j : ℕ) (ws : List ℕ) → Among j (targets a f.index) → outgoing t own a (shape_of f) ≡ Some (shape_of (nested f g j ws))
+        → InShape i (Runs (nested f g j ws) rest)
     on_to g j ws m e = (record { spot = ready.spot; reached = falls ready.reached (effect _ e) m }, below)
 
     -- an exception may leave it
-    pub unwinds : (h : Held) (ws : List ℕ) (u : Shape) → outgoing t own a (shape_of f) ≡ Some u → left_at a (length f.words) ≡ length ws → Unwindable i (nested f (holding f.nest h) f.index ws)
+    pub unwinds : (h : Held) (ws : List ℕ) (u : Shape) → outgoing t own a (shape_of f) ≡ Some u → left_at a (length f.words) ≡ length ws
+        → Unwindable i (nested f (holding f.nest h) f.index ws)
     unwinds h ws u e d = record {
       spot = ready.spot;
       rows = λ r m c. record {
@@ -298,13 +316,15 @@ module _ (i : ImageView) (sound : Sound i) where
     abbrev Moves : ℕ → ℕ → Type 0
     Moves n m = (s : Shape) → outgoing t own a s ≡ moves n m s
 
-    pub one_sane : (m : ℕ) (p : ℕ → List ℕ → Act) → Moves 1 m → ((w : ℕ) (ws : List ℕ) → outgoing t own a (shape_of f) ≡ Some (with_length (more m (length ws))) → Sane bs (p w ws)) → Sane bs (one f.words p)
+    pub one_sane : (m : ℕ) (p : ℕ → List ℕ → Act) → Moves 1 m
+        → ((w : ℕ) (ws : List ℕ) → outgoing t own a (shape_of f) ≡ Some (with_length (more m (length ws))) → Sane bs (p w ws)) → Sane bs (one f.words p)
     one_sane m p e h = by_words f.words refl where
       by_words : (ws : List ℕ) → f.words ≡ ws → Sane bs (one ws p)
       by_words [] q = absurd (true≢false (sym finds ∙ ap is_some (e (shape_of f) ∙ ap (λ z. moves 1 m (with_length (length z))) q)))
       by_words (w ∷ ws) q = h w ws (e (shape_of f) ∙ ap (λ z. moves 1 m (with_length (length z))) q)
 
-    pub two_sane : (m : ℕ) (p : ℕ → ℕ → List ℕ → Act) → Moves 2 m → ((u w : ℕ) (ws : List ℕ) → outgoing t own a (shape_of f) ≡ Some (with_length (more m (length ws))) → Sane bs (p u w ws)) → Sane bs (two f.words p)
+    pub two_sane : (m : ℕ) (p : ℕ → ℕ → List ℕ → Act) → Moves 2 m
+        → ((u w : ℕ) (ws : List ℕ) → outgoing t own a (shape_of f) ≡ Some (with_length (more m (length ws))) → Sane bs (p u w ws)) → Sane bs (two f.words p)
     two_sane m p e h = by_words f.words refl where
       by_words : (ws : List ℕ) → f.words ≡ ws → Sane bs (two ws p)
       by_words [] q = absurd (true≢false (sym finds ∙ ap is_some (e (shape_of f) ∙ ap (λ z. moves 2 m (with_length (length z))) q)))
@@ -315,7 +335,8 @@ module _ (i : ImageView) (sound : Sound i) where
     pub operands : (n m : ℕ) → Moves n m → (d : ℕ) × (less n (length f.words) ≡ Some d)
     operands n m e = there_less (less n (length f.words)) (shape_of f) m (sym (ap is_some (e (shape_of f))) ∙ finds)
 
-    pub moved_sane : (n : ℕ) (ws args : List ℕ) (d : ℕ) (p : List ℕ → List ℕ → Act) → less n (length ws) ≡ Some d → ((args' ws' : List ℕ) → length args' ≡ n + length args → length ws' ≡ d → Sane bs (p args' ws')) → Sane bs (moved n ws args p)
+    pub moved_sane : (n : ℕ) (ws args : List ℕ) (d : ℕ) (p : List ℕ → List ℕ → Act) → less n (length ws) ≡ Some d
+        → ((args' ws' : List ℕ) → length args' ≡ n + length args → length ws' ≡ d → Sane bs (p args' ws')) → Sane bs (moved n ws args p)
     moved_sane zero ws args d p e h = h args ws (omega arith) (same_Some (length ws) d e)
     moved_sane (suc n) [] args d p e h = absurd (cc)
     moved_sane (suc n) (w ∷ ws) args d p e h = moved_sane n ws (w ∷ args) d p e (λ args' ws' l m. h args' ws' (l ∙ omega arith) m)

@@ -52,7 +52,14 @@ row from to target what ty depth = record { from = from; to = to; target = targe
 
 -- of these types and functions behind `main`
 abbrev pub image : (types : List (List ℕ)) → List Instr → List Row → List ImageFuncView → List ImageClassView → ImageView
-image types code rows funcs classes = record { types = types; funcs = func main_type 32 false (body code rows) None ∷ funcs; classes = classes; globals = []; size = 64; main = 0 }
+image types code rows funcs classes = record {
+  types = types;
+  funcs = func main_type 32 false (body code rows) None ∷ funcs;
+  classes = classes;
+  globals = [];
+  size = 64;
+  main = 0;
+}
 
 abbrev pub simple : List Instr → ImageView
 simple code = image [] code [] [] []

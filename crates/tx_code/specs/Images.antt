@@ -1,5 +1,6 @@
 -- An image as plain lists and numbers, and what each image keeps.
-use Rattle.std.specs.Prelude.{Bool, true, false, ◌≡◌, ◌<◌, ℕ, zero, suc, ◌+◌, ◌*◌, ◌^◌, List, [], ◌∷◌, map, length, Option, Some, None, ◌&&◌, ◌||◌, nat_lt, nat_le, slice_get}
+use Rattle.std.specs.Prelude.{Bool, true, false, ◌≡◌, ◌<◌, ℕ, zero, suc, ◌+◌, ◌*◌, ◌^◌, List, [], ◌∷◌, map, length, Option, Some, None, ◌&&◌, ◌||◌, nat_lt}
+use Rattle.std.specs.Prelude.{nat_le, slice_get}
 use Rattle.std.specs.List.{list_all}
 use Rattle.std.specs.Option.{option_map, option_map_or}
 use Rattle.std.specs.Str.{bytes_eq}
@@ -33,7 +34,16 @@ pub record ImageView : Type 0 where
   pub main : ℕ
 
 abbrev pub image_func_view : ImageFunc → ImageFuncView
-image_func_view f = record { symbol = f.symbol.items; ty = f.ty.items; frame = f.frame; no_except = f.no_except; plain = body_view f.plain; safe = option_map body_view f.safe; source = option_map bytes_of f.source }
+image_func_view f = record {
+  symbol = f.symbol.items;
+  ty = f.ty.items;
+  frame = f.frame;
+  no_except = f.no_except;
+  plain = body_view f.plain;
+  safe =
+      option_map body_view f.safe;
+  source = option_map bytes_of f.source;
+}
 
 abbrev pub image_class_view : ImageClass → ImageClassView
 image_class_view c = record { name = c.name.items; base = c.base; slots = c.slots.items }

@@ -56,7 +56,8 @@ pub record Suspended (i : ImageView) (f : Frame) (words : ℕ) : Type 0 where
 -- the frames below one that hands back so many words and runs a safe body or not: where a frame is in a transaction, those above it run safe bodies
 abbrev pub Below : (i : ImageView) → (words : ℕ) → (safe : Bool) → List Frame → Type 0
 Below i words safe [] = Unit {0}
-Below i words safe (f ∷ fs) = Suspended i f words × (is_inside f.home.safe f.nest.opens ≡ true → safe ≡ true) × Below i ((table_of i).gives f.home.func) f.home.safe fs
+Below i words safe (f ∷ fs) = Suspended i f words × (is_inside f.home.safe f.nest.opens ≡ true → safe ≡ true)
+    × Below i ((table_of i).gives f.home.func) f.home.safe fs
 
 abbrev pub InShape : ImageView → State → Type 0
 InShape i (Runs f rest) = Ready i f × Below i ((table_of i).gives f.home.func) f.home.safe rest

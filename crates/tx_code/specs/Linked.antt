@@ -1,5 +1,6 @@
 -- The image that objects are linked to: which definitions are kept, and how they are numbered and placed.
-use Rattle.std.specs.Prelude.{Bool, true, false, ◌≡◌, ℕ, zero, suc, ◌+◌, ◌-◌, ◌*◌, ◌/◌, ◌%◌, ◌^◌, List, [], ◌∷◌, ◌++◌, map, filter, Option, Some, None, unwrap_or, not, ◌&&◌, nat_eq, if◌then◌else◌, slice_get, codes}
+use Rattle.std.specs.Prelude.{Bool, true, false, ◌≡◌, ℕ, zero, suc, ◌+◌, ◌-◌, ◌*◌, ◌/◌, ◌%◌, ◌^◌, List, [], ◌∷◌, ◌++◌, map, filter, Option, Some, None}
+use Rattle.std.specs.Prelude.{unwrap_or, not, ◌&&◌, nat_eq, if◌then◌else◌, slice_get, codes}
 use Rattle.std.specs.List.{list_any, flat_map, starts_with, position_from}
 use Rattle.std.specs.Option.{option_map, option_map_or, option_and_then}
 use Rattle.std.specs.Str.{bytes_eq}
@@ -181,7 +182,12 @@ or_none number zero = None
 or_none number (suc name) = number name
 
 abbrev pub image_class : List ObjectView → ClassDef → ImageClassView
-image_class os d = record { name = class_name d; base = or_none (class_number os d.object) d.class.base; slots = map (or_none (func_number os d.at d.object)) d.class.slots }
+image_class os d = record {
+  name = class_name d;
+  base = or_none (class_number os d.object) d.class.base;
+  slots = map
+      (or_none (func_number os d.at d.object)) d.class.slots;
+}
 
 -- ---- types and bodies
 

@@ -1,5 +1,7 @@
 -- What the instructions and the unwind rows do.
-use Rattle.std.specs.Prelude.{Bool, true, false, ℕ, zero, suc, ◌+◌, ◌-◌, ◌*◌, ◌%◌, ◌/◌, ◌^◌, ℤ, pos, List, [], ◌∷◌, ◌++◌, length, map, drop, replicate, Option, Some, None, Result, Ok, Err, not, ◌&&◌, ◌||◌, nat_lt, nat_le, nat_eq, if◌then◌else◌, slice_get, slice_set, slice_index_or, unsigned_abs}
+use Rattle.std.specs.Prelude.{Bool, true, false, ℕ, zero, suc, ◌+◌, ◌-◌, ◌*◌, ◌%◌, ◌/◌, ◌^◌, ℤ, pos, List, [], ◌∷◌, ◌++◌, length, map, drop, replicate, Option}
+use Rattle.std.specs.Prelude.{Some, None, Result, Ok, Err, not, ◌&&◌, ◌||◌, nat_lt, nat_le, nat_eq, if◌then◌else◌, slice_get, slice_set, slice_index_or}
+use Rattle.std.specs.Prelude.{unsigned_abs}
 use Rattle.std.specs.Int.{int_rem_euclid}
 use Rattle.std.specs.Option.{option_map}
 use Rattle.tx_ints.specs.declared.kinds.IntKind.{IntKind}
@@ -16,13 +18,17 @@ use Rattle.tx_events.specs.declared.Trap.{Trap}
 use Rattle.tx_events.specs.declared.Trap.TheVariants.{Overflow, DivideByZero, ShiftRange, StackOverflow, UnsafeCall, BadCall, BadVirtual}
 use Rattle.tx_events.specs.declared.End.TheVariants.{Exit, Abort as Aborted, Terminate, Trapped}
 use Rattle.tx_events.specs.declared.Event.{Event}
-use Rattle.tx_events.specs.declared.Event.TheVariants.{Silent, Load as LoadOf, Store as StoreOf, Out as OutOf, Inp as InpOf, Spawn as SpawnOf, Join as JoinOf, BeginAtomic, EndAtomic, Raise, BeginSync as BeginSyncOf, EndSync as EndSyncOf, Done, Stop}
+use Rattle.tx_events.specs.declared.Event.TheVariants.{Silent, Load as LoadOf, Store as StoreOf, Out as OutOf, Inp as InpOf, Spawn as SpawnOf, Join as JoinOf}
+use Rattle.tx_events.specs.declared.Event.TheVariants.{BeginAtomic, EndAtomic, Raise, BeginSync as BeginSyncOf, EndSync as EndSyncOf, Done, Stop}
 use Rattle.tx_events.specs.declared.Reply.{Reply}
 use Rattle.tx_events.specs.declared.Reply.TheVariants.{Nothing, Loaded, Byte, Id}
 use Rattle.tx_events.specs.Thread.{Thread, Open, Atomic, Sync, rest_of, no_atomic}
 use Rattle.tx_events.specs.declared.TheConstants.{EXCEPTION_SIZE}
 use Rattle.tx_code.specs.declared.instr.Instr.{Instr}
-use Rattle.tx_code.specs.declared.instr.Instr.TheVariants.{Push, Dup, Pop, Swap, FrameAddr, GlobalAddr, FuncAddr, ClassAddr, Load, Store, TLoad, TStore, VLoad, VStore, Bin, Neg, Conv, Jump, JumpZero, Call, TCall, CallIndirect, TCallIndirect, Slot, Ret, Begin, End, BeginSync, EndSync, Out, Inp, Spawn, Join, Abort, NewException, PutException, Throw, Rethrow, GetException, EndHandler, Resume, Over}
+use Rattle.tx_code.specs.declared.instr.Instr.TheVariants.{Push, Dup, Pop, Swap, FrameAddr, GlobalAddr, FuncAddr, ClassAddr, Load, Store, TLoad, TStore, VLoad}
+use Rattle.tx_code.specs.declared.instr.Instr.TheVariants.{VStore, Bin, Neg, Conv, Jump, JumpZero, Call, TCall, CallIndirect, TCallIndirect, Slot, Ret, Begin}
+use Rattle.tx_code.specs.declared.instr.Instr.TheVariants.{End, BeginSync, EndSync, Out, Inp, Spawn, Join, Abort, NewException, PutException, Throw, Rethrow}
+use Rattle.tx_code.specs.declared.instr.Instr.TheVariants.{GetException, EndHandler, Resume, Over}
 use Rattle.tx_code.specs.declared.body.Row.{Row}
 use Rattle.tx_code.specs.Objects.{BodyView}
 use Rattle.tx_code.specs.Renaming.{Numbering, renamed, renamed_row}
@@ -233,10 +239,12 @@ answered (Byte v) = v
 answered (Id v) = v
 
 abbrev pub load_act : ℕ → (volatile : Bool) → Frame → List Frame → Act
-load_act n volatile f rest = with_kind n (λ k. one f.words (λ a ws. Does (LoadOf a (size_of k) volatile) (λ r. Runs (on_with f (word_of (convert_of k (pos (loaded r))) ∷ ws)) rest)))
+load_act n volatile f rest = with_kind n (λ k. one f.words
+    (λ a ws. Does (LoadOf a (size_of k) volatile) (λ r. Runs (on_with f (word_of (convert_of k (pos (loaded r))) ∷ ws)) rest)))
 
 abbrev pub store_act : ℕ → (volatile : Bool) → Frame → List Frame → Act
-store_act n volatile f rest = with_kind n (λ k. two f.words (λ a v ws. asks (StoreOf a (size_of k) (bits_of k (value_of_word k v)) volatile) (Runs (on_with f ws) rest)))
+store_act n volatile f rest = with_kind n (λ k. two f.words
+    (λ a v ws. asks (StoreOf a (size_of k) (bits_of k (value_of_word k v)) volatile) (Runs (on_with f ws) rest)))
 
 abbrev pub result_act : Result ℤ ArithTrap → (ℤ → Act) → Act
 result_act (Ok v) f = f v
@@ -262,7 +270,8 @@ abbrev pub fits : Names → Home → Bool
 fits x h = nat_le (h.base + x.frame h.func) (x.stack_end h.thread)
 
 abbrev pub enter_act : Names → ℕ → Bool → List ℕ → Frame → List Frame → Act
-enter_act x func safe args f rest = if fits x (next_home x f.home func safe) then goes (Runs (first_frame (next_home x f.home func safe) args) (f ∷ rest)) else traps StackOverflow
+enter_act x func safe args f rest = if fits x (next_home x f.home func safe) then goes
+    (Runs (first_frame (next_home x f.home func safe) args) (f ∷ rest)) else traps StackOverflow
 
 -- a call into a body that is there
 abbrev pub entered_act : Names → ℕ → Bool → List ℕ → Frame → List Frame → Act
@@ -281,7 +290,8 @@ call_indirect_act x ty safe n f rest = moved n f.words [] (λ args ws. one ws (�
     checked_act x func (in_transaction f rest) (entered_act x func safe args (at f f.index below) rest))))
 
 abbrev pub slot_act : Names → ℕ → ℕ → Frame → List Frame → Act
-slot_act x class n f rest = one f.words (λ a ws. if_some (x.slot_of class a n) (traps BadVirtual) (λ func. goes (Runs (on_with f (x.func_address func ∷ ws)) rest)))
+slot_act x class n f rest = one f.words (λ a ws. if_some (x.slot_of class a n) (traps BadVirtual)
+    (λ func. goes (Runs (on_with f (x.func_address func ∷ ws)) rest)))
 
 -- a function hands words to its caller, or a thread ends
 abbrev pub status_of : List ℕ → ℤ
@@ -301,7 +311,8 @@ ret_act (suc zero) f rest = one f.words (λ w ws. back_act f.home (w ∷ []) res
 ret_act (suc (suc n)) f rest = Lost
 
 abbrev pub spawn_act : Names → Frame → List Frame → Act
-spawn_act x f rest = two f.words (λ a v ws. if_some (x.spawned a) (traps BadCall) (λ func. Does (SpawnOf func (value_of_word Long v)) (λ r. Runs (on_with f (word_of (answered r) ∷ ws)) rest)))
+spawn_act x f rest = two f.words (λ a v ws. if_some (x.spawned a) (traps BadCall)
+    (λ func. Does (SpawnOf func (value_of_word Long v)) (λ r. Runs (on_with f (word_of (answered r) ∷ ws)) rest)))
 
 -- ---- exceptions
 
@@ -354,7 +365,8 @@ abbrev pub unwinding : Exception → Frame → List Frame → Act
 unwinding e f rest = goes (Unwinds e (nested f (holding f.nest Free) f.index f.words) rest)
 
 abbrev pub put_act : ℕ → ℕ → Frame → List Frame → Act
-put_act n k f rest = with_kind k (λ j. built f.nest.held (λ e. one f.words (λ v ws. goes (Runs (nested f (holding f.nest (Building (with_number e n j (value_of_word j v)))) (f.index + 1) ws) rest))))
+put_act n k f rest = with_kind k (λ j. built f.nest.held
+    (λ e. one f.words (λ v ws. goes (Runs (nested f (holding f.nest (Building (with_number e n j (value_of_word j v)))) (f.index + 1) ws) rest))))
 
 abbrev pub get_act : ℕ → ℕ → Frame → List Frame → Act
 get_act n k f rest = with_kind k (λ j. if_some (current (f ∷ rest)) Lost (λ e. goes (Runs (on_with f (word_of (number_in e n j) ∷ f.words)) rest)))

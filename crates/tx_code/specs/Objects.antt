@@ -63,13 +63,40 @@ abbrev pub body_view : Body → BodyView
 body_view b = record { code = b.code.items; rows = b.rows.items; lines = b.lines.items }
 
 abbrev pub class_view : ObjClass → ClassView
-class_view c = record { name = c.name; size = c.size; align = c.align; base = c.base; pointer = c.pointer; text = c.text; members = c.members.items; slots = c.slots.items }
+class_view c = record {
+  name = c.name;
+  size = c.size;
+  align = c.align;
+  base = c.base;
+  pointer = c.pointer;
+  text = c.text;
+  members = c.members.items;
+  slots =
+      c.slots.items;
+}
 
 abbrev pub global_view : ObjGlobal → GlobalView
 global_view g = record { symbol = g.symbol; ty = g.ty; linkage = g.linkage; defined = g.defined; size = g.size; cells = g.cells.items }
 
 abbrev pub func_view : ObjFunc → FuncView
-func_view f = record { symbol = f.symbol; ty = f.ty; linkage = f.linkage; flags = f.flags; text = f.text; frame = f.frame; plain = option_map body_view f.plain; safe = option_map body_view f.safe }
+func_view f = record {
+  symbol = f.symbol;
+  ty = f.ty;
+  linkage = f.linkage;
+  flags = f.flags;
+  text = f.text;
+  frame = f.frame;
+  plain = option_map body_view f.plain;
+  safe = option_map body_view f.safe;
+}
 
 abbrev pub object_view : Object → ObjectView
-object_view o = record { version = o.version; names = map bytes_of o.names.items; source = option_map bytes_of o.source; classes = map class_view o.classes.items; globals = map global_view o.globals.items; funcs = map func_view o.funcs.items }
+object_view o = record {
+  version = o.version;
+  names = map bytes_of o.names.items;
+  source = option_map bytes_of o.source;
+  classes =
+      map class_view o.classes.items;
+  globals = map global_view o.globals.items;
+  funcs = map func_view o.funcs.items;
+}

@@ -1,5 +1,6 @@
 -- What the numbers of an image stand for.
-use Rattle.std.specs.Prelude.{Bool, true, false, ℕ, zero, suc, ◌+◌, ◌-◌, ◌*◌, ◌/◌, ◌%◌, ◌^◌, List, [], length, Option, Some, None, ◌&&◌, ◌||◌, nat_le, nat_eq, if◌then◌else◌, slice_get, codes}
+use Rattle.std.specs.Prelude.{Bool, true, false, ℕ, zero, suc, ◌+◌, ◌-◌, ◌*◌, ◌/◌, ◌%◌, ◌^◌, List, [], length, Option, Some, None, ◌&&◌, ◌||◌, nat_le, nat_eq}
+use Rattle.std.specs.Prelude.{if◌then◌else◌, slice_get, codes}
 use Rattle.std.specs.List.{starts_with}
 use Rattle.std.specs.Option.{option_map_or, option_and_then}
 use Rattle.std.specs.Str.{bytes_eq}
@@ -48,14 +49,16 @@ spawn_type = codes "void(long)"
 -- a class is another or derived from it, as so many steps along its bases show
 abbrev pub derives : List ImageClassView → (most : ℕ) → (class base : ℕ) → Bool
 derives classes zero c base = false
-derives classes (suc most) c base = nat_eq c base || option_map_or (λ (k : ImageClassView). option_map_or (λ d. derives classes most d base) k.base false) (slice_get classes c) false
+derives classes (suc most) c base = nat_eq c base || option_map_or (λ (k : ImageClassView). option_map_or (λ d. derives classes most d base) k.base false)
+    (slice_get classes c) false
 
 abbrev pub slot_or_none : Option (Option ℕ) → Option ℕ
 slot_or_none None = None
 slot_or_none (Some slot) = slot
 
 abbrev pub slot_at : List ImageClassView → (class address slot : ℕ) → Option ℕ
-slot_at classes c a n = option_and_then (λ d. if derives classes (length classes) d c then option_and_then (λ (k : ImageClassView). slot_or_none (slice_get k.slots n)) (slice_get classes d) else None) (number_at (2 ^ 41) a)
+slot_at classes c a n = option_and_then (λ d. if derives classes (length classes) d c then option_and_then
+    (λ (k : ImageClassView). slot_or_none (slice_get k.slots n)) (slice_get classes d) else None) (number_at (2 ^ 41) a)
 
 -- the types that support cancellation (the TS, [except.spec])
 abbrev pub cancelling : List ℕ

@@ -3,7 +3,10 @@ use Rattle.std.specs.Prelude.{Bool, true, false, ◌≡◌, ℕ, zero, suc, ◌+
 use Rattle.tx_events.specs.declared.BlockKind.{BlockKind}
 use Rattle.tx_events.specs.Thread.{Open, Atomic, Sync, in_atomic, in_sync, rest_of, is_empty}
 use Rattle.tx_code.specs.declared.instr.Instr.{Instr}
-use Rattle.tx_code.specs.declared.instr.Instr.TheVariants.{Push, Dup, Pop, Swap, FrameAddr, GlobalAddr, FuncAddr, ClassAddr, Load, Store, TLoad, TStore, VLoad, VStore, Bin, Neg, Conv, Jump, JumpZero, Call, TCall, CallIndirect, TCallIndirect, Slot, Ret, Begin, End, BeginSync, EndSync, Out, Inp, Spawn, Join, Abort, NewException, PutException, Throw, Rethrow, GetException, EndHandler, Resume, Over}
+use Rattle.tx_code.specs.declared.instr.Instr.TheVariants.{Push, Dup, Pop, Swap, FrameAddr, GlobalAddr, FuncAddr, ClassAddr, Load, Store, TLoad, TStore, VLoad}
+use Rattle.tx_code.specs.declared.instr.Instr.TheVariants.{VStore, Bin, Neg, Conv, Jump, JumpZero, Call, TCall, CallIndirect, TCallIndirect, Slot, Ret, Begin}
+use Rattle.tx_code.specs.declared.instr.Instr.TheVariants.{End, BeginSync, EndSync, Out, Inp, Spawn, Join, Abort, NewException, PutException, Throw, Rethrow}
+use Rattle.tx_code.specs.declared.instr.Instr.TheVariants.{GetException, EndHandler, Resume, Over}
 use Rattle.tx_code.specs.declared.body.Row.{Row}
 use Rattle.tx_code.specs.Objects.{BodyView}
 use Rattle.tx_code.specs.Meaning.{block_kinds, covers}
@@ -169,4 +172,5 @@ pub record Effect (x : Table) (own : ℕ) (b : BodyView) (i : ℕ) (s : Shape) :
 pub data Reaches (x : Table) (own : ℕ) (b : BodyView) (entry : Shape) : ℕ → Shape → Type 0 where
   enters : Reaches x own b entry 0 entry
   falls : {i j : ℕ} {s : Shape} → Reaches x own b entry i s → (e : Effect x own b i s) → Among j (targets e.instr i) → Reaches x own b entry j e.next
-  lands : {i : ℕ} {s : Shape} → Reaches x own b entry i s → Effect x own b i s → (r : Row) → Among r b.rows → covers r i ≡ true → Reaches x own b entry r.target (landed r.what r.depth s.opens s.handlers)
+  lands : {i : ℕ} {s : Shape} → Reaches x own b entry i s → Effect x own b i s → (r : Row) → Among r b.rows → covers r i ≡ true
+      → Reaches x own b entry r.target (landed r.what r.depth s.opens s.handlers)

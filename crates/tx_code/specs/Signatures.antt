@@ -1,6 +1,7 @@
 -- How many words a function takes and hands back, which the spelling of its type tells: `R(A,B)`, `R(this,A)` of a member
 -- function, of a constructor or destructor with `void` for R, and ` transaction_safe` behind it where it is safe.
-use Rattle.std.specs.Prelude.{Bool, true, false, ℕ, zero, suc, List, [], ◌∷◌, drop, length, Option, Some, None, not, ◌&&◌, ◌||◌, nat_eq, nat_le, codes, if◌then◌else◌}
+use Rattle.std.specs.Prelude.{Bool, true, false, ℕ, zero, suc, List, [], ◌∷◌, drop, length, Option, Some, None, not, ◌&&◌, ◌||◌, nat_eq, nat_le, codes}
+use Rattle.std.specs.Prelude.{if◌then◌else◌}
 use Rattle.std.specs.List.{list_all, list_any, starts_with}
 use Rattle.std.specs.Option.{option_map_or}
 use Rattle.std.specs.Str.{bytes_eq}

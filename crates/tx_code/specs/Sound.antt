@@ -1,5 +1,6 @@
 -- Sound code, by eleven clauses on each body of a function.
-use Rattle.std.specs.Prelude.{Bool, true, false, ◌≡◌, ℕ, zero, suc, ◌+◌, ◌-◌, ◌%◌, find, unwrap_or, List, [], length, Option, Some, IfSome, not, ◌&&◌, ◌||◌, nat_lt, nat_le, nat_eq, is_some, slice_get}
+use Rattle.std.specs.Prelude.{Bool, true, false, ◌≡◌, ℕ, zero, suc, ◌+◌, ◌-◌, ◌%◌, find, unwrap_or, List, [], length, Option, Some, IfSome, not, ◌&&◌, ◌||◌}
+use Rattle.std.specs.Prelude.{nat_lt, nat_le, nat_eq, is_some, slice_get}
 use Rattle.std.specs.List.{list_all, list_any}
 use Rattle.std.specs.Option.{option_map_or}
 use Rattle.tx_events.specs.Thread.{Open, in_atomic, in_kind, in_sync, no_atomic, is_empty}
@@ -7,7 +8,9 @@ use Rattle.tx_events.specs.declared.BlockKind.TheVariants.{NoExcept, Commit, Can
 use Rattle.tx_events.specs.Memory.{stack_size}
 use Rattle.tx_events.specs.declared.TheConstants.{EXCEPTION_SIZE}
 use Rattle.tx_code.specs.declared.instr.Instr.{Instr}
-use Rattle.tx_code.specs.declared.instr.Instr.TheVariants.{GlobalAddr, FuncAddr, ClassAddr, Load, Store, TLoad, TStore, VLoad, VStore, Bin, Neg, Conv, Jump, JumpZero, Call, TCall, CallIndirect, TCallIndirect, Slot, Ret, Begin, End, EndSync, Out, Inp, Spawn, Join, Abort, NewException, PutException, Throw, Rethrow, GetException, EndHandler, Resume}
+use Rattle.tx_code.specs.declared.instr.Instr.TheVariants.{GlobalAddr, FuncAddr, ClassAddr, Load, Store, TLoad, TStore, VLoad, VStore, Bin, Neg, Conv, Jump}
+use Rattle.tx_code.specs.declared.instr.Instr.TheVariants.{JumpZero, Call, TCall, CallIndirect, TCallIndirect, Slot, Ret, Begin, End, EndSync, Out, Inp, Spawn}
+use Rattle.tx_code.specs.declared.instr.Instr.TheVariants.{Join, Abort, NewException, PutException, Throw, Rethrow, GetException, EndHandler, Resume}
 use Rattle.tx_code.specs.declared.body.Row.{Row}
 use Rattle.tx_code.specs.Objects.{BodyView, FuncView, ClassView, GlobalView, ObjectView}
 use Rattle.tx_code.specs.WellFormed.{is_defined, is_wanted_safe}
@@ -201,12 +204,15 @@ pub record SoundBody (x : Table) (g : Signature) (safe : Bool) (b : BodyView) : 
   pub operands : (i : ℕ) (s : Shape) (a : Instr) → Reaches x g.gives b (entry g) i s → slice_get b.code i ≡ Some a → is_some (outgoing x g.gives a s) ≡ true
   pub words : (i : ℕ) (s : Shape) (a : Instr) → Reaches x g.gives b (entry g) i s → slice_get b.code i ≡ Some a → passes x a ≡ true
   pub exceptions : (i : ℕ) (s : Shape) (a : Instr) → Reaches x g.gives b (entry g) i s → slice_get b.code i ≡ Some a → exception_right a s ≡ true
-  pub inside : (i : ℕ) (s : Shape) (a : Instr) → Reaches x g.gives b (entry g) i s → slice_get b.code i ≡ Some a → is_inside safe s.opens ≡ true → inside_right x a ≡ true
-  pub outside : (i : ℕ) (s : Shape) (a : Instr) → Reaches x g.gives b (entry g) i s → slice_get b.code i ≡ Some a → is_inside safe s.opens ≡ false → outside_right a ≡ true
+  pub inside : (i : ℕ) (s : Shape) (a : Instr) → Reaches x g.gives b (entry g) i s → slice_get b.code i ≡ Some a → is_inside safe s.opens ≡ true
+      → inside_right x a ≡ true
+  pub outside : (i : ℕ) (s : Shape) (a : Instr) → Reaches x g.gives b (entry g) i s → slice_get b.code i ≡ Some a → is_inside safe s.opens ≡ false
+      → outside_right a ≡ true
   pub closes : (i : ℕ) (s : Shape) (a : Instr) → Reaches x g.gives b (entry g) i s → slice_get b.code i ≡ Some a → closes_right a s ≡ true
   pub edges : (i : ℕ) (s : Shape) (r : Row) → Reaches x g.gives b (entry g) i s → Among r b.rows → covers r i ≡ true → edge_right r.what s.opens ≡ true
   pub covered : (i : ℕ) (s : Shape) → Reaches x g.gives b (entry g) i s → (is_empty s.opens || has_edge b.rows i) ≡ true
-  pub depths : (i : ℕ) (s : Shape) (a : Instr) (r : Row) → Reaches x g.gives b (entry g) i s → slice_get b.code i ≡ Some a → Among r b.rows → covers r i ≡ true → nat_le r.depth (left_at a s.depth) ≡ true
+  pub depths : (i : ℕ) (s : Shape) (a : Instr) (r : Row) → Reaches x g.gives b (entry g) i s → slice_get b.code i ≡ Some a → Among r b.rows → covers r i ≡ true
+      → nat_le r.depth (left_at a s.depth) ≡ true
 
 -- ---- images
 

@@ -1,5 +1,6 @@
 -- The conditions that an object keeps: those that speak of the object alone and not of the bytes that spell it.
-use Rattle.std.specs.Prelude.{Bool, true, false, ◌≡◌, ℕ, zero, suc, ◌+◌, ◌*◌, ◌%◌, ◌/◌, ◌^◌, List, [], ◌∷◌, ◌++◌, length, Option, Some, None, not, ◌&&◌, ◌||◌, nat_lt, nat_le, nat_eq, is_some, if◌then◌else◌}
+use Rattle.std.specs.Prelude.{Bool, true, false, ◌≡◌, ℕ, zero, suc, ◌+◌, ◌*◌, ◌%◌, ◌/◌, ◌^◌, List, [], ◌∷◌, ◌++◌, length, Option, Some, None, not, ◌&&◌, ◌||◌}
+use Rattle.std.specs.Prelude.{nat_lt, nat_le, nat_eq, is_some, if◌then◌else◌}
 use Rattle.std.specs.List.{list_all, list_any, flat_map}
 use Rattle.std.specs.Option.{option_map_or}
 use Rattle.std.specs.Ordering.{is_lt, nat_cmp}
@@ -123,7 +124,8 @@ abbrev pub member_fits : (n : ℕ) → ObjMember → Bool
 member_fits n m = is_name n m.name && is_name n m.ty
 
 abbrev pub class_fits : (n : ℕ) → ClassView → Bool
-class_fits n c = is_name n c.name && is_name_or_none n c.base && is_name n c.text && is_count c.members && list_all (member_fits n) c.members && is_count c.slots && list_all (is_name_or_none n) c.slots
+class_fits n c = is_name n c.name && is_name_or_none n c.base && is_name n c.text && is_count c.members && list_all (member_fits n) c.members
+    && is_count c.slots && list_all (is_name_or_none n) c.slots
 
 -- the class of that name, if there is one
 abbrev pub class_named : List ClassView → ℕ → Option ClassView
@@ -154,14 +156,16 @@ is_multiple offset size = nat_eq (offset % size) 0
 
 -- in a global of that size, of an object with n names
 abbrev pub cell_fits : (n size : ℕ) → ObjCell → Bool
-cell_fits n size c = is_cell_size c.size && is_multiple c.offset c.size && nat_le (c.offset + c.size) size && cell_kind_fits c && nat_lt c.value (2 ^ (8 * c.size)) && is_name_or_none n c.symbol && (if nat_eq c.what 0 then nat_eq c.symbol 0 else nat_lt 0 c.symbol)
+cell_fits n size c = is_cell_size c.size && is_multiple c.offset c.size && nat_le (c.offset + c.size) size && cell_kind_fits c
+    && nat_lt c.value (2 ^ (8 * c.size)) && is_name_or_none n c.symbol && (if nat_eq c.what 0 then nat_eq c.symbol 0 else nat_lt 0 c.symbol)
 
 -- strictly ascending, without an overlap
 abbrev pub cell_after : ObjCell → ObjCell → Bool
 cell_after a b = nat_lt a.offset b.offset && nat_le (a.offset + a.size) b.offset
 
 abbrev pub global_fits : (n : ℕ) → GlobalView → Bool
-global_fits n g = is_name n g.symbol && is_name n g.ty && nat_lt g.linkage 2 && nat_lt g.defined 2 && is_count g.cells && list_all (cell_fits n g.size) g.cells && ascends cell_after g.cells && (if nat_eq g.defined 0 then nat_eq g.size 0 && nat_eq (length g.cells) 0 else nat_lt 0 g.size)
+global_fits n g = is_name n g.symbol && is_name n g.ty && nat_lt g.linkage 2 && nat_lt g.defined 2 && is_count g.cells && list_all (cell_fits n g.size) g.cells
+    && ascends cell_after g.cells && (if nat_eq g.defined 0 then nat_eq g.size 0 && nat_eq (length g.cells) 0 else nat_lt 0 g.size)
 
 -- ---- functions
 
@@ -199,7 +203,8 @@ abbrev pub text_fits : (n : ℕ) → FuncView → Bool
 text_fits n f = is_name_or_none n f.text && same (is_inline f && is_defined f) (nat_lt 0 f.text)
 
 abbrev pub func_fits : (version n : ℕ) → FuncView → Bool
-func_fits version n f = is_name n f.symbol && is_name n f.ty && nat_lt f.linkage 3 && flags_fit f.flags && text_fits n f && (is_defined f || nat_eq f.frame 0) && same (is_defined f) (is_some f.plain) && some_fits version n f.plain && same (has_safe f) (is_some f.safe) && some_fits version n f.safe
+func_fits version n f = is_name n f.symbol && is_name n f.ty && nat_lt f.linkage 3 && flags_fit f.flags && text_fits n f && (is_defined f || nat_eq f.frame 0)
+    && same (is_defined f) (is_some f.plain) && some_fits version n f.plain && same (has_safe f) (is_some f.safe) && some_fits version n f.safe
 
 -- ---- objects
 

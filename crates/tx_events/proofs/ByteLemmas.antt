@@ -1,7 +1,9 @@
 -- Loads and stores by bytes.
-use Rattle.std.proofs.Common.{ℕ, zero, suc, ◌≡◌, ◌==◌, ◌<◌, ◌≤◌, ◌+◌, ◌*◌, ◌^◌, ◌/◌, ◌%◌, ◌⊎◌, inl, inr, Bool, true, false, cond, refl, ap, sym, ◌∙◌, subst, arith}
+use Rattle.std.proofs.Common.{ℕ, zero, suc, ◌≡◌, ◌==◌, ◌<◌, ◌≤◌, ◌+◌, ◌*◌, ◌^◌, ◌/◌, ◌%◌, ◌⊎◌, inl, inr, Bool, true, false, cond, refl, ap, sym, ◌∙◌, subst}
+use Rattle.std.proofs.Common.{arith}
 use Rattle.std.specs.Prelude.{◌||◌, ◌-◌}
-use Rattle.std.proofs.Math.Nat.{mod-lt, mod-one, div-div-eq-div-mul, mul-add-div, mul-add-mod_self_left, mul_assoc, mul-add, mul_comm, div-add-mod', add-mul, one-mul, mul-le-mul_right, div-lt_iff_lt-mul}
+use Rattle.std.proofs.Math.Nat.{mod-lt, mod-one, div-div-eq-div-mul, mul-add-div, mul-add-mod_self_left, mul_assoc, mul-add, mul_comm, div-add-mod', add-mul}
+use Rattle.std.proofs.Math.Nat.{one-mul, mul-le-mul_right, div-lt_iff_lt-mul}
 use Rattle.std.proofs.lemmas.Nat.{pow_pos, pow-add, mod-pow-add, div-mul-add}
 use Rattle.std.proofs.lemmas.Bool.{eqb-true, eq-eqb, false≢true}
 use Rattle.tx_events.specs.Thread.{is_size}
@@ -31,7 +33,8 @@ same_place addr n h = omega (arith, h)
 
 byte_in : (memory : ℕ → ℕ) (addr n : ℕ) → addr % 8 + n < 8 → byte_at memory (addr + n) ≡ memory (word_of addr) / 2 ^ (8 * (addr % 8 + n)) % 2 ^ 8
 unfolding byte_at
-byte_in memory addr n h = ap (λ w. memory w / 2 ^ (8 * ((addr + n) % 8)) % 2 ^ 8) (same_word addr n h) ∙ ap (λ k. memory (word_of addr) / 2 ^ (8 * k) % 2 ^ 8) (same_place addr n h)
+byte_in memory addr n h = ap (λ w. memory w / 2 ^ (8 * ((addr + n) % 8)) % 2 ^ 8) (same_word addr n h)
+    ∙ ap (λ k. memory (word_of addr) / 2 ^ (8 * k) % 2 ^ 8) (same_place addr n h)
 
 -- a shift after a shift
 shifts : (w i j : ℕ) → w / 2 ^ (8 * i) / 2 ^ (8 * j) ≡ w / 2 ^ (8 * (i + j))
@@ -43,7 +46,8 @@ number_in memory addr (suc n) h =
     let w = memory (word_of addr) in
     let x = w / 2 ^ (8 * (addr % 8)) in
     let rest : number_at memory addr n ≡ x % 2 ^ (8 * n) = number_in memory addr n (omega (arith, h)) in
-    let top : byte_at memory (addr + n) ≡ x / 2 ^ (8 * n) % 2 ^ 8 = byte_in memory addr n (omega (arith, h)) ∙ ap (λ z. z % 2 ^ 8) (sym (shifts w (addr % 8) n)) in
+    let top : byte_at memory (addr + n) ≡ x / 2 ^ (8 * n) % 2 ^ 8 = byte_in memory addr n (omega (arith, h))
+    ∙ ap (λ z. z % 2 ^ 8) (sym (shifts w (addr % 8) n)) in
     let both : x % 2 ^ (8 + 8 * n) ≡ (x / 2 ^ (8 * n) % 2 ^ 8) * 2 ^ (8 * n) + x % 2 ^ (8 * n) = mod-pow-add x 8 (8 * n) in
     let size : 8 + 8 * n ≡ 8 * suc n = omega arith in
     let sum : number_at memory addr n + byte_at memory (addr + n) * 2 ^ (8 * n) ≡ x % 2 ^ (8 * n) + (x / 2 ^ (8 * n) % 2 ^ 8) * 2 ^ (8 * n) = cc in
@@ -65,7 +69,8 @@ low_part q r i n h =
     let power : 2 ^ (8 * n) ≡ 2 ^ (8 * i) * (2 ^ 8 * 2 ^ (8 * d)) =
     ap (λ z. 2 ^ z) split ∙ (pow-add 2 (8 * i) (8 + 8 * d) ∙ ap (λ z. 2 ^ (8 * i) * z) (pow-add 2 8 (8 * d))) in
     let whole : q * 2 ^ (8 * n) ≡ 2 ^ (8 * i) * (2 ^ 8 * (2 ^ (8 * d) * q)) =
-    mul_comm q (2 ^ (8 * n)) ∙ (ap (λ z. z * q) power ∙ (mul_assoc (2 ^ (8 * i)) (2 ^ 8 * 2 ^ (8 * d)) q ∙ ap (λ z. 2 ^ (8 * i) * z) (mul_assoc (2 ^ 8) (2 ^ (8 * d)) q))) in
+    mul_comm q (2 ^ (8 * n)) ∙ (ap (λ z. z * q) power ∙
+    (mul_assoc (2 ^ (8 * i)) (2 ^ 8 * 2 ^ (8 * d)) q ∙ ap (λ z. 2 ^ (8 * i) * z) (mul_assoc (2 ^ 8) (2 ^ (8 * d)) q))) in
     ap (λ z. (z + r) / 2 ^ (8 * i) % 2 ^ 8) whole
     ∙ (ap (λ z. z % 2 ^ 8) (mul-add-div (pow_pos (8 * i)) (2 ^ 8 * (2 ^ (8 * d) * q)) r)
     ∙ mul-add-mod_self_left (2 ^ 8) (2 ^ (8 * d) * q) (r / 2 ^ (8 * i)))
@@ -124,7 +129,8 @@ stored_word : (memory : ℕ → ℕ) (addr size value : ℕ) → store memory ad
 stored_word memory addr size value = rw (eq-eqb (word_of addr) (word_of addr) refl)
 
 -- after a store these bytes are those of the value
-pub store_bytes : (memory : ℕ → ℕ) (addr size value k : ℕ) → is_size size ≡ true → is_aligned addr size ≡ true → value < 2 ^ (8 * size) → k < size → byte_at (store memory addr size value) (addr + k) ≡ value / 2 ^ (8 * k) % 2 ^ 8
+pub store_bytes : (memory : ℕ → ℕ) (addr size value k : ℕ) → is_size size ≡ true → is_aligned addr size ≡ true → value < 2 ^ (8 * size) → k < size
+    → byte_at (store memory addr size value) (addr + k) ≡ value / 2 ^ (8 * k) % 2 ^ 8
 unfolding merge
 store_bytes memory addr size value k s a small h =
     let fits = fits_word addr size s a in
@@ -141,23 +147,28 @@ unfolding word_of
 upper_byte addr size other e h = omega (arith, e, h)
 
 -- another byte of the word of a store
-byte_beside : (addr size value w other : ℕ) → value < 2 ^ (8 * size) → word_of other ≡ word_of addr → (other < addr) ⊎ (addr + size ≤ other) → merge addr size value w / 2 ^ (8 * (other % 8)) % 2 ^ 8 ≡ w / 2 ^ (8 * (other % 8)) % 2 ^ 8
+byte_beside : (addr size value w other : ℕ) → value < 2 ^ (8 * size) → word_of other ≡ word_of addr → (other < addr) ⊎ (addr + size ≤ other)
+    → merge addr size value w / 2 ^ (8 * (other % 8)) % 2 ^ 8 ≡ w / 2 ^ (8 * (other % 8)) % 2 ^ 8
 unfolding merge
 byte_beside addr size value w other small e (inl h) = merged_low (addr % 8) size value w small (other % 8) (lower_byte addr other e h)
 byte_beside addr size value w other small e (inr h) = merged_high (addr % 8) size value w small (other % 8) (upper_byte addr size other e h)
 
 -- and each other byte is as it was
-pub store_others : (memory : ℕ → ℕ) (addr size value other : ℕ) → value < 2 ^ (8 * size) → (other < addr) ⊎ (addr + size ≤ other) → byte_at (store memory addr size value) other ≡ byte_at memory other
+pub store_others : (memory : ℕ → ℕ) (addr size value other : ℕ) → value < 2 ^ (8 * size) → (other < addr) ⊎ (addr + size ≤ other)
+    → byte_at (store memory addr size value) other ≡ byte_at memory other
 unfolding byte_at
 store_others memory addr size value other small h =
-    elim (word_of other == word_of addr) as (λ b. (word_of other == word_of addr) ≡ b → cond b (merge addr size value (memory (word_of addr))) (memory (word_of other)) / 2 ^ (8 * (other % 8)) % 2 ^ 8 ≡ memory (word_of other) / 2 ^ (8 * (other % 8)) % 2 ^ 8) [
+    elim (word_of other == word_of addr) as (λ b. (word_of other == word_of addr) ≡ b
+    → cond b (merge addr size value (memory (word_of addr))) (memory (word_of other)) / 2 ^ (8 * (other % 8)) % 2 ^ 8
+    ≡ memory (word_of other) / 2 ^ (8 * (other % 8)) % 2 ^ 8) [
       | true ↦ λ e. let same = eqb-true (word_of other) (word_of addr) e in
           byte_beside addr size value (memory (word_of addr)) other small same h ∙ ap (λ z. memory z / 2 ^ (8 * (other % 8)) % 2 ^ 8) (sym same)
       | false ↦ λ e. refl
     ] refl
 
 -- a word stays one
-word_fits : (o size value w : ℕ) → o + size ≤ 8 → value < 2 ^ (8 * size) → w < 2 ^ 64 → w / 2 ^ (8 * o + 8 * size) * 2 ^ (8 * o + 8 * size) + value * 2 ^ (8 * o) + w % 2 ^ (8 * o) < 2 ^ 64
+word_fits : (o size value w : ℕ) → o + size ≤ 8 → value < 2 ^ (8 * size) → w < 2 ^ 64
+    → w / 2 ^ (8 * o + 8 * size) * 2 ^ (8 * o + 8 * size) + value * 2 ^ (8 * o) + w % 2 ^ (8 * o) < 2 ^ 64
 word_fits o size value w fits small word =
     let n = o + size in
     let a = 2 ^ (8 * o) in
@@ -166,7 +177,8 @@ word_fits o size value w fits small word =
     let short : w % a < a = mod-lt w (pow_pos (8 * o)) in
     let product : c ≡ 2 ^ (8 * size) * a = pow-add 2 (8 * o) (8 * size) ∙ mul_comm a (2 ^ (8 * size)) in
     let next : (value + 1) * a ≡ value * a + a = add-mul value 1 a ∙ ap (λ z. value * a + z) (one-mul a) in
-    let capacity : value * a + a ≤ c = subst (λ z. value * a + a ≤ z) (sym product) (subst (λ z. z ≤ 2 ^ (8 * size) * a) next (mul-le-mul_right a (omega (arith, small)))) in
+    let capacity : value * a + a ≤ c = subst (λ z. value * a + a ≤ z) (sym product)
+    (subst (λ z. z ≤ 2 ^ (8 * size) * a) next (mul-le-mul_right a (omega (arith, small)))) in
     let total : 8 * (8 - n) + (8 * o + 8 * size) ≡ 64 = omega (arith, fits) in
     let whole : 2 ^ (8 * (8 - n)) * c ≡ 2 ^ 64 = sym (pow-add 2 (8 * (8 - n)) (8 * o + 8 * size)) ∙ ap (λ z. 2 ^ z) total in
     let few : q < 2 ^ (8 * (8 - n)) = (div-lt_iff_lt-mul (pow_pos (8 * o + 8 * size))).1 (subst (λ z. w < z) (sym whole) word) in
@@ -177,7 +189,8 @@ word_fits o size value w fits small word =
     below : (x y z r c : ℕ) → x + c ≤ 2 ^ 64 → y + z ≤ c → r < z → x + y + r < 2 ^ 64
     below x y z r c f g h = omega (arith, f, g, h)
 
-pub store_fits : (memory : ℕ → ℕ) (addr size value x : ℕ) → is_size size ≡ true → is_aligned addr size ≡ true → value < 2 ^ (8 * size) → memory (word_of addr) < 2 ^ 64 → memory x < 2 ^ 64 → store memory addr size value x < 2 ^ 64
+pub store_fits : (memory : ℕ → ℕ) (addr size value x : ℕ) → is_size size ≡ true → is_aligned addr size ≡ true → value < 2 ^ (8 * size)
+    → memory (word_of addr) < 2 ^ 64 → memory x < 2 ^ 64 → store memory addr size value x < 2 ^ 64
 unfolding merge
 store_fits memory addr size value x s a small there here =
     elim (x == word_of addr) as (λ b. cond b (merge addr size value (memory (word_of addr))) (memory x) < 2 ^ 64) [

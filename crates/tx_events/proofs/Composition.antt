@@ -18,7 +18,8 @@ module _ {S T U : Type 0} (a : Thread S) (b : Thread T) (c : Thread U) (s : S) (
       let less : k' * x ≤ k' * k * n + k' * d = subst (λ z. k' * x ≤ z) shared more in
       omega (arith, less, h)
 
-  pub bounds_compose : (many more many' more' : ℕ) → SameEvents a b s r → StepsWithin a b many more s r → StepsWithin b c many' more' r q → StepsWithin a c (many' * many) (many' * more + more') s q
+  pub bounds_compose : (many more many' more' : ℕ) → SameEvents a b s r → StepsWithin a b many more s r → StepsWithin b c many' more' r q
+      → StepsWithin a c (many' * many) (many' * more + more') s q
   bounds_compose many more many' more' same f h = λ replies event loud x z.
       let y = same.there replies event loud x in
       bound many more many' more' (steps a x.reaches) (steps b y.reaches) (steps c z.reaches) (f replies event loud x y) (h replies event loud y z)
@@ -31,4 +32,5 @@ module _ {S T : Type 0} (a : Thread S) (b : Thread T) where
 module _ {S T : Type 0} (a : Thread S) (b : Thread T) where
   pub same_children_turn : (main : S) (main' : T) → SameChildren a b main main' → SameChildren b a main' main
   same_children_turn main main' f = λ r s number func arg there here same second first.
-      same_events_turn a b (a.child s number func arg) (b.child r number func arg) (f s r number func arg here there (same_events_turn b a r s same) first second)
+      same_events_turn a b (a.child s number func arg) (b.child r number func arg)
+      (f s r number func arg here there (same_events_turn b a r s same) first second)

@@ -1,5 +1,6 @@
 -- A step of the indivisible world of one kind of thread is a step of the other's.
-use Rattle.std.proofs.Common.{ℕ, ℤ, pos, negsuc, zero, suc, ◌≡◌, ◌==◌, ◌+◌, ◌<◌, ◌≤◌, ◌^◌, Bool, true, false, cond, refl, ap, sym, ◌∙◌, subst, List, [], ◌∷◌, Option, Some, None, arith}
+use Rattle.std.proofs.Common.{ℕ, ℤ, pos, negsuc, zero, suc, ◌≡◌, ◌==◌, ◌+◌, ◌<◌, ◌≤◌, ◌^◌, Bool, true, false, cond, refl, ap, sym, ◌∙◌, subst, List, [], ◌∷◌}
+use Rattle.std.proofs.Common.{Option, Some, None, arith}
 use Rattle.std.specs.Prelude.{◌||◌, nat_lt}
 use Rattle.std.proofs.lemmas.Bool.{true≢false, ltb-true}
 use Rattle.tx_events.specs.declared.TheConstants.{THREAD_LIMIT}
@@ -9,14 +10,18 @@ use Rattle.tx_events.specs.declared.Trap.TheVariants.{BadAddress, TooManyThreads
 use Rattle.tx_events.specs.declared.BlockKind.{BlockKind}
 use Rattle.tx_events.specs.declared.BlockKind.TheVariants.{NoExcept, Commit, Cancel}
 use Rattle.tx_events.specs.declared.Event.{Event}
-use Rattle.tx_events.specs.declared.Event.TheVariants.{Silent, Load, Store, Out, Inp, Spawn, Join, BeginAtomic, EndAtomic, Raise, BeginSync, EndSync, Done, Stop}
+use Rattle.tx_events.specs.declared.Event.TheVariants.{Silent, Load, Store, Out, Inp, Spawn, Join, BeginAtomic, EndAtomic, Raise, BeginSync, EndSync, Done}
+use Rattle.tx_events.specs.declared.Event.TheVariants.{Stop}
 use Rattle.tx_events.specs.declared.Reply.{Reply}
 use Rattle.tx_events.specs.declared.Reply.TheVariants.{Nothing, Loaded, Byte, Id}
 use Rattle.tx_events.specs.Thread.{Thread, Answers, is_silent}
 use Rattle.tx_events.specs.Memory.{update, MemoryLayout, can_access, word_of, read_at, merge}
-use Rattle.tx_events.specs.Alone.{Inner, inner_load, inner_store, inner_by, leave, raise, newest, begin, BlockStep, Goes, Leaves, Halts, Never, Inside, at_start, goes_on, is_over}
-use Rattle.tx_events.specs.World.{Alive, alive, World, Step, Replays, EventStep, BlockEffect, Joins, target, goes, ends, byte_of, SilentSteps, none, one_more, first_world, only_first}
-use Rattle.tx_events.specs.Same.{Reaches, at_once, silently, answered, SameEvents, SameThread, Paired, Descends, at_first, went_on, started, with_threads, SameChildren}
+use Rattle.tx_events.specs.Alone.{Inner, inner_load, inner_store, inner_by, leave, raise, newest, begin, BlockStep, Goes, Leaves, Halts, Never, Inside}
+use Rattle.tx_events.specs.Alone.{at_start, goes_on, is_over}
+use Rattle.tx_events.specs.World.{Alive, alive, World, Step, Replays, EventStep, BlockEffect, Joins, target, goes, ends, byte_of, SilentSteps, none, one_more}
+use Rattle.tx_events.specs.World.{first_world, only_first}
+use Rattle.tx_events.specs.Same.{Reaches, at_once, silently, answered, SameEvents, SameThread, Paired, Descends, at_first, went_on, started, with_threads}
+use Rattle.tx_events.specs.Same.{SameChildren}
 use Rattle.tx_events.proofs.BlockRuns.{OnGoes}
 use Rattle.tx_events.proofs.WordLemmas.{read_fits, byte_int}
 use Rattle.tx_events.proofs.ReachingLemmas.{reach_silents, after_silents, past_silent, after_event}
@@ -63,10 +68,25 @@ module _ {S T : Type 0} (a : Thread S) (b : Thread T) (main : S) (main' : T) whe
         alike = λ x f. record {
           events = record {
             there = λ rs v i d.
-                let m = h.events.there (x ∷ rs) v i (record { at = d.at; reaches = answered quiet_a (subst (λ z. Answers z x) (sym is) f) d.reaches; is = d.is }) in
-                record { at = m.at; reaches = after_event b quiet_b (after_silents b c.reaches refl quiet_b m.reaches (ap is_silent m.is ∙ i)) refl; is = m.is };
+                let m = h.events.there (x ∷ rs) v i (record {
+                  at = d.at;
+                  reaches = answered quiet_a (subst (λ z. Answers z x) (sym is) f) d.reaches;
+                  is =
+                      d.is;
+                }) in
+                record {
+                  at = m.at;
+                  reaches = after_event b quiet_b (after_silents b c.reaches refl quiet_b m.reaches (ap is_silent m.is ∙ i)) refl;
+                  is =
+                      m.is;
+                };
             back = λ rs v i d.
-                let m = h.events.back (x ∷ rs) v i (record { at = d.at; reaches = reach_after silents (answered quiet_b (subst (λ z. Answers z x) (sym c.is) f) d.reaches); is = d.is }) in
+                let m = h.events.back (x ∷ rs) v i (record {
+                  at = d.at;
+                  reaches = reach_after silents
+                      (answered quiet_b (subst (λ z. Answers z x) (sym c.is) f) d.reaches);
+                  is = d.is;
+                }) in
                 record { at = m.at; reaches = after_event a quiet_a m.reaches refl; is = m.is };
           };
           first = went_on x h.first (subst (λ z. Answers z x) (sym is) f);
@@ -92,22 +112,28 @@ module _ {S T : Type 0} (a : Thread S) (b : Thread T) (main : S) (main' : T) whe
   same_either true i r e h = (r, refl, h)
   same_either false i r e h = refl
 
-  same_leave : (i : Inner S) (r : T) (m : ℕ → ℕ) (cs : List (ℕ → ℕ)) → Same (a.after i.state Nothing) (b.after r Nothing) → SameTook (leave a i m cs) (leave b (with_state i r) m cs)
+  same_leave : (i : Inner S) (r : T) (m : ℕ → ℕ) (cs : List (ℕ → ℕ)) → Same (a.after i.state Nothing) (b.after r Nothing)
+      → SameTook (leave a i m cs) (leave b (with_state i r) m cs)
   same_leave i r m [] h = tt
   same_leave i r m (c ∷ []) h = (b.after r Nothing, refl, h)
   same_leave i r m (c ∷ d ∷ cs) h = (b.after r Nothing, refl, h)
 
-  same_raise : (i : Inner S) (r : T) (kind : BlockKind) (can : Bool) → Same (a.after i.state Nothing) (b.after r Nothing) → SameTook (raise a i kind can) (raise b (with_state i r) kind can)
+  same_raise : (i : Inner S) (r : T) (kind : BlockKind) (can : Bool) → Same (a.after i.state Nothing) (b.after r Nothing)
+      → SameTook (raise a i kind can) (raise b (with_state i r) kind can)
   same_raise i r NoExcept can h = refl
   same_raise i r Commit can h = same_leave i r i.memory i.copies h
   same_raise i r Cancel true h = same_leave i r (newest i.copies i.memory) i.copies h
   same_raise i r Cancel false h = refl
 
   module _ (p : MemoryLayout) where
-    same_took : (i : Inner S) (r : T) (e : Event) → is_silent e ≡ false → ((x : Reply) → Answers e x → Same (a.after i.state x) (b.after r x)) → SameTook (inner_by a p i e) (inner_by b p (with_state i r) e)
+    same_took : (i : Inner S) (r : T) (e : Event) → is_silent e ≡ false → ((x : Reply) → Answers e x → Same (a.after i.state x) (b.after r x))
+        → SameTook (inner_by a p i e) (inner_by b p (with_state i r) e)
     same_took i r Silent loud h = absurd (true≢false loud)
-    same_took i r (Load addr size vol) loud h = same_either (can_access p addr size) (inner_load a i addr size) (b.after r (Loaded (read_at addr size (i.memory (word_of addr))))) (Trapped BadAddress) (h (Loaded (read_at addr size (i.memory (word_of addr)))) (read_fits addr size (i.memory (word_of addr))))
-    same_took i r (Store addr size value vol) loud h = same_either (can_access p addr size) (inner_store a i addr size value) (b.after r Nothing) (Trapped BadAddress) (h Nothing refl)
+    same_took i r (Load addr size vol) loud h = same_either (can_access p addr size) (inner_load a i addr size)
+        (b.after r (Loaded (read_at addr size (i.memory (word_of addr))))) (Trapped BadAddress)
+        (h (Loaded (read_at addr size (i.memory (word_of addr)))) (read_fits addr size (i.memory (word_of addr))))
+    same_took i r (Store addr size value vol) loud h =
+        same_either (can_access p addr size) (inner_store a i addr size value) (b.after r Nothing) (Trapped BadAddress) (h Nothing refl)
     same_took i r (BeginAtomic kind) loud h = (b.after r Nothing, refl, h Nothing refl)
     same_took i r EndAtomic loud h = same_leave i r i.memory i.copies (h Nothing refl)
     same_took i r (Raise kind can) loud h = same_raise i r kind can (h Nothing refl)
@@ -128,24 +154,32 @@ module _ {S T : Type 0} (a : Thread S) (b : Thread T) (main : S) (main' : T) whe
     abbrev Runs : S → T → (ℕ → ℕ) → Inner S → Type 0
     Runs s r m k = (q : T) × Inside b p (begin r m) (with_state k q) × Same k.state q
 
-    took_runs : (s : S) (r : T) (m : ℕ → ℕ) (j : Inner T) → Inside b p (begin r m) j → (y : BlockStep S) → SameTook y (inner_by b p j (b.next j.state)) → OnGoes (Runs s r m) y
+    took_runs : (s : S) (r : T) (m : ℕ → ℕ) (j : Inner T) → Inside b p (begin r m) j → (y : BlockStep S) → SameTook y (inner_by b p j (b.next j.state))
+        → OnGoes (Runs s r m) y
     took_runs s r m j run (Goes k) h = (h.0, goes_on run h.1, h.2)
     took_runs s r m j run (Leaves q n) h = tt
     took_runs s r m j run (Halts e) h = tt
     took_runs s r m j run Never h = tt
 
     -- a step that is not silent, by the other thread
-    took_by : (s : S) (r : T) (m : ℕ → ℕ) (j : Inner S) (q : T) (v : Event) → Inside b p (begin r m) (with_state j q) → (n : Meets j.state q v) → is_silent v ≡ false
+    took_by : (s : S) (r : T) (m : ℕ → ℕ) (j : Inner S) (q : T) (v : Event) → Inside b p (begin r m) (with_state j q) → (n : Meets j.state q v)
+        → is_silent v ≡ false
         → Inside b p (begin r m) (with_state j n.at) × SameTook (inner_by a p j v) (inner_by b p (with_state j n.at) (b.next n.at))
-    took_by s r m j q v run n loud = (inside_silents j run n.silents, subst (λ z. SameTook (inner_by a p j v) (inner_by b p (with_state j n.at) z)) (sym n.is) (same_took j n.at v loud n.alike))
+    took_by s r m j q v run n loud = (
+      inside_silents j run n.silents,
+      subst (λ z. SameTook (inner_by a p j v) (inner_by b p (with_state j n.at) z)) (sym n.is)
+          (same_took j n.at v loud n.alike),
+    )
 
-    loud_runs : (s : S) (r : T) (m : ℕ → ℕ) (j : Inner S) (q : T) (v : Event) → a.next j.state ≡ v → is_silent v ≡ false → Inside b p (begin r m) (with_state j q) → Same j.state q → OnGoes (Runs s r m) (inner_by a p j v)
+    loud_runs : (s : S) (r : T) (m : ℕ → ℕ) (j : Inner S) (q : T) (v : Event) → a.next j.state ≡ v → is_silent v ≡ false
+        → Inside b p (begin r m) (with_state j q) → Same j.state q → OnGoes (Runs s r m) (inner_by a p j v)
     loud_runs s r m j q v is loud run same =
         let n = meet j.state q v same is loud in
         let t = took_by s r m j q v run n loud in
         took_runs s r m (with_state j n.at) t.0 (inner_by a p j v) t.1
 
-    event_runs : (s : S) (r : T) (m : ℕ → ℕ) (j : Inner S) (q : T) (v : Event) → a.next j.state ≡ v → Inside b p (begin r m) (with_state j q) → Same j.state q → OnGoes (Runs s r m) (inner_by a p j v)
+    event_runs : (s : S) (r : T) (m : ℕ → ℕ) (j : Inner S) (q : T) (v : Event) → a.next j.state ≡ v → Inside b p (begin r m) (with_state j q) → Same j.state q
+        → OnGoes (Runs s r m) (inner_by a p j v)
     event_runs s r m j q Silent is run same = (q, run, same_silents j.state q same (one_more none is))
     event_runs s r m j q (Load addr size vol) is run same = loud_runs s r m j q (Load addr size vol) is refl run same
     event_runs s r m j q (Store addr size value vol) is run same = loud_runs s r m j q (Store addr size value vol) is refl run same
@@ -171,8 +205,13 @@ module _ {S T : Type 0} (a : Thread S) (b : Thread T) (main : S) (main' : T) whe
     abbrev Pairs : (ℕ → Option (Alive S)) → (ℕ → Option (Alive T)) → Type 0
     Pairs us vs = (u : ℕ) → SameThread a b main main' (us u) (vs u)
 
-    pairs_update : (us : ℕ → Option (Alive S)) (vs : ℕ → Option (Alive T)) (t : ℕ) (x : Alive S) (y : Alive T) → Pairs us vs → y.ended ≡ x.ended → Same x.state y.state → Pairs (update us t (Some x)) (update vs t (Some y))
-    pairs_update us vs t x y h e s u = elim (u == t) as (λ c. SameThread a b main main' (cond c (Some x) (us u)) (cond c (Some y) (vs u))) [ true ↦ (e, s) | false ↦ h u ]
+    pairs_update : (us : ℕ → Option (Alive S)) (vs : ℕ → Option (Alive T)) (t : ℕ) (x : Alive S) (y : Alive T) → Pairs us vs → y.ended ≡ x.ended
+        → Same x.state y.state → Pairs (update us t (Some x)) (update vs t (Some y))
+    pairs_update us vs t x y h e s u = elim (u == t) as (λ c. SameThread a b main main' (cond c (Some x) (us u)) (cond c (Some y) (vs u))) [
+      | true ↦
+          (e, s)
+      | false ↦ h u
+    ]
 
     -- what thread t does there
     abbrev Lifts : ℕ → World S → (ℕ → Option (Alive T)) → T → Event → World S → Type 0
@@ -185,26 +224,39 @@ module _ {S T : Type 0} (a : Thread S) (b : Thread T) (main : S) (main' : T) whe
     either_lifts t w vs true x y X Y f g = f refl
     either_lifts t w vs false x y X Y f g = g refl
 
-    joined : (t : ℕ) (w : World S) (vs : ℕ → Option (Alive T)) (s : S) (r : T) (o : Option (Alive S)) (q : Option (Alive T)) (v : World S) → SameThread a b main main' o q → Pairs w.threads vs → Same s r → Joins t w s o v
+    joined : (t : ℕ) (w : World S) (vs : ℕ → Option (Alive T)) (s : S) (r : T) (o : Option (Alive S)) (q : Option (Alive T)) (v : World S)
+        → SameThread a b main main' o q → Pairs w.threads vs → Same s r → Joins t w s o v
         → (ts : ℕ → Option (Alive T)) × Joins t (with_threads w vs) r q (with_threads v ts) × Pairs v.threads ts
-    joined t w vs s r None None v h ps same is = subst (λ z. (ts : ℕ → Option (Alive T)) × (with_threads z ts ≡ ends (with_threads w vs) (Trapped BadJoin)) × Pairs z.threads ts) (sym is) (vs, refl, ps)
+    joined t w vs s r None None v h ps same is = subst
+        (λ z. (ts : ℕ → Option (Alive T)) × (with_threads z ts ≡ ends (with_threads w vs) (Trapped BadJoin)) × Pairs z.threads ts) (sym is) (vs, refl, ps)
     joined t w vs s r None (Some y) v h ps same is = absurd h
     joined t w vs s r (Some x) None v h ps same is = absurd h
-    joined t w vs s r (Some x) (Some y) v h ps same is = subst (λ z. (ts : ℕ → Option (Alive T)) × ((y.ended ≡ true) × (with_threads z ts ≡ goes t (with_threads w vs) r)) × Pairs z.threads ts) (sym is.1)
-        (update vs t (alive r), (h.0 ∙ is.0, refl), pairs_update w.threads vs t (record { state = s; ended = false }) (record { state = r; ended = false }) ps refl same)
+    joined t w vs s r (Some x) (Some y) v h ps same is =
+        subst (λ z. (ts : ℕ → Option (Alive T)) × ((y.ended ≡ true) × (with_threads z ts ≡ goes t (with_threads w vs) r)) × Pairs z.threads ts) (sym is.1) (
+          update vs t (alive r),
+          (h.0 ∙ is.0, refl),
+          pairs_update w.threads vs t (record { state = s; ended = false })
+              (record { state = r; ended = false }) ps refl same,
+        )
 
-    same_target : (t : ℕ) (id : ℤ) (us : ℕ → Option (Alive S)) (vs : ℕ → Option (Alive T)) → Pairs us vs → SameThread a b main main' (target t id us) (target t id vs)
-    same_target t (pos n) us vs h = elim ((n == 0) || (n == t)) as (λ c. SameThread a b main main' (cond c None (us n)) (cond c None (vs n))) [ true ↦ tt | false ↦ h n ]
+    same_target : (t : ℕ) (id : ℤ) (us : ℕ → Option (Alive S)) (vs : ℕ → Option (Alive T)) → Pairs us vs
+        → SameThread a b main main' (target t id us) (target t id vs)
+    same_target t (pos n) us vs h = elim ((n == 0) || (n == t)) as (λ c. SameThread a b main main' (cond c None (us n))
+        (cond c None (vs n))) [ true ↦ tt | false ↦ h n ]
     same_target t (negsuc n) us vs h = tt
 
-    landed : (t : ℕ) (w : World S) (vs : ℕ → Option (Alive T)) (y : BlockStep S) (z : BlockStep T) (v : World S) → Pairs w.threads vs → SameTook y z → BlockEffect t w y v
+    landed : (t : ℕ) (w : World S) (vs : ℕ → Option (Alive T)) (y : BlockStep S) (z : BlockStep T) (v : World S) → Pairs w.threads vs → SameTook y z
+        → BlockEffect t w y v
         → (ts : ℕ → Option (Alive T)) × BlockEffect t (with_threads w vs) z (with_threads v ts) × Pairs v.threads ts
     landed t w vs (Goes i) z v ps h is = absurd is
     landed t w vs Never z v ps h is = absurd is
-    landed t w vs (Halts e) z v ps h is = subst (λ q. (ts : ℕ → Option (Alive T)) × BlockEffect t (with_threads w vs) q (with_threads v ts) × Pairs v.threads ts) (sym h)
+    landed t w vs (Halts e) z v ps h is = subst (λ q. (ts : ℕ → Option (Alive T)) × BlockEffect t (with_threads w vs) q (with_threads v ts)
+        × Pairs v.threads ts) (sym h)
         (subst (λ q. (ts : ℕ → Option (Alive T)) × (with_threads q ts ≡ ends (with_threads w vs) e) × Pairs q.threads ts) (sym is) (vs, refl, ps))
-    landed t w vs (Leaves s m) z v ps h is = subst (λ q. (ts : ℕ → Option (Alive T)) × BlockEffect t (with_threads w vs) q (with_threads v ts) × Pairs v.threads ts) (sym h.1)
-        (subst (λ q. (ts : ℕ → Option (Alive T)) × (with_threads q ts ≡ record (with_threads w vs) { memory = m; threads = update vs t (alive h.0) }) × Pairs q.threads ts) (sym is)
+    landed t w vs (Leaves s m) z v ps h is = subst (λ q. (ts : ℕ → Option (Alive T)) × BlockEffect t (with_threads w vs) q (with_threads v ts)
+        × Pairs v.threads ts) (sym h.1)
+        (subst (λ q. (ts : ℕ → Option (Alive T)) × (with_threads q ts ≡ record (with_threads w vs) { memory = m; threads = update vs t (alive h.0) })
+        × Pairs q.threads ts) (sym is)
         (update vs t (alive h.0), refl, pairs_update w.threads vs t (record { state = s; ended = false }) (record { state = h.0; ended = false }) ps refl h.2))
 
     is_landed : (t : ℕ) (w : World T) (y : BlockStep T) (v : World T) → BlockEffect t w y v → is_over y ≡ true
@@ -231,10 +283,12 @@ module _ {S T : Type 0} (a : Thread S) (b : Thread T) (main : S) (main' : T) whe
 
     module _ (t : ℕ) (w : World S) (vs : ℕ → Option (Alive T)) (ps : Pairs w.threads vs) where
       -- the thread goes on with this state
-      one : (s : S) (r : T) (c : Bool) → Same s r → Pairs (update w.threads t (Some (record { state = s; ended = c }))) (update vs t (Some (record { state = r; ended = c })))
+      one : (s : S) (r : T) (c : Bool) → Same s r → Pairs (update w.threads t (Some (record { state = s; ended = c })))
+          (update vs t (Some (record { state = r; ended = c })))
       one s r c h = pairs_update w.threads vs t (record { state = s; ended = c }) (record { state = r; ended = c }) ps refl h
 
-      block : (s : S) (r : T) (kind : BlockKind) (v : World S) → Same (a.after s Nothing) (b.after r Nothing) → EventStep a p t w s (BeginAtomic kind) v → Lifts t w vs r (BeginAtomic kind) v
+      block : (s : S) (r : T) (kind : BlockKind) (v : World S) → Same (a.after s Nothing) (b.after r Nothing) → EventStep a p t w s (BeginAtomic kind) v
+          → Lifts t w vs r (BeginAtomic kind) v
       block s r kind v h d =
           let i = d.1.last in
           let e = a.next i.state in
@@ -242,46 +296,78 @@ module _ {S T : Type 0} (a : Thread S) (b : Thread T) (main : S) (main' : T) whe
           let loud = loud_last e t w i v d.2 in
           let n = meet i.state run.0 e run.2 refl loud in
           let k = took_by (a.after s Nothing) (b.after r Nothing) w.memory i run.0 e run.1 n loud in
-          let last = landed t w vs (inner_by a p i e) (inner_by b p (with_state i n.at) (b.next n.at)) v ps k.1 d.2 in
-          (last.0, (d.0, record { last = with_state i n.at; run = k.0; over = is_landed t (with_threads w vs) (inner_by b p (with_state i n.at) (b.next n.at)) (with_threads v last.0) last.1 }, last.1), last.2)
+          let last = landed t w vs (inner_by a p i e) (inner_by b p (with_state i n.at) (b.next n.at)) v ps k.1 d.2 in (
+            last.0,
+            (
+              d.0,
+              record {
+                last = with_state i n.at;
+                run = k.0;
+                over = is_landed t (with_threads w vs) (inner_by b p (with_state i n.at) (b.next n.at))
+                    (with_threads v last.0) last.1;
+              },
+              last.1,
+            ),
+            last.2,
+          )
 
       int_below : (n : ℕ) → n < p.limit → p.limit ≤ THREAD_LIMIT → n < 2 ^ 31
       int_below n h few = omega (arith, h, few)
 
-      lifts : (kids : SameChildren a b main main') → p.limit ≤ THREAD_LIMIT → (s : S) (r : T) (e : Event) (v : World S) → Same s r → a.next s ≡ e → b.next r ≡ e → ((x : Reply) → Answers e x → Same (a.after s x) (b.after r x)) → EventStep a p t w s e v → Lifts t w vs r e v
+      lifts : (kids : SameChildren a b main main') → p.limit ≤ THREAD_LIMIT → (s : S) (r : T) (e : Event) (v : World S) → Same s r → a.next s ≡ e → b.next r ≡ e
+          → ((x : Reply) → Answers e x → Same (a.after s x) (b.after r x)) → EventStep a p t w s e v → Lifts t w vs r e v
       lifts kids few s r Silent v q i j h d = absurd d
       lifts kids few s r EndAtomic v q i j h d = absurd d
       lifts kids few s r (Raise kind can) v q i j h d = absurd d
       lifts kids few s r (BeginAtomic kind) v q i j h d = block s r kind v (h Nothing refl) d
       lifts kids few s r (Load addr size vol) v q i j h d =
           let x = Loaded (read_at addr size (w.memory (word_of addr))) in
-          subst (λ z. Lifts t w vs r (Load addr size vol) z) (sym d) (either_lifts t w vs (can_access p addr size) (goes t w (a.after s x)) (ends w (Trapped BadAddress)) (goes t (with_threads w vs) (b.after r x)) (ends (with_threads w vs) (Trapped BadAddress))
+          subst (λ z. Lifts t w vs r (Load addr size vol) z) (sym d)
+          (either_lifts t w vs (can_access p addr size) (goes t w (a.after s x)) (ends w (Trapped BadAddress)) (goes t (with_threads w vs) (b.after r x))
+          (ends (with_threads w vs) (Trapped BadAddress))
           (λ ok. (update vs t (alive (b.after r x)), refl, one (a.after s x) (b.after r x) false (h x (read_fits addr size (w.memory (word_of addr))))))
           (λ no. (vs, refl, ps)))
       lifts kids few s r (Store addr size value vol) v q i j h d =
           let m = update w.memory (word_of addr) (merge addr size value (w.memory (word_of addr))) in
-          subst (λ z. Lifts t w vs r (Store addr size value vol) z) (sym d) (either_lifts t w vs (can_access p addr size) (record w { memory = m; threads = update w.threads t (alive (a.after s Nothing)) }) (ends w (Trapped BadAddress)) (record (with_threads w vs) { memory = m; threads = update vs t (alive (b.after r Nothing)) }) (ends (with_threads w vs) (Trapped BadAddress))
+          subst (λ z. Lifts t w vs r (Store addr size value vol) z) (sym d)
+          (either_lifts t w vs (can_access p addr size) (record w { memory = m; threads = update w.threads t (alive (a.after s Nothing)) })
+          (ends w (Trapped BadAddress)) (record (with_threads w vs) { memory = m; threads = update vs t (alive (b.after r Nothing)) })
+          (ends (with_threads w vs) (Trapped BadAddress))
           (λ ok. (update vs t (alive (b.after r Nothing)), refl, one (a.after s Nothing) (b.after r Nothing) false (h Nothing refl)))
           (λ no. (vs, refl, ps)))
-      lifts kids few s r (Out c) v q i j h d = subst (λ z. Lifts t w vs r (Out c) z) (sym d) (update vs t (alive (b.after r Nothing)), refl, one (a.after s Nothing) (b.after r Nothing) false (h Nothing refl))
-      lifts kids few s r Inp v q i j h d = subst (λ z. Lifts t w vs r Inp z) (sym d) (update vs t (alive (b.after r (Byte (byte_of w.input)))), refl, one (a.after s (Byte (byte_of w.input))) (b.after r (Byte (byte_of w.input))) false (h (Byte (byte_of w.input)) (byte_int w.input)))
+      lifts kids few s r (Out c) v q i j h d = subst (λ z. Lifts t w vs r (Out c) z) (sym d)
+          (update vs t (alive (b.after r Nothing)), refl, one (a.after s Nothing) (b.after r Nothing) false (h Nothing refl))
+      lifts kids few s r Inp v q i j h d = subst (λ z. Lifts t w vs r Inp z) (sym d) (
+        update vs t (alive (b.after r (Byte (byte_of w.input)))),
+        refl,
+        one (a.after s (Byte (byte_of w.input))) (b.after r (Byte (byte_of w.input))) false (h (Byte (byte_of w.input)) (byte_int w.input)),
+      )
       lifts kids few s r (Spawn g x) v q i j h d =
           let n = w.started in
           let id = Id (pos n) in
           subst (λ z. Lifts t w vs r (Spawn g x) z) (sym d) (either_lifts t w vs (nat_lt n p.limit)
-          (record w { started = n + 1; threads = update (update w.threads n (alive (a.child s n g x))) t (alive (a.after s id)) }) (ends w (Trapped TooManyThreads))
-          (record (with_threads w vs) { started = n + 1; threads = update (update vs n (alive (b.child r n g x))) t (alive (b.after r id)) }) (ends (with_threads w vs) (Trapped TooManyThreads))
+          (record w { started = n + 1; threads = update (update w.threads n (alive (a.child s n g x))) t (alive (a.after s id)) })
+          (ends w (Trapped TooManyThreads))
+          (record (with_threads w vs) { started = n + 1; threads = update (update vs n (alive (b.child r n g x))) t (alive (b.after r id)) })
+          (ends (with_threads w vs) (Trapped TooManyThreads))
           (λ ok. (
             update (update vs n (alive (b.child r n g x))) t (alive (b.after r id)),
             refl,
-            pairs_update (update w.threads n (alive (a.child s n g x))) (update vs n (alive (b.child r n g x))) t (record { state = a.after s id; ended = false }) (record { state = b.after r id; ended = false })
-                (pairs_update w.threads vs n (record { state = a.child s n g x; ended = false }) (record { state = b.child r n g x; ended = false }) ps refl (record { events = kids s r n g x q.first q.second q.events i j; first = started n g x q.first i; second = started n g x q.second j })) refl (h id (int_below n (ltb-true n p.limit ok) few)),
+            pairs_update (update w.threads n (alive (a.child s n g x))) (update vs n (alive (b.child r n g x))) t
+                (record { state = a.after s id; ended = false }) (record { state = b.after r id; ended = false })
+                (pairs_update w.threads vs n (record { state = a.child s n g x; ended = false }) (record { state = b.child r n g x; ended = false }) ps refl
+                (record { events = kids s r n g x q.first q.second q.events i j; first = started n g x q.first i; second = started n g x q.second j })) refl
+                (h id (int_below n (ltb-true n p.limit ok) few)),
           ))
           (λ no. (vs, refl, ps)))
-      lifts kids few s r (Join id) v q i j h d = joined t w vs (a.after s Nothing) (b.after r Nothing) (target t id w.threads) (target t id vs) v (same_target t id w.threads vs ps) ps (h Nothing refl) d
-      lifts kids few s r BeginSync v q i j h d = subst (λ z. Lifts t w vs r BeginSync z) (sym d.1) (update vs t (alive (b.after r Nothing)), (d.0, refl), one (a.after s Nothing) (b.after r Nothing) false (h Nothing refl))
-      lifts kids few s r EndSync v q i j h d = subst (λ z. Lifts t w vs r EndSync z) (sym d) (update vs t (alive (b.after r Nothing)), refl, one (a.after s Nothing) (b.after r Nothing) false (h Nothing refl))
-      lifts kids few s r Done v q i j h d = subst (λ z. Lifts t w vs r Done z) (sym d) (update vs t (Some (record { state = b.after r Nothing; ended = true })), refl, one (a.after s Nothing) (b.after r Nothing) true (h Nothing refl))
+      lifts kids few s r (Join id) v q i j h d = joined t w vs (a.after s Nothing) (b.after r Nothing) (target t id w.threads) (target t id vs) v
+          (same_target t id w.threads vs ps) ps (h Nothing refl) d
+      lifts kids few s r BeginSync v q i j h d = subst (λ z. Lifts t w vs r BeginSync z) (sym d.1)
+          (update vs t (alive (b.after r Nothing)), (d.0, refl), one (a.after s Nothing) (b.after r Nothing) false (h Nothing refl))
+      lifts kids few s r EndSync v q i j h d = subst (λ z. Lifts t w vs r EndSync z) (sym d)
+          (update vs t (alive (b.after r Nothing)), refl, one (a.after s Nothing) (b.after r Nothing) false (h Nothing refl))
+      lifts kids few s r Done v q i j h d = subst (λ z. Lifts t w vs r Done z) (sym d)
+          (update vs t (Some (record { state = b.after r Nothing; ended = true })), refl, one (a.after s Nothing) (b.after r Nothing) true (h Nothing refl))
       lifts kids few s r (Stop e) v q i j h d = subst (λ z. Lifts t w vs r (Stop e) z) (sym d) (vs, refl, ps)
 
       loud_does : (s : S) (e : Event) (v : World S) → EventStep a p t w s e v → is_silent e ≡ false
@@ -310,15 +396,27 @@ module _ {S T : Type 0} (a : Thread S) (b : Thread T) (main : S) (main' : T) whe
 
       -- a step of the one world is a step of the other
       -- a step of the one world is a step of the other
-      pub step_lifts : SameChildren a b main main' → p.limit ≤ THREAD_LIMIT → (v : World S) → Step a p t w v → (ts : ℕ → Option (Alive T)) × Step b p t (with_threads w vs) (with_threads v ts) × Pairs v.threads ts
+      pub step_lifts : SameChildren a b main main' → p.limit ≤ THREAD_LIMIT → (v : World S) → Step a p t w v → (ts : ℕ → Option (Alive T))
+          × Step b p t (with_threads w vs) (with_threads v ts) × Pairs v.threads ts
       step_lifts kids few v d =
           let y = partner (w.threads t) (vs t) (ps t) d.from d.is in
           let same = same_silents d.from y.0 y.2 d.silents in
           let e = a.next d.before in
           let n = meet d.before y.0 e same refl (loud_does d.before e v d.does) in
           let seen : Same d.before n.at = same_after d.before y.0 n.at same n.silents in
-          let l = lifts kids few d.before n.at e v seen refl n.is n.alike d.does in
-          (l.0, record { going = d.going; from = y.0; before = n.at; is = y.1; silents = n.silents; does = subst (λ z. EventStep b p t (with_threads w vs) n.at z (with_threads v l.0)) (sym n.is) l.1 }, l.2)
+          let l = lifts kids few d.before n.at e v seen refl n.is n.alike d.does in (
+            l.0,
+            record {
+              going = d.going;
+              from = y.0;
+              before = n.at;
+              is = y.1;
+              silents = n.silents;
+              does = subst
+                  (λ z. EventStep b p t (with_threads w vs) n.at z (with_threads v l.0)) (sym n.is) l.1;
+            },
+            l.2,
+          )
         where
           same_after : (s : S) (r q : T) → Same s r → SilentSteps b r q → Same s q
           same_after s r q h none = h
@@ -326,7 +424,8 @@ module _ {S T : Type 0} (a : Thread S) (b : Thread T) (main : S) (main' : T) whe
               let g = same_after s r z h f in
               record {
                 events = record {
-                  there = λ rs v i' c. let d = g.events.there rs v i' c in record { at = d.at; reaches = past_silent b i d.reaches (ap is_silent d.is ∙ i'); is = d.is };
+                  there = λ rs v i' c. let d = g.events.there rs v i' c in
+                      record { at = d.at; reaches = past_silent b i d.reaches (ap is_silent d.is ∙ i'); is = d.is };
                   back = λ rs v i' c. g.events.back rs v i' (record { at = c.at; reaches = silently i c.reaches; is = c.is });
                 };
                 first = g.first;
@@ -334,7 +433,8 @@ module _ {S T : Type 0} (a : Thread S) (b : Thread T) (main : S) (main' : T) whe
               }
 
     -- and so are any steps
-    pub replays_lift : SameChildren a b main main' → p.limit ≤ THREAD_LIMIT → (order : List ℕ) (w v : World S) (vs : ℕ → Option (Alive T)) → Pairs w.threads vs → Replays a p w order v → (ts : ℕ → Option (Alive T)) × Replays b p (with_threads w vs) order (with_threads v ts) × Pairs v.threads ts
+    pub replays_lift : SameChildren a b main main' → p.limit ≤ THREAD_LIMIT → (order : List ℕ) (w v : World S) (vs : ℕ → Option (Alive T)) → Pairs w.threads vs
+        → Replays a p w order v → (ts : ℕ → Option (Alive T)) × Replays b p (with_threads w vs) order (with_threads v ts) × Pairs v.threads ts
     replays_lift kids few [] w v vs ps h = (vs, ap (λ z. with_threads z vs) h, subst (λ z. Pairs z.threads vs) (sym h) ps)
     replays_lift kids few (t ∷ order) w v vs ps h =
         let one_step = step_lifts t w vs ps kids few h.0 h.1 in
@@ -342,7 +442,8 @@ module _ {S T : Type 0} (a : Thread S) (b : Thread T) (main : S) (main' : T) whe
         (rest.0, (with_threads h.0 one_step.0, one_step.1, rest.1), rest.2)
 
     -- from the start
-    pub starts_lift : SameChildren a b main main' → SameEvents a b main main' → p.limit ≤ THREAD_LIMIT → (memory : ℕ → ℕ) (input : List ℕ) (order : List ℕ) (v : World S) → Replays a p (first_world memory input main) order v
+    pub starts_lift : SameChildren a b main main' → SameEvents a b main main' → p.limit ≤ THREAD_LIMIT
+        → (memory : ℕ → ℕ) (input : List ℕ) (order : List ℕ) (v : World S) → Replays a p (first_world memory input main) order v
         → (ts : ℕ → Option (Alive T)) × Replays b p (first_world memory input main') order (with_threads v ts) × Pairs v.threads ts
     starts_lift kids same few memory input order v h =
         subst (λ z. (ts : ℕ → Option (Alive T)) × Replays b p z order (with_threads v ts) × Pairs v.threads ts) refl

@@ -11,10 +11,12 @@ get_set {X} xs i v t h =
     let l : length (set xs i v) ≡ length xs = length-set xs i v in
     elim (t == i) as (λ b. (t == i) ≡ b → slice_get (set xs i v) t ≡ cond b (Some v) (slice_get xs t)) [
       | true ↦ λ e.
-          let at : slice_get (set xs i v) i ≡ Some v = slice_get-get_or (set xs i v) i v (subst (λ n. i < n) (sym l) h) ∙ ap Some (get_or-set_same xs i v v h) in
+          let at : slice_get (set xs i v) i ≡ Some v = slice_get-get_or (set xs i v) i v (subst (λ n. i < n) (sym l) h)
+          ∙ ap Some (get_or-set_same xs i v v h) in
           ap (λ n. slice_get (set xs i v) n) (eqb-true t i e) ∙ at
       | false ↦ λ e. elim (cases_lt t (length xs)) [
-        | inl p ↦ slice_get-get_or (set xs i v) t v (subst (λ n. t < n) (sym l) p) ∙ (ap Some (get_or-set_other xs i t v v (eqb-false t i e)) ∙ sym (slice_get-get_or xs t v p))
+        | inl p ↦ slice_get-get_or (set xs i v) t v (subst (λ n. t < n) (sym l) p)
+            ∙ (ap Some (get_or-set_other xs i t v v (eqb-false t i e)) ∙ sym (slice_get-get_or xs t v p))
         | inr p ↦ slice_get_past (set xs i v) t (subst (λ n. n ≤ t) (sym l) p) ∙ sym (slice_get_past xs t p)
       ]
     ] refl

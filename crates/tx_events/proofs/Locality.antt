@@ -7,10 +7,12 @@ use Rattle.tx_events.specs.declared.End.{End}
 use Rattle.tx_events.specs.declared.End.TheVariants.{Trapped}
 use Rattle.tx_events.specs.declared.Trap.TheVariants.{BadAddress}
 use Rattle.tx_events.specs.declared.Event.{Event}
-use Rattle.tx_events.specs.declared.Event.TheVariants.{Silent, Load, Store, Out, Inp, Spawn, Join, BeginAtomic, EndAtomic, Raise, BeginSync, EndSync, Done, Stop}
+use Rattle.tx_events.specs.declared.Event.TheVariants.{Silent, Load, Store, Out, Inp, Spawn, Join, BeginAtomic, EndAtomic, Raise, BeginSync, EndSync, Done}
+use Rattle.tx_events.specs.declared.Event.TheVariants.{Stop}
 use Rattle.tx_events.specs.Thread.{Thread}
 use Rattle.tx_events.specs.Memory.{update, MemoryLayout, can_access, word_of}
-use Rattle.tx_events.specs.Alone.{Inner, inner_load, inner_store, BlockStep, Goes, Leaves, Halts, Never, newest, leave, raise, inner_by, Inside, at_start, goes_on, begin, is_over, Alone, outcome}
+use Rattle.tx_events.specs.Alone.{Inner, inner_load, inner_store, BlockStep, Goes, Leaves, Halts, Never, newest, leave, raise, inner_by, Inside, at_start}
+use Rattle.tx_events.specs.Alone.{goes_on, begin, is_over, Alone, outcome}
 use Rattle.tx_events.specs.Laws.{AgreesOn, EndsAlike, RunsAlike, StoresOnly}
 use Rattle.tx_events.proofs.BlockRuns.{OnGoes, on_either, newest_all, not_updated, BothTook, both_by, local, Kept, unstored}
 
@@ -35,7 +37,8 @@ module _ {S : Type 0} (a : Thread S) (p : MemoryLayout) where
 
   in_by : (x : ℕ) (j : Inner S) (e : Event) → IsIn x j → OnGoes (IsIn x) (inner_by a p j e)
   in_by x j Silent f = f
-  in_by x j (Load addr size vol) f = on_either (IsIn x) (can_access p addr size) (inner_load a j addr size) (Trapped BadAddress) (λ h. f (not_updated j.accessed (word_of addr) x h).1)
+  in_by x j (Load addr size vol) f = on_either (IsIn x) (can_access p addr size) (inner_load a j addr size) (Trapped BadAddress)
+      (λ h. f (not_updated j.accessed (word_of addr) x h).1)
   in_by x j (Store addr size value vol) f = on_either (IsIn x) (can_access p addr size) (inner_store a j addr size value) (Trapped BadAddress)
       (λ h. let q = not_updated j.accessed (word_of addr) x h in not_stored j.stored (word_of addr) x q.0 (f q.1))
   in_by x j (BeginAtomic kind) f = f
@@ -73,10 +76,12 @@ module _ {S : Type 0} (a : Thread S) (p : MemoryLayout) where
   leaves_leave P j m (c ∷ []) h = h
   leaves_leave P j m (c ∷ d ∷ cs) h = tt
 
-  leaves_raise : (m : ℕ → ℕ) (x : ℕ) (j : Inner S) (kind : BlockKind) (can : Bool) → Kept a p m x j → j.stored x ≡ false → OnLeaves (λ q. q x ≡ m x) (raise a j kind can)
+  leaves_raise : (m : ℕ → ℕ) (x : ℕ) (j : Inner S) (kind : BlockKind) (can : Bool) → Kept a p m x j → j.stored x ≡ false
+      → OnLeaves (λ q. q x ≡ m x) (raise a j kind can)
   leaves_raise m x j NoExcept can f h = tt
   leaves_raise m x j Commit can f h = leaves_leave (λ q. q x ≡ m x) j j.memory j.copies (f h).0
-  leaves_raise m x j Cancel true f h = leaves_leave (λ q. q x ≡ m x) j (newest j.copies j.memory) j.copies (newest_all x (m x) j.memory j.copies (f h).1 (f h).0)
+  leaves_raise m x j Cancel true f h = leaves_leave (λ q. q x ≡ m x) j (newest j.copies j.memory) j.copies
+      (newest_all x (m x) j.memory j.copies (f h).1 (f h).0)
   leaves_raise m x j Cancel false f h = tt
 
   leaves_either : (P : (ℕ → ℕ) → Type 0) (b : Bool) (i : Inner S) (e : End) → OnLeaves P (cond b (Goes i) (Halts e))
@@ -86,7 +91,8 @@ module _ {S : Type 0} (a : Thread S) (p : MemoryLayout) where
   leaves_by : (m : ℕ → ℕ) (x : ℕ) (j : Inner S) (e : Event) → Kept a p m x j → j.stored x ≡ false → OnLeaves (λ q. q x ≡ m x) (inner_by a p j e)
   leaves_by m x j Silent f h = tt
   leaves_by m x j (Load addr size vol) f h = leaves_either (λ q. q x ≡ m x) (can_access p addr size) (inner_load a j addr size) (Trapped BadAddress)
-  leaves_by m x j (Store addr size value vol) f h = leaves_either (λ q. q x ≡ m x) (can_access p addr size) (inner_store a j addr size value) (Trapped BadAddress)
+  leaves_by m x j (Store addr size value vol) f h = leaves_either (λ q. q x ≡ m x) (can_access p addr size) (inner_store a j addr size value)
+      (Trapped BadAddress)
   leaves_by m x j (BeginAtomic kind) f h = tt
   leaves_by m x j EndAtomic f h = leaves_leave (λ q. q x ≡ m x) j j.memory j.copies (f h).0
   leaves_by m x j (Raise kind can) f h = leaves_raise m x j kind can f h
@@ -106,7 +112,8 @@ module _ {S : Type 0} (a : Thread S) (p : MemoryLayout) where
   to_stores stored m Never h = tt
 
   pub rest_kept : (s : S) (m : ℕ → ℕ) (alone : Alone a p s m) → StoresOnly alone.last.stored m (outcome alone)
-  rest_kept s m alone = to_stores alone.last.stored m (outcome alone) (λ x h. leaves_by m x alone.last (a.next alone.last.state) (unstored a p s m alone.run x) h)
+  rest_kept s m alone = to_stores alone.last.stored m (outcome alone)
+      (λ x h. leaves_by m x alone.last (a.next alone.last.state) (unstored a p s m alone.run x) h)
 
   both_over : (m n : ℕ → ℕ) (y z : BlockStep S) → BothTook m n y z → is_over y ≡ true → is_over z ≡ true
   both_over m n (Goes i) z b h = absurd (false≢true h)
@@ -120,7 +127,8 @@ module _ {S : Type 0} (a : Thread S) (p : MemoryLayout) where
   both_over m n (Halts e) (Leaves r o) b h = absurd b
   both_over m n (Halts e) Never b h = absurd b
 
-  ends_alike : (words stored : ℕ → Bool) (m n : ℕ → ℕ) (y z : BlockStep S) → AgreesOn words m n → ((x : ℕ) → words x ≡ false → stored x ≡ false) → BothTook m n y z → is_over y ≡ true → StoresOnly stored n z → EndsAlike words n y z
+  ends_alike : (words stored : ℕ → Bool) (m n : ℕ → ℕ) (y z : BlockStep S) → AgreesOn words m n → ((x : ℕ) → words x ≡ false → stored x ≡ false)
+      → BothTook m n y z → is_over y ≡ true → StoresOnly stored n z → EndsAlike words n y z
   ends_alike words stored m n (Goes i) z on off b h only = absurd (false≢true h)
   ends_alike words stored m n Never z on off b h only = absurd (false≢true h)
   ends_alike words stored m n (Leaves s q) (Leaves r o) on off b h only = (b.0, (λ x w. sym (b.1 x (sym (on x w)))), (λ x w. only x (off x w)))

@@ -3,7 +3,8 @@ use Rattle.std.proofs.Common.{ℕ, ◌≡◌, true, false, refl, ap, sym, ◌∙
 use Rattle.std.proofs.lemmas.Bool.{true≢false, false≢true}
 use Rattle.tx_events.specs.declared.End.{End}
 use Rattle.tx_events.specs.declared.Event.{Event}
-use Rattle.tx_events.specs.declared.Event.TheVariants.{Silent, Load, Store, Out, Inp, Spawn, Join, BeginAtomic, EndAtomic, Raise, BeginSync, EndSync, Done, Stop}
+use Rattle.tx_events.specs.declared.Event.TheVariants.{Silent, Load, Store, Out, Inp, Spawn, Join, BeginAtomic, EndAtomic, Raise, BeginSync, EndSync, Done}
+use Rattle.tx_events.specs.declared.Event.TheVariants.{Stop}
 use Rattle.tx_events.specs.declared.Reply.TheVariants.{Nothing}
 use Rattle.tx_events.specs.Thread.{Thread, is_silent}
 use Rattle.tx_events.specs.Memory.{MemoryLayout}
@@ -36,7 +37,8 @@ module _ {S : Type 0} (a : Thread S) (p : MemoryLayout) where
   inner_or i (Halts e) = i
   inner_or i Never = i
 
-  pub same_last : {i j k : Inner S} → From i j → From i k → is_over (inner_by a p j (a.next j.state)) ≡ true → is_over (inner_by a p k (a.next k.state)) ≡ true → j ≡ k
+  pub same_last : {i j k : Inner S} → From i j → From i k → is_over (inner_by a p j (a.next j.state)) ≡ true → is_over (inner_by a p k (a.next k.state)) ≡ true
+      → j ≡ k
   same_last at at g h = refl
   same_last at (then e f) g h = absurd (false≢true (sym (ap is_over e) ∙ g))
   same_last (then e f) at g h = absurd (false≢true (sym (ap is_over e) ∙ h))
@@ -92,7 +94,8 @@ module _ {S : Type 0} (a : Thread S) (p : MemoryLayout) where
   pub same_step : (t : ℕ) (w v u : World S) → Step a p t w v → Step a p t w u → v ≡ u
   same_step t w v u h g =
       let from : h.from ≡ g.from = one_state h.from g.from (sym h.is ∙ g.is) in
-      let before = same_before g.from h.before g.before (subst (λ z. SilentSteps a z h.before) from h.silents) g.silents (loud t w v h.before (a.next h.before) h.does) (loud t w u g.before (a.next g.before) g.does) in
+      let before = same_before g.from h.before g.before (subst (λ z. SilentSteps a z h.before) from h.silents) g.silents
+      (loud t w v h.before (a.next h.before) h.does) (loud t w u g.before (a.next g.before) g.does) in
       same_does t w v u g.before (a.next g.before) (subst (λ z. EventStep a p t w z (a.next z) v) before h.does) g.does
 
   pub same_replays : (order : List ℕ) (w v u : World S) → Replays a p w order v → Replays a p w order u → v ≡ u
@@ -110,10 +113,12 @@ module _ {S : Type 0} (a : Thread S) (p : MemoryLayout) where
   ended_no_step t w v end e d = let going = d.going in let no : None ≡ Some end = sym going ∙ e in cc
 
   -- where the event of a thread is not enabled, it has no step
-  pub refused : (t : ℕ) (w v : World S) (s : S) → w.threads t ≡ alive s → is_silent (a.next s) ≡ false → (EventStep a p t w s (a.next s) v → ⊥) → Step a p t w v → ⊥
+  pub refused : (t : ℕ) (w v : World S) (s : S) → w.threads t ≡ alive s → is_silent (a.next s) ≡ false → (EventStep a p t w s (a.next s) v → ⊥) → Step a p t w v
+      → ⊥
   refused t w v s is loud_next never d =
       let from : d.from ≡ s = one_state d.from s (sym d.is ∙ is) in
-      let before = same_before s d.before s (subst (λ z. SilentSteps a z d.before) from d.silents) none (loud t w v d.before (a.next d.before) d.does) loud_next in
+      let before = same_before s d.before s (subst (λ z. SilentSteps a z d.before) from d.silents) none
+      (loud t w v d.before (a.next d.before) d.does) loud_next in
       never (subst (λ z. EventStep a p t w z (a.next z) v) before d.does)
 
   -- a thread that has ended takes no step

@@ -28,7 +28,8 @@ module _ {S : Type 0} (a : Thread S) where
   reach_silents (answered i f r) e = absurd (cc)
 
   -- the silent steps before an event are the same in each run
-  pub after_silents : {s q u : S} {ss rs : List Reply} → Reaches a s ss q → ss ≡ [] → is_silent (a.next q) ≡ false → Reaches a s rs u → is_silent (a.next u) ≡ false → Reaches a q rs u
+  pub after_silents : {s q u : S} {ss rs : List Reply} → Reaches a s ss q → ss ≡ [] → is_silent (a.next q) ≡ false → Reaches a s rs u
+      → is_silent (a.next u) ≡ false → Reaches a q rs u
   after_silents at_once e f h g = h
   after_silents (silently i r) e f at_once g = absurd (true≢false (sym (ap is_silent i) ∙ g))
   after_silents (silently i r) e f (silently j h) g = after_silents r e f h g
@@ -44,4 +45,5 @@ module _ {S : Type 0} (a : Thread S) where
   pub after_event : {s u : S} {r : Reply} {rs ts : List Reply} → is_silent (a.next s) ≡ false → Reaches a s ts u → ts ≡ (r ∷ rs) → Reaches a (a.after s r) rs u
   after_event i at_once e = absurd (cc)
   after_event i (silently j h) e = absurd (true≢false (sym (ap is_silent j) ∙ i))
-  after_event {s} {u} {r} {rs} i (answered {reply = r'} {replies = rs'} j k h) e = let p : r' ≡ r = cc in let q : rs' ≡ rs = cc in subst (λ z. Reaches a (a.after s r) z u) q (subst (λ z. Reaches a (a.after s z) rs' u) p h)
+  after_event {s} {u} {r} {rs} i (answered {reply = r'} {replies = rs'} j k h) e = let p : r' ≡ r = cc in let q : rs' ≡ rs = cc in
+      subst (λ z. Reaches a (a.after s r) z u) q (subst (λ z. Reaches a (a.after s z) rs' u) p h)

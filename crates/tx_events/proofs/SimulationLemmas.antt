@@ -3,7 +3,8 @@ use Rattle.std.proofs.Common.{ℕ, zero, suc, ◌≡◌, ◌+◌, ◌*◌, ◌<�
 use Rattle.std.proofs.Math.Nat.{mul-le-mul_right, mul-add, mul-one, add-mul, one-mul}
 use Rattle.std.proofs.lemmas.Bool.{true≢false}
 use Rattle.tx_events.specs.declared.Event.{Event}
-use Rattle.tx_events.specs.declared.Event.TheVariants.{Silent, Load, Store, Out, Inp, Spawn, Join, BeginAtomic, EndAtomic, Raise, BeginSync, EndSync, Done, Stop}
+use Rattle.tx_events.specs.declared.Event.TheVariants.{Silent, Load, Store, Out, Inp, Spawn, Join, BeginAtomic, EndAtomic, Raise, BeginSync, EndSync, Done}
+use Rattle.tx_events.specs.declared.Event.TheVariants.{Stop}
 use Rattle.tx_events.specs.declared.Reply.{Reply}
 use Rattle.tx_events.specs.declared.Reply.TheVariants.{Nothing}
 use Rattle.tx_events.specs.Thread.{Thread, Answers, is_silent}
@@ -51,7 +52,8 @@ module _ {S : Type 0} (a : Thread S) where
       swap n k = omega arith
 
   -- silent steps at the front are those of each way to an event
-  past_path : {n : ℕ} {s q t : S} {replies : List Reply} → Path a n s q → (f : Reaches a s replies t) → is_silent (a.next t) ≡ false → (g : Reaches a q replies t) × (n + steps a g ≡ steps a f)
+  past_path : {n : ℕ} {s q t : S} {replies : List Reply} → Path a n s q → (f : Reaches a s replies t) → is_silent (a.next t) ≡ false
+      → (g : Reaches a q replies t) × (n + steps a g ≡ steps a f)
   past_path here f l = (f, zero_plus (steps a f))
     where
       zero_plus : (k : ℕ) → 0 + k ≡ k
@@ -66,10 +68,12 @@ module _ {S : Type 0} (a : Thread S) where
   past_path (step e p) (answered i k f) l = absurd (clash e i)
 
   -- two ways to an event by the same replies are equally long
-  pub one_length : {s t u : S} {replies : List Reply} (f : Reaches a s replies t) (g : Reaches a s replies u) → is_silent (a.next t) ≡ false → is_silent (a.next u) ≡ false → steps a f ≡ steps a g
+  pub one_length : {s t u : S} {replies : List Reply} (f : Reaches a s replies t) (g : Reaches a s replies u) → is_silent (a.next t) ≡ false
+      → is_silent (a.next u) ≡ false → steps a f ≡ steps a g
   one_length f g l k = same f g refl refl l k
     where
-      same : {s z t u : S} {rs qs : List Reply} (f : Reaches a s rs t) (g : Reaches a z qs u) → s ≡ z → rs ≡ qs → is_silent (a.next t) ≡ false → is_silent (a.next u) ≡ false → steps a f ≡ steps a g
+      same : {s z t u : S} {rs qs : List Reply} (f : Reaches a s rs t) (g : Reaches a z qs u) → s ≡ z → rs ≡ qs → is_silent (a.next t) ≡ false
+          → is_silent (a.next u) ≡ false → steps a f ≡ steps a g
       same at_once at_once o e l k = refl
       same at_once (silently i g) o e l k = absurd (clash i (subst (λ v. is_silent (a.next v) ≡ false) o l))
       same at_once (answered i j g) o e l k = absurd (cc)
@@ -110,7 +114,8 @@ moved_less most p p' n u g f e h =
 
 module _ {S T : Type 0} (x : SimulationBound S T) where
   -- what the first comes to, the second does, within the bound
-  there : (n p c : ℕ) {s q : S} {r : T} {replies : List Reply} (f : Reaches x.first s replies q) → is_silent (x.first.next q) ≡ false → steps x.first f < n → Sim x n p c s r
+  there : (n p c : ℕ) {s q : S} {r : T} {replies : List Reply} (f : Reaches x.first s replies q) → is_silent (x.first.next q) ≡ false → steps x.first f < n
+      → Sim x n p c s r
       → (k : ℕ) × Way x.second r replies (x.first.next q) k × (k ≤ x.rate * steps x.first f + c)
   there zero p c f l h sim = absurd (omega (arith, h))
   there (suc n) p c {s} at_once l h sim =
@@ -125,7 +130,13 @@ module _ {S T : Type 0} (x : SimulationBound S T) where
       let o = m.on reply y in
       let w = there n o.patience_left o.credit_left f l (omega (arith, h)) o.goes in (
         m.steps + (w.0 + 1),
-        after_path x.second m.path (record { at = w.1.at; reaches = answered (ap is_silent m.same ∙ e) (subst (λ z. Answers z reply) (sym m.same) y) w.1.reaches; is = w.1.is; long = ap (λ z. z + 1) w.1.long }),
+        after_path x.second m.path (record {
+          at = w.1.at;
+          reaches = answered (ap is_silent m.same ∙ e)
+              (subst (λ z. Answers z reply) (sym m.same) y) w.1.reaches;
+          is = w.1.is;
+          long = ap (λ z. z + 1) w.1.long;
+        }),
         paid_event x.rate (steps x.first f) m.steps w.0 c o.credit_left o.pays w.2,
       )
 
@@ -135,8 +146,10 @@ module _ {S T : Type 0} (x : SimulationBound S T) where
     reaches : Reaches x.first s replies at
     is : x.first.next at ≡ x.second.next t
 
-  found_event : {s : S} {z t : T} {replies : List Reply} → is_silent (x.first.next s) ≡ false → x.second.next z ≡ x.first.next s → (g : Reaches x.second z replies t)
-      → ((reply : Reply) (rest : List Reply) (h : Reaches x.second (x.second.after z reply) rest t) → steps x.second h + 1 ≡ steps x.second g → Answers (x.first.next s) reply → Found (x.first.after s reply) rest t)
+  found_event : {s : S} {z t : T} {replies : List Reply} → is_silent (x.first.next s) ≡ false → x.second.next z ≡ x.first.next s
+      → (g : Reaches x.second z replies t)
+      → ((reply : Reply) (rest : List Reply) (h : Reaches x.second (x.second.after z reply) rest t) → steps x.second h + 1 ≡ steps x.second g
+      → Answers (x.first.next s) reply → Found (x.first.after s reply) rest t)
       → Found s replies t
   found_event {s} e same at_once go = record { at = s; reaches = at_once; is = sym same }
   found_event e same (silently i h) go = absurd (true≢false (sym (ap is_silent i) ∙ (ap is_silent same ∙ e)))
@@ -145,21 +158,24 @@ module _ {S T : Type 0} (x : SimulationBound S T) where
       let f = go reply replies h refl fits in
       record { at = f.at; reaches = answered e fits f.reaches; is = f.is }
 
-  back : (n p c : ℕ) {s : S} {r t : T} {replies : List Reply} (g : Reaches x.second r replies t) → is_silent (x.second.next t) ≡ false → p + steps x.second g * (x.most + 1) < n → Sim x n p c s r → Found s replies t
+  back : (n p c : ℕ) {s : S} {r t : T} {replies : List Reply} (g : Reaches x.second r replies t) → is_silent (x.second.next t) ≡ false
+      → p + steps x.second g * (x.most + 1) < n → Sim x n p c s r → Found s replies t
   back zero p c g l h sim = absurd (omega (arith, h))
   back (suc n) p c {s} {r} {t} {replies} g l h sim =
       elim (is_silent (x.first.next s)) as (λ v. is_silent (x.first.next s) ≡ v → Stepped x (Sim x n) p c s r v → Found s replies t) [
         | true ↦ λ e m.
             let u = past_path x.second m.path g l in
             let less = ⊎_elim (λ f. still_less x.most p m.patience_left n (steps x.second u.0) (steps x.second g) m.steps f u.1 h)
-            (λ f. moved_less x.most p m.patience_left n (steps x.second u.0) (steps x.second g) f.1 (one_on m.steps (steps x.second u.0) (steps x.second g) f.0 u.1) h) m.waits in
+            (λ f. moved_less x.most p m.patience_left n (steps x.second u.0) (steps x.second g) f.1
+            (one_on m.steps (steps x.second u.0) (steps x.second g) f.0 u.1) h) m.waits in
             let f = back n m.patience_left m.credit_left u.0 l less m.goes in
             record { at = f.at; reaches = silently (silent_is (x.first.next s) e) f.reaches; is = f.is }
         | false ↦ λ e m.
             let u = past_path x.second m.path g l in
             found_event e m.same u.0 (λ reply rest k long fits.
             let o = m.on reply fits in
-            back n o.patience_left o.credit_left k l (moved_less x.most p o.patience_left n (steps x.second k) (steps x.second g) o.waits (one_more m.steps (steps x.second k) (steps x.second u.0) (steps x.second g) long u.1) h) o.goes)
+            back n o.patience_left o.credit_left k l (moved_less x.most p o.patience_left n (steps x.second k) (steps x.second g) o.waits
+            (one_more m.steps (steps x.second k) (steps x.second u.0) (steps x.second g) long u.1) h) o.goes)
       ] refl sim
     where
       one_on : (m u g : ℕ) → 1 ≤ m → m + u ≡ g → u + 1 ≤ g
@@ -184,5 +200,6 @@ module _ {S T : Type 0} (x : SimulationBound S T) where
   pub simulated_within : (p c : ℕ) (s : S) (r : T) → ((n : ℕ) → Sim x n p c s r) → StepsWithin x.first x.second x.rate c s r
   simulated_within p c s r sim = λ replies event loud f g.
       let w = there (steps x.first f.reaches + 1) p c f.reaches (ap is_silent f.is ∙ loud) (omega arith) (sim (steps x.first f.reaches + 1)) in
-      let same : steps x.second w.1.reaches ≡ steps x.second g.reaches = one_length x.second w.1.reaches g.reaches (ap is_silent (w.1.is ∙ f.is) ∙ loud) (ap is_silent g.is ∙ loud) in
+      let same : steps x.second w.1.reaches ≡ steps x.second g.reaches =
+      one_length x.second w.1.reaches g.reaches (ap is_silent (w.1.is ∙ f.is) ∙ loud) (ap is_silent g.is ∙ loud) in
       subst (λ z. z ≤ x.rate * steps x.first f.reaches + c) (sym w.1.long ∙ same) w.2

@@ -5,7 +5,8 @@ use Rattle.std.proofs.Math.Nat.{mod-lt, mod-eq_of_lt}
 use Rattle.std.proofs.lemmas.Bool.{false≢true, ltb-true, leb-true, lt-ltb, le-leb}
 use Rattle.std.proofs.lemmas.Nat.{pow_pos}
 use Rattle.tx_events.specs.Thread.{IsInt}
-use Rattle.tx_events.specs.Memory.{MemoryLayout, read_at, word_of, word_bound, can_access, is_mapped, is_aligned, in_globals, in_stacks, globals_start, globals_end, stacks_start, stack_stride, stack_size}
+use Rattle.tx_events.specs.Memory.{MemoryLayout, read_at, word_of, word_bound, can_access, is_mapped, is_aligned, in_globals, in_stacks, globals_start}
+use Rattle.tx_events.specs.Memory.{globals_end, stacks_start, stack_stride, stack_size}
 use Rattle.tx_events.specs.World.{byte_of}
 
 pub read_fits : (addr size word : ℕ) → read_at addr size word < 2 ^ (8 * size)
@@ -55,14 +56,16 @@ below_mapped p addr false false g s h = absurd (false≢true h)
 pub access_below : (p : MemoryLayout) (addr size : ℕ) → can_access p addr size ≡ true → word_of addr < word_bound p
 unfolding can_access is_mapped word_of
 access_below p addr size h =
-    let less : addr < word_bound p = below_mapped p addr (in_globals p addr) (in_stacks p addr) refl refl (and_right (is_aligned addr size) (in_globals p addr || in_stacks p addr) h) in
+    let less : addr < word_bound p = below_mapped p addr (in_globals p addr) (in_stacks p addr) refl refl
+    (and_right (is_aligned addr size) (in_globals p addr || in_stacks p addr) h) in
     omega (arith, less)
 
 globals_whole : (p : MemoryLayout) (addr k : ℕ) → addr % 8 + k < 8 → in_globals p addr ≡ true → in_globals p (addr + k) ≡ true
 globals_whole p addr k h g =
     let least : 65536 ≤ addr = leb-true 65536 addr (and_left (nat_le globals_start addr) (nat_lt addr (globals_end p)) g) in
     let less : addr < globals_end p = ltb-true addr (globals_end p) (and_right (nat_le globals_start addr) (nat_lt addr (globals_end p)) g) in
-    both_true (nat_le globals_start (addr + k)) (nat_lt (addr + k) (globals_end p)) (le-leb 65536 (addr + k) (omega (arith, least))) (lt-ltb (addr + k) (globals_end p) (omega (arith, less, h)))
+    both_true (nat_le globals_start (addr + k)) (nat_lt (addr + k) (globals_end p)) (le-leb 65536 (addr + k) (omega (arith, least)))
+    (lt-ltb (addr + k) (globals_end p) (omega (arith, less, h)))
 
 stacks_whole : (p : MemoryLayout) (addr k : ℕ) → addr % 8 + k < 8 → in_stacks p addr ≡ true → in_stacks p (addr + k) ≡ true
 stacks_whole p addr k h s =
@@ -75,7 +78,8 @@ stacks_whole p addr k h s =
     let deep : (addr - 16777216) % 131072 < 65536 = ltb-true ((addr - 16777216) % 131072) 65536 (and_right (reached && started) inside s) in
     let same : (addr + k - 16777216) / 131072 ≡ (addr - 16777216) / 131072 = omega (arith, least, deep, h) in
     let far : (addr + k - 16777216) % 131072 ≡ (addr - 16777216) % 131072 + k = omega (arith, least, deep, h) in
-    both_true (nat_le stacks_start (addr + k) && nat_lt ((addr + k - stacks_start) / stack_stride) p.limit) (nat_lt ((addr + k - stacks_start) % stack_stride) stack_size)
+    both_true (nat_le stacks_start (addr + k) && nat_lt ((addr + k - stacks_start) / stack_stride) p.limit)
+    (nat_lt ((addr + k - stacks_start) % stack_stride) stack_size)
     (both_true (nat_le stacks_start (addr + k)) (nat_lt ((addr + k - stacks_start) / stack_stride) p.limit)
     (le-leb 16777216 (addr + k) (omega (arith, least)))
     (lt-ltb ((addr + k - 16777216) / 131072) p.limit (subst (λ z. z < p.limit) (sym same) few)))

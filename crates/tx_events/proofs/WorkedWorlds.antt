@@ -9,7 +9,8 @@ use Rattle.tx_events.specs.Memory.{with_cells, no_bytes, can_access, is_mapped, 
 use Rattle.tx_events.specs.Alone.{at_start, goes_on}
 use Rattle.tx_events.specs.World.{World, Step, Replays, none, one_more}
 use Rattle.tx_events.specs.Script.{Cursor, script}
-use Rattle.tx_events.specs.Examples.{LeadsTo, Waits, layout, start, no_change, committing, cancelling, aborting, failing, sharing, locking, talking, Hears, asking, asking_inside, cells, first_bytes}
+use Rattle.tx_events.specs.Examples.{LeadsTo, Waits, layout, start, no_change, committing, cancelling, aborting, failing, sharing, locking, talking, Hears}
+use Rattle.tx_events.specs.Examples.{asking, asking_inside, cells, first_bytes}
 use Rattle.tx_events.specs.declared.Reply.TheVariants.{Nothing, Loaded, Byte, Id}
 use Rattle.tx_events.proofs.OneReplay.{same_replays, refused, ended_thread}
 
@@ -54,7 +55,15 @@ commits = record {
   world = _;
   replays = (
     _,
-    record { going = refl; from = _; before = _; is = refl; silents = one_more none refl; does = (refl, record { last = _; run = goes_on (goes_on (goes_on (goes_on (goes_on at_start refl) refl) refl) refl) refl; over = refl }, refl) },
+    record {
+      going = refl;
+      from = _;
+      before = _;
+      is = refl;
+      silents = one_more none refl;
+      does =
+          (refl, record { last = _; run = goes_on (goes_on (goes_on (goes_on (goes_on at_start refl) refl) refl) refl) refl; over = refl }, refl);
+    },
     (
       _,
       record { going = refl; from = _; before = _; is = refl; silents = none; does = refl },
@@ -77,7 +86,18 @@ cancels = record {
   world = _;
   replays = (
     _,
-    record { going = refl; from = _; before = _; is = refl; silents = none; does = (refl, record { last = _; run = goes_on (goes_on (goes_on (goes_on (goes_on (goes_on at_start refl) refl) refl) refl) refl) refl; over = refl }, refl) },
+    record {
+      going = refl;
+      from = _;
+      before = _;
+      is = refl;
+      silents = none;
+      does = (
+        refl,
+        record { last = _; run = goes_on (goes_on (goes_on (goes_on (goes_on (goes_on at_start refl) refl) refl) refl) refl) refl; over = refl },
+        refl,
+      );
+    },
     (
       _,
       record { going = refl; from = _; before = _; is = refl; silents = none; does = refl },
@@ -111,7 +131,15 @@ fails = record {
   world = _;
   replays = (
     _,
-    record { going = refl; from = _; before = _; is = refl; silents = none; does = (refl, record { last = _; run = goes_on at_start refl; over = refl }, refl) },
+    record {
+      going = refl;
+      from = _;
+      before = _;
+      is = refl;
+      silents = none;
+      does =
+          (refl, record { last = _; run = goes_on at_start refl; over = refl }, refl);
+    },
     refl,
   );
   bytes_are = refl;
@@ -138,7 +166,15 @@ shares = record {
           record { going = refl; from = _; before = _; is = refl; silents = none; does = refl },
           (
             _,
-            record { going = refl; from = _; before = _; is = refl; silents = none; does = (refl, record { last = _; run = goes_on at_start refl; over = refl }, refl) },
+            record {
+              going = refl;
+              from = _;
+              before = _;
+              is = refl;
+              silents = none;
+              does =
+                  (refl, record { last = _; run = goes_on at_start refl; over = refl }, refl);
+            },
             (
               _,
               record { going = refl; from = _; before = _; is = refl; silents = none; does = (refl, refl) },
@@ -345,8 +381,10 @@ traps_many = record {
 }
 
 -- where the thread's event is not enabled in that world
-held_up : (events : List Event) (order : List ℕ) (t : ℕ) (x : World Cursor) → Replays script layout (start events []) order x → ((v : World Cursor) → Step script layout t x v → ⊥) → Waits events order t
-held_up events order t x there never = λ w v here d. never v (subst (λ z. Step script layout t z v) (same_replays script layout order (start events []) w x here there) d)
+held_up : (events : List Event) (order : List ℕ) (t : ℕ) (x : World Cursor) → Replays script layout (start events []) order x
+    → ((v : World Cursor) → Step script layout t x v → ⊥) → Waits events order t
+held_up events order t x there never = λ w v here d. never v
+    (subst (λ z. Step script layout t z v) (same_replays script layout order (start events []) w x here there) d)
 
 pub waits_block : Waits sharing (0 ∷ 0 ∷ []) 1
 unfolding byte_at word_of can_access is_mapped is_aligned merge read_at
@@ -388,7 +426,15 @@ waits_join = held_up sharing (0 ∷ 0 ∷ 0 ∷ 0 ∷ 1 ∷ []) 0 _ (
         record { going = refl; from = _; before = _; is = refl; silents = none; does = refl },
         (
           _,
-          record { going = refl; from = _; before = _; is = refl; silents = none; does = (refl, record { last = _; run = goes_on at_start refl; over = refl }, refl) },
+          record {
+            going = refl;
+            from = _;
+            before = _;
+            is = refl;
+            silents = none;
+            does =
+                (refl, record { last = _; run = goes_on at_start refl; over = refl }, refl);
+          },
           refl,
         ),
       ),
@@ -412,7 +458,15 @@ waits_ended = held_up sharing (0 ∷ 0 ∷ 0 ∷ 0 ∷ 1 ∷ 1 ∷ 1 ∷ 1 ∷ [
         record { going = refl; from = _; before = _; is = refl; silents = none; does = refl },
         (
           _,
-          record { going = refl; from = _; before = _; is = refl; silents = none; does = (refl, record { last = _; run = goes_on at_start refl; over = refl }, refl) },
+          record {
+            going = refl;
+            from = _;
+            before = _;
+            is = refl;
+            silents = none;
+            does =
+                (refl, record { last = _; run = goes_on at_start refl; over = refl }, refl);
+          },
           (
             _,
             record { going = refl; from = _; before = _; is = refl; silents = none; does = (refl, refl) },
@@ -452,7 +506,8 @@ waits_nested = held_up locking (0 ∷ 0 ∷ 0 ∷ 0 ∷ []) 1 _ (
   ),
 ) (λ v. refused script layout 1 _ v _ refl refl (λ d. false≢true d.0))
 
-pub hears_outside : Hears asking (7 ∷ []) (0 ∷ 0 ∷ 0 ∷ 0 ∷ 0 ∷ 0 ∷ 0 ∷ []) (Nothing ∷ Loaded 3 ∷ Loaded 772 ∷ Loaded 16909060 ∷ Byte (pos 7) ∷ Byte (negsuc 0) ∷ Id (pos 1) ∷ [])
+pub hears_outside : Hears asking (7 ∷ []) (0 ∷ 0 ∷ 0 ∷ 0 ∷ 0 ∷ 0 ∷ 0 ∷ [])
+    (Nothing ∷ Loaded 3 ∷ Loaded 772 ∷ Loaded 16909060 ∷ Byte (pos 7) ∷ Byte (negsuc 0) ∷ Id (pos 1) ∷ [])
 unfolding byte_at word_of can_access is_mapped is_aligned merge read_at
 hears_outside = record {
   world = _;
@@ -494,7 +549,18 @@ hears_inside = record {
   world = _;
   replays = (
     _,
-    record { going = refl; from = _; before = _; is = refl; silents = none; does = (refl, record { last = _; run = goes_on (goes_on (goes_on (goes_on (goes_on (goes_on at_start refl) refl) refl) refl) refl) refl; over = refl }, refl) },
+    record {
+      going = refl;
+      from = _;
+      before = _;
+      is = refl;
+      silents = none;
+      does = (
+        refl,
+        record { last = _; run = goes_on (goes_on (goes_on (goes_on (goes_on (goes_on at_start refl) refl) refl) refl) refl) refl; over = refl },
+        refl,
+      );
+    },
     refl,
   );
   heard_is = refl;

@@ -6,12 +6,14 @@ use Rattle.tx_events.specs.declared.Trap.TheVariants.{BadAddress}
 use Rattle.tx_events.specs.declared.End.{End}
 use Rattle.tx_events.specs.declared.End.TheVariants.{Abort, Trapped}
 use Rattle.tx_events.specs.declared.Event.{Event}
-use Rattle.tx_events.specs.declared.Event.TheVariants.{Silent, Load, Store, Out, Inp, Spawn, Join, BeginAtomic, EndAtomic, Raise, BeginSync, EndSync, Done, Stop}
+use Rattle.tx_events.specs.declared.Event.TheVariants.{Silent, Load, Store, Out, Inp, Spawn, Join, BeginAtomic, EndAtomic, Raise, BeginSync, EndSync, Done}
+use Rattle.tx_events.specs.declared.Event.TheVariants.{Stop}
 use Rattle.tx_events.specs.declared.Reply.TheVariants.{Nothing, Loaded}
 use Rattle.tx_events.specs.Thread.{Thread}
 use Rattle.tx_events.specs.Memory.{update, MemoryLayout, can_access, word_of, load, store}
 
--- a thread alone in its block: its state, the memory, the words that it accessed and stored to so far, and the copies of the whole memory, one for each open atomic block, the newest first
+-- a thread alone in its block: its state, the memory, the words that it accessed and stored to so far, and the copies of the whole memory, one for each open
+-- atomic block, the newest first
 pub record Inner (S : Type 0) : Type 0 where
   pub state : S
   pub memory : ℕ → ℕ
@@ -19,7 +21,8 @@ pub record Inner (S : Type 0) : Type 0 where
   pub stored : ℕ → Bool
   pub copies : List (ℕ → ℕ)
 
--- what a step inside a block comes to: the block goes on, or it is left in this state and with this memory, or the program ends; events that never come inside an atomic block have no step
+-- what a step inside a block comes to: the block goes on, or it is left in this state and with this memory, or the program ends; events that never come inside
+-- an atomic block have no step
 pub data BlockStep (S : Type 0) : Type 0 where
   Goes : Inner S → BlockStep S
   Leaves : S → (ℕ → ℕ) → BlockStep S
@@ -48,7 +51,13 @@ abbrev pub inner_load : {S : Type 0} → Thread S → Inner S → ℕ → ℕ �
 inner_load a i addr size = record i { state = a.after i.state (Loaded (load i.memory addr size)); accessed = update i.accessed (word_of addr) true }
 
 abbrev pub inner_store : {S : Type 0} → Thread S → Inner S → ℕ → ℕ → ℕ → Inner S
-inner_store a i addr size value = record i { state = a.after i.state Nothing; memory = store i.memory addr size value; accessed = update i.accessed (word_of addr) true; stored = update i.stored (word_of addr) true }
+inner_store a i addr size value = record i {
+  state = a.after i.state Nothing;
+  memory = store i.memory addr size value;
+  accessed = update i.accessed
+      (word_of addr) true;
+  stored = update i.stored (word_of addr) true;
+}
 
 -- one step inside a block
 abbrev pub inner_by : {S : Type 0} → Thread S → MemoryLayout → Inner S → Event → BlockStep S

@@ -4,7 +4,8 @@ use Rattle.tx_events.specs.declared.BlockKind.TheVariants.{NoExcept, Commit, Can
 use Rattle.tx_events.specs.declared.End.{End}
 use Rattle.tx_events.specs.declared.End.TheVariants.{Exit}
 use Rattle.tx_events.specs.declared.Event.{Event}
-use Rattle.tx_events.specs.declared.Event.TheVariants.{Silent, Load, Store, Out, Inp, Spawn, Join, BeginAtomic, EndAtomic, Raise, BeginSync, EndSync, Done, Stop}
+use Rattle.tx_events.specs.declared.Event.TheVariants.{Silent, Load, Store, Out, Inp, Spawn, Join, BeginAtomic, EndAtomic, Raise, BeginSync, EndSync, Done}
+use Rattle.tx_events.specs.declared.Event.TheVariants.{Stop}
 use Rattle.tx_events.specs.declared.Reply.{Reply}
 use Rattle.tx_events.specs.declared.GlobalCell.{GlobalCell}
 use Rattle.tx_events.specs.Memory.{MemoryLayout, byte_at, no_bytes}
@@ -21,7 +22,8 @@ start events input = first_world no_bytes input (record { events = events; at = 
 
 -- the first 8 bytes of the globals
 abbrev pub first_bytes : (ℕ → ℕ) → List ℕ
-first_bytes memory = byte_at memory 65536 ∷ byte_at memory 65537 ∷ byte_at memory 65538 ∷ byte_at memory 65539 ∷ byte_at memory 65540 ∷ byte_at memory 65541 ∷ byte_at memory 65542 ∷ byte_at memory 65543 ∷ []
+first_bytes memory = byte_at memory 65536 ∷ byte_at memory 65537 ∷ byte_at memory 65538 ∷ byte_at memory 65539 ∷ byte_at memory 65540 ∷ byte_at memory 65541
+    ∷ byte_at memory 65542 ∷ byte_at memory 65543 ∷ []
 
 -- this order leads to a world with these first bytes, output, input left and end
 pub record LeadsTo (events : List Event) (input order bytes out left : List ℕ) (end : Option End) : Type 0 where
@@ -41,11 +43,13 @@ no_change = 0 ∷ 0 ∷ 0 ∷ 0 ∷ 0 ∷ 0 ∷ 0 ∷ 0 ∷ []
 
 -- a block that commits, with a synchronized block in it
 abbrev pub committing : List Event
-committing = Silent ∷ BeginAtomic NoExcept ∷ Store 65536 2 258 false ∷ Load 65536 1 false ∷ BeginSync ∷ Store 65540 4 50595078 false ∷ EndSync ∷ EndAtomic ∷ Out 65 ∷ Stop (Exit (pos 3)) ∷ []
+committing = Silent ∷ BeginAtomic NoExcept ∷ Store 65536 2 258 false ∷ Load 65536 1 false ∷ BeginSync ∷ Store 65540 4 50595078 false ∷ EndSync ∷ EndAtomic
+    ∷ Out 65 ∷ Stop (Exit (pos 3)) ∷ []
 
 -- a block that cancels inside one that commits by an exception
 abbrev pub cancelling : List Event
-cancelling = BeginAtomic Commit ∷ Store 65536 1 1 false ∷ BeginAtomic Cancel ∷ Store 65536 1 2 false ∷ Store 65537 1 3 false ∷ Raise Cancel true ∷ Store 65538 1 4 false ∷ Raise Commit true ∷ Store 65539 1 5 true ∷ []
+cancelling = BeginAtomic Commit ∷ Store 65536 1 1 false ∷ BeginAtomic Cancel ∷ Store 65536 1 2 false ∷ Store 65537 1 3 false ∷ Raise Cancel true
+    ∷ Store 65538 1 4 false ∷ Raise Commit true ∷ Store 65539 1 5 true ∷ []
 
 -- an exception leaves a block that may not be left so
 abbrev pub aborting : List Event
@@ -94,7 +98,8 @@ abbrev pub asking : List Event
 asking = Store 65536 4 16909060 false ∷ Load 65537 1 false ∷ Load 65536 2 false ∷ Load 65536 8 false ∷ Inp ∷ Inp ∷ Spawn 0 (pos 0) ∷ []
 
 abbrev pub asking_inside : List Event
-asking_inside = BeginAtomic Commit ∷ Store 65540 4 16909060 false ∷ Load 65536 8 false ∷ BeginAtomic Cancel ∷ Store 65540 4 0 false ∷ Raise Cancel true ∷ Load 65540 4 false ∷ EndAtomic ∷ []
+asking_inside = BeginAtomic Commit ∷ Store 65540 4 16909060 false ∷ Load 65536 8 false ∷ BeginAtomic Cancel ∷ Store 65540 4 0 false ∷ Raise Cancel true
+    ∷ Load 65540 4 false ∷ EndAtomic ∷ []
 
 abbrev pub cells : List GlobalCell
 cells = record { offset = 0; size = 2; value = 258 } ∷ record { offset = 4; size = 4; value = 50595078 } ∷ []

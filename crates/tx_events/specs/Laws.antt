@@ -12,7 +12,8 @@ AgreesOn words m n = (x : ℕ) → words x ≡ true → n x ≡ m x
 abbrev pub AgreesOff : (ℕ → Bool) → (ℕ → ℕ) → (ℕ → ℕ) → Type 0
 AgreesOff words m n = (x : ℕ) → words x ≡ false → n x ≡ m x
 
--- two blocks end alike, the second one on the memory n: in the same state, with the same bytes in these words and the rest of n untouched, or at the same end of the program
+-- two blocks end alike, the second one on the memory n: in the same state, with the same bytes in these words and the rest of n untouched, or at the same end
+-- of the program
 abbrev pub EndsAlike : {S : Type 0} → (ℕ → Bool) → (ℕ → ℕ) → BlockStep S → BlockStep S → Type 0
 EndsAlike words n (Leaves s m') (Leaves r n') = (r ≡ s) × AgreesOn words m' n' × AgreesOff words n n'
 EndsAlike words n (Leaves s m') (Halts f) = ⊥

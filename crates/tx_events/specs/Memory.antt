@@ -61,7 +61,8 @@ read_at addr size word = word / 2 ^ (8 * (addr % 8)) % 2 ^ (8 * size)
 
 -- the word after a store
 unfoldable pub merge : ℕ → ℕ → ℕ → ℕ → ℕ
-merge addr size value word = word / 2 ^ (8 * (addr % 8) + 8 * size) * 2 ^ (8 * (addr % 8) + 8 * size) + value * 2 ^ (8 * (addr % 8)) + word % 2 ^ (8 * (addr % 8))
+merge addr size value word = word / 2 ^ (8 * (addr % 8) + 8 * size) * 2 ^ (8 * (addr % 8) + 8 * size) + value * 2 ^ (8 * (addr % 8)) + word % 2 ^
+    (8 * (addr % 8))
 
 -- what a load of this size reads
 abbrev pub load : (ℕ → ℕ) → ℕ → ℕ → ℕ

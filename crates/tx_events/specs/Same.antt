@@ -11,7 +11,8 @@ use Rattle.tx_events.specs.World.{World, Alive}
 pub data Reaches {S : Type 0} (a : Thread S) : S → List Reply → S → Type 0 where
   at_once : {s : S} → Reaches a s [] s
   silently : {s q : S} {replies : List Reply} → a.next s ≡ Silent → Reaches a (a.after s Nothing) replies q → Reaches a s replies q
-  answered : {s q : S} {reply : Reply} {replies : List Reply} → is_silent (a.next s) ≡ false → Answers (a.next s) reply → Reaches a (a.after s reply) replies q → Reaches a s (reply ∷ replies) q
+  answered : {s q : S} {reply : Reply} {replies : List Reply} → is_silent (a.next s) ≡ false → Answers (a.next s) reply → Reaches a (a.after s reply) replies q
+      → Reaches a s (reply ∷ replies) q
 
 -- in so many steps, each silent one and each event that was answered counted as one
 abbrev pub steps : {S : Type 0} (a : Thread S) {s q : S} {replies : List Reply} → Reaches a s replies q → ℕ
@@ -32,7 +33,8 @@ pub record SameEvents {S T : Type 0} (a : Thread S) (b : Thread T) (s : S) (r : 
 
 -- its bound: up to each such event the second thread takes at most many * n + more steps, where the first takes n
 abbrev pub StepsWithin : {S T : Type 0} → Thread S → Thread T → ℕ → ℕ → S → T → Type 0
-StepsWithin a b many more s r = (replies : List Reply) (event : Event) → is_silent event ≡ false → (f : Comes a s replies event) (g : Comes b r replies event) → steps b g.reaches ≤ many * steps a f.reaches + more
+StepsWithin a b many more s r = (replies : List Reply) (event : Event) → is_silent event ≡ false → (f : Comes a s replies event) (g : Comes b r replies event)
+    → steps b g.reaches ≤ many * steps a f.reaches + more
 
 -- the states that the threads of a program can come to, where its first thread starts in main
 pub data Descends {S : Type 0} (a : Thread S) (main : S) : S → Type 0 where
@@ -42,7 +44,8 @@ pub data Descends {S : Type 0} (a : Thread S) (main : S) : S → Type 0 where
 
 -- of two programs: where threads with the same events start threads, these have the same events
 abbrev pub SameChildren : {S T : Type 0} → Thread S → Thread T → S → T → Type 0
-SameChildren {S} {T} a b main main' = (s : S) (r : T) (number func : ℕ) (arg : ℤ) → Descends a main s → Descends b main' r → SameEvents a b s r → a.next s ≡ Spawn func arg → b.next r ≡ Spawn func arg → SameEvents a b (a.child s number func arg) (b.child r number func arg)
+SameChildren {S} {T} a b main main' = (s : S) (r : T) (number func : ℕ) (arg : ℤ) → Descends a main s → Descends b main' r → SameEvents a b s r
+    → a.next s ≡ Spawn func arg → b.next r ≡ Spawn func arg → SameEvents a b (a.child s number func arg) (b.child r number func arg)
 
 -- states of threads of two programs, with the same events
 pub record Paired {S T : Type 0} (a : Thread S) (b : Thread T) (main : S) (main' : T) (s : S) (r : T) : Type 0 where

@@ -38,10 +38,11 @@ past_end (e ∷ es) zero h = absurd (omega (arith, h))
 past_end (e ∷ es) (suc n) h = past_end es n (omega (arith, h))
 
 opens_after : (es : List Event) (n : ℕ) → open_at es (next_at es n) [] ≡ blocks_after (event_at es n) (open_at es n [])
-opens_after es n = elim (nat_lt n (length es)) as (λ b. nat_lt n (length es) ≡ b → open_at es (cond b (n + 1) n) [] ≡ blocks_after (event_at es n) (open_at es n [])) [
-  | true ↦ λ e. ap (λ k. open_at es k []) (add-one n) ∙ opens es n []
-  | false ↦ λ e. ap (λ v. blocks_after v (open_at es n [])) (sym (past_end es n (ltb-false n (length es) e)))
-] refl
+opens_after es n = elim (nat_lt n (length es)) as (λ b. nat_lt n (length es) ≡ b → open_at es (cond b (n + 1) n) [] ≡ blocks_after (event_at es n)
+    (open_at es n [])) [
+      | true ↦ λ e. ap (λ k. open_at es k []) (add-one n) ∙ opens es n []
+      | false ↦ λ e. ap (λ v. blocks_after v (open_at es n [])) (sym (past_end es n (ltb-false n (length es) e)))
+    ] refl
 
 spawned : (all es : List Event) (n func : ℕ) (arg : ℤ) → all_start_free all es ≡ true → event_at es n ≡ Spawn func arg → is_empty (open_at all func []) ≡ true
 spawned all [] zero func arg h e = absurd (cc)
@@ -57,7 +58,8 @@ pub script_laws : Lawful Cursor IsLawful script
 script_laws = record {
   goes_on = λ s reply k a. k;
   starts = λ s number func arg k e. k;
-  starts_free = λ s number func arg k e. empty_is (open_at s.events func []) (spawned s.events s.events s.at func arg (right (keeps s.events []) (all_start_free s.events s.events) k) e);
+  starts_free = λ s number func arg k e. empty_is (open_at s.events func [])
+      (spawned s.events s.events s.at func arg (right (keeps s.events []) (all_start_free s.events s.events) k) e);
   comes = λ s k. comes_at s.events s.at [] (left (keeps s.events []) (all_start_free s.events s.events) k);
   blocks = λ s reply k a. opens_after s.events s.at;
 }

@@ -10,7 +10,8 @@ pub data Path {S : Type 0} (a : Thread S) : ℕ → S → S → Type 0 where
   here : {s : S} → Path a 0 s s
   step : {n : ℕ} {s q : S} → a.next s ≡ Silent → Path a n (a.after s Nothing) q → Path a (n + 1) s q
 
--- the terms of a simulation: two threads, how many steps of the second each step of the first earns, and how often at most the first steps in a row while the second stands
+-- the terms of a simulation: two threads, how many steps of the second each step of the first earns, and how often at most the first steps in a row while the
+-- second stands
 pub record SimulationBound (S T : Type 0) : Type 0 where
   pub first : Thread S
   pub second : Thread T

@@ -5,7 +5,8 @@ use Rattle.tx_events.specs.declared.BlockKind.TheVariants.{NoExcept, Commit, Can
 use Rattle.tx_events.specs.declared.End.{End}
 use Rattle.tx_events.specs.declared.End.TheVariants.{Exit, Abort, Terminate, Trapped, StepsOut}
 use Rattle.tx_events.specs.declared.Event.{Event}
-use Rattle.tx_events.specs.declared.Event.TheVariants.{Silent, Load, Store, Out, Inp, Spawn, Join, BeginAtomic, EndAtomic, Raise, BeginSync, EndSync, Done, Stop}
+use Rattle.tx_events.specs.declared.Event.TheVariants.{Silent, Load, Store, Out, Inp, Spawn, Join, BeginAtomic, EndAtomic, Raise, BeginSync, EndSync, Done}
+use Rattle.tx_events.specs.declared.Event.TheVariants.{Stop}
 use Rattle.tx_events.specs.declared.Reply.{Reply}
 use Rattle.tx_events.specs.declared.Reply.TheVariants.{Nothing, Loaded, Byte, Id}
 
@@ -14,7 +15,8 @@ pub data Open : Type 0 where
   Atomic : BlockKind → Open
   Sync : Open
 
--- how a thread goes on: its next event, the state after a reply, the first state of a thread that it starts (of this number, function and argument), and its open blocks, the innermost first
+-- how a thread goes on: its next event, the state after a reply, the first state of a thread that it starts (of this number, function and argument), and its
+-- open blocks, the innermost first
 pub record Thread (S : Type 0) : Type 0 where
   pub next : S → Event
   pub after : S → Reply → S

@@ -1,10 +1,12 @@
 -- The world in which each outermost atomic block is one indivisible step.
-use Rattle.std.specs.Prelude.{ℕ, ℤ, pos, negsuc, zero, suc, ◌≡◌, ◌==◌, ◌^◌, ◌+◌, ◌-◌, ◌%◌, Bool, true, false, cond, nat_lt, ◌||◌, List, [], ◌∷◌, ◌++◌, Option, Some, None}
+use Rattle.std.specs.Prelude.{ℕ, ℤ, pos, negsuc, zero, suc, ◌≡◌, ◌==◌, ◌^◌, ◌+◌, ◌-◌, ◌%◌, Bool, true, false, cond, nat_lt, ◌||◌, List, [], ◌∷◌, ◌++◌, Option}
+use Rattle.std.specs.Prelude.{Some, None}
 use Rattle.tx_events.specs.declared.Trap.TheVariants.{BadAddress, TooManyThreads, BadJoin}
 use Rattle.tx_events.specs.declared.End.{End}
 use Rattle.tx_events.specs.declared.End.TheVariants.{Trapped}
 use Rattle.tx_events.specs.declared.Event.{Event}
-use Rattle.tx_events.specs.declared.Event.TheVariants.{Silent, Load, Store, Out, Inp, Spawn, Join, BeginAtomic, EndAtomic, Raise, BeginSync, EndSync, Done, Stop}
+use Rattle.tx_events.specs.declared.Event.TheVariants.{Silent, Load, Store, Out, Inp, Spawn, Join, BeginAtomic, EndAtomic, Raise, BeginSync, EndSync, Done}
+use Rattle.tx_events.specs.declared.Event.TheVariants.{Stop}
 use Rattle.tx_events.specs.declared.Reply.TheVariants.{Nothing, Loaded, Byte, Id}
 use Rattle.tx_events.specs.Thread.{Thread}
 use Rattle.tx_events.specs.Memory.{update, MemoryLayout, can_access, load, store}
@@ -102,14 +104,20 @@ EventStep a p t w s (Store addr size value volatile) v = v ≡ cond (can_access 
 EventStep a p t w s (Out byte) v = v ≡ record w { out = w.out ++ byte ∷ []; threads = update w.threads t (alive (a.after s Nothing)) }
 EventStep a p t w s Inp v = v ≡ record w { input = input_after w.input; threads = update w.threads t (alive (a.after s (Byte (byte_of w.input)))) }
 EventStep a p t w s (Spawn func arg) v = v ≡ cond (nat_lt w.started p.limit)
-    (record w { started = w.started + 1; threads = update (update w.threads w.started (alive (a.child s w.started func arg))) t (alive (a.after s (Id (pos w.started)))) })
+    (record w {
+      started = w.started + 1;
+      threads = update (update w.threads w.started (alive (a.child s w.started func arg))) t
+          (alive (a.after s (Id (pos w.started))));
+    })
     (ends w (Trapped TooManyThreads))
 EventStep a p t w s (Join id) v = Joins t w (a.after s Nothing) (target t id w.threads) v
-EventStep a p t w s BeginSync v = (lock_free t w.lock ≡ true) × (v ≡ record w { lock = lock_in t w.lock; threads = update w.threads t (alive (a.after s Nothing)) })
+EventStep a p t w s BeginSync v = (lock_free t w.lock ≡ true)
+    × (v ≡ record w { lock = lock_in t w.lock; threads = update w.threads t (alive (a.after s Nothing)) })
 EventStep a p t w s EndSync v = v ≡ record w { lock = lock_out w.lock; threads = update w.threads t (alive (a.after s Nothing)) }
 EventStep a p t w s Done v = v ≡ record w { threads = update w.threads t (Some (record { state = a.after s Nothing; ended = true })) }
 EventStep a p t w s (Stop end) v = v ≡ ends w end
-EventStep {S} a p t w s (BeginAtomic kind) v = (lock_free t w.lock ≡ true) × (alone : Alone a p (a.after s Nothing) w.memory) × BlockEffect t w (outcome alone) v
+EventStep {S} a p t w s (BeginAtomic kind) v = (lock_free t w.lock ≡ true) × (alone : Alone a p (a.after s Nothing) w.memory)
+    × BlockEffect t w (outcome alone) v
 
 -- a step of thread t, which was started and has not ended: some silent steps, and one event or one whole block
 pub record Step {S : Type 0} (a : Thread S) (p : MemoryLayout) (t : ℕ) (w v : World S) : Type 0 where
@@ -131,4 +139,13 @@ only_first s (suc n) = None
 
 -- the world at the start, where thread 0 alone was started, in this state
 abbrev pub first_world : {S : Type 0} → (ℕ → ℕ) → List ℕ → S → World S
-first_world memory input main = record { memory = memory; threads = only_first main; started = 1; lock = record { holder = None; depth = 0 }; out = []; input = input; end = None }
+first_world memory input main = record {
+  memory = memory;
+  threads = only_first main;
+  started = 1;
+  lock = record { holder = None; depth = 0 };
+  out = [];
+  input =
+      input;
+  end = None;
+}

@@ -1,5 +1,6 @@
 -- The bit operators of 128 bits, seen through the lowest bits of a kind.
-use Rattle.std.proofs.Common.{◌≡◌, ℕ, ◌+◌, ◌-◌, ◌*◌, ◌/◌, ◌%◌, ◌^◌, ◌<◌, ◌≤◌, suc, zero, min, max, ℤ, pos, negsuc, ◌+ℤ◌, ◌≤ℤ◌, ◌<ℤ◌, ◌⊎◌, inl, inr, subst, ap, ap₂, sym, ◌∙◌, refl, arith, Ok, bit_and, bit_or, bit_xor, add_comm, Result}
+use Rattle.std.proofs.Common.{◌≡◌, ℕ, ◌+◌, ◌-◌, ◌*◌, ◌/◌, ◌%◌, ◌^◌, ◌<◌, ◌≤◌, suc, zero, min, max, ℤ, pos, negsuc, ◌+ℤ◌, ◌≤ℤ◌, ◌<ℤ◌, ◌⊎◌, inl, inr, subst, ap}
+use Rattle.std.proofs.Common.{ap₂, sym, ◌∙◌, refl, arith, Ok, bit_and, bit_or, bit_xor, add_comm, Result}
 use Rattle.std.proofs.lemmas.Int.{ints, to_z_pos, of_z-to_z}
 use Rattle.std.proofs.Math.Nat.{div-eq_of_lt, suc-mul, zero-mul}
 use Rattle.std.proofs.lemmas.Nat.{mod-pow-add, mod_below, and_le_l, or_lt, xor_lt, and_shr, or_shr, xor_shr, div-add-mod', div-mul-add}

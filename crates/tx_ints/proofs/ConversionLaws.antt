@@ -7,7 +7,8 @@ use Rattle.std.specs.Ordering.{int_eq}
 use Rattle.tx_ints.specs.declared.kinds.IntKind.{IntKind}
 use Rattle.tx_ints.specs.declared.kinds.IntKind.TheVariants.{Bool, Char, SChar, UChar, Short, UShort, Int, UInt, Long, ULong, LLong, ULLong}
 use Rattle.tx_ints.specs.Integers.{InRange, modulus, reduced, convert_of, promote_of, common_of}
-use Rattle.tx_ints.specs.Laws.{ConvertsIntoRange, ConvertKeeps, ConvertTwice, ConvertsModulo, ConvertOnly, ConvertSame, PromoteTwice, UsualPromoted, UsualTurned}
+use Rattle.tx_ints.specs.Laws.{ConvertsIntoRange, ConvertKeeps, ConvertTwice, ConvertsModulo, ConvertOnly, ConvertSame, PromoteTwice, UsualPromoted}
+use Rattle.tx_ints.specs.Laws.{UsualTurned}
 use Rattle.tx_ints.proofs.Modulo.{turns_back, turns_same, rem_same, many, reduced_in, reduced_is, reduced_turns}
 use Rattle.tx_ints.proofs.Values.{reduced_kept, reduced_same}
 

@@ -35,7 +35,8 @@ masked j n (negsuc a) small e h f =
     ∙ to_z_pos w128 (2 ^ n - 1 - a % 2 ^ n) (omega arith)
 
 pub low_is : (k : IntKind) (z : ℤ) → SFits w128 z
-    → cast_signed w128 (bit_and (cast_unsigned w128 z) (cast_unsigned w128 (cast_signed w128 (cast_unsigned w128 (pos (modulus k))) -ℤ pos 1))) ≡ int_rem_euclid z (pos (modulus k))
+    → cast_signed w128 (bit_and (cast_unsigned w128 z) (cast_unsigned w128 (cast_signed w128 (cast_unsigned w128 (pos (modulus k))) -ℤ pos 1)))
+    ≡ int_rem_euclid z (pos (modulus k))
 low_is Bool z f = masked 127 1 z (omega arith) refl (omega arith) f
 low_is Char z f = masked 120 8 z (omega arith) refl (omega arith) f
 low_is SChar z f = masked 120 8 z (omega arith) refl (omega arith) f

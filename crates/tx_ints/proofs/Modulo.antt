@@ -142,7 +142,8 @@ one_greatest ULong = omega (arith, ints)
 one_greatest LLong = omega (arith, ints)
 one_greatest ULLong = omega (arith, ints)
 
-down_range : (m : ℕ) (l low : ℤ) → (l +ℤ pos (m - 1)) <ℤ low → low <ℤ pos m → pos 1 ≤ℤ (l +ℤ pos (m - 1)) → (l ≤ℤ (low -ℤ pos m)) × ((low -ℤ pos m) ≤ℤ (l +ℤ pos (m - 1)))
+down_range : (m : ℕ) (l low : ℤ) → (l +ℤ pos (m - 1)) <ℤ low → low <ℤ pos m → pos 1 ≤ℤ (l +ℤ pos (m - 1)) → (l ≤ℤ (low -ℤ pos m))
+    × ((low -ℤ pos m) ≤ℤ (l +ℤ pos (m - 1)))
 down_range m l low over below zero_in = (omega (arith, ints), omega (arith, ints))
 
 -- the remainder is the kind's number, or else is one turn above it

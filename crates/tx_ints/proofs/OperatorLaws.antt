@@ -1,5 +1,6 @@
 -- The laws of operators.
-use Rattle.std.proofs.Common.{◌≡◌, ◌⊎◌, ℕ, ◌^◌, ℤ, pos, negsuc, ◌≤ℤ◌, ap, sym, ◌∙◌, refl, arith, true, false, Ok, Err, Option, Some, None, inl, inr, subst, if◌then◌else◌, not, ◌&&◌, neg_ℤ, ◌↔◌}
+use Rattle.std.proofs.Common.{◌≡◌, ◌⊎◌, ℕ, ◌^◌, ℤ, pos, negsuc, ◌≤ℤ◌, ap, sym, ◌∙◌, refl, arith, true, false, Ok, Err, Option, Some, None, inl, inr, subst}
+use Rattle.std.proofs.Common.{if◌then◌else◌, not, ◌&&◌, neg_ℤ, ◌↔◌}
 use Rattle.std.specs.Prelude.{Bool as Test, unsigned_abs, int_lt, int_le, int_div, ◌||◌}
 use Rattle.std.proofs.lemmas.Int.{ints}
 use Rattle.std.specs.Ordering.{int_eq}
@@ -8,7 +9,8 @@ use Rattle.tx_ints.specs.declared.kinds.IntKind.TheVariants.{Bool, Char, SChar, 
 use Rattle.tx_ints.specs.declared.kinds.BinOp.TheVariants.{Add, Sub, Mul, Div, Rem, Shl, Shr, And, Xor, Or, Lt, Gt, Le, Ge, Eq, Ne}
 use Rattle.tx_ints.specs.declared.kinds.ArithTrap.{ArithTrap}
 use Rattle.tx_ints.specs.declared.kinds.ArithTrap.TheVariants.{Overflow, DivideByZero, ShiftRange}
-use Rattle.tx_ints.specs.Integers.{InRange, modulus, is_signed, reduced, apply_of, value_of, trapped_or, trap_of, overflow_of, division_trap, is_in_range, is_count, shift_overflow, least, negate_of}
+use Rattle.tx_ints.specs.Integers.{InRange, modulus, is_signed, reduced, apply_of, value_of, trapped_or, trap_of, overflow_of, division_trap, is_in_range}
+use Rattle.tx_ints.specs.Integers.{is_count, shift_overflow, least, negate_of}
 use Rattle.tx_ints.specs.Laws.{AppliesIntoRange, UnsignedTraps, SignedKeeps}
 use Rattle.tx_ints.proofs.Modulo.{reduced_in}
 use Rattle.tx_ints.proofs.Quotients.{rem_range}

@@ -1,5 +1,6 @@
 -- Products in 128 bits are the operator's values, or equal to them modulo 2^n.
-use Rattle.std.proofs.Common.{◌≡◌, ℕ, ◌+◌, ◌≤◌, ℤ, pos, negsuc, ◌*ℤ◌, ◌≤ℤ◌, ap, sym, ◌∙◌, refl, arith, Option, Some, None, Ok, true, false, not, ◌&&◌, if◌then◌else◌}
+use Rattle.std.proofs.Common.{◌≡◌, ℕ, ◌+◌, ◌≤◌, ℤ, pos, negsuc, ◌*ℤ◌, ◌≤ℤ◌, ap, sym, ◌∙◌, refl, arith, Option, Some, None, Ok, true, false, not, ◌&&◌}
+use Rattle.std.proofs.Common.{if◌then◌else◌}
 use Rattle.std.specs.Prelude.{Bool as Test, unsigned_abs}
 use Rattle.std.proofs.lemmas.Int.{ints, fits_signed_mul, wrapping_mul_is}
 use Rattle.std.specs.Int.{int_wrap, int_wrapping_mul, w128}
@@ -43,5 +44,6 @@ pub wrapped_product : (k : IntKind) (a b r : ℤ) → is_signed k ≡ false → 
     → Ok r ≡ apply_of Mul k a b
 unfolding apply_of
 wrapped_product k a b r s f g e =
-    ap Ok (e ∙ ap (reduced k) (wrapping_mul_is w128 a b f g) ∙ sym (reduced_same k (a *ℤ b) (int_wrap w128 (a *ℤ b)) (finer_in_kind k (a *ℤ b) (int_wrap w128 (a *ℤ b)) (wrap_turns (a *ℤ b)))))
+    ap Ok (e ∙ ap (reduced k) (wrapping_mul_is w128 a b f g) ∙ sym
+    (reduced_same k (a *ℤ b) (int_wrap w128 (a *ℤ b)) (finer_in_kind k (a *ℤ b) (int_wrap w128 (a *ℤ b)) (wrap_turns (a *ℤ b)))))
     ∙ ap (λ (t : Option ArithTrap). trapped_or t k (a *ℤ b)) (sym (unsigned_keeps (is_signed k) (is_in_range k (a *ℤ b)) s))

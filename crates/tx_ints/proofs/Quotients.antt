@@ -1,5 +1,6 @@
 -- Quotients and remainders, with their traps.
-use Rattle.std.proofs.Common.{◌≡◌, ◌≢◌, ℕ, ◌/◌, ◌<◌, ◌≤◌, suc, zero, ℤ, pos, negsuc, neg_ℤ, ◌≤ℤ◌, ap, sym, ◌∙◌, refl, arith, Option, Some, None, Ok, Err, false, if◌then◌else◌}
+use Rattle.std.proofs.Common.{◌≡◌, ◌≢◌, ℕ, ◌/◌, ◌<◌, ◌≤◌, suc, zero, ℤ, pos, negsuc, neg_ℤ, ◌≤ℤ◌, ap, sym, ◌∙◌, refl, arith, Option, Some, None, Ok, Err, false}
+use Rattle.std.proofs.Common.{if◌then◌else◌}
 use Rattle.std.specs.Prelude.{Bool as Test, int_div, int_rem, unsigned_abs}
 use Rattle.std.proofs.lemmas.Int.{ints, fits_signed_from_abs}
 use Rattle.std.specs.Int.{cast_unsigned, w128}

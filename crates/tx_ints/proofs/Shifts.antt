@@ -1,5 +1,6 @@
 -- Shifts, with their traps.
-use Rattle.std.proofs.Common.{◌≡◌, ℕ, ◌+◌, ◌*◌, ◌%◌, ◌^◌, ◌<◌, ◌≤◌, ℤ, pos, negsuc, ◌*ℤ◌, ◌≤ℤ◌, ◌<ℤ◌, ap, sym, ◌∙◌, refl, arith, Option, Some, None, Ok, Err, true, false, not, ◌&&◌, ◌||◌, if◌then◌else◌, inl, inr, ◌⊎◌, ap₂}
+use Rattle.std.proofs.Common.{◌≡◌, ℕ, ◌+◌, ◌*◌, ◌%◌, ◌^◌, ◌<◌, ◌≤◌, ℤ, pos, negsuc, ◌*ℤ◌, ◌≤ℤ◌, ◌<ℤ◌, ap, sym, ◌∙◌, refl, arith, Option, Some, None, Ok, Err}
+use Rattle.std.proofs.Common.{true, false, not, ◌&&◌, ◌||◌, if◌then◌else◌, inl, inr, ◌⊎◌, ap₂}
 use Rattle.std.specs.Prelude.{Bool as Test, int_le, int_lt, unsigned_abs}
 use Rattle.std.proofs.lemmas.Int.{ints, to_z_pos, to_z-of_z}
 use Rattle.std.proofs.lemmas.Nat.{shl_below, shl_whole}
@@ -49,13 +50,15 @@ div_range k a m h =
     record { from_least = r.0; to_greatest = r.1 }
 
 pub shr_is : (k : IntKind) (a b : ℤ) → InRange k a → is_count k b ≡ true
-    → cast_signed w128 (cast_unsigned w128 (shr_z (cast_signed w128 (cast_unsigned w128 a)) (2 ^ cast_unsigned w128 b))) ≡ int_div_euclid a (pos (2 ^ unsigned_abs b))
+    → cast_signed w128 (cast_unsigned w128 (shr_z (cast_signed w128 (cast_unsigned w128 a)) (2 ^ cast_unsigned w128 b)))
+    ≡ int_div_euclid a (pos (2 ^ unsigned_abs b))
 shr_is k a b f h =
     let n : Count k b = count k b h in
     let quotient : shr_z (cast_signed w128 (cast_unsigned w128 a)) (2 ^ cast_unsigned w128 b) ≡ int_div_euclid a (pos (2 ^ n.by)) =
     ap₂ (λ (x y : ℤ). shr_z x (2 ^ cast_unsigned w128 y)) (to_z-of_z w128 a (fits_bounded a (bounded k a f))) n.is ∙ shr_div a (2 ^ n.by) in
     ap (λ (z : ℤ). cast_signed w128 (cast_unsigned w128 z)) quotient
-    ∙ to_z-of_z w128 (int_div_euclid a (pos (2 ^ n.by))) (fits_bounded (int_div_euclid a (pos (2 ^ n.by))) (bounded k (int_div_euclid a (pos (2 ^ n.by))) (div_range k a (2 ^ n.by) f)))
+    ∙ to_z-of_z w128 (int_div_euclid a (pos (2 ^ n.by)))
+    (fits_bounded (int_div_euclid a (pos (2 ^ n.by))) (bounded k (int_div_euclid a (pos (2 ^ n.by))) (div_range k a (2 ^ n.by) f)))
     ∙ ap (λ (z : ℤ). int_div_euclid a (pos (2 ^ unsigned_abs z))) (sym n.is)
 
 pub shr_value : (k : IntKind) (a b : ℤ) → InRange k a → is_count k b ≡ true → Ok (int_div_euclid a (pos (2 ^ unsigned_abs b))) ≡ apply_of Shr k a b

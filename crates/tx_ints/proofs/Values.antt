@@ -1,5 +1,6 @@
 -- A kind's numbers in 128 bits, and what is computed of them there.
-use Rattle.std.proofs.Common.{◌≡◌, ◌^◌, ◌<◌, ◌≤◌, ℤ, pos, negsuc, ◌+ℤ◌, ◌-ℤ◌, ◌≤ℤ◌, ap, sym, ◌∙◌, refl, arith, Option, Some, None, Ok, true, false, not, ◌&&◌, if◌then◌else◌, subst}
+use Rattle.std.proofs.Common.{◌≡◌, ◌^◌, ◌<◌, ◌≤◌, ℤ, pos, negsuc, ◌+ℤ◌, ◌-ℤ◌, ◌≤ℤ◌, ap, sym, ◌∙◌, refl, arith, Option, Some, None, Ok, true, false, not, ◌&&◌}
+use Rattle.std.proofs.Common.{if◌then◌else◌, subst}
 use Rattle.std.specs.Prelude.{Bool as Test, ◌==◌, int_le, unsigned_abs}
 use Rattle.std.proofs.lemmas.Int.{ints, to_z-of_z, fits_signed_from_abs}
 use Rattle.std.specs.Int.{cast_unsigned, cast_signed, w128}

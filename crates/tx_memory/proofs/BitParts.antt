@@ -44,12 +44,15 @@ within addr size h a = elim (or_cases ((size == 1) || (size == 2) || (size == 4)
 -- an offset from the start of the globals is aligned as its address is
 pub moved : (offset size : ℕ) → is_size size ≡ true → offset % size ≡ 0 → (65536 + offset) % size ≡ 0
 moved offset size h a = elim (or_cases ((size == 1) || (size == 2) || (size == 4)) (size == 8) h) [
-  | inr e ↦ let s : size ≡ 8 = eqb-true size 8 e in let b : offset % 8 ≡ 0 = ap (λ n. offset % n) (sym s) ∙ a in let r : (65536 + offset) % 8 ≡ 0 = omega (arith, b) in ap (λ n. (65536 + offset) % n) s ∙ r
+  | inr e ↦ let s : size ≡ 8 = eqb-true size 8 e in let b : offset % 8 ≡ 0 = ap (λ n. offset % n) (sym s) ∙ a in let r : (65536 + offset) % 8 ≡ 0 =
+      omega (arith, b) in ap (λ n. (65536 + offset) % n) s ∙ r
   | inl r ↦ elim (or_cases ((size == 1) || (size == 2)) (size == 4) r) [
-    | inr e ↦ let s : size ≡ 4 = eqb-true size 4 e in let b : offset % 4 ≡ 0 = ap (λ n. offset % n) (sym s) ∙ a in let r : (65536 + offset) % 4 ≡ 0 = omega (arith, b) in ap (λ n. (65536 + offset) % n) s ∙ r
+    | inr e ↦ let s : size ≡ 4 = eqb-true size 4 e in let b : offset % 4 ≡ 0 = ap (λ n. offset % n) (sym s) ∙ a in let r : (65536 + offset) % 4 ≡ 0 =
+        omega (arith, b) in ap (λ n. (65536 + offset) % n) s ∙ r
     | inl q ↦ elim (or_cases (size == 1) (size == 2) q) [
       | inl e ↦ let s : size ≡ 1 = eqb-true size 1 e in let r : (65536 + offset) % 1 ≡ 0 = omega arith in ap (λ n. (65536 + offset) % n) s ∙ r
-      | inr e ↦ let s : size ≡ 2 = eqb-true size 2 e in let b : offset % 2 ≡ 0 = ap (λ n. offset % n) (sym s) ∙ a in let r : (65536 + offset) % 2 ≡ 0 = omega (arith, b) in ap (λ n. (65536 + offset) % n) s ∙ r
+      | inr e ↦ let s : size ≡ 2 = eqb-true size 2 e in let b : offset % 2 ≡ 0 = ap (λ n. offset % n) (sym s) ∙ a in let r : (65536 + offset) % 2 ≡ 0 =
+          omega (arith, b) in ap (λ n. (65536 + offset) % n) s ∙ r
     ]
   ]
 ]

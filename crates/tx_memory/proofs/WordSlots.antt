@@ -1,6 +1,8 @@
 -- Where the words of a memory lie.
-use Rattle.std.proofs.Common.{ℕ, ◌≡◌, ◌==◌, ◌<◌, ◌≤◌, ◌+◌, ◌-◌, ◌*◌, ◌/◌, ◌%◌, ◌^◌, ◌&&◌, ◌||◌, true, false, cond, nat_le, nat_lt, Option, Some, None, refl, ap, sym, ◌∙◌, inl, inr, ◌⊎◌, arith}
-use Rattle.std.proofs.lemmas.Bool.{eqb-true, eq-eqb, ne_eqb, cases_lt, cases_Bool, ltb-true, leb-true, lt-ltb, le-ltb, le-leb, lt-leb, and_parts, or_parts, and_from, or_left}
+use Rattle.std.proofs.Common.{ℕ, ◌≡◌, ◌==◌, ◌<◌, ◌≤◌, ◌+◌, ◌-◌, ◌*◌, ◌/◌, ◌%◌, ◌^◌, ◌&&◌, ◌||◌, true, false, cond, nat_le, nat_lt, Option, Some, None, refl, ap}
+use Rattle.std.proofs.Common.{sym, ◌∙◌, inl, inr, ◌⊎◌, arith}
+use Rattle.std.proofs.lemmas.Bool.{eqb-true, eq-eqb, ne_eqb, cases_lt, cases_Bool, ltb-true, leb-true, lt-ltb, le-ltb, le-leb, lt-leb, and_parts, or_parts}
+use Rattle.std.proofs.lemmas.Bool.{and_from, or_left}
 use Rattle.std.proofs.lemmas.Option.{none-some, same_Some}
 use Rattle.tx_events.specs.Memory.{MemoryLayout, in_globals, in_stacks, globals_end, word_of, is_mapped, is_aligned, can_access}
 use Rattle.tx_events.specs.Thread.{is_size}
@@ -37,8 +39,15 @@ slot_cases p a i e = elim (cases_Bool (in_globals p a)) [
     | inl s ↦
         let both = and_parts (nat_le 16777216 a && nat_lt ((a - 16777216) / 131072) p.limit) (nat_lt ((a - 16777216) % 131072) 65536) s in
         let first = and_parts (nat_le 16777216 a) (nat_lt ((a - 16777216) / 131072) p.limit) both.0 in
-        let at : stack_slot p a ≡ i = same_Some (stack_slot p a) i (sym (ap (λ b. cond b (Some ((a - 65536) / 8)) (in_stack p a)) n ∙ ap (λ b. cond b (Some (stack_slot p a)) None) s) ∙ e) in
-        inr (record { from = leb-true 16777216 a first.0; thread = ltb-true ((a - 16777216) / 131072) p.limit first.1; to = ltb-true ((a - 16777216) % 131072) 65536 both.1; is = sym at })
+        let at : stack_slot p a ≡ i = same_Some (stack_slot p a) i
+        (sym (ap (λ b. cond b (Some ((a - 65536) / 8)) (in_stack p a)) n ∙ ap (λ b. cond b (Some (stack_slot p a)) None) s) ∙ e) in
+        inr (record {
+          from = leb-true 16777216 a first.0;
+          thread = ltb-true ((a - 16777216) / 131072) p.limit first.1;
+          to =
+              ltb-true ((a - 16777216) % 131072) 65536 both.1;
+          is = sym at;
+        })
     | inr m ↦ absurd (none-some i (sym (ap (λ b. cond b (Some ((a - 65536) / 8)) (in_stack p a)) n ∙ ap (λ b. cond b (Some (stack_slot p a)) None) m) ∙ e))
   ]
 ]
@@ -90,7 +99,8 @@ word_low : (a : ℕ) → 65536 ≤ a → (a - a % 8 - 65536) / 8 ≡ (a - 65536)
 word_low a h = omega (arith, h)
 
 word_inside : (a : ℕ) → 16777216 ≤ a → nat_lt ((a - a % 8 - 16777216) % 131072) 65536 ≡ nat_lt ((a - 16777216) % 131072) 65536
-word_inside a h = lt_same ((a - a % 8 - 16777216) % 131072) ((a - 16777216) % 131072) 65536 65536 (λ k. omega (arith, h, word_offset a h, k)) (λ k. omega (arith, h, word_offset a h, k))
+word_inside a h = lt_same ((a - a % 8 - 16777216) % 131072) ((a - 16777216) % 131072) 65536 65536 (λ k. omega (arith, h, word_offset a h, k))
+    (λ k. omega (arith, h, word_offset a h, k))
 
 in_stacks_word : (p : MemoryLayout) (a : ℕ) → in_stacks p (a - a % 8) ≡ in_stacks p a
 in_stacks_word p a =
@@ -118,9 +128,12 @@ slot_of_word p a = elim (cases_Bool (in_globals p a)) [
       ap (λ b. cond b (Some ((a - a % 8 - 65536) / 8)) (in_stack p (a - a % 8))) (in_globals_word p a ∙ n)
       ∙ (elim (cases_Bool (in_stacks p a)) [
         | inl s ↦
-            let from : 16777216 ≤ a = leb-true 16777216 a (and_parts (nat_le 16777216 a) (nat_lt ((a - 16777216) / 131072) p.limit) (and_parts (nat_le 16777216 a && nat_lt ((a - 16777216) / 131072) p.limit) (nat_lt ((a - 16777216) % 131072) 65536) s).0).0 in
+            let from : 16777216 ≤ a = leb-true 16777216 a
+            (and_parts (nat_le 16777216 a) (nat_lt ((a - 16777216) / 131072) p.limit)
+            (and_parts (nat_le 16777216 a && nat_lt ((a - 16777216) / 131072) p.limit) (nat_lt ((a - 16777216) % 131072) 65536) s).0).0 in
             let same : stack_slot p (a - a % 8) ≡ stack_slot p a = omega (arith, word_thread a from, word_offset a from) in
-            ap (λ b. cond b (Some (stack_slot p (a - a % 8))) None) (in_stacks_word p a ∙ s) ∙ (ap Some same ∙ sym (ap (λ b. cond b (Some (stack_slot p a)) None) s))
+            ap (λ b. cond b (Some (stack_slot p (a - a % 8))) None) (in_stacks_word p a ∙ s)
+            ∙ (ap Some same ∙ sym (ap (λ b. cond b (Some (stack_slot p a)) None) s))
         | inr m ↦ ap (λ b. cond b (Some (stack_slot p (a - a % 8))) None) (in_stacks_word p a ∙ m) ∙ sym (ap (λ b. cond b (Some (stack_slot p a)) None) m)
       ] ∙ sym (ap (λ b. cond b (Some ((a - 65536) / 8)) (in_stack p a)) n))
 ]
@@ -139,7 +152,11 @@ mapped : (p : MemoryLayout) (a : ℕ) → is_mapped p a ≡ true → (i : ℕ) �
 unfolding is_mapped
 mapped p a h = elim (cases_Bool (in_globals p a)) [
   | inl g ↦ ((a - 65536) / 8, ap (λ b. cond b (Some ((a - 65536) / 8)) (in_stack p a)) g)
-  | inr n ↦ (stack_slot p a, ap (λ b. cond b (Some ((a - 65536) / 8)) (in_stack p a)) n ∙ ap (λ b. cond b (Some (stack_slot p a)) None) (sym (ap (λ b. b || in_stacks p a) n) ∙ h))
+  | inr n ↦ (
+    stack_slot p a,
+    ap (λ b. cond b (Some ((a - 65536) / 8)) (in_stack p a)) n ∙ ap (λ b. cond b (Some (stack_slot p a)) None)
+        (sym (ap (λ b. b || in_stacks p a) n) ∙ h),
+  )
 ]
 
 -- an access that is aligned has a slot exactly where it does not trap
@@ -165,8 +182,13 @@ unfolding can_access is_aligned
 access_aligned p a size k = eqb-true (a % size) 0 (and_parts (is_aligned a size) (is_mapped p a) k).0
 
 -- what the slot of an access says of it
-pub accessed : (p : MemoryLayout) (a size i : ℕ) → Some i ≡ cond (can_access p a size) (slot_of p a) None → (can_access p a size ≡ true) × (slot_of p a ≡ Some i)
-accessed p a size i e = elim (can_access p a size) as (λ b. Some i ≡ cond b (slot_of p a) None → (b ≡ true) × (slot_of p a ≡ Some i)) [ true ↦ λ k. (refl, sym k) | false ↦ λ k. absurd (none-some i (sym k)) ] e
+pub accessed : (p : MemoryLayout) (a size i : ℕ) → Some i ≡ cond (can_access p a size) (slot_of p a) None → (can_access p a size ≡ true)
+    × (slot_of p a ≡ Some i)
+accessed p a size i e = elim (can_access p a size) as (λ b. Some i ≡ cond b (slot_of p a) None → (b ≡ true) × (slot_of p a ≡ Some i)) [
+  | true ↦ λ k.
+      (refl, sym k)
+  | false ↦ λ k. absurd (none-some i (sym k))
+] e
 
 pub not_accessed : (p : MemoryLayout) (a size : ℕ) → None ≡ cond (can_access p a size) (slot_of p a) None → can_access p a size ≡ false
 not_accessed p a size e = elim (cases_Bool (can_access p a size)) [
@@ -177,7 +199,8 @@ not_accessed p a size e = elim (cases_Bool (can_access p a size)) [
 ]
 
 -- a cell that lies within the globals is mapped and aligned
-pub cell_access : (size limit : ℕ) (c : GlobalCell) → lies_within size c ≡ true → can_access (record { globals = size; limit = limit }) (65536 + c.offset) c.size ≡ true
+pub cell_access : (size limit : ℕ) (c : GlobalCell) → lies_within size c ≡ true
+    → can_access (record { globals = size; limit = limit }) (65536 + c.offset) c.size ≡ true
 unfolding can_access is_aligned is_mapped
 cell_access size limit c h =
     let p : MemoryLayout = record { globals = size; limit = limit } in
@@ -186,7 +209,10 @@ cell_access size limit c h =
     let first = and_parts (is_size c.size) (c.offset % c.size == 0) most.0 in
     let end : c.offset + c.size ≤ size = leb-true (c.offset + c.size) size most.1 in
     let some : 0 < c.size = some_size c.size first.0 in
-    let aligned : ((65536 + c.offset) % c.size == 0) ≡ true = eq-eqb ((65536 + c.offset) % c.size) 0 (moved c.offset c.size first.0 (eqb-true (c.offset % c.size) 0 first.1)) in
+    let aligned : ((65536 + c.offset) % c.size == 0) ≡ true =
+    eq-eqb ((65536 + c.offset) % c.size) 0 (moved c.offset c.size first.0 (eqb-true (c.offset % c.size) 0 first.1)) in
     let low : nat_le 65536 (65536 + c.offset) ≡ true = le-leb 65536 (65536 + c.offset) (omega arith) in
     let high : nat_lt (65536 + c.offset) (globals_end p) ≡ true = lt-ltb (65536 + c.offset) (globals_end p) (omega (arith, end, some)) in
-    and_from (is_aligned (65536 + c.offset) c.size) (is_mapped p (65536 + c.offset)) aligned (or_left (in_globals p (65536 + c.offset)) (in_stacks p (65536 + c.offset)) (and_from (nat_le 65536 (65536 + c.offset)) (nat_lt (65536 + c.offset) (globals_end p)) low high))
+    and_from (is_aligned (65536 + c.offset) c.size) (is_mapped p (65536 + c.offset)) aligned
+    (or_left (in_globals p (65536 + c.offset)) (in_stacks p (65536 + c.offset))
+    (and_from (nat_le 65536 (65536 + c.offset)) (nat_lt (65536 + c.offset) (globals_end p)) low high))

@@ -8,7 +8,8 @@ stack_words = 8192
 
 -- where the word that holds this byte lies
 abbrev pub slot_of : MemoryLayout → ℕ → Option ℕ
-slot_of p addr = if in_globals p addr then Some ((addr - globals_start) / 8) else (if in_stacks p addr then Some (p.globals / 8 + (addr - stacks_start) / stack_stride * stack_words + (addr - stacks_start) % stack_stride / 8) else None)
+slot_of p addr = if in_globals p addr then Some ((addr - globals_start) / 8) else
+    (if in_stacks p addr then Some (p.globals / 8 + (addr - stacks_start) / stack_stride * stack_words + (addr - stacks_start) % stack_stride / 8) else None)
 
 abbrev pub word_in : List ℕ → Option ℕ → ℕ
 word_in words None = 0

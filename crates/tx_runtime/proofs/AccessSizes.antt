@@ -16,5 +16,7 @@ module _ {S : Type 0} {R : S → Type 0} {a : Thread S} (laws : Lawful S R a) (s
 
   pub store_fits : (addr size value : ℕ) (vol : Bool) → a.next s ≡ Store addr size value vol → (is_size size ≡ true) × (value < 2 ^ (8 * size))
   store_fits addr size value vol next =
-      let both = and_left (is_size size && nat_lt value (2 ^ (8 * size))) (not vol || no_atomic (a.blocks s)) (comes (Store addr size value vol) next) in
-      (and_left (is_size size) (nat_lt value (2 ^ (8 * size))) both, ltb-true value (2 ^ (8 * size)) (and_right (is_size size) (nat_lt value (2 ^ (8 * size))) both))
+      let both = and_left (is_size size && nat_lt value (2 ^ (8 * size))) (not vol || no_atomic (a.blocks s)) (comes (Store addr size value vol) next) in (
+        and_left (is_size size) (nat_lt value (2 ^ (8 * size))) both,
+        ltb-true value (2 ^ (8 * size)) (and_right (is_size size) (nat_lt value (2 ^ (8 * size))) both),
+      )

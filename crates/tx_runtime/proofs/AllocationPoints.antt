@@ -7,7 +7,8 @@ use Rattle.choosers.specs.declared.Choice.{Choice}
 use Rattle.choosers.specs.declared.Choice.TheVariants.{Wait, Yield}
 use Rattle.tx_events.specs.declared.BlockKind.TheVariants.{NoExcept, Commit, Cancel}
 use Rattle.tx_events.specs.declared.Event.{Event}
-use Rattle.tx_events.specs.declared.Event.TheVariants.{Silent, Load, Store, Out, Inp, Spawn, Join, BeginAtomic, EndAtomic, Raise, BeginSync, EndSync, Done, Stop}
+use Rattle.tx_events.specs.declared.Event.TheVariants.{Silent, Load, Store, Out, Inp, Spawn, Join, BeginAtomic, EndAtomic, Raise, BeginSync, EndSync, Done}
+use Rattle.tx_events.specs.declared.Event.TheVariants.{Stop}
 use Rattle.tx_events.specs.declared.Reply.TheVariants.{Nothing}
 use Rattle.tx_events.specs.Memory.{MemoryLayout, can_access, word_of, word_bound}
 use Rattle.tx_events.specs.Thread.{Thread}
@@ -15,7 +16,8 @@ use Rattle.tx_events.specs.World.{target}
 use Rattle.tx_events.proofs.BlockRuns.{update_same}
 use Rattle.tx_serial.specs.Machine.{Machine, Local, Save, OpenTx, GivingUp, blocker, busy, lock_owner, clash_of, least, is_noted}
 use Rattle.tx_serial.specs.Shows.{cancelling}
-use Rattle.tx_serial.specs.Turn.{Turned, load_out, store_out, begins, sync_idle, sync_in, joins, out_does, clashes, load_in, store_in, commits, cancels_by, in_does, without, given_back, gives_back, turn}
+use Rattle.tx_serial.specs.Turn.{Turned, load_out, store_out, begins, sync_idle, sync_in, joins, out_does, clashes, load_in, store_in, commits, cancels_by}
+use Rattle.tx_serial.specs.Turn.{in_does, without, given_back, gives_back, turn}
 use Rattle.tx_serial.proofs.SearchLemmas.{eldest_some}
 use Rattle.tx_runtime.specs.declared.engine.Engine.{Engine}
 use Rattle.tx_runtime.specs.Here.{GoesOutside, GoesInside, GivesUp}
@@ -121,11 +123,13 @@ module _ {S : Type 0} (a : Thread S) (p : MemoryLayout) (t : ℕ) (m : Machine S
 
     cancel_other : (ss : List Save) → ((x : ℕ) → newest ss x ≡ None) → Other (in_does a p answer t m l b k ss (Raise Cancel true))
     cancel_other [] none = refl
-    cancel_other (n ∷ ss) none = cancel_by_other (a.after l.state Nothing) n ss (least (is_noted n) (word_bound p)) (no_least (is_noted n) (word_bound p) (λ v h. ap is_some (none v)))
+    cancel_other (n ∷ ss) none = cancel_by_other (a.after l.state Nothing) n ss (least (is_noted n) (word_bound p))
+        (no_least (is_noted n) (word_bound p) (λ v h. ap is_some (none v)))
 
 -- a turn of another kind
 
-other_may : {S : Type 0} (a : Thread S) (p : MemoryLayout) (t : ℕ) (m : Machine S) → ((answer : Clash → Choice) → Other (turn a p answer t m)) → MayAllocate a p t m
+other_may : {S : Type 0} (a : Thread S) (p : MemoryLayout) (t : ℕ) (m : Machine S) → ((answer : Clash → Choice) → Other (turn a p answer t m))
+    → MayAllocate a p t m
 other_may a p t m other answer h = absurd (false≢true (sym (other answer) ∙ h))
 
 -- the last word of those for which f holds
@@ -143,18 +147,22 @@ pub last_word : (f : ℕ → Bool) (n x w : ℕ) → ((y : ℕ) → f y ≡ true
 last_word f n x w one e = no_least (without f w) n (λ v h. without_one f w v (λ y i. one y i ∙ sym (one w (eldest_some f (λ k. k) n w e))))
 
 module _ {A K S : Type 0} (state : A → S) (saved : K → S) (a : Thread S) (e : Engine A K) (t : ℕ) where
-  pub outside_may : (R : S → Type 0) (event : Event) → GoesOutside R a t (machine_in state saved e) event → MayAllocate a (layout_in e) t (machine_in state saved e)
+  pub outside_may : (R : S → Type 0) (event : Event) → GoesOutside R a t (machine_in state saved e) event
+      → MayAllocate a (layout_in e) t (machine_in state saved e)
   outside_may R event here =
       let m = machine_in state saved e in
       let there = started_thread state saved e t here.started in
-      other_may a (layout_in e) t m (λ answer. subst Other (outside_turn a (layout_in e) answer t m there.0 R event here there.1) (out_other a (layout_in e) t m there.0 event))
+      other_may a (layout_in e) t m (λ answer. subst Other (outside_turn a (layout_in e) answer t m there.0 R event here there.1)
+      (out_other a (layout_in e) t m there.0 event))
 
-  pub inside_may : (R : S → Type 0) (event : Event) → GoesInside R a t (machine_in state saved e) event → cancelling event ≡ false → MayAllocate a (layout_in e) t (machine_in state saved e)
+  pub inside_may : (R : S → Type 0) (event : Event) → GoesInside R a t (machine_in state saved e) event → cancelling event ≡ false
+      → MayAllocate a (layout_in e) t (machine_in state saved e)
   inside_may R event here quiet =
       let m = machine_in state saved e in
       let there = started_thread state saved e t here.started in
       let i = here.at there.0 there.1 in
-      other_may a (layout_in e) t m (λ answer. subst Other (inside_turn a (layout_in e) answer t m there.0 R event i.birth i.kept i.saves here there.1 i.tx) (in_other a (layout_in e) t m answer there.0 i.birth i.kept i.saves event quiet))
+      other_may a (layout_in e) t m (λ answer. subst Other (inside_turn a (layout_in e) answer t m there.0 R event i.birth i.kept i.saves here there.1 i.tx)
+      (in_other a (layout_in e) t m answer there.0 i.birth i.kept i.saves event quiet))
 
   pub cancel_may : (R : S → Type 0) → GoesInside R a t (machine_in state saved e) (Raise Cancel true)
       → ((l : Local S) (b : ℕ) (k : S) (ss : List Save) (x : ℕ) → (machine_in state saved e).threads t ≡ Some l → l.tx ≡ OpenTx b k ss → newest ss x ≡ None)
@@ -163,12 +171,14 @@ module _ {A K S : Type 0} (state : A → S) (saved : K → S) (a : Thread S) (e 
       let m = machine_in state saved e in
       let there = started_thread state saved e t here.started in
       let i = here.at there.0 there.1 in
-      other_may a (layout_in e) t m (λ answer. subst Other (inside_turn a (layout_in e) answer t m there.0 R (Raise Cancel true) i.birth i.kept i.saves here there.1 i.tx)
+      other_may a (layout_in e) t m (λ answer. subst Other
+      (inside_turn a (layout_in e) answer t m there.0 R (Raise Cancel true) i.birth i.kept i.saves here there.1 i.tx)
       (cancel_other a (layout_in e) t m answer there.0 i.birth i.kept i.saves (λ x. none there.0 i.birth i.kept i.saves x there.1 i.tx)))
 
   -- the last word of a transaction that gives up
   pub giving_may : GivesUp t (machine_in state saved e)
-      → ((l : Local S) (x : ℕ) → (machine_in state saved e).threads t ≡ Some l → least l.held (word_bound (layout_in e)) ≡ Some x → least (without l.held x) (word_bound (layout_in e)) ≡ None)
+      → ((l : Local S) (x : ℕ) → (machine_in state saved e).threads t ≡ Some l → least l.held (word_bound (layout_in e)) ≡ Some x
+      → least (without l.held x) (word_bound (layout_in e)) ≡ None)
       → MayAllocate a (layout_in e) t (machine_in state saved e)
   giving_may here last answer =
       let m = machine_in state saved e in
@@ -178,8 +188,10 @@ module _ {A K S : Type 0} (state : A → S) (saved : K → S) (a : Thread S) (e 
       (going_turn a (layout_in e) answer t m there.0 (GivingUp is.1.0 is.1.1 is.1.2) here.going there.1 is.0 is.1.3)
       (by_least there.0 is.1.0 is.1.1 is.1.2 there.1 is.1.3 (least there.0.held (word_bound (layout_in e))) refl)
     where
-      by_least : (l : Local S) (b : ℕ) (k : S) (ss : List Save) → (machine_in state saved e).threads t ≡ Some l → l.tx ≡ GivingUp b k ss → (o : Option ℕ) → least l.held (word_bound (layout_in e)) ≡ o
-          → is_undone_or_released (gives_back (layout_in e) t (machine_in state saved e) l b k ss o).kind ≡ true → PutsBack t (machine_in state saved e) (gives_back (layout_in e) t (machine_in state saved e) l b k ss o).machine
+      by_least : (l : Local S) (b : ℕ) (k : S) (ss : List Save) → (machine_in state saved e).threads t ≡ Some l → l.tx ≡ GivingUp b k ss → (o : Option ℕ)
+          → least l.held (word_bound (layout_in e)) ≡ o
+          → is_undone_or_released (gives_back (layout_in e) t (machine_in state saved e) l b k ss o).kind ≡ true
+          → PutsBack t (machine_in state saved e) (gives_back (layout_in e) t (machine_in state saved e) l b k ss o).machine
       by_least l b k ss at tx None q h = absurd (false≢true h)
       by_least l b k ss at tx (Some x) q h = record {
         local = l;
@@ -188,5 +200,6 @@ module _ {A K S : Type 0} (state : A → S) (saved : K → S) (a : Thread S) (e 
         saves = ss;
         was = at;
         giving = tx;
-        stands = update_same (machine_in state saved e).threads t (Some (given_back l b k ss x (least (without l.held x) (word_bound (layout_in e))))) ∙ ap (λ o. Some (given_back l b k ss x o)) (last l x at q);
+        stands = update_same (machine_in state saved e).threads t (Some (given_back l b k ss x (least (without l.held x) (word_bound (layout_in e)))))
+            ∙ ap (λ o. Some (given_back l b k ss x o)) (last l x at q);
       }

@@ -28,7 +28,8 @@ module _ {S : Type 0} (a : Thread S) (p : MemoryLayout) (answer : Clash → Choi
   pub outside_turn : (R : S → Type 0) (e : Event) → GoesOutside R a t m e → m.threads t ≡ Some l → out_does a p t m l e ≡ turn a p answer t m
   outside_turn R e h at = ap (out_does a p t m l) (sym (h.at l at).next) ∙ going_turn NoTx h.going at (h.at l at).up (h.at l at).tx
 
-  pub inside_turn : (R : S → Type 0) (e : Event) (b : ℕ) (k : S) (ss : List Save) → GoesInside R a t m e → m.threads t ≡ Some l → l.tx ≡ OpenTx b k ss → in_does a p answer t m l b k ss e ≡ turn a p answer t m
+  pub inside_turn : (R : S → Type 0) (e : Event) (b : ℕ) (k : S) (ss : List Save) → GoesInside R a t m e → m.threads t ≡ Some l → l.tx ≡ OpenTx b k ss
+      → in_does a p answer t m l b k ss e ≡ turn a p answer t m
   inside_turn R e b k ss h at tx = ap (in_does a p answer t m l b k ss) (sym (h.at l at).next) ∙ going_turn (OpenTx b k ss) h.going at (h.at l at).up tx
 
 pub if_ok : {T E : Type 0} {P Q : T → Type 0} (r : Result T E) → ((x : T) → P x → Q x) → IfOk r P → IfOk r Q
@@ -36,18 +37,22 @@ if_ok (Ok x) f h = f x h
 if_ok (Err e) f h = tt
 
 -- a row of a thread without a transaction, at any thread that stands there
-pub outside_row : {A K S : Type 0} (state : A → S) (saved : K → S) (R : S → Type 0) (a : Thread S) (e : Engine A K) (answer : Clash → Choice) (t : ℕ) (event : Event) (to : Turned S)
+pub outside_row : {A K S : Type 0} (state : A → S) (saved : K → S) (R : S → Type 0) (a : Thread S) (e : Engine A K) (answer : Clash → Choice) (t : ℕ)
+    (event : Event) (to : Turned S)
     → GoesOutside R a t (machine_in state saved e) event
-    → ((l : Local S) → (machine_in state saved e).threads t ≡ Some l → IsOutside R a l event → to ≡ out_does a (layout_in e) t (machine_in state saved e) l event)
+    → ((l : Local S) → (machine_in state saved e).threads t ≡ Some l → IsOutside R a l event
+    → to ≡ out_does a (layout_in e) t (machine_in state saved e) l event)
     → to ≡ turn a (layout_in e) answer t (machine_in state saved e)
 outside_row state saved R a e answer t event to here row =
     let there = started_thread state saved e t here.started in
     row there.0 there.1 (here.at there.0 there.1) ∙ outside_turn a (layout_in e) answer t (machine_in state saved e) there.0 R event here there.1
 
 -- a row of a thread in an open transaction
-pub inside_row : {A K S : Type 0} (state : A → S) (saved : K → S) (R : S → Type 0) (a : Thread S) (e : Engine A K) (answer : Clash → Choice) (t : ℕ) (event : Event) (to : Turned S)
+pub inside_row : {A K S : Type 0} (state : A → S) (saved : K → S) (R : S → Type 0) (a : Thread S) (e : Engine A K) (answer : Clash → Choice) (t : ℕ)
+    (event : Event) (to : Turned S)
     → GoesInside R a t (machine_in state saved e) event
-    → ((l : Local S) → (machine_in state saved e).threads t ≡ Some l → (i : IsInside R a l event) → to ≡ in_does a (layout_in e) answer t (machine_in state saved e) l i.birth i.kept i.saves event)
+    → ((l : Local S) → (machine_in state saved e).threads t ≡ Some l → (i : IsInside R a l event)
+    → to ≡ in_does a (layout_in e) answer t (machine_in state saved e) l i.birth i.kept i.saves event)
     → to ≡ turn a (layout_in e) answer t (machine_in state saved e)
 inside_row state saved R a e answer t event to here row =
     let there = started_thread state saved e t here.started in
@@ -56,10 +61,12 @@ inside_row state saved R a e answer t event to here row =
 
 -- a thread in an engine that shows the same machine
 
-pub started_in : {A K S : Type 0} (state : A → S) (saved : K → S) (q : Engine A K) (m : Machine S) (t : ℕ) → machine_in state saved q ≡ m → t < m.started → t < length q.threads.items
+pub started_in : {A K S : Type 0} (state : A → S) (saved : K → S) (q : Engine A K) (m : Machine S) (t : ℕ) → machine_in state saved q ≡ m → t < m.started
+    → t < length q.threads.items
 started_in state saved q m t same h = let e = ap (λ z. z.started) same in omega (arith, e, h)
 
-pub at_in : {A K S : Type 0} (state : A → S) (saved : K → S) (q : Engine A K) (m : Machine S) (t : ℕ) (s : ThreadSlot A K) → machine_in state saved q ≡ m → t < length q.threads.items → s ≡ get_or q.threads.items t s → m.threads t ≡ Some (local_of state saved q.holders t s)
+pub at_in : {A K S : Type 0} (state : A → S) (saved : K → S) (q : Engine A K) (m : Machine S) (t : ℕ) (s : ThreadSlot A K) → machine_in state saved q ≡ m
+    → t < length q.threads.items → s ≡ get_or q.threads.items t s → m.threads t ≡ Some (local_of state saved q.holders t s)
 at_in state saved q m t s same h here = ap (λ z. z.threads t) (sym same) ∙ thread_at state saved q.holders q.threads.items t s h here
 
 pub answers_at : {S : Type 0} (a : Thread S) (s : S) (e : Event) (r : Reply) → a.next s ≡ e → Answers e r → Answers (a.next s) r
@@ -68,7 +75,8 @@ answers_at a s e r next h = subst (λ v. Answers v r) (sym next) h
 -- the row of a thread whose transaction is closing
 pub closing_row : {A K S : Type 0} (state : A → S) (saved : K → S) (a : Thread S) (e : Engine A K) (answer : Clash → Choice) (t : ℕ) (to : Turned S)
     → Closes t (machine_in state saved e)
-    → ((l : Local S) (b : ℕ) → (machine_in state saved e).threads t ≡ Some l → l.tx ≡ Closing b → to ≡ lets_go (layout_in e) t (machine_in state saved e) l b (least l.held (word_bound (layout_in e))))
+    → ((l : Local S) (b : ℕ) → (machine_in state saved e).threads t ≡ Some l → l.tx ≡ Closing b
+    → to ≡ lets_go (layout_in e) t (machine_in state saved e) l b (least l.held (word_bound (layout_in e))))
     → to ≡ turn a (layout_in e) answer t (machine_in state saved e)
 closing_row state saved a e answer t to here row =
     let there = started_thread state saved e t here.started in
@@ -78,9 +86,11 @@ closing_row state saved a e answer t to here row =
 -- the row of a thread whose transaction gives up
 pub giving_row : {A K S : Type 0} (state : A → S) (saved : K → S) (a : Thread S) (e : Engine A K) (answer : Clash → Choice) (t : ℕ) (to : Turned S)
     → GivesUp t (machine_in state saved e)
-    → ((l : Local S) (b : ℕ) (k : S) (ss : List Save) → (machine_in state saved e).threads t ≡ Some l → l.tx ≡ GivingUp b k ss → to ≡ gives_back (layout_in e) t (machine_in state saved e) l b k ss (least l.held (word_bound (layout_in e))))
+    → ((l : Local S) (b : ℕ) (k : S) (ss : List Save) → (machine_in state saved e).threads t ≡ Some l → l.tx ≡ GivingUp b k ss
+    → to ≡ gives_back (layout_in e) t (machine_in state saved e) l b k ss (least l.held (word_bound (layout_in e))))
     → to ≡ turn a (layout_in e) answer t (machine_in state saved e)
 giving_row state saved a e answer t to here row =
     let there = started_thread state saved e t here.started in
     let is = here.at there.0 there.1 in
-    row there.0 is.1.0 is.1.1 is.1.2 there.1 is.1.3 ∙ going_turn a (layout_in e) answer t (machine_in state saved e) there.0 (GivingUp is.1.0 is.1.1 is.1.2) here.going there.1 is.0 is.1.3
+    row there.0 is.1.0 is.1.1 is.1.2 there.1 is.1.3 ∙ going_turn a (layout_in e) answer t (machine_in state saved e) there.0
+    (GivingUp is.1.0 is.1.1 is.1.2) here.going there.1 is.0 is.1.3

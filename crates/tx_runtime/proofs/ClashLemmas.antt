@@ -26,12 +26,15 @@ same_clash : (a b c d e z y x w v : ℕ) → a ≡ z → b ≡ y → c ≡ x →
 same_clash a b c d e z y x w v f g h i j =
     ap (λ n. clash n b c d e) f ∙ (ap (λ n. clash z n c d e) g ∙ (ap (λ n. clash z y n d e) h ∙ (ap (λ n. clash z y x n e) i ∙ ap (λ n. clash z y x w n) j)))
 
-module _ {A K S : Type 0} (state : A → S) (saved : K → S) (R : S → Type 0) (a : Thread S) (p : MemoryLayout) (e : Engine A K) (t : ℕ) (s : ThreadSlot A K) (b : Blockers) (mine waits word : ℕ) where
+module _ {A K S : Type 0} (state : A → S) (saved : K → S) (R : S → Type 0) (a : Thread S) (p : MemoryLayout) (e : Engine A K) (t : ℕ) (s : ThreadSlot A K)
+    (b : Blockers) (mine waits word : ℕ) where
   -- the runtime asks at the clash at which the machine asks
   pub shown : (event : Event) (store : Bool) → GoesInside R a t (machine_in state saved e) event → Accesses p event store word
-      → SumsOf (conflicts_with t store word (machine_in state saved e).threads) (λ u. birth_of ((machine_in state saved e).threads u)) (length e.threads.items) b
+      → SumsOf (conflicts_with t store word (machine_in state saved e).threads) (λ u. birth_of ((machine_in state saved e).threads u))
+      (length e.threads.items) b
       → s ≡ get_or e.threads.items t s → mine ≡ birth_in s.tx → waits ≡ waits_at (waits_of s.waits) word b.least
-      → (c : Clash) → Asked a p t (machine_in state saved e) c → record { mine = mine; least = b.least; greatest = b.greatest; count = b.count; waits = waits } ≡ c
+      → (c : Clash) → Asked a p t (machine_in state saved e) c
+      → record { mine = mine; least = b.least; greatest = b.greatest; count = b.count; waits = waits } ≡ c
   shown event store here access sums read mine_is waits_is c asked =
       let m = machine_in state saved e in
       let there = started_thread state saved e t here.started in
@@ -40,15 +43,18 @@ module _ {A K S : Type 0} (state : A → S) (saved : K → S) (R : S → Type 0)
       let same : l ≡ there.0 = same_Some l there.0 (sym (thread_at state saved e.holders e.threads.items t s here.started read) ∙ there.1) in
       let born : mine ≡ i.birth = mine_is ∙ (sym (birth_is saved s.tx (saves_of s.log)) ∙ (ap (λ (v : Local S). birth v.tx) same ∙ ap birth i.tx)) in
       let waited : waits ≡ waits_at (m.waits t) word (birth_of (m.threads b.eldest)) =
-      waits_is ∙ (ap (λ z. waits_at z word b.least) (sym (waits_at_slot e.threads.items t s here.started read)) ∙ ap (waits_at (waits_by e.threads.items t) word) sums.least) in
+      waits_is ∙ (ap (λ z. waits_at z word b.least) (sym (waits_at_slot e.threads.items t s here.started read)) ∙ ap
+      (waits_at (waits_by e.threads.items t) word) sums.least) in
       same_clash mine b.least b.greatest b.count waits
-      i.birth (birth_of (m.threads b.eldest)) (greatest (conflicts_with t store word m.threads) (λ v. birth_of (m.threads v)) m.started) (count (conflicts_with t store word m.threads) m.started) (waits_at (m.waits t) word (birth_of (m.threads b.eldest)))
+      i.birth (birth_of (m.threads b.eldest)) (greatest (conflicts_with t store word m.threads) (λ v. birth_of (m.threads v)) m.started)
+      (count (conflicts_with t store word m.threads) m.started) (waits_at (m.waits t) word (birth_of (m.threads b.eldest)))
       born sums.least sums.greatest sums.count waited
       ∙ sym (clash_asked a p t m there.0 event store word b.eldest i.birth i.kept i.saves there.1 i.next i.tx access sums.eldest c asked)
 
   -- what was answered there
   pub answered : (event : Event) (store : Bool) → GoesInside R a t (machine_in state saved e) event → Accesses p event store word
-      → SumsOf (conflicts_with t store word (machine_in state saved e).threads) (λ u. birth_of ((machine_in state saved e).threads u)) (length e.threads.items) b
+      → SumsOf (conflicts_with t store word (machine_in state saved e).threads) (λ u. birth_of ((machine_in state saved e).threads u))
+      (length e.threads.items) b
       → s ≡ get_or e.threads.items t s → mine ≡ birth_in s.tx → waits ≡ waits_at (waits_of s.waits) word b.least
       → (P : Clash → Type 0) → P (record { mine = mine; least = b.least; greatest = b.greatest; count = b.count; waits = waits })
       → (c : Clash) → Asked a p t (machine_in state saved e) c → P c

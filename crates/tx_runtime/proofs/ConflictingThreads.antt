@@ -1,5 +1,6 @@
 -- Which threads keep an access off.
-use Rattle.std.proofs.Common.{ℕ, zero, suc, ◌≡◌, ◌==◌, ◌<◌, ◌≤◌, ◌+◌, Bool, true, false, cond, not, Option, Some, None, List, [], ◌∷◌, get_or, length, refl, ap, sym, ◌∙◌, subst, inl, inr, arith, add-one}
+use Rattle.std.proofs.Common.{ℕ, zero, suc, ◌≡◌, ◌==◌, ◌<◌, ◌≤◌, ◌+◌, Bool, true, false, cond, not, Option, Some, None, List, [], ◌∷◌, get_or, length, refl, ap}
+use Rattle.std.proofs.Common.{sym, ◌∙◌, subst, inl, inr, arith, add-one}
 use Rattle.std.specs.Prelude.{◌&&◌, is_some, nat_lt, max, slice_get}
 use Rattle.std.proofs.Math.Path.{fun_ext}
 use Rattle.std.proofs.lemmas.Bool.{cases_lt, ltb-true, ne_eqb}
@@ -57,13 +58,15 @@ sums_more p f n (Some b) h s = record {
 
 pub count_most : (p : ℕ → Bool) (n : ℕ) → count p n ≤ n
 count_most p zero = omega arith
-count_most p (suc n) = let rest = count_most p n in elim (p n) as (λ b. cond b (suc (count p n)) (count p n) ≤ suc n) [ true ↦ omega (arith, rest) | false ↦ omega (arith, rest) ]
+count_most p (suc n) = let rest = count_most p n in elim
+    (p n) as (λ b. cond b (suc (count p n)) (count p n) ≤ suc n) [ true ↦ omega (arith, rest) | false ↦ omega (arith, rest) ]
 
 -- the least number
 
 pub no_least : (p : ℕ → Bool) (n : ℕ) → ((v : ℕ) → v < n → p v ≡ false) → least p n ≡ None
 no_least p zero h = refl
-no_least p (suc n) h = ap (λ b. cond b (elder (λ k. k) n (eldest p (λ k. k) n)) (eldest p (λ k. k) n)) (h n (omega arith)) ∙ no_least p n (λ v l. h v (omega (arith, l)))
+no_least p (suc n) h = ap (λ b. cond b (elder (λ k. k) n (eldest p (λ k. k) n)) (eldest p (λ k. k) n)) (h n (omega arith))
+    ∙ no_least p n (λ v l. h v (omega (arith, l)))
 
 kept_least : (n u : ℕ) → u < n → elder (λ k. k) n (Some u) ≡ Some u
 kept_least n u h = elim (nat_lt n u) as (λ b. nat_lt n u ≡ b → cond b (Some n) (Some u) ≡ Some u) [
@@ -128,20 +131,24 @@ module _ {A K S : Type 0} (state : A → S) (saved : K → S) (holders : Holders
 
   -- where no thread keeps the access off, no other thread's hold blocks it
   pub unblocked : (t n x : ℕ) (store : Bool) (f : ℕ → ℕ) → n ≡ length threads → ((u x : ℕ) → length threads ≤ u → hold_of holders u x ≡ None)
-      → eldest (conflicts_with t store x (threads_of state saved holders threads)) f n ≡ None → (u : ℕ) → (u ≡ t → ⊥) → blocks (hold_of holders u x) store ≡ false
+      → eldest (conflicts_with t store x (threads_of state saved holders threads)) f n ≡ None → (u : ℕ) → (u ≡ t → ⊥)
+      → blocks (hold_of holders u x) store ≡ false
   unfolding threads_of
   unblocked t n x store f e free none u d = elim (cases_lt u (length threads)) [
     | inl l ↦
         sym (held_slot u x (slice_get threads u) refl free store)
-        ∙ (sym (ap (λ b. not b && cond store (held_by (local_in state saved holders u (slice_get threads u)) x) (wrote_by (local_in state saved holders u (slice_get threads u)) x)) (ne_eqb u t d))
+        ∙ (sym (ap (λ b. not b && cond store (held_by (local_in state saved holders u (slice_get threads u)) x)
+        (wrote_by (local_in state saved holders u (slice_get threads u)) x)) (ne_eqb u t d))
         ∙ eldest_none (conflicts_with t store x (threads_of state saved holders threads)) f n none u (omega (arith, l, e)))
     | inr g ↦ ap (λ o. blocks o store) (free u x g)
   ]
 
-  pub birth_at : (u b : ℕ) (s : ThreadSlot A K) → u < length threads → s ≡ get_or threads u s → b ≡ birth_in s.tx → birth_of (threads_of state saved holders threads u) ≡ b
+  pub birth_at : (u b : ℕ) (s : ThreadSlot A K) → u < length threads → s ≡ get_or threads u s → b ≡ birth_in s.tx
+      → birth_of (threads_of state saved holders threads u) ≡ b
   birth_at u b s h here e = ap birth_of (thread_at state saved holders threads u s h here) ∙ (birth_is saved s.tx (saves_of s.log) ∙ sym e)
 
-  pub live_at : (u : ℕ) (b : Bool) (s : ThreadSlot A K) → u < length threads → s ≡ get_or threads u s → b ≡ has_saves s.tx → live_in (threads_of state saved holders threads u) ≡ b
+  pub live_at : (u : ℕ) (b : Bool) (s : ThreadSlot A K) → u < length threads → s ≡ get_or threads u s → b ≡ has_saves s.tx
+      → live_in (threads_of state saved holders threads u) ≡ b
   live_at u b s h here e = ap live_in (thread_at state saved holders threads u s h here) ∙ (live_is saved s.tx (saves_of s.log) ∙ sym e)
 
 pub few_of : (p : ℕ → Bool) (f : ℕ → ℕ) (n : ℕ) (o : Option Blockers) (b : Blockers) → Sums p f n o → o ≡ Some b → b.count ≤ n

@@ -8,14 +8,16 @@ use Rattle.tx_events.specs.declared.BlockKind.{BlockKind}
 use Rattle.tx_events.specs.declared.BlockKind.TheVariants.{NoExcept, Commit, Cancel}
 use Rattle.tx_events.specs.declared.End.{End}
 use Rattle.tx_events.specs.declared.Event.{Event}
-use Rattle.tx_events.specs.declared.Event.TheVariants.{Silent, Load, Store, Out, Inp, Spawn, Join, BeginAtomic, EndAtomic, Raise, BeginSync, EndSync, Done, Stop}
+use Rattle.tx_events.specs.declared.Event.TheVariants.{Silent, Load, Store, Out, Inp, Spawn, Join, BeginAtomic, EndAtomic, Raise, BeginSync, EndSync, Done}
+use Rattle.tx_events.specs.declared.Event.TheVariants.{Stop}
 use Rattle.tx_events.specs.declared.Reply.TheVariants.{Nothing}
 use Rattle.tx_events.specs.declared.TurnKind.{TurnKind}
 use Rattle.tx_events.specs.Memory.{MemoryLayout, can_access, word_of, word_bound}
 use Rattle.tx_events.specs.Thread.{Thread}
 use Rattle.tx_events.specs.World.{target}
 use Rattle.tx_serial.specs.Machine.{Machine, Local, Save, Tx, NoTx, OpenTx, GivingUp, Closing, blocker, busy, lock_owner, clash_of, least, is_noted}
-use Rattle.tx_serial.specs.Turn.{Turned, load_out, store_out, begins, sync_idle, sync_in, joins, out_does, clashes, load_in, store_in, commits, cancels_by, cancels, raises, in_does, lets_go, gives_back, turn_in, turn_of, turn_at, turn}
+use Rattle.tx_serial.specs.Turn.{Turned, load_out, store_out, begins, sync_idle, sync_in, joins, out_does, clashes, load_in, store_in, commits, cancels_by}
+use Rattle.tx_serial.specs.Turn.{cancels, raises, in_does, lets_go, gives_back, turn_in, turn_of, turn_at, turn}
 
 module _ {S : Type 0} (a : Thread S) (p : MemoryLayout) (t : ℕ) (m : Machine S) where
   abbrev Rises : Turned S → Type 0
@@ -143,8 +145,10 @@ module _ {S : Type 0} (a : Thread S) (p : MemoryLayout) (t : ℕ) (m : Machine S
   by_end answer (Some e) = level
 
   -- the machine that a turn led to
-  pub births_rise : (answer : Clash → Choice) (kind : TurnKind) (new : Machine S) → record { machine = new; kind = kind } ≡ turn a p answer t m → new.births ≤ m.births + 1
+  pub births_rise : (answer : Clash → Choice) (kind : TurnKind) (new : Machine S) → record { machine = new; kind = kind } ≡ turn a p answer t m
+      → new.births ≤ m.births + 1
   births_rise answer kind new e = let i = ap (λ (r : Turned S). r.machine.births) e in let h = (by_end answer m.end).0 in omega (arith, i, h)
 
-  pub depth_rises : (answer : Clash → Choice) (kind : TurnKind) (new : Machine S) → record { machine = new; kind = kind } ≡ turn a p answer t m → new.lock.depth ≤ m.lock.depth + 1
+  pub depth_rises : (answer : Clash → Choice) (kind : TurnKind) (new : Machine S) → record { machine = new; kind = kind } ≡ turn a p answer t m
+      → new.lock.depth ≤ m.lock.depth + 1
   depth_rises answer kind new e = let i = ap (λ (r : Turned S). r.machine.lock.depth) e in let h = (by_end answer m.end).1 in omega (arith, i, h)

@@ -1,9 +1,11 @@
 -- Holds after one was taken or released.
-use Rattle.std.proofs.Common.{ℕ, ◌≡◌, ◌==◌, ◌<◌, ◌+◌, ◌-◌, ◌*◌, ◌/◌, ◌%◌, Bool, true, false, cond, Option, Some, None, List, [], ◌∷◌, length, refl, ap, sym, ◌∙◌, subst, inl, inr, arith}
+use Rattle.std.proofs.Common.{ℕ, ◌≡◌, ◌==◌, ◌<◌, ◌+◌, ◌-◌, ◌*◌, ◌/◌, ◌%◌, Bool, true, false, cond, Option, Some, None, List, [], ◌∷◌, length, refl, ap, sym}
+use Rattle.std.proofs.Common.{◌∙◌, subst, inl, inr, arith}
 use Rattle.std.specs.Prelude.{◌&&◌, ◌||◌, is_some}
 use Rattle.std.proofs.Math.Path.{fun_ext}
 use Rattle.std.proofs.lemmas.Bool.{cases_Bool, eqb-true, eqb-false, eq-eqb, ne_eqb, true≢false, false≢true}
-use Rattle.tx_events.specs.Memory.{MemoryLayout, update, can_access, is_mapped, in_globals, in_stacks, is_aligned, word_of, word_bound, globals_start, stacks_start, stack_stride}
+use Rattle.tx_events.specs.Memory.{MemoryLayout, update, can_access, is_mapped, in_globals, in_stacks, is_aligned, word_of, word_bound, globals_start}
+use Rattle.tx_events.specs.Memory.{stacks_start, stack_stride}
 use Rattle.tx_events.proofs.WordLemmas.{and_right, access_below}
 use Rattle.tx_memory.specs.Words.{slot_of, stack_words}
 use Rattle.tx_memory.proofs.WordSlots.{slot_of_word, word_of_whole, aligned_slot, access_aligned}
@@ -31,7 +33,9 @@ slot_cond false false i j h = absurd (false≢true h)
 
 slot_there : (p : MemoryLayout) (a size : ℕ) → can_access p a size ≡ true → (i : ℕ) × (slot_of p a ≡ Some i)
 unfolding can_access is_mapped
-slot_there p a size h = slot_cond (in_globals p a) (in_stacks p a) ((a - globals_start) / 8) (p.globals / 8 + (a - stacks_start) / stack_stride * stack_words + (a - stacks_start) % stack_stride / 8) (and_right (is_aligned a size) (in_globals p a || in_stacks p a) h)
+slot_there p a size h = slot_cond (in_globals p a) (in_stacks p a) ((a - globals_start) / 8)
+    (p.globals / 8 + (a - stacks_start) / stack_stride * stack_words + (a - stacks_start) % stack_stride / 8)
+    (and_right (is_aligned a size) (in_globals p a || in_stacks p a) h)
 
 read_cond : (c : Bool) (i : ℕ) (o : Option ℕ) → o ≡ Some i → o ≡ cond c o None → c ≡ true
 read_cond true i o e h = refl
@@ -73,19 +77,23 @@ raised_write (Some Write) = refl
 abbrev pub OneHold : ℕ → ℕ → Option Mode → Holders → Holders → Type 0
 OneHold t word mode old new = (u w : ℕ) → hold_of new u w ≡ cond (u == t && word == w) mode (hold_of old u w)
 
-pub one_after : (t word : ℕ) (mode : Mode) (old mid new : Holders) → ((u w : ℕ) → hold_of mid u w ≡ hold_of old u w) → OneHold t word (raised (hold_of mid t word) mode) mid new → OneHold t word (raised (hold_of old t word) mode) old new
+pub one_after : (t word : ℕ) (mode : Mode) (old mid new : Holders) → ((u w : ℕ) → hold_of mid u w ≡ hold_of old u w)
+    → OneHold t word (raised (hold_of mid t word) mode) mid new → OneHold t word (raised (hold_of old t word) mode) old new
 one_after t word mode old mid new same one u w =
-    one u w ∙ (ap (λ o. cond (u == t && word == w) (raised o mode) (hold_of mid u w)) (same t word) ∙ ap (λ o. cond (u == t && word == w) (raised (hold_of old t word) mode) o) (same u w))
+    one u w ∙ (ap (λ o. cond (u == t && word == w) (raised o mode) (hold_of mid u w)) (same t word) ∙ ap
+    (λ o. cond (u == t && word == w) (raised (hold_of old t word) mode) o) (same u w))
 
 module _ (t word : ℕ) (mode : Option Mode) (old new : Holders) (one : OneHold t word mode old new) where
   pub others_same : SameHolds t old new
   others_same u x d = one u x ∙ ap (λ b. cond (b && word == x) mode (hold_of old u x)) d
 
   own_hold : (x : ℕ) → hold_of new t x ≡ cond (x == word) mode (hold_of old t x)
-  own_hold x = one t x ∙ (ap (λ b. cond (b && word == x) mode (hold_of old t x)) (eq-eqb t t refl) ∙ ap (λ b. cond b mode (hold_of old t x)) (eqb_turned word x))
+  own_hold x = one t x ∙ (ap (λ b. cond (b && word == x) mode (hold_of old t x)) (eq-eqb t t refl) ∙ ap (λ b. cond b mode (hold_of old t x))
+      (eqb_turned word x))
 
   by_word : (f : Option Mode → Bool) (x : ℕ) → f (hold_of new t x) ≡ update (λ y. f (hold_of old t y)) word (f mode) x
-  by_word f x = ap f (own_hold x) ∙ elim (x == word) as (λ b. f (cond b mode (hold_of old t x)) ≡ cond b (f mode) (f (hold_of old t x))) [ true ↦ refl | false ↦ refl ]
+  by_word f x = ap f (own_hold x) ∙ elim (x == word) as (λ b. f (cond b mode (hold_of old t x)) ≡ cond b (f mode)
+      (f (hold_of old t x))) [ true ↦ refl | false ↦ refl ]
 
   pub held_is : held_in new t ≡ update (held_in old t) word (is_some mode)
   held_is = fun_ext (by_word is_some)
@@ -94,17 +102,24 @@ module _ (t word : ℕ) (mode : Option Mode) (old new : Holders) (one : OneHold 
   wrote_is = fun_ext (by_word is_write)
 
 update_own : (f : ℕ → Bool) (w : ℕ) → update f w (f w) ≡ f
-update_own f w = fun_ext (λ x. elim (x == w) as (λ b. (x == w) ≡ b → cond b (f w) (f x) ≡ f x) [ true ↦ λ e. ap f (sym (eqb-true x w e)) | false ↦ λ e. refl ] refl)
+update_own f w = fun_ext (λ x. elim (x == w) as (λ b. (x == w) ≡ b → cond b (f w) (f x) ≡ f x) [
+  | true ↦ λ e. ap f
+      (sym (eqb-true x w e))
+  | false ↦ λ e. refl
+] refl)
 
 module _ (t word : ℕ) (mode : Mode) (old new : Holders) (taken : OneHold t word (raised (hold_of old t word) mode) old new) where
   pub taken_held : held_in new t ≡ update (held_in old t) word true
   taken_held = held_is t word (raised (hold_of old t word) mode) old new taken ∙ ap (update (held_in old t) word) (raised_some (hold_of old t word) mode)
 
 pub taken_read : (t word : ℕ) (old new : Holders) → OneHold t word (raised (hold_of old t word) Read) old new → wrote_in new t ≡ wrote_in old t
-taken_read t word old new one = wrote_is t word (raised (hold_of old t word) Read) old new one ∙ (ap (update (wrote_in old t) word) (raised_read (hold_of old t word)) ∙ update_own (wrote_in old t) word)
+taken_read t word old new one = wrote_is t word (raised (hold_of old t word) Read) old new one
+    ∙ (ap (update (wrote_in old t) word) (raised_read (hold_of old t word)) ∙ update_own (wrote_in old t) word)
 
-pub taken_write : (t word : ℕ) (old new : Holders) → OneHold t word (raised (hold_of old t word) Write) old new → wrote_in new t ≡ update (wrote_in old t) word true
-taken_write t word old new one = wrote_is t word (raised (hold_of old t word) Write) old new one ∙ ap (update (wrote_in old t) word) (raised_write (hold_of old t word))
+pub taken_write : (t word : ℕ) (old new : Holders) → OneHold t word (raised (hold_of old t word) Write) old new
+    → wrote_in new t ≡ update (wrote_in old t) word true
+taken_write t word old new one = wrote_is t word (raised (hold_of old t word) Write) old new one
+    ∙ ap (update (wrote_in old t) word) (raised_write (hold_of old t word))
 
 pub released_held : (t word : ℕ) (old new : Holders) → OneHold t word None old new → held_in new t ≡ without (held_in old t) word
 released_held t word old new one = held_is t word None old new one
@@ -114,7 +129,8 @@ released_wrote t word old new one = wrote_is t word None old new one
 
 -- the parts still fit together
 
-pub whole_hold : {A K : Type 0} (p : MemoryLayout) (limit : ℕ) (old new : Holders) (xs : List (ThreadSlot A K)) (t word : ℕ) (mode : Option Mode) → IsWhole p limit old xs → t < length xs → OneHold t word mode old new → thread_limit new ≡ thread_limit old
+pub whole_hold : {A K : Type 0} (p : MemoryLayout) (limit : ℕ) (old new : Holders) (xs : List (ThreadSlot A K)) (t word : ℕ) (mode : Option Mode)
+    → IsWhole p limit old xs → t < length xs → OneHold t word mode old new → thread_limit new ≡ thread_limit old
     → (is_some mode ≡ true → can_access p word 8 ≡ true) → IsWhole p limit new xs
 whole_hold p limit old new xs t word mode w h one same access = record {
   fits = w.fits;
@@ -144,7 +160,8 @@ whole_hold p limit old new xs t word mode w h one same access = record {
 some_true : (o : Option Mode) → o ≡ None → is_some o ≡ false
 some_true o e = ap is_some e
 
-pub least_word : (p : MemoryLayout) (holders : Holders) (t w : ℕ) → can_access p w 8 ≡ true → held_in holders t w ≡ true → ((v : ℕ) → v < w → hold_of holders t v ≡ None) → least (held_in holders t) (word_bound p) ≡ Some w
+pub least_word : (p : MemoryLayout) (holders : Holders) (t w : ℕ) → can_access p w 8 ≡ true → held_in holders t w ≡ true
+    → ((v : ℕ) → v < w → hold_of holders t v ≡ None) → least (held_in holders t) (word_bound p) ≡ Some w
 least_word p holders t w a h none = first_least (held_in holders t) (word_bound p) w (access_bound p w a) h (λ v l. ap is_some (none v l))
 
 pub none_held : (p : MemoryLayout) (holders : Holders) (t : ℕ) → ((v : ℕ) → hold_of holders t v ≡ None) → least (held_in holders t) (word_bound p) ≡ None
@@ -157,7 +174,8 @@ some_least f n w h e = by_least (least f n) refl
     by_least (Some x) i = (x, i)
     by_least None i = absurd (true≢false (sym e ∙ eldest_none f (λ k. k) n i w h))
 
-pub some_held : (p : MemoryLayout) (holders : Holders) (t w : ℕ) → can_access p w 8 ≡ true → held_in holders t w ≡ true → (x : ℕ) × (least (held_in holders t) (word_bound p) ≡ Some x)
+pub some_held : (p : MemoryLayout) (holders : Holders) (t w : ℕ) → can_access p w 8 ≡ true → held_in holders t w ≡ true → (x : ℕ)
+    × (least (held_in holders t) (word_bound p) ≡ Some x)
 some_held p holders t w a h = some_least (held_in holders t) (word_bound p) w (access_bound p w a) h
 
 -- a thread after its holds and its transaction changed
@@ -186,7 +204,8 @@ left_over f word x y d hx hy = elim (cases_Bool (x == word)) [
 ]
 
 -- none is held after the last was released
-pub none_left : (old new : Holders) (t word x : ℕ) → OneHold t word None old new → held_in old t word ≡ true → ((y : ℕ) → held_in old t y ≡ true → y ≡ x) → (v : ℕ) → hold_of new t v ≡ None
+pub none_left : (old new : Holders) (t word x : ℕ) → OneHold t word None old new → held_in old t word ≡ true → ((y : ℕ) → held_in old t y ≡ true → y ≡ x)
+    → (v : ℕ) → hold_of new t v ≡ None
 none_left old new t word x one h only v = own_hold t word None old new one v ∙ by_hold (hold_of old t v) refl
   where
     by_hold : (o : Option Mode) → hold_of old t v ≡ o → cond (v == word) None (hold_of old t v) ≡ None
@@ -206,7 +225,8 @@ pub again_hold : {A K S : Type 0} (state : A → S) (saved : K → S) (old new :
 again_hold state saved old new t s r x b k copy is none e f g =
     is
     ∙ (ap (λ z. record (local_of state saved new t s) { held = z; state = copy; tx = OpenTx x.birth (saved x.kept) (no_save ∷ []) }) (empty_held new t none)
-    ∙ (ap (λ z. record (local_of state saved new t s) { held = λ _. false; wrote = z; state = copy; tx = OpenTx x.birth (saved x.kept) (no_save ∷ []) }) (empty_wrote new t none)
+    ∙ (ap (λ z. record (local_of state saved new t s) { held = λ _. false; wrote = z; state = copy; tx = OpenTx x.birth (saved x.kept) (no_save ∷ []) })
+    (empty_wrote new t none)
     ∙ (ap (λ z. record (local_of state saved old t s) { held = λ _. false; wrote = λ _. false; state = z; tx = OpenTx x.birth (saved x.kept) (no_save ∷ []) }) e
     ∙ (ap (λ z. record (again (local_of state saved old t s) b k) { tx = OpenTx z (saved x.kept) (no_save ∷ []) }) f
     ∙ ap (λ z. record (again (local_of state saved old t s) b k) { tx = OpenTx b z (no_save ∷ []) }) g))))

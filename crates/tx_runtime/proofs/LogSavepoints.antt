@@ -1,5 +1,6 @@
 -- The savepoints of a log after each of its calls.
-use Rattle.std.proofs.Common.{ℕ, zero, suc, ◌≡◌, ◌<◌, ◌≤◌, ◌+◌, ◌-◌, true, cond, List, [], ◌∷◌, ◌++◌, length, take, drop, map, reverse, get_or, refl, ap, sym, ◌∙◌, subst, arith}
+use Rattle.std.proofs.Common.{ℕ, zero, suc, ◌≡◌, ◌<◌, ◌≤◌, ◌+◌, ◌-◌, true, cond, List, [], ◌∷◌, ◌++◌, length, take, drop, map, reverse, get_or, refl, ap, sym}
+use Rattle.std.proofs.Common.{◌∙◌, subst, arith}
 use Rattle.std.specs.Prelude.{slice_index}
 use Rattle.std.proofs.lemmas.List.{reverse-append}
 use Rattle.std.proofs.lemmas.Bool.{eqb-true, false≢true}
@@ -35,7 +36,8 @@ descends_end : (n m : ℕ) (xs : List ℕ) → Descends n xs → AtMostEach m xs
 descends_end n m [] d a h = (h, tt)
 descends_end n m (x ∷ xs) d a h = (d.0, descends_end x m xs d.1 a.1 a.0)
 
-descends_turned : (n : ℕ) (xs : List ℕ) → ((i : ℕ) → i < length xs → get_or xs i 0 ≤ n) → ((i j : ℕ) → i ≤ j → j < length xs → get_or xs i 0 ≤ get_or xs j 0) → Descends n (reverse xs)
+descends_turned : (n : ℕ) (xs : List ℕ) → ((i : ℕ) → i < length xs → get_or xs i 0 ≤ n) → ((i j : ℕ) → i ≤ j → j < length xs → get_or xs i 0 ≤ get_or xs j 0)
+    → Descends n (reverse xs)
 descends_turned n [] w up = tt
 descends_turned n (x ∷ xs) w up = subst (Descends n) (sym (reverse-append (x ∷ []) xs))
     (descends_end n x (reverse xs)
@@ -66,7 +68,8 @@ newest_first marks h = turned_last marks (length marks - 1) (omega (arith, h))
 newest_within : (log : Log) → 0 < length (marks_of log) → newest_start (marks_of log) ≤ length (notes_of log)
 newest_within log h = log.within (length (marks_of log) - 1) (omega (arith, h))
 
-saves_newest : (log : Log) → 0 < length (marks_of log) → saves_of log ≡ first_note (newest_notes log) ∷ saves_by (take (newest_start (marks_of log)) (notes_of log)) (reverse (before_newest (marks_of log)))
+saves_newest : (log : Log) → 0 < length (marks_of log)
+    → saves_of log ≡ first_note (newest_notes log) ∷ saves_by (take (newest_start (marks_of log)) (notes_of log)) (reverse (before_newest (marks_of log)))
 unfolding saves_of
 saves_newest log h = ap (saves_by (notes_of log)) (newest_first (marks_of log) h)
 
@@ -75,7 +78,8 @@ newest_is log h = ap newest (saves_newest log h)
 
 -- the calls
 
-pub log_marked : (old new : Log) → notes_of new ≡ notes_of old → marks_of new ≡ marks_of old ++ length (notes_of old) ∷ [] → saves_of new ≡ no_save ∷ saves_of old
+pub log_marked : (old new : Log) → notes_of new ≡ notes_of old → marks_of new ≡ marks_of old ++ length (notes_of old) ∷ []
+    → saves_of new ≡ no_save ∷ saves_of old
 unfolding saves_of
 log_marked old new n m =
     ap (λ ns. saves_by ns (reverse (marks_of new))) n
@@ -84,19 +88,22 @@ log_marked old new n m =
     ∙ saves_marked (notes_of old) (reverse (marks_of old))))
 
 pub log_noted : (old new : Log) (word v : ℕ) → 0 < length (marks_of old)
-    → notes_of new ≡ cond (is_noted (newest_notes old) word) (notes_of old) (notes_of old ++ record { word = word; old = v } ∷ []) → marks_of new ≡ marks_of old → saves_of new ≡ note (saves_of old) word v
+    → notes_of new ≡ cond (is_noted (newest_notes old) word) (notes_of old) (notes_of old ++ record { word = word; old = v } ∷ []) → marks_of new ≡ marks_of old
+    → saves_of new ≡ note (saves_of old) word v
 unfolding saves_of
 log_noted old new word v h n m =
     let start = newest_start (marks_of old) in
     let rest = reverse (before_newest (marks_of old)) in
     ap (λ ns. saves_by ns (reverse (marks_of new))) n
     ∙ (ap (λ ms. saves_by (cond (is_noted (newest_notes old) word) (notes_of old) (notes_of old ++ record { word = word; old = v } ∷ [])) (reverse ms)) m
-    ∙ (ap (saves_by (cond (is_noted (newest_notes old) word) (notes_of old) (notes_of old ++ record { word = word; old = v } ∷ []))) (newest_first (marks_of old) h)
+    ∙ (ap (saves_by (cond (is_noted (newest_notes old) word) (notes_of old) (notes_of old ++ record { word = word; old = v } ∷ [])))
+    (newest_first (marks_of old) h)
     ∙ (saves_noted (notes_of old) start rest word v (newest_within old h)
     ∙ ap (λ ms. note (saves_by (notes_of old) ms) word v) (sym (newest_first (marks_of old) h)))))
 
 pub log_forgot : (old new : Log) (word : ℕ) → 0 < length (marks_of old)
-    → notes_of new ≡ take (newest_start (marks_of old)) (notes_of old) ++ others word (newest_notes old) → marks_of new ≡ marks_of old → saves_of new ≡ newest_without word (saves_of old)
+    → notes_of new ≡ take (newest_start (marks_of old)) (notes_of old) ++ others word (newest_notes old) → marks_of new ≡ marks_of old
+    → saves_of new ≡ newest_without word (saves_of old)
 unfolding saves_of
 log_forgot old new word h n m =
     let start = newest_start (marks_of old) in
@@ -109,8 +116,10 @@ log_forgot old new word h n m =
     ∙ ap (λ ms. newest_without word (saves_by (notes_of old) ms)) (sym (newest_first (marks_of old) h)))))
 
 -- the notes of the newest mark may stand in another order
-pub log_ordered : (old new : Log) → 0 < length (marks_of old) → take (newest_start (marks_of old)) (notes_of new) ≡ take (newest_start (marks_of old)) (notes_of old)
-    → ((w : ℕ) → first_note (drop (newest_start (marks_of old)) (notes_of new)) w ≡ first_note (newest_notes old) w) → marks_of new ≡ marks_of old → saves_of new ≡ saves_of old
+pub log_ordered : (old new : Log) → 0 < length (marks_of old)
+    → take (newest_start (marks_of old)) (notes_of new) ≡ take (newest_start (marks_of old)) (notes_of old)
+    → ((w : ℕ) → first_note (drop (newest_start (marks_of old)) (notes_of new)) w ≡ first_note (newest_notes old) w) → marks_of new ≡ marks_of old
+    → saves_of new ≡ saves_of old
 unfolding saves_of
 log_ordered old new h older first m =
     let start = newest_start (marks_of old) in
@@ -124,7 +133,8 @@ log_ordered old new h older first m =
 handed_two : (notes : List Note) (m o : ℕ) (ms : List ℕ) → Descends (length notes) (m ∷ o ∷ ms) → saves_by notes (o ∷ ms) ≡ handed (saves_by notes (m ∷ o ∷ ms))
 handed_two notes m o ms d = saves_dropped notes m o ms d.0 d.1.0
 
-handed_more : (notes : List Note) (m : ℕ) (ms : List ℕ) → 0 < length ms → Descends (length notes) (m ∷ ms) → saves_by notes ms ≡ handed (saves_by notes (m ∷ ms))
+handed_more : (notes : List Note) (m : ℕ) (ms : List ℕ) → 0 < length ms → Descends (length notes) (m ∷ ms)
+    → saves_by notes ms ≡ handed (saves_by notes (m ∷ ms))
 handed_more notes m [] h d = absurd (omega (arith, h))
 handed_more notes m (o ∷ ms) h d = handed_two notes m o ms d
 
@@ -150,7 +160,8 @@ log_dropped old new mark e some n m =
     let more : length (reverse (take mark (marks_of old))) ≡ mark = length_turned (take mark (marks_of old)) ∙ length_before (marks_of old) mark last in
     ap (λ ns. saves_by ns (reverse (marks_of new))) n
     ∙ (ap (λ ms. saves_by (notes_of old) (reverse ms)) m
-    ∙ (handed_more (notes_of old) (slice_index (marks_of old) mark) (reverse (take mark (marks_of old))) (omega (arith, more, some)) (subst (Descends (length (notes_of old))) front (log_descends old))
+    ∙ (handed_more (notes_of old) (slice_index (marks_of old) mark) (reverse (take mark (marks_of old))) (omega (arith, more, some))
+    (subst (Descends (length (notes_of old))) front (log_descends old))
     ∙ ap (λ ms. handed (saves_by (notes_of old) ms)) (sym front)))
 
 map_append : (f : ℕ → ℕ) (xs ys : List ℕ) → map f (xs ++ ys) ≡ map f xs ++ map f ys
@@ -164,7 +175,8 @@ map_turned f (x ∷ xs) =
     ∙ (ap (λ r. r ++ f x ∷ []) (map_turned f xs)
     ∙ (sym (map_append f (reverse xs) (x ∷ [])) ∙ ap (map f) (sym (reverse-append (x ∷ []) xs))))
 
-pub log_forgot_all : (old new : Log) (word : ℕ) → notes_of new ≡ others word (notes_of old) → marks_of new ≡ map (moved_to word (notes_of old)) (marks_of old) → saves_of new ≡ forget_all (saves_of old) word
+pub log_forgot_all : (old new : Log) (word : ℕ) → notes_of new ≡ others word (notes_of old) → marks_of new ≡ map (moved_to word (notes_of old)) (marks_of old)
+    → saves_of new ≡ forget_all (saves_of old) word
 unfolding saves_of
 log_forgot_all old new word n m =
     ap (λ ns. saves_by ns (reverse (marks_of new))) n
@@ -192,11 +204,13 @@ ends_end : (m : ℕ) (xs : List ℕ) (z : ℕ) → z ≡ 0 → EndsAtZero m (xs 
 ends_end m [] z e = e
 ends_end m (x ∷ xs) z e = ends_end x xs z e
 
-oldest_list : (notes : List Note) (ms : List ℕ) (z x : ℕ) → z ≡ 0 → Descends (length notes) (ms ++ z ∷ []) → oldest (saves_by notes (ms ++ z ∷ [])) x ≡ first_note notes x
+oldest_list : (notes : List Note) (ms : List ℕ) (z x : ℕ) → z ≡ 0 → Descends (length notes) (ms ++ z ∷ [])
+    → oldest (saves_by notes (ms ++ z ∷ [])) x ≡ first_note notes x
 oldest_list notes [] z x e d = oldest_first notes z [] x d e
 oldest_list notes (m ∷ ms) z x e d = oldest_first notes m (ms ++ z ∷ []) x d (ends_end m ms z e)
 
-oldest_by : (notes : List Note) (marks : List ℕ) (x : ℕ) → begins_at notes marks ≡ true → Descends (length notes) (reverse marks) → oldest (saves_by notes (reverse marks)) x ≡ first_note notes x
+oldest_by : (notes : List Note) (marks : List ℕ) (x : ℕ) → begins_at notes marks ≡ true → Descends (length notes) (reverse marks)
+    → oldest (saves_by notes (reverse marks)) x ≡ first_note notes x
 oldest_by [] [] x b d = refl
 oldest_by (n ∷ ns) [] x b d = absurd (false≢true b)
 oldest_by notes (m ∷ ms) x b d =

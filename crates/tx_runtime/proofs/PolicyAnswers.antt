@@ -6,7 +6,8 @@ use Rattle.choosers.specs.declared.Clash.{Clash}
 use Rattle.choosers.specs.declared.Choice.{Choice}
 use Rattle.choosers.specs.declared.Choice.TheVariants.{Wait}
 use Rattle.tx_events.specs.declared.Event.{Event}
-use Rattle.tx_events.specs.declared.Event.TheVariants.{Silent, Load, Store, Out, Inp, Spawn, Join, BeginAtomic, EndAtomic, Raise, BeginSync, EndSync, Done, Stop}
+use Rattle.tx_events.specs.declared.Event.TheVariants.{Silent, Load, Store, Out, Inp, Spawn, Join, BeginAtomic, EndAtomic, Raise, BeginSync, EndSync, Done}
+use Rattle.tx_events.specs.declared.Event.TheVariants.{Stop}
 use Rattle.tx_events.specs.declared.TurnKind.{TurnKind}
 use Rattle.tx_events.specs.Memory.{MemoryLayout, can_access, word_of}
 use Rattle.tx_events.specs.Thread.{Thread}
@@ -62,24 +63,29 @@ module _ {S : Type 0} (a : Thread S) (p : MemoryLayout) (t : ℕ) (m : Machine S
   asked_access Done store word h = absurd h
   asked_access (Stop e) store word h = absurd h
 
-  pub load_free : (l : Local S) (addr size : ℕ) (vol : Bool) → m.threads t ≡ Some l → a.next l.state ≡ Load addr size vol → (can_access p addr size ≡ false) ⊎ (blocker t false (word_of addr) m ≡ None) → (c : Clash) → Asked a p t m c → ⊥
+  pub load_free : (l : Local S) (addr size : ℕ) (vol : Bool) → m.threads t ≡ Some l → a.next l.state ≡ Load addr size vol → (can_access p addr size ≡ false)
+      ⊎ (blocker t false (word_of addr) m ≡ None) → (c : Clash) → Asked a p t m c → ⊥
   load_free l addr size vol at next (inl h) c k = let q = asked_at l (Load addr size vol) c at next k in true≢false (sym q.access.0 ∙ h)
   load_free l addr size vol at next (inr h) c k =
       let q = asked_at l (Load addr size vol) c at next k in
-      let found : None ≡ Some q.holder = sym h ∙ (ap (λ w. blocker t false w m) (sym q.access.2) ∙ (ap (λ s. blocker t s q.word m) (sym q.access.1) ∙ q.blocked)) in
+      let found : None ≡ Some q.holder = sym h ∙ (ap (λ w. blocker t false w m) (sym q.access.2) ∙
+      (ap (λ s. blocker t s q.word m) (sym q.access.1) ∙ q.blocked)) in
       cc
 
-  pub store_free : (l : Local S) (addr size value : ℕ) (vol : Bool) → m.threads t ≡ Some l → a.next l.state ≡ Store addr size value vol → (can_access p addr size ≡ false) ⊎ (blocker t true (word_of addr) m ≡ None) → (c : Clash) → Asked a p t m c → ⊥
+  pub store_free : (l : Local S) (addr size value : ℕ) (vol : Bool) → m.threads t ≡ Some l → a.next l.state ≡ Store addr size value vol
+      → (can_access p addr size ≡ false) ⊎ (blocker t true (word_of addr) m ≡ None) → (c : Clash) → Asked a p t m c → ⊥
   store_free l addr size value vol at next (inl h) c k = let q = asked_at l (Store addr size value vol) c at next k in true≢false (sym q.access.0 ∙ h)
   store_free l addr size value vol at next (inr h) c k =
       let q = asked_at l (Store addr size value vol) c at next k in
-      let found : None ≡ Some q.holder = sym h ∙ (ap (λ w. blocker t true w m) (sym q.access.2) ∙ (ap (λ s. blocker t s q.word m) (sym q.access.1) ∙ q.blocked)) in
+      let found : None ≡ Some q.holder = sym h ∙ (ap (λ w. blocker t true w m) (sym q.access.2) ∙
+      (ap (λ s. blocker t s q.word m) (sym q.access.1) ∙ q.blocked)) in
       cc
 
   pub alone_free : (l : Local S) (e : Event) → m.threads t ≡ Some l → a.next l.state ≡ e → is_access e ≡ false → (c : Clash) → Asked a p t m c → ⊥
   alone_free l e at next h c k = let q = asked_at l e c at next k in true≢false (sym (asked_access e q.store q.word q.access) ∙ h)
 
-  not_open : (l : Local S) (tx : Tx S) → m.threads t ≡ Some l → l.tx ≡ tx → ((b : ℕ) (k : S) (ss : List Save) → tx ≡ OpenTx b k ss → ⊥) → (c : Clash) → Asked a p t m c → ⊥
+  not_open : (l : Local S) (tx : Tx S) → m.threads t ≡ Some l → l.tx ≡ tx → ((b : ℕ) (k : S) (ss : List Save) → tx ≡ OpenTx b k ss → ⊥) → (c : Clash)
+      → Asked a p t m c → ⊥
   not_open l tx at is none c k = let q = asked_at l (a.next l.state) c at refl k in none q.birth q.kept q.saves (sym is ∙ q.tx)
 
   pub outside_free : (l : Local S) → m.threads t ≡ Some l → l.tx ≡ NoTx → (c : Clash) → Asked a p t m c → ⊥
@@ -119,12 +125,14 @@ module _ {S : Type 0} (a : Thread S) (p : MemoryLayout) (t : ℕ) (m : Machine S
   open_birth b d k j ss rs e = cc
 
   -- the clash at which it is asked is the one of this access
-  pub clash_asked : (l : Local S) (e : Event) (store : Bool) (word holder b : ℕ) (k : S) (ss : List Save) → m.threads t ≡ Some l → a.next l.state ≡ e → l.tx ≡ OpenTx b k ss → Accesses p e store word → blocker t store word m ≡ Some holder
+  pub clash_asked : (l : Local S) (e : Event) (store : Bool) (word holder b : ℕ) (k : S) (ss : List Save) → m.threads t ≡ Some l → a.next l.state ≡ e
+      → l.tx ≡ OpenTx b k ss → Accesses p e store word → blocker t store word m ≡ Some holder
       → (c : Clash) → Asked a p t m c → c ≡ clash_of t store word m b holder
   clash_asked l e store word holder b k ss at next tx access blocked c asked =
       let q = asked_at l e c at next asked in
       let same = same_access e store q.store word q.word access q.access in
-      let holder_is : q.holder ≡ holder = same_Some q.holder holder (sym q.blocked ∙ (ap (λ w. blocker t q.store w m) same.1 ∙ (ap (λ s. blocker t s word m) same.0 ∙ blocked))) in
+      let holder_is : q.holder ≡ holder = same_Some q.holder holder
+      (sym q.blocked ∙ (ap (λ w. blocker t q.store w m) same.1 ∙ (ap (λ s. blocker t s word m) same.0 ∙ blocked))) in
       let birth_is : q.birth ≡ b = open_birth q.birth b q.kept k q.saves ss (sym q.tx ∙ tx) in
       q.is
       ∙ (ap (λ z. clash_of t z q.word m q.birth q.holder) same.0

@@ -16,7 +16,8 @@ descends_at n (m ∷ ms) zero d h = d.0
 descends_at n (m ∷ ms) (suc j) d h = let rest = descends_at m ms j d.1 (omega (arith, h)) in omega (arith, rest, d.0)
 
 -- over lists, the newest mark first
-level_by : (notes : List Note) (ms : List ℕ) (j x : ℕ) → Descends (length notes) ms → j < length ms → oldest (take (suc j) (saves_by notes ms)) x ≡ first_note (drop (get_or ms j 0) notes) x
+level_by : (notes : List Note) (ms : List ℕ) (j x : ℕ) → Descends (length notes) ms → j < length ms
+    → oldest (take (suc j) (saves_by notes ms)) x ≡ first_note (drop (get_or ms j 0) notes) x
 level_by notes [] j x d h = absurd (omega (arith, h))
 level_by notes (m ∷ ms) zero x d h = refl
 level_by notes (m ∷ ms) (suc j) x d h =

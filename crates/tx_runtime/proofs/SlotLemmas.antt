@@ -1,5 +1,6 @@
 -- What a thread shows after a change of its log, and what a sound one is.
-use Rattle.std.proofs.Common.{ℕ, zero, suc, ◌≡◌, ◌==◌, ◌<◌, ◌≤◌, cond, reverse, Bool, true, false, Option, Some, None, List, [], ◌∷◌, length, take, drop, take-append-drop, map, ◌++◌, not, arith, refl, ap, sym, ◌∙◌, inl, inr}
+use Rattle.std.proofs.Common.{ℕ, zero, suc, ◌≡◌, ◌==◌, ◌<◌, ◌≤◌, cond, reverse, Bool, true, false, Option, Some, None, List, [], ◌∷◌, length, take, drop}
+use Rattle.std.proofs.Common.{take-append-drop, map, ◌++◌, not, arith, refl, ap, sym, ◌∙◌, inl, inr}
 use Rattle.std.specs.Prelude.{◌&&◌, ◌||◌, All, IfNone, is_some, sum_by}
 use Rattle.std.specs.List.Sorted.{IsPermutation}
 use Rattle.std.proofs.lemmas.List.Sums.{sum_by-cons}
@@ -98,12 +99,14 @@ sound_from p s h = ap (λ b. b && begins_at (notes_of s.log) (marks_of s.log) &&
 
 -- after the newest savepoint forgot a word
 pub sound_forgot : {A K : Type 0} (p : MemoryLayout) (s : ThreadSlot A K) (log : Log) (w : ℕ) → 0 < length (marks_of s.log) → is_sound p s ≡ true
-    → notes_of log ≡ take (newest_start (marks_of s.log)) (notes_of s.log) ++ others w (newest_notes s.log) → marks_of log ≡ marks_of s.log → is_sound p (record s { log = log }) ≡ true
+    → notes_of log ≡ take (newest_start (marks_of s.log)) (notes_of s.log) ++ others w (newest_notes s.log) → marks_of log ≡ marks_of s.log
+    → is_sound p (record s { log = log }) ≡ true
 sound_forgot p s log w some h n m =
     let old = sound_parts p s h in
     let start = newest_start (marks_of s.log) in
     sound_from p (record s { log = log }) (record {
-      words = ap (can_put_back p) n ∙ back_append p (take start (notes_of s.log)) (others w (newest_notes s.log)) (back_take p (notes_of s.log) start old.words) (back_others p (newest_notes s.log) w (back_drop p (notes_of s.log) start old.words));
+      words = ap (can_put_back p) n ∙ back_append p (take start (notes_of s.log)) (others w (newest_notes s.log)) (back_take p (notes_of s.log) start old.words)
+          (back_others p (newest_notes s.log) w (back_drop p (notes_of s.log) start old.words));
       begins = ap (begins_at (notes_of log)) m ∙ (begins_some (notes_of log) (notes_of s.log) (marks_of s.log) some ∙ old.begins);
       rest = ap (marks_fit (has_saves s.tx)) m ∙ old.rest;
     })
@@ -128,7 +131,8 @@ sound_forgot_all p s log w h n m =
     let old = sound_parts p s h in
     sound_from p (record s { log = log }) (record {
       words = ap (can_put_back p) n ∙ back_others p (notes_of s.log) w old.words;
-      begins = ap (λ ns. begins_at ns (marks_of log)) n ∙ (ap (begins_at (others w (notes_of s.log))) m ∙ begins_moved w (notes_of s.log) (marks_of s.log) old.begins);
+      begins = ap (λ ns. begins_at ns (marks_of log)) n
+          ∙ (ap (begins_at (others w (notes_of s.log))) m ∙ begins_moved w (notes_of s.log) (marks_of s.log) old.begins);
       rest = ap (marks_fit (has_saves s.tx)) m ∙ (fit_moved (has_saves s.tx) (moved_to w (notes_of s.log)) (marks_of s.log) ∙ old.rest);
     })
 
@@ -155,20 +159,26 @@ not_noted (n ∷ ns) w v a l =
     let other : (n.word == v) ≡ false = ne_eqb n.word v (λ e. let least : w ≤ n.word = a 0 n (omega arith) in absurd (omega (arith, e, l, least))) in
     ap (λ b. b || Notes.is_noted ns v) other ∙ not_noted ns w v (λ k d h. a (suc k) d (omega (arith, h))) l
 
-pub newest_least : (log : Log) (w : ℕ) → 0 < length (marks_of log) → All (λ n. w ≤ n.word) (newest_notes log) → (v : ℕ) → v < w → is_noted (newest (saves_of log)) v ≡ false
+pub newest_least : (log : Log) (w : ℕ) → 0 < length (marks_of log) → All (λ n. w ≤ n.word) (newest_notes log) → (v : ℕ) → v < w
+    → is_noted (newest (saves_of log)) v ≡ false
 newest_least log w h a v l = ap (λ s. is_some (s v)) (newest_is log h) ∙ ap is_some (first_none (newest_notes log) v (not_noted (newest_notes log) w v a l))
 
-pub newest_access : {A K : Type 0} (p : MemoryLayout) (s : ThreadSlot A K) (w : ℕ) → is_sound p s ≡ true → Notes.is_noted (newest_notes s.log) w ≡ true → can_access p w 8 ≡ true
+pub newest_access : {A K : Type 0} (p : MemoryLayout) (s : ThreadSlot A K) (w : ℕ) → is_sound p s ≡ true → Notes.is_noted (newest_notes s.log) w ≡ true
+    → can_access p w 8 ≡ true
 newest_access p s w h e = noted_access p (newest_notes s.log) w e (newest_back p s h)
 
-pub newest_words : (log : Log) (w : ℕ) (old new : ℕ → ℕ) → 0 < length (marks_of log) → new ≡ word_back (first_note (newest_notes log) w) w old → new ≡ update old w (kept_or (newest (saves_of log) w) (old w))
+pub newest_words : (log : Log) (w : ℕ) (old new : ℕ → ℕ) → 0 < length (marks_of log) → new ≡ word_back (first_note (newest_notes log) w) w old
+    → new ≡ update old w (kept_or (newest (saves_of log) w) (old w))
 newest_words log w old new h e = e ∙ (back_is (first_note (newest_notes log) w) w old ∙ ap (λ s. update old w (kept_or (s w) (old w))) (sym (newest_is log h)))
 
-pub oldest_words : {A K : Type 0} (p : MemoryLayout) (s : ThreadSlot A K) (w : ℕ) (old new : ℕ → ℕ) → is_sound p s ≡ true → new ≡ word_back (first_note (notes_of s.log) w) w old → new ≡ update old w (kept_or (oldest (saves_of s.log) w) (old w))
-oldest_words p s w old new h e = e ∙ (back_is (first_note (notes_of s.log) w) w old ∙ ap (λ o. update old w (kept_or o (old w))) (sym (oldest_is s.log w (sound_parts p s h).begins)))
+pub oldest_words : {A K : Type 0} (p : MemoryLayout) (s : ThreadSlot A K) (w : ℕ) (old new : ℕ → ℕ) → is_sound p s ≡ true
+    → new ≡ word_back (first_note (notes_of s.log) w) w old → new ≡ update old w (kept_or (oldest (saves_of s.log) w) (old w))
+oldest_words p s w old new h e = e ∙ (back_is (first_note (notes_of s.log) w) w old ∙ ap (λ o. update old w (kept_or o (old w)))
+    (sym (oldest_is s.log w (sound_parts p s h).begins)))
 
 -- a thread that stands again after its outermost BeginAtomic
-pub again_local : {A K S : Type 0} (state : A → S) (saved : K → S) (holders : Holders) (t : ℕ) (s : ThreadSlot A K) (x y : Transaction K) (copy : K) (actor : A) (waits : WaitCount) (log : Log)
+pub again_local : {A K S : Type 0} (state : A → S) (saved : K → S) (holders : Holders) (t : ℕ) (s : ThreadSlot A K) (x y : Transaction K) (copy : K) (actor : A)
+    (waits : WaitCount) (log : Log)
     → s.tx ≡ Some x → s.tx ≡ Some y → state actor ≡ saved copy → saves_of log ≡ no_save ∷ []
     → local_of state saved holders t (record { actor = actor; ended = s.ended; waits = waits; tx = Some (record y { stage = Open }); log = log })
     ≡ record (local_of state saved holders t s) { state = saved copy; tx = OpenTx x.birth (saved x.kept) (no_save ∷ []) }
@@ -180,7 +190,8 @@ again_local state saved holders t s x y copy actor waits log e f i j =
     ∙ ap (λ z. record l { state = saved copy; tx = OpenTx z.birth (saved z.kept) (no_save ∷ []) }) (sym same))
 
 -- the same thread with another actor in the same state, and another log that shows the same
-pub ready_local : {A K S : Type 0} (state : A → S) (saved : K → S) (holders : Holders) (t : ℕ) (s : ThreadSlot A K) (actor : A) (log : Log) → state actor ≡ state s.actor → notes_of log ≡ notes_of s.log → marks_of log ≡ marks_of s.log
+pub ready_local : {A K S : Type 0} (state : A → S) (saved : K → S) (holders : Holders) (t : ℕ) (s : ThreadSlot A K) (actor : A) (log : Log)
+    → state actor ≡ state s.actor → notes_of log ≡ notes_of s.log → marks_of log ≡ marks_of s.log
     → local_of state saved holders t (record s { actor = actor; log = log }) ≡ local_of state saved holders t s
 ready_local state saved holders t s actor log e n m =
     ap (λ z. record (local_of state saved holders t s) { state = z; tx = tx_of saved s.tx (saves_of log) }) e
@@ -283,7 +294,8 @@ back_moved p xs ys h all = from_sum ys (sum_by-IsPermutation fails xs ys h ∙ t
 
 pub sound_ordered : {A K : Type 0} (p : MemoryLayout) (s : ThreadSlot A K) (log : Log) → 0 < length (marks_of s.log) → is_sound p s ≡ true
     → take (newest_start (marks_of s.log)) (notes_of log) ≡ take (newest_start (marks_of s.log)) (notes_of s.log)
-    → IsPermutation (newest_notes s.log) (drop (newest_start (marks_of s.log)) (notes_of log)) → marks_of log ≡ marks_of s.log → is_sound p (record s { log = log }) ≡ true
+    → IsPermutation (newest_notes s.log) (drop (newest_start (marks_of s.log)) (notes_of log)) → marks_of log ≡ marks_of s.log
+    → is_sound p (record s { log = log }) ≡ true
 sound_ordered p s log some h older newer m =
     let old = sound_parts p s h in
     let start = newest_start (marks_of s.log) in
@@ -297,7 +309,8 @@ sound_ordered p s log some h older newer m =
       rest = ap (marks_fit (has_saves s.tx)) m ∙ old.rest;
     })
 
-pub idle_log : {A K S : Type 0} (saved : K → S) (p : MemoryLayout) (s : ThreadSlot A K) → is_sound p s ≡ true → tx_of saved s.tx (saves_of s.log) ≡ NoTx → (notes_of s.log ≡ []) × (marks_of s.log ≡ [])
+pub idle_log : {A K S : Type 0} (saved : K → S) (p : MemoryLayout) (s : ThreadSlot A K) → is_sound p s ≡ true → tx_of saved s.tx (saves_of s.log) ≡ NoTx
+    → (notes_of s.log ≡ []) × (marks_of s.log ≡ [])
 idle_log saved p s h e =
     let parts = sound_parts p s h in
     let marks = rest_nil (has_saves s.tx) (marks_of s.log) (no_tx saved s.tx (saves_of s.log) e) parts.rest in
@@ -310,7 +323,8 @@ none_then (Some x) p f = p
 -- a transaction that gives up, once its newest notes stand in order
 pub given_local : {A K S : Type 0} (state : A → S) (saved : K → S) (holders : Holders) (t : ℕ) (s r : ThreadSlot A K) (x y : Transaction K) (waits : WaitCount)
     → s.tx ≡ Some x → r.tx ≡ Some y → r.tx ≡ s.tx → local_of state saved holders t r ≡ local_of state saved holders t s → saves_of r.log ≡ saves_of s.log
-    → local_of state saved holders t (record r { waits = waits; tx = Some (record y { stage = Undoing }) }) ≡ record (local_of state saved holders t s) { tx = GivingUp x.birth (saved x.kept) (saves_of s.log) }
+    → local_of state saved holders t (record r { waits = waits; tx = Some (record y { stage = Undoing }) })
+    ≡ record (local_of state saved holders t s) { tx = GivingUp x.birth (saved x.kept) (saves_of s.log) }
 given_local {A} {K} {S} state saved holders t s r x y waits e f same l saves =
     let one : y ≡ x = same_Some y x (sym f ∙ (same ∙ e)) in
     ap (λ (v : Local S). record v { tx = GivingUp y.birth (saved y.kept) (saves_of r.log) }) l

@@ -8,7 +8,8 @@ use Rattle.choosers.specs.declared.Choice.{Choice}
 use Rattle.tx_events.specs.declared.BlockKind.{BlockKind}
 use Rattle.tx_events.specs.declared.End.{End}
 use Rattle.tx_events.specs.declared.Event.{Event}
-use Rattle.tx_events.specs.declared.Event.TheVariants.{Silent, Load, Store, Out, Inp, Spawn, Join, BeginAtomic, EndAtomic, Raise, BeginSync, EndSync, Done, Stop}
+use Rattle.tx_events.specs.declared.Event.TheVariants.{Silent, Load, Store, Out, Inp, Spawn, Join, BeginAtomic, EndAtomic, Raise, BeginSync, EndSync, Done}
+use Rattle.tx_events.specs.declared.Event.TheVariants.{Stop}
 use Rattle.tx_events.specs.declared.TurnKind.TheVariants.{Idle}
 use Rattle.tx_events.specs.Memory.{MemoryLayout}
 use Rattle.tx_events.specs.Thread.{Thread}
@@ -33,7 +34,8 @@ bare_tx : {K S : Type 0} (saved : K → S) (o : Option (Transaction K)) (ss : Li
 bare_tx saved None ss h = refl
 bare_tx saved (Some x) ss h = absurd (cc)
 
-staged_tx : {K S : Type 0} (saved : K → S) (o : Option (Transaction K)) (ss : List Save) (g : Stage) → stage_of o ≡ Some g → (b : ℕ) × ((k : S) × (tx_of saved o ss ≡ tx_by g b k ss))
+staged_tx : {K S : Type 0} (saved : K → S) (o : Option (Transaction K)) (ss : List Save) (g : Stage) → stage_of o ≡ Some g → (b : ℕ)
+    × ((k : S) × (tx_of saved o ss ≡ tx_by g b k ss))
 staged_tx saved None ss g h = absurd (cc)
 staged_tx saved (Some x) ss g h = (x.birth, (saved x.kept, ap (λ z. tx_by z x.birth (saved x.kept) ss) (same_Some x.stage g h)))
 
@@ -51,14 +53,17 @@ module _ {A K S : Type 0} (state : A → S) (saved : K → S) (R : S → Type 0)
     pub still_ended : s.ended ≡ true → IsStill t (machine_in state saved e)
     still_ended h l at = ap (λ (v : Local S). v.ended) (sym (same l at)) ∙ h
 
-    pub stands_outside : (event : Event) → e.end ≡ None → s.ended ≡ false → stage_of s.tx ≡ None → event ≡ a.next (state s.actor) → R (state s.actor) → GoesOutside R a t (machine_in state saved e) event
+    pub stands_outside : (event : Event) → e.end ≡ None → s.ended ≡ false → stage_of s.tx ≡ None → event ≡ a.next (state s.actor) → R (state s.actor)
+        → GoesOutside R a t (machine_in state saved e) event
     stands_outside event going up stage next reached = record {
       going = going;
       started = here;
-      at = λ l at. subst (λ (v : Local S). IsOutside R a v event) (same l at) (record { reached = reached; up = up; tx = bare_tx saved s.tx (saves_of s.log) stage; next = sym next });
+      at = λ l at. subst (λ (v : Local S). IsOutside R a v event) (same l at)
+          (record { reached = reached; up = up; tx = bare_tx saved s.tx (saves_of s.log) stage; next = sym next });
     }
 
-    pub stands_inside : (event : Event) → e.end ≡ None → s.ended ≡ false → stage_of s.tx ≡ Some Open → event ≡ a.next (state s.actor) → R (state s.actor) → GoesInside R a t (machine_in state saved e) event
+    pub stands_inside : (event : Event) → e.end ≡ None → s.ended ≡ false → stage_of s.tx ≡ Some Open → event ≡ a.next (state s.actor) → R (state s.actor)
+        → GoesInside R a t (machine_in state saved e) event
     stands_inside event going up stage next reached =
         let tx = staged_tx saved s.tx (saves_of s.log) Open stage in
         record {
@@ -74,7 +79,10 @@ module _ {A K S : Type 0} (state : A → S) (saved : K → S) (R : S → Type 0)
         record {
           going = going;
           started = here;
-          at = λ l at. (ap (λ (v : Local S). v.ended) (sym (same l at)) ∙ up, (tx.0, tx.1.0, saves_of s.log, ap (λ (v : Local S). v.tx) (sym (same l at)) ∙ tx.1.1));
+          at = λ l at. (
+            ap (λ (v : Local S). v.ended) (sym (same l at)) ∙ up,
+            (tx.0, tx.1.0, saves_of s.log, ap (λ (v : Local S). v.tx) (sym (same l at)) ∙ tx.1.1),
+          );
         }
 
     pub stands_releasing : e.end ≡ None → s.ended ≡ false → stage_of s.tx ≡ Some Releasing → Closes t (machine_in state saved e)
@@ -86,12 +94,14 @@ module _ {A K S : Type 0} (state : A → S) (saved : K → S) (R : S → Type 0)
           at = λ l at. (ap (λ (v : Local S). v.ended) (sym (same l at)) ∙ up, (tx.0, ap (λ (v : Local S). v.tx) (sym (same l at)) ∙ tx.1.1));
         }
 
-    accesses_by : (tx : Tx S) → tx_of saved s.tx (saves_of s.log) ≡ tx → (is_open tx && is_access (a.next (state s.actor))) ≡ accesses_in a ((machine_in state saved e).threads t)
+    accesses_by : (tx : Tx S) → tx_of saved s.tx (saves_of s.log) ≡ tx
+        → (is_open tx && is_access (a.next (state s.actor))) ≡ accesses_in a ((machine_in state saved e).threads t)
     accesses_by tx h =
         ap (λ z. is_open z && is_access (a.next (state s.actor))) (sym h)
         ∙ ap (accesses_in a) (sym (thread_at state saved e.holders e.threads.items t s here read))
 
-    pub accesses_open : (event : Event) → stage_of s.tx ≡ Some Open → event ≡ a.next (state s.actor) → is_access event ≡ accesses_in a ((machine_in state saved e).threads t)
+    pub accesses_open : (event : Event) → stage_of s.tx ≡ Some Open → event ≡ a.next (state s.actor)
+        → is_access event ≡ accesses_in a ((machine_in state saved e).threads t)
     accesses_open event stage next =
         let tx = staged_tx saved s.tx (saves_of s.log) Open stage in
         ap is_access next ∙ accesses_by (tx_by Open tx.0 tx.1.0 (saves_of s.log)) tx.1.1
@@ -110,8 +120,10 @@ module _ {A K S : Type 0} (state : A → S) (saved : K → S) (R : S → Type 0)
     accesses_bare stage = accesses_by NoTx (bare_tx saved s.tx (saves_of s.log) stage)
 
 -- an event that does not come where a block is open
-pub stays_in : {S : Type 0} (a : Thread S) (p : MemoryLayout) (answer : Clash → Choice) (t : ℕ) (m : Machine S) (l : Local S) (b : ℕ) (k : S) (ss : List Save) (e : Event)
-    → is_access e ≡ false → (e ≡ Silent → ⊥) → (e ≡ BeginSync → ⊥) → (e ≡ EndSync → ⊥) → ((x : BlockKind) → e ≡ BeginAtomic x → ⊥) → (e ≡ EndAtomic → ⊥) → ((x : BlockKind) (y : Bool) → e ≡ Raise x y → ⊥) → ((x : End) → e ≡ Stop x → ⊥)
+pub stays_in : {S : Type 0} (a : Thread S) (p : MemoryLayout) (answer : Clash → Choice) (t : ℕ) (m : Machine S) (l : Local S) (b : ℕ) (k : S) (ss : List Save)
+    (e : Event)
+    → is_access e ≡ false → (e ≡ Silent → ⊥) → (e ≡ BeginSync → ⊥) → (e ≡ EndSync → ⊥) → ((x : BlockKind) → e ≡ BeginAtomic x → ⊥) → (e ≡ EndAtomic → ⊥)
+    → ((x : BlockKind) (y : Bool) → e ≡ Raise x y → ⊥) → ((x : End) → e ≡ Stop x → ⊥)
     → stays Idle m ≡ in_does a p answer t m l b k ss e
 stays_in a p answer t m l b k ss Silent h n1 n2 n3 n4 n5 n6 n7 = absurd (n1 refl)
 stays_in a p answer t m l b k ss BeginSync h n1 n2 n3 n4 n5 n6 n7 = absurd (n2 refl)

@@ -41,15 +41,20 @@ closing_by Releasing b c k ss e = (refl, cc)
 closing_by Open b c k ss e = absurd (cc)
 closing_by Undoing b c k ss e = absurd (cc)
 
-pub open_parts : {K S : Type 0} (saved : K → S) (o : Option (Transaction K)) (ss rs : List Save) (b : ℕ) (k : S) → tx_of saved o ss ≡ OpenTx b k rs → Parts saved o Open b k × (ss ≡ rs)
+pub open_parts : {K S : Type 0} (saved : K → S) (o : Option (Transaction K)) (ss rs : List Save) (b : ℕ) (k : S) → tx_of saved o ss ≡ OpenTx b k rs
+    → Parts saved o Open b k × (ss ≡ rs)
 open_parts saved None ss rs b k e = absurd (cc)
-open_parts saved (Some x) ss rs b k e = let p = open_by x.stage x.birth b (saved x.kept) k ss rs e in (record { tx = x; is = refl; stage = p.stage; birth = p.birth; kept = p.kept }, p.saves)
+open_parts saved (Some x) ss rs b k e = let p = open_by x.stage x.birth b (saved x.kept) k ss rs e in
+    (record { tx = x; is = refl; stage = p.stage; birth = p.birth; kept = p.kept }, p.saves)
 
-pub giving_parts : {K S : Type 0} (saved : K → S) (o : Option (Transaction K)) (ss rs : List Save) (b : ℕ) (k : S) → tx_of saved o ss ≡ GivingUp b k rs → Parts saved o Undoing b k × (ss ≡ rs)
+pub giving_parts : {K S : Type 0} (saved : K → S) (o : Option (Transaction K)) (ss rs : List Save) (b : ℕ) (k : S) → tx_of saved o ss ≡ GivingUp b k rs
+    → Parts saved o Undoing b k × (ss ≡ rs)
 giving_parts saved None ss rs b k e = absurd (cc)
-giving_parts saved (Some x) ss rs b k e = let p = giving_by x.stage x.birth b (saved x.kept) k ss rs e in (record { tx = x; is = refl; stage = p.stage; birth = p.birth; kept = p.kept }, p.saves)
+giving_parts saved (Some x) ss rs b k e = let p = giving_by x.stage x.birth b (saved x.kept) k ss rs e in
+    (record { tx = x; is = refl; stage = p.stage; birth = p.birth; kept = p.kept }, p.saves)
 
-pub closing_parts : {K S : Type 0} (saved : K → S) (o : Option (Transaction K)) (ss : List Save) (b : ℕ) → tx_of saved o ss ≡ Closing b → (is_some o ≡ true) × (birth_in o ≡ b)
+pub closing_parts : {K S : Type 0} (saved : K → S) (o : Option (Transaction K)) (ss : List Save) (b : ℕ) → tx_of saved o ss ≡ Closing b → (is_some o ≡ true)
+    × (birth_in o ≡ b)
 closing_parts saved None ss b e = absurd (cc)
 closing_parts saved (Some x) ss b e = let p = closing_by x.stage x.birth b (saved x.kept) ss e in (refl, p.1)
 
@@ -80,6 +85,7 @@ module _ {K S : Type 0} (saved : K → S) (o : Option (Transaction K)) (b : ℕ)
   part_birth p = ap birth_in p.is ∙ p.birth
 
 -- as many savepoints as marks
-pub saves_long : {A K S : Type 0} (state : A → S) (saved : K → S) (holders : Holders) (t : ℕ) (s : ThreadSlot A K) (l : Local S) (b : ℕ) (k : S) (ss : List Save) → local_of state saved holders t s ≡ l → l.tx ≡ OpenTx b k ss → length ss ≡ length (marks_of s.log)
+pub saves_long : {A K S : Type 0} (state : A → S) (saved : K → S) (holders : Holders) (t : ℕ) (s : ThreadSlot A K) (l : Local S) (b : ℕ) (k : S)
+    (ss : List Save) → local_of state saved holders t s ≡ l → l.tx ≡ OpenTx b k ss → length ss ≡ length (marks_of s.log)
 saves_long {A} {K} {S} state saved holders t s l b k ss one tx =
     sym (ap length (open_parts saved s.tx (saves_of s.log) ss b k (ap (λ (v : Local S). v.tx) one ∙ tx)).1) ∙ saves_count s.log

@@ -8,7 +8,8 @@ use Rattle.tx_events.specs.Memory.{MemoryLayout}
 use Rattle.tx_events.specs.Thread.{Thread}
 use Rattle.tx_serial.specs.Machine.{Machine, Local, Save, NoTx, OpenTx, GivingUp, Closing}
 use Rattle.tx_serial.specs.Kinds.{Asked}
-use Rattle.tx_events.specs.declared.Event.TheVariants.{Silent, Load, Store, Out, Inp, Spawn, Join, BeginAtomic, EndAtomic, Raise, BeginSync, EndSync, Done, Stop}
+use Rattle.tx_events.specs.declared.Event.TheVariants.{Silent, Load, Store, Out, Inp, Spawn, Join, BeginAtomic, EndAtomic, Raise, BeginSync, EndSync, Done}
+use Rattle.tx_events.specs.declared.Event.TheVariants.{Stop}
 use Rattle.tx_events.specs.declared.Reply.TheVariants.{Nothing}
 use Rattle.tx_events.specs.World.{target}
 use Rattle.tx_serial.specs.Turn.{turn, commits}
@@ -54,7 +55,8 @@ IsReadyToNote {A} {K} capacity t threads = (s : ThreadSlot A K) → slice_get th
 
 -- The turn of thread t led from old to new and was of this kind, whatever the policy would have answered.
 abbrev pub Turns : {A K S : Type 0} → (A → S) → (K → S) → Thread S → ℕ → Engine A K → TurnKind → Engine A K → Type 0
-Turns state saved a t old kind new = (answer : Clash → Choice) → record { machine = machine_in state saved new; kind = kind } ≡ turn a (layout_in old) answer t (machine_in state saved old)
+Turns state saved a t old kind new = (answer : Clash → Choice)
+    → record { machine = machine_in state saved new; kind = kind } ≡ turn a (layout_in old) answer t (machine_in state saved old)
 
 -- the thread of that number may be joined by thread t, and was started
 pub record IsJoined {S : Type 0} (t : ℕ) (id : ℤ) (m : Machine S) (n : ℕ) : Type 0 where
@@ -123,12 +125,14 @@ IsStill {S} t m = (l : Local S) → m.threads t ≡ Some l → l.ended ≡ true
 
 -- The innermost block of thread t was left, and what it did stays.
 abbrev pub Commits : {A K S : Type 0} → (A → S) → (K → S) → Thread S → ℕ → Engine A K → TurnKind → Engine A K → Type 0
-Commits {A} {K} {S} state saved a t old kind new = (l : Local S) (b : ℕ) (k : S) (ss : List Save) → (machine_in state saved old).threads t ≡ Some l → l.tx ≡ OpenTx b k ss
+Commits {A} {K} {S} state saved a t old kind new = (l : Local S) (b : ℕ) (k : S) (ss : List Save) → (machine_in state saved old).threads t ≡ Some l
+    → l.tx ≡ OpenTx b k ss
     → record { machine = machine_in state saved new; kind = kind } ≡ commits (layout_in old) t (machine_in state saved old) l (a.after l.state Nothing) b k ss
 
 -- The turn of thread t led from the machine old to the machine new and was of this kind; where the policy was asked, its
 -- answer was this choice, which the rule allows.
-pub record Chosen {S : Type 0} (a : Thread S) (p : MemoryLayout) (answers : Clash → Choice → Type 0) (allows : Clash → Choice → Bool) (t : ℕ) (old : Machine S) (kind : TurnKind) (new : Machine S) : Type 0 where
+pub record Chosen {S : Type 0} (a : Thread S) (p : MemoryLayout) (answers : Clash → Choice → Type 0) (allows : Clash → Choice → Bool) (t : ℕ) (old : Machine S)
+    (kind : TurnKind) (new : Machine S) : Type 0 where
   pub choice : Choice
   pub asked : (c : Clash) → Asked a p t old c → answers c choice × (allows c choice ≡ true)
   pub turned : record { machine = new; kind = kind } ≡ turn a p (λ _. choice) t old

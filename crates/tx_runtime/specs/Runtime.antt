@@ -65,4 +65,5 @@ ReachedBy a p first m = (slots : List Slot) × (m ≡ turns a p slots first)
 -- in the indivisible world.
 pub record KeepsOrder {S : Type 0} (R : S → Type 0) (a : Thread S) (p : MemoryLayout) (old new : Machine S) : Type 0 where
   pub reached : (first : Machine S) → ReachedBy a p first old → ReachedBy a p first new
-  pub shown : (memory : ℕ → ℕ) (input : List ℕ) (main : S) → R main → a.blocks main ≡ [] → ReachedBy a p (first_machine memory input main) old → ShownByReplay a p (first_world memory input main) new
+  pub shown : (memory : ℕ → ℕ) (input : List ℕ) (main : S) → R main → a.blocks main ≡ [] → ReachedBy a p (first_machine memory input main) old
+      → ShownByReplay a p (first_world memory input main) new

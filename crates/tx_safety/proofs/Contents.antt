@@ -1,5 +1,6 @@
 -- What stands in definitions, and the marks that come of it.
-use Rattle.std.proofs.Common.{◌≡◌, ◌∙◌, ◌⊎◌, inl, inr, zero, suc, ◌<◌, ◌≤◌, ◌+◌, ◌&&◌, ◌++◌, ℕ, Bool, true, false, List, [], ◌∷◌, Option, Some, None, cond, map, fold, get_or, length, slice_get, is_some, is_none, ap, sym, subst, arith, refl}
+use Rattle.std.proofs.Common.{◌≡◌, ◌∙◌, ◌⊎◌, inl, inr, zero, suc, ◌<◌, ◌≤◌, ◌+◌, ◌&&◌, ◌++◌, ℕ, Bool, true, false, List, [], ◌∷◌, Option, Some, None, cond, map}
+use Rattle.std.proofs.Common.{fold, get_or, length, slice_get, is_some, is_none, ap, sym, subst, arith, refl}
 use Rattle.std.specs.Prelude.{option_map, option_and_then}
 use Rattle.std.specs.List.{list_all}
 use Rattle.std.proofs.lemmas.Bool.{cases_lt}
@@ -25,14 +26,17 @@ pub slice_get_last : {A : Type 0} (xs : List A) (x : A) → slice_get (xs ++ x �
 slice_get_last [] x = refl
 slice_get_last (y ∷ xs) x = slice_get_last xs x
 
-pub mark_of_is : (marks : List (Option ℕ)) (n : ℕ) (f : Func) (p c clean : Bool) (calls others : List CallSite) → p ≡ is_promised f → c ≡ (is_some f.body && clean) → calls ≡ others
+pub mark_of_is : (marks : List (Option ℕ)) (n : ℕ) (f : Func) (p c clean : Bool) (calls others : List CallSite) → p ≡ is_promised f
+    → c ≡ (is_some f.body && clean) → calls ≡ others
     → mark_by p c f.implicit f.declared.is_virtual (list_all (is_marked_call marks n) calls) (latest marks n calls) f.closed_at ≡ mark_of marks n f clean others
 mark_of_is marks n f p c clean calls others a b e =
     ap (λ z. mark_by z c f.implicit f.declared.is_virtual (list_all (is_marked_call marks n) calls) (latest marks n calls) f.closed_at) a
     ∙ ap (λ z. mark_by (is_promised f) z f.implicit f.declared.is_virtual (list_all (is_marked_call marks n) calls) (latest marks n calls) f.closed_at) b
-    ∙ ap (λ z. mark_by (is_promised f) (is_some f.body && clean) f.implicit f.declared.is_virtual (list_all (is_marked_call marks n) z) (latest marks n z) f.closed_at) e
+    ∙ ap (λ z. mark_by (is_promised f) (is_some f.body && clean) f.implicit f.declared.is_virtual (list_all (is_marked_call marks n) z)
+    (latest marks n z) f.closed_at) e
 
-pub still_some_if : (b : Bool) (x y : Finding) (xs : List Finding) → ((z : Finding) → is_none (fold sooner (Some z) xs) ≡ false) → is_none (fold sooner (cond b (Some x) (Some y)) xs) ≡ false
+pub still_some_if : (b : Bool) (x y : Finding) (xs : List Finding) → ((z : Finding) → is_none (fold sooner (Some z) xs) ≡ false)
+    → is_none (fold sooner (cond b (Some x) (Some y)) xs) ≡ false
 still_some_if true x y xs h = h x
 still_some_if false x y xs h = h y
 
@@ -44,18 +48,23 @@ pub none_first : (xs : List Finding) → is_none (fold sooner None xs) ≡ is_em
 none_first [] = refl
 none_first (x ∷ xs) = still_some x xs
 
-pub new_mark_is : (v : ℕ → Bool) (trees : List Tree) (funcs : List TFunc) (marks : List (Option ℕ)) (n : ℕ) (f : TFunc) (c : Contents) → slice_get funcs n ≡ Some f → IsContents v (func_of trees f) c
+pub new_mark_is : (v : ℕ → Bool) (trees : List Tree) (funcs : List TFunc) (marks : List (Option ℕ)) (n : ℕ) (f : TFunc) (c : Contents)
+    → slice_get funcs n ≡ Some f → IsContents v (func_of trees f) c
     → cond (is_some (mark_at marks n)) None (mark_of marks n (func_of trees f) (is_none c.first) c.calls.items) ≡ new_mark v (map (func_of trees) funcs) marks n
 new_mark_is v trees funcs marks n f c g h =
-    ap (λ z. cond (is_some (mark_at marks n)) None (mark_of marks n (func_of trees f) z c.calls.items)) (ap is_none h.first ∙ none_first (own_findings v true (func_of trees f)))
+    ap (λ z. cond (is_some (mark_at marks n)) None (mark_of marks n (func_of trees f) z c.calls.items))
+    (ap is_none h.first ∙ none_first (own_findings v true (func_of trees f)))
     ∙ ap (λ z. cond (is_some (mark_at marks n)) None (mark_of marks n (func_of trees f) (is_empty (own_findings v true (func_of trees f))) z)) h.calls
     ∙ sym (ap (option_and_then (new_mark_of v marks n)) (slice_get-map (func_of trees) funcs n ∙ ap (option_map (func_of trees)) g))
 
-pub next_contents : (v : ℕ → Bool) (trees : List Tree) (funcs : List TFunc) (all new : List Contents) (i : ℕ) (f : TFunc) (c : Contents) → length all ≡ i → AreContents v trees funcs all → new ≡ all ++ c ∷ []
+pub next_contents : (v : ℕ → Bool) (trees : List Tree) (funcs : List TFunc) (all new : List Contents) (i : ℕ) (f : TFunc) (c : Contents) → length all ≡ i
+    → AreContents v trees funcs all → new ≡ all ++ c ∷ []
     → i < length funcs → f ≡ get_or funcs i f → IsContents v (func_of trees f) c → AreContents v trees funcs new
-next_contents v trees funcs all new i f c l a e b r h = record { each = λ n g d p q. here n g d p (sym (ap (λ z. slice_get z n) e) ∙ q) (cases_lt n (length all)) }
+next_contents v trees funcs all new i f c l a e b r h =
+    record { each = λ n g d p q. here n g d p (sym (ap (λ z. slice_get z n) e) ∙ q) (cases_lt n (length all)) }
   where
-    here : (n : ℕ) (g : TFunc) (d : Contents) → slice_get funcs n ≡ Some g → slice_get (all ++ c ∷ []) n ≡ Some d → (n < length all) ⊎ (length all ≤ n) → IsContents v (func_of trees g) d
+    here : (n : ℕ) (g : TFunc) (d : Contents) → slice_get funcs n ≡ Some g → slice_get (all ++ c ∷ []) n ≡ Some d → (n < length all) ⊎ (length all ≤ n)
+        → IsContents v (func_of trees g) d
     here n g d p q (inl k) = a.each n g d p (sym (slice_get_front all (c ∷ []) n k) ∙ q)
     here n g d p q (inr k) =
         let m : n < length (all ++ c ∷ []) = slice_get_within (all ++ c ∷ []) n d q in

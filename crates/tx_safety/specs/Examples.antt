@@ -12,7 +12,8 @@ use Rattle.cpp_tree.specs.cpp_types.declared.ranks.Cat.TheVariants.{Lvalue, Prva
 use Rattle.cpp_tree.specs.declared.faults.UnsafeReason.{UnsafeReason}
 use Rattle.cpp_tree.specs.declared.kinds.Builtin.TheVariants.{PutChar}
 use Rattle.cpp_tree.specs.declared.kinds.TKind.{TKind}
-use Rattle.cpp_tree.specs.declared.kinds.TKind.TheVariants.{Literal, Local, Global, Load, Assign, Update, Call, VirtualCall, PointerCall, Builtin, Construct, Store, Block, Init, Atomic, Destroy, CopyConstruct, Materialize}
+use Rattle.cpp_tree.specs.declared.kinds.TKind.TheVariants.{Literal, Local, Global, Load, Assign, Update, Call, VirtualCall, PointerCall, Builtin, Construct}
+use Rattle.cpp_tree.specs.declared.kinds.TKind.TheVariants.{Store, Block, Init, Atomic, Destroy, CopyConstruct, Materialize}
 use Rattle.cpp_tree.specs.declared.program.FuncKind.{FuncKind}
 use Rattle.cpp_tree.specs.declared.program.FuncKind.TheVariants.{Plain, Constructor, Destructor}
 use Rattle.cpp_tree.specs.declared.program.Linkage.TheVariants.{External}
@@ -59,7 +60,34 @@ volatile_int = typ (int Int) false true
 -- Functions: a plain one with a body that ends at a place, and others with one part changed
 
 abbrev pub written : ℕ → Tree → Func
-written closed body = record { symbol = []; declared = record { name = []; signature = signature none_typs (plain void) false; is_const = false; is_virtual = false; is_override = false; is_final = false; pure_virtual = false; safety = Undeclared; considered = false; no_except = false; at = at closed }; linkage = External; text = []; kind = Plain; class = None; implicit = false; words = 0; params = []; frame = []; body = Some body; closed_at = closed }
+written closed body = record {
+  symbol = [];
+  declared =
+      record {
+        name = [];
+        signature = signature none_typs (plain void) false;
+        is_const = false;
+        is_virtual = false;
+        is_override = false;
+        is_final = false;
+        pure_virtual = false;
+        safety = Undeclared;
+        considered = false;
+        no_except = false;
+        at = at closed;
+      };
+  linkage = External;
+  text = [];
+  kind = Plain;
+  class =
+      None;
+  implicit = false;
+  words = 0;
+  params = [];
+  frame = [];
+  body = Some body;
+  closed_at = closed;
+}
 
 abbrev pub as_kind : FuncKind → ℕ → Func → Func
 as_kind kind n f = record f { kind = kind; class = Some n }
@@ -103,15 +131,18 @@ abbrev pub load : ℕ → Tree
 load n = value n (Load Int true) (plain (int Int)) (place n (Global 0) volatile_int [] ∷ [])
 
 abbrev pub reads_inside : TypedProgram
-reads_inside = program [] (written 90 (block 30 (atomic 36 (place 54 (Assign Int false) (plain (int Int)) (place 54 (Local 0) (plain (int Int)) [] ∷ load 58 ∷ []) ∷ []) ∷ [])) ∷ [])
+reads_inside = program [] (written 90 (block 30 (atomic 36
+    (place 54 (Assign Int false) (plain (int Int)) (place 54 (Local 0) (plain (int Int)) [] ∷ load 58 ∷ []) ∷ []) ∷ [])) ∷ [])
 
 -- `v += 1;`: the write comes before the read
 abbrev pub updates_inside : TypedProgram
-updates_inside = program [] (written 90 (block 30 (atomic 36 (place 47 (Update Add Int Int true false) volatile_int (place 47 (Global 0) volatile_int [] ∷ number 52 ∷ []) ∷ []) ∷ [])) ∷ [])
+updates_inside = program [] (written 90 (block 30 (atomic 36
+    (place 47 (Update Add Int Int true false) volatile_int (place 47 (Global 0) volatile_int [] ∷ number 52 ∷ []) ∷ []) ∷ [])) ∷ [])
 
 -- `struct C { virtual ~C() {} }; .. atomic_noexcept { C c; }`: the constructor is implicit and safe, the destructor is not, since it is virtual
 abbrev pub object : ℕ → (constructor destructor : ℕ) → Tree
-object n constructor destructor = stmt n Init (place n (Local 0) (plain (class 0)) [] ∷ value n (Construct constructor) (plain (class 0)) [] ∷ stmt n (Destroy destructor 0 1 0) [] ∷ [])
+object n constructor destructor = stmt n Init (place n (Local 0) (plain (class 0)) [] ∷ value n (Construct constructor) (plain (class 0)) [] ∷ stmt n
+    (Destroy destructor 0 1 0) [] ∷ [])
 
 abbrev pub plain_class : List Class
 plain_class = class_with None (plain (int Int)) ∷ []
@@ -141,7 +172,8 @@ recursion_inside = program [] (written 57 (block 11 (atomic 20 (call 30 0 ∷ []
 
 -- `int g(int x); int f(int x) { .. g(x - 1) } int g(int x) { return f(x); } .. atomic_noexcept { f(1); }`
 abbrev pub mutual_pair : TypedProgram
-mutual_pair = program [] (written 97 (block 80 (call 88 1 ∷ [])) ∷ written 60 (block 28 (call 50 0 ∷ [])) ∷ written 149 (block 111 (atomic 113 (call 129 1 ∷ []) ∷ [])) ∷ [])
+mutual_pair = program [] (written 97 (block 80 (call 88 1 ∷ [])) ∷ written 60 (block 28 (call 50 0 ∷ [])) ∷ written 149
+    (block 111 (atomic 113 (call 129 1 ∷ []) ∷ [])) ∷ [])
 
 -- a call of a function that is defined behind it
 abbrev pub called_early : TypedProgram
@@ -194,9 +226,12 @@ takes t = program volatile_classes (with_param (record { typ = t; at = at 21 }) 
 
 -- a constructor of a class with a volatile part
 abbrev pub constructs : ℕ → TypedProgram
-constructs n = program (class_with None (plain (int Int)) ∷ class_with None volatile_int ∷ []) (promised Safe (as_kind Constructor n (written 30 (block 28 []))) ∷ [])
+constructs n = program (class_with None (plain (int Int)) ∷ class_with None volatile_int ∷ [])
+    (promised Safe (as_kind Constructor n (written 30 (block 28 []))) ∷ [])
 
 -- A call through a pointer whose type has `transaction_safe` or not
 
 abbrev pub through_pointer : Bool → TypedProgram
-through_pointer safe = program [] (written 90 (block 40 (atomic 42 (stmt 50 PointerCall (value 50 (Load ULong false) (plain (ptr (plain (func (signature none_typs (plain void) safe))))) [] ∷ []) ∷ []) ∷ [])) ∷ [])
+through_pointer safe = program [] (written 90 (block 40
+    (atomic 42 (stmt 50 PointerCall (value 50 (Load ULong false) (plain (ptr (plain (func (signature none_typs (plain void) safe))))) [] ∷ []) ∷ []) ∷ []))
+    ∷ [])

@@ -1,5 +1,6 @@
 -- What holds of the marks that rounds over the functions of a unit set.
-use Rattle.std.specs.Prelude.{◌≡◌, ℕ, ◌<◌, ◌≤◌, ◌==◌, nat_le, max, Bool, true, false, not, ◌&&◌, ◌||◌, List, length, get_or, slice_get, slice_set, fold, count_by, Option, Some, None, is_some, option_map, option_and_then, cond}
+use Rattle.std.specs.Prelude.{◌≡◌, ℕ, ◌<◌, ◌≤◌, ◌==◌, nat_le, max, Bool, true, false, not, ◌&&◌, ◌||◌, List, length, get_or, slice_get, slice_set, fold}
+use Rattle.std.specs.Prelude.{count_by, Option, Some, None, is_some, option_map, option_and_then, cond}
 use Rattle.std.specs.List.{list_all}
 use Rattle.std.specs.Global.{Vec}
 use Rattle.cpp_tree.specs.declared.arena.TNode.{TNode}
@@ -40,11 +41,13 @@ latest marks n calls = fold (later marks n) (Some 0) calls
 -- the mark of a function, from whether it is promised, has a safe definition but for its calls, is implicit or virtual, has calls that are all allowed
 -- where they stand, the latest mark of these, and where it is closed
 abbrev pub mark_by : (promised clean implicit virtual allowed : Bool) → Option ℕ → ℕ → Option ℕ
-mark_by promised clean implicit virtual allowed all closed = cond promised (Some 0) (cond clean (cond implicit all (cond (not virtual && allowed) (Some closed) None)) None)
+mark_by promised clean implicit virtual allowed all closed =
+    cond promised (Some 0) (cond clean (cond implicit all (cond (not virtual && allowed) (Some closed) None)) None)
 
 -- where `clean` tells that nothing in the definition is unsafe by itself
 abbrev pub mark_of : List (Option ℕ) → ℕ → Func → (clean : Bool) → List CallSite → Option ℕ
-mark_of marks n f clean calls = mark_by (is_promised f) (is_some f.body && clean) f.implicit f.declared.is_virtual (list_all (is_marked_call marks n) calls) (latest marks n calls) f.closed_at
+mark_of marks n f clean calls = mark_by (is_promised f) (is_some f.body && clean) f.implicit f.declared.is_virtual (list_all (is_marked_call marks n) calls)
+    (latest marks n calls) f.closed_at
 
 -- the mark that a function without one gets
 abbrev pub new_mark_of : (volatile : ℕ → Bool) → List (Option ℕ) → ℕ → Func → Option ℕ
@@ -75,7 +78,8 @@ pub record IsContents (volatile : ℕ → Bool) (f : Func) (contents : Contents)
 
 -- of each of the first functions
 pub record AreContents (volatile : ℕ → Bool) (trees : List Tree) (funcs : List TFunc) (all : List Contents) : Type 0 where
-  pub each : (n : ℕ) (f : TFunc) (contents : Contents) → slice_get funcs n ≡ Some f → slice_get all n ≡ Some contents → IsContents volatile (func_of trees f) contents
+  pub each : (n : ℕ) (f : TFunc) (contents : Contents) → slice_get funcs n ≡ Some f → slice_get all n ≡ Some contents
+      → IsContents volatile (func_of trees f) contents
 
 -- the bodies of all functions stand in the list
 pub record HaveRoots (nodes : List TNode) (funcs : List TFunc) : Type 0 where

@@ -1,5 +1,6 @@
 -- Which functions are safe at which places of their unit, and the first unsafe node of a program (the TS, [dcl.fct.def.tx], [class.virtual]).
-use Rattle.std.specs.Prelude.{◌≡◌, ℕ, zero, suc, ◌+◌, ◌==◌, nat_lt, nat_le, Bool, true, false, not, ◌&&◌, ◌||◌, List, [], ◌∷◌, ◌++◌, fold, length, slice_get, Option, Some, None, is_some, cond}
+use Rattle.std.specs.Prelude.{◌≡◌, ℕ, zero, suc, ◌+◌, ◌==◌, nat_lt, nat_le, Bool, true, false, not, ◌&&◌, ◌||◌, List, [], ◌∷◌, ◌++◌, fold, length, slice_get}
+use Rattle.std.specs.Prelude.{Option, Some, None, is_some, cond}
 use Rattle.std.specs.List.{list_all, flat_map}
 use Rattle.cpp_tree.specs.cpp_types.Class.{Class}
 use Rattle.cpp_tree.specs.cpp_types.declared.classes.At.{At}

@@ -1,5 +1,6 @@
 -- Marks of classes with a volatile part: rounds over the list find them all.
-use Rattle.std.proofs.Common.{◌≡◌, ◌∙◌, ◌⊎◌, inl, inr, ◌<◌, ◌≤◌, ◌+◌, ℕ, zero, suc, Bool, true, false, not, ◌&&◌, ◌||◌, List, [], ◌∷◌, Option, Some, None, cond, map, set, get_or, length, replicate, slice_get, ap, sym, subst, arith, refl}
+use Rattle.std.proofs.Common.{◌≡◌, ◌∙◌, ◌⊎◌, inl, inr, ◌<◌, ◌≤◌, ◌+◌, ℕ, zero, suc, Bool, true, false, not, ◌&&◌, ◌||◌, List, [], ◌∷◌, Option, Some, None, cond}
+use Rattle.std.proofs.Common.{map, set, get_or, length, replicate, slice_get, ap, sym, subst, arith, refl}
 use Rattle.std.specs.Prelude.{count_by}
 use Rattle.std.specs.List.{list_any}
 use Rattle.std.proofs.lemmas.Bool.{cases_eq, cases_lt}
@@ -77,19 +78,23 @@ pub split_and : (a b : Bool) → (a && b) ≡ true → (a ≡ true) × (b ≡ tr
 split_and true b h = (refl, h)
 split_and false b h = absurd cc
 
-pub sound_more : (classes : List Class) (marks : List Bool) (i : ℕ) → i < length marks → SoundClasses classes marks → has_new_part classes marks i ≡ true → SoundClasses classes (set marks i true)
+pub sound_more : (classes : List Class) (marks : List Bool) (i : ℕ) → i < length marks → SoundClasses classes marks → has_new_part classes marks i ≡ true
+    → SoundClasses classes (set marks i true)
 sound_more classes marks i l s h = record {
   within = λ n depth m c. elim (cases_eq n i) [
     | inl e ↦ deeper classes marks i n depth (count_set marks i l (false_not (marked marks i) (split_and _ _ h).0)) s (split_and _ _ h).1 e c
-    | inr e ↦ s.within n depth (sym (get_or-set_other marks i n true false e) ∙ m) (let k = count_set marks i l (false_not (marked marks i) (split_and _ _ h).0) in omega arith)
+    | inr e ↦ s.within n depth (sym (get_or-set_other marks i n true false e) ∙ m)
+        (let k = count_set marks i l (false_not (marked marks i) (split_and _ _ h).0) in omega arith)
   ];
 }
   where
     deeper : (classes : List Class) (marks : List Bool) (i n depth : ℕ) → count_marked (set marks i true) ≡ count_marked marks + 1 → SoundClasses classes marks
-        → passes (has_volatile_part_by (marked marks)) (slice_get classes i) ≡ true → n ≡ i → count_marked (set marks i true) ≤ depth → volatile_within depth classes n ≡ true
+        → passes (has_volatile_part_by (marked marks)) (slice_get classes i) ≡ true → n ≡ i → count_marked (set marks i true) ≤ depth
+        → volatile_within depth classes n ≡ true
     deeper classes marks i n zero k s p e c = absurd (omega arith)
     deeper classes marks i n (suc d) k s p e c = ap (λ z. volatile_within (suc d) classes z) e
-        ∙ passes_more (has_volatile_part_by (marked marks)) (has_volatile_part_by (volatile_within d classes)) (part_more (marked marks) (volatile_within d classes) (λ m q. s.within m d q (omega arith))) (slice_get classes i) p
+        ∙ passes_more (has_volatile_part_by (marked marks)) (has_volatile_part_by (volatile_within d classes))
+        (part_more (marked marks) (volatile_within d classes) (λ m q. s.within m d q (omega arith))) (slice_get classes i) p
 
 -- A step of a round: the class at an index is marked, if it is to be
 
@@ -97,17 +102,22 @@ pub next_long : (marks new : List Bool) (i limit : ℕ) (b : Bool) → length ma
 next_long marks new i limit true l e = ap length e ∙ length-set marks i true ∙ l
 next_long marks new i limit false l e = ap length e ∙ l
 
-pub next_sound : (classes : List Class) (marks new : List Bool) (i : ℕ) (b : Bool) → i < length marks → SoundClasses classes marks → b ≡ has_new_part classes marks i → new ≡ cond b (set marks i true) marks → SoundClasses classes new
+pub next_sound : (classes : List Class) (marks new : List Bool) (i : ℕ) (b : Bool) → i < length marks → SoundClasses classes marks
+    → b ≡ has_new_part classes marks i → new ≡ cond b (set marks i true) marks → SoundClasses classes new
 next_sound classes marks new i true l s h e = subst (SoundClasses classes) (sym e) (sound_more classes marks i l s (sym h))
 next_sound classes marks new i false l s h e = subst (SoundClasses classes) (sym e) s
 
-pub next_kept : (classes : List Class) (marks new : List Bool) (i start : ℕ) (b : Bool) → i < length marks → b ≡ has_new_part classes marks i → new ≡ cond b (set marks i true) marks → start ≤ count_marked marks → start ≤ count_marked new
-next_kept classes marks new i start true l h e k = let c = count_set marks i l (false_not (marked marks i) (split_and _ _ (sym h)).0) in let d : count_marked new ≡ count_marked (set marks i true) = ap count_marked e in omega arith
+pub next_kept : (classes : List Class) (marks new : List Bool) (i start : ℕ) (b : Bool) → i < length marks → b ≡ has_new_part classes marks i
+    → new ≡ cond b (set marks i true) marks → start ≤ count_marked marks → start ≤ count_marked new
+next_kept classes marks new i start true l h e k = let c = count_set marks i l (false_not (marked marks i) (split_and _ _ (sym h)).0) in
+    let d : count_marked new ≡ count_marked (set marks i true) = ap count_marked e in omega arith
 next_kept classes marks new i start false l h e k = let d : count_marked new ≡ count_marked marks = ap count_marked e in omega arith
 
-pub next_more : (classes : List Class) (marks new : List Bool) (i start : ℕ) (a b : Bool) → i < length marks → b ≡ has_new_part classes marks i → new ≡ cond b (set marks i true) marks → start ≤ count_marked marks
+pub next_more : (classes : List Class) (marks new : List Bool) (i start : ℕ) (a b : Bool) → i < length marks → b ≡ has_new_part classes marks i
+    → new ≡ cond b (set marks i true) marks → start ≤ count_marked marks
     → (a ≡ true → start < count_marked marks) → (a || b) ≡ true → start < count_marked new
-next_more classes marks new i start a true l h e k m t = let c = count_set marks i l (false_not (marked marks i) (split_and _ _ (sym h)).0) in let d : count_marked new ≡ count_marked (set marks i true) = ap count_marked e in omega arith
+next_more classes marks new i start a true l h e k m t = let c = count_set marks i l (false_not (marked marks i) (split_and _ _ (sym h)).0) in
+    let d : count_marked new ≡ count_marked (set marks i true) = ap count_marked e in omega arith
 next_more classes marks new i start true false l h e k m t = let d : count_marked new ≡ count_marked marks = ap count_marked e in let s = m refl in omega arith
 next_more classes marks new i start false false l h e k m t = absurd cc
 
@@ -126,7 +136,10 @@ none_marked (suc k) zero = refl
 none_marked (suc k) (suc n) = none_marked k n
 
 pub sound_none : (classes : List Class) (marks : List Bool) (k : ℕ) → marks ≡ replicate k false → SoundClasses classes marks
-sound_none classes marks k e = record { within = λ n depth m c. let z = none_marked k n in let y : marked (replicate k false) n ≡ true = sym (ap (λ u. marked u n) e) ∙ m in absurd cc }
+sound_none classes marks k e = record {
+  within = λ n depth m c. let z = none_marked k n in let y : marked (replicate k false) n ≡ true = sym
+      (ap (λ u. marked u n) e) ∙ m in absurd cc;
+}
 
 pub passes_within : {A : Type 0} (p : A → Bool) (xs : List A) (n : ℕ) → passes p (slice_get xs n) ≡ true → n < length xs
 passes_within p xs n h = elim (cases_lt n (length xs)) [
@@ -138,10 +151,12 @@ pub not_new : (b c : Bool) → c ≡ true → (not b && c) ≡ false → b ≡ t
 not_new true c h e = refl
 not_new false c h e = absurd cc
 
-pub complete : (classes : List Class) (marks : List Bool) → ClosedClasses classes marks (length classes) → (depth n : ℕ) → volatile_within depth classes n ≡ true → marked marks n ≡ true
+pub complete : (classes : List Class) (marks : List Bool) → ClosedClasses classes marks (length classes) → (depth n : ℕ)
+    → volatile_within depth classes n ≡ true → marked marks n ≡ true
 complete classes marks k zero n h = absurd cc
 complete classes marks k (suc d) n h = not_new (marked marks n) (passes (has_volatile_part_by (marked marks)) (slice_get classes n))
-    (passes_more (has_volatile_part_by (volatile_within d classes)) (has_volatile_part_by (marked marks)) (part_more (volatile_within d classes) (marked marks) (complete classes marks k d)) (slice_get classes n) h)
+    (passes_more (has_volatile_part_by (volatile_within d classes)) (has_volatile_part_by (marked marks))
+    (part_more (volatile_within d classes) (marked marks) (complete classes marks k d)) (slice_get classes n) h)
     (k.closed n (passes_within (has_volatile_part_by (volatile_within d classes)) classes n h))
 
 pub same_bool : (a b : Bool) → (a ≡ true → b ≡ true) → (b ≡ true → a ≡ true) → a ≡ b
@@ -149,8 +164,11 @@ same_bool true b f g = sym (f refl)
 same_bool false true f g = g refl
 same_bool false false f g = refl
 
-pub all_known : (classes : List Class) (marks : List Bool) → length marks ≡ length classes → SoundClasses classes marks → ClosedClasses classes marks (length classes) → (n : ℕ) → marked marks n ≡ has_volatile_part classes n
-all_known classes marks l s k n = same_bool (marked marks n) (has_volatile_part classes n) (λ m. s.within n (length classes) m (let c = count_by-le-length (λ (b : Bool). b) marks in omega arith)) (complete classes marks k (length classes) n)
+pub all_known : (classes : List Class) (marks : List Bool) → length marks ≡ length classes → SoundClasses classes marks
+    → ClosedClasses classes marks (length classes) → (n : ℕ) → marked marks n ≡ has_volatile_part classes n
+all_known classes marks l s k n = same_bool (marked marks n) (has_volatile_part classes n)
+    (λ m. s.within n (length classes) m (let c = count_by-le-length (λ (b : Bool). b) marks in omega arith)) (complete classes marks k (length classes) n)
 
-pub all_known_at : (classes : List Class) (marks : List Bool) (limit : ℕ) → length classes ≡ limit → length marks ≡ limit → SoundClasses classes marks → ClosedClasses classes marks limit → (n : ℕ) → marked marks n ≡ has_volatile_part classes n
+pub all_known_at : (classes : List Class) (marks : List Bool) (limit : ℕ) → length classes ≡ limit → length marks ≡ limit → SoundClasses classes marks
+    → ClosedClasses classes marks limit → (n : ℕ) → marked marks n ≡ has_volatile_part classes n
 all_known_at classes marks limit e l s k = all_known classes marks (l ∙ sym e) s (record { closed = λ n h. k.closed n (omega arith) })

@@ -1,5 +1,6 @@
 -- A walk over the tree of a node, kid by kid.
-use Rattle.std.proofs.Common.{◌≡◌, ◌∙◌, ◌<◌, ◌≤◌, ◌++◌, ◌+◌, ◌||◌, ℕ, nat_lt, Bool, true, List, [], ◌∷◌, Option, Some, None, slice_get, get_or, length, drop, fold, ap, sym, append_assoc, arith, refl}
+use Rattle.std.proofs.Common.{◌≡◌, ◌∙◌, ◌<◌, ◌≤◌, ◌++◌, ◌+◌, ◌||◌, ℕ, nat_lt, Bool, true, List, [], ◌∷◌, Option, Some, None, slice_get, get_or, length, drop}
+use Rattle.std.proofs.Common.{fold, ap, sym, append_assoc, arith, refl}
 use Rattle.std.specs.Cmp.Derive.{both_true}
 use Rattle.std.proofs.lemmas.Bool.{ltb-true, lt-ltb}
 use Rattle.std.proofs.lemmas.Option.{slice_get_read}
@@ -46,12 +47,14 @@ second_kid trees [] = refl
 second_kid trees (id ∷ []) = refl
 second_kid trees (id ∷ k ∷ ids) = refl
 
-pub own_is : (v : ℕ → Bool) (trees : List Tree) (n : TNode) → own_of v trees n ≡ own v n.kind (typ_of n.ty) n.cat n.at (first_of (trees_at trees n.kids.items)) (first_of (rest (trees_at trees n.kids.items)))
+pub own_is : (v : ℕ → Bool) (trees : List Tree) (n : TNode)
+    → own_of v trees n ≡ own v n.kind (typ_of n.ty) n.cat n.at (first_of (trees_at trees n.kids.items)) (first_of (rest (trees_at trees n.kids.items)))
 own_is v trees n = ap (λ z. own v n.kind (typ_of n.ty) n.cat n.at z (kid_in trees n.kids.items 1)) (first_kid trees n.kids.items)
     ∙ ap (λ z. own v n.kind (typ_of n.ty) n.cat n.at (first_of (trees_at trees n.kids.items)) z) (second_kid trees n.kids.items)
 
 -- where `ids` are the kids, and `deeper` tells whether what stands below the node counts
-pub whole_first : (v : ℕ → Bool) (b deeper : Bool) (nodes : List TNode) (id : TNodeId) (n : TNode) (ids : List TNodeId) (old mid new : Option Finding) → IsOrdered nodes → id.0 < length nodes
+pub whole_first : (v : ℕ → Bool) (b deeper : Bool) (nodes : List TNode) (id : TNodeId) (n : TNode) (ids : List TNodeId) (old mid new : Option Finding)
+    → IsOrdered nodes → id.0 < length nodes
     → n ≡ get_or nodes id.0 n → deeper ≡ (b || is_atomic n.kind) → ids ≡ n.kids.items
     → mid ≡ fold sooner old (counted b (own_of v (trees_of nodes) n)) → new ≡ fold sooner mid (own_in_all v deeper (trees_at (trees_of nodes) ids))
     → new ≡ fold sooner old (own_in v b (tree_at (trees_of nodes) id))
@@ -65,7 +68,8 @@ whole_first v b deeper nodes id n ids old mid new o l r d k e h =
     ∙ sym (fold-append sooner old here (own_in_all v (b || is_atomic n.kind) kids))
     ∙ sym (ap (λ z. fold sooner old (own_in v b z)) (tree_of_node nodes id n o (slice_get_read nodes (length nodes) id.0 n refl l r)))
 
-pub whole_calls : (b deeper : Bool) (nodes : List TNode) (id : TNodeId) (n : TNode) (ids : List TNodeId) (old mid new : List CallSite) → IsOrdered nodes → id.0 < length nodes
+pub whole_calls : (b deeper : Bool) (nodes : List TNode) (id : TNodeId) (n : TNode) (ids : List TNodeId) (old mid new : List CallSite) → IsOrdered nodes
+    → id.0 < length nodes
     → n ≡ get_or nodes id.0 n → deeper ≡ (b || is_atomic n.kind) → ids ≡ n.kids.items
     → mid ≡ old ++ counted b (sites (called n.kind) n.at) → new ≡ mid ++ calls_in_all deeper (trees_at (trees_of nodes) ids)
     → new ≡ old ++ calls_in b (tree_at (trees_of nodes) id)
@@ -93,9 +97,11 @@ below_more a b [] l h = refl
 below_more a b (id ∷ ids) l h = let k = both (nat_lt id.0 a) (are_below a ids) h in let m : id.0 < a = ltb-true id.0 a k.0 in let n : id.0 < b = omega arith in
     both_true (lt-ltb id.0 b n) (below_more a b ids l k.1)
 
-pub kids_below : (nodes : List TNode) (id : ℕ) (n : TNode) → IsOrdered nodes → id < length nodes → n ≡ get_or nodes id n → are_below (length nodes) n.kids.items ≡ true
+pub kids_below : (nodes : List TNode) (id : ℕ) (n : TNode) → IsOrdered nodes → id < length nodes → n ≡ get_or nodes id n
+    → are_below (length nodes) n.kids.items ≡ true
 kids_below nodes id n o l h = below_more id (length nodes) n.kids.items (omega arith) (o.lower id n (slice_get_read nodes (length nodes) id n refl l h))
 
-pub kid_below : (nodes : List TNode) (id : ℕ) (n : TNode) (ids : List TNodeId) (i : ℕ) (d : TNodeId) → IsOrdered nodes → id < length nodes → n ≡ get_or nodes id n → ids ≡ n.kids.items
+pub kid_below : (nodes : List TNode) (id : ℕ) (n : TNode) (ids : List TNodeId) (i : ℕ) (d : TNodeId) → IsOrdered nodes → id < length nodes
+    → n ≡ get_or nodes id n → ids ≡ n.kids.items
     → i < length ids → (get_or ids i d).0 < id
 kid_below nodes id n ids i d o l h e k = below_at id ids i d k (ap (are_below id) e ∙ o.lower id n (slice_get_read nodes (length nodes) id n refl l h))

@@ -5,11 +5,14 @@ use Rattle.cpp_types.specs.Typ.{Typ, typ, typ_of, ptr, func, Signature, signatur
 use Rattle.cpp_types.specs.declared.classes.At.{At}
 use Rattle.cpp_types.specs.declared.ranks.Cat.{Cat}
 use Rattle.cpp_tree.specs.declared.faults.UnsafeReason.{UnsafeReason}
-use Rattle.cpp_tree.specs.declared.faults.UnsafeReason.TheVariants.{VolatileRead, VolatileWrite, VolatileTemp, VolatileLocal, VolatileParam, CallsUnsafe, CallsUnsafePointer}
+use Rattle.cpp_tree.specs.declared.faults.UnsafeReason.TheVariants.{VolatileRead, VolatileWrite, VolatileTemp, VolatileLocal, VolatileParam, CallsUnsafe}
+use Rattle.cpp_tree.specs.declared.faults.UnsafeReason.TheVariants.{CallsUnsafePointer}
 use Rattle.cpp_tree.specs.declared.kinds.Builtin.{Builtin}
 use Rattle.cpp_tree.specs.declared.kinds.Builtin.TheVariants.{Abort}
 use Rattle.cpp_tree.specs.declared.kinds.TKind.{TKind}
-use Rattle.cpp_tree.specs.declared.kinds.TKind.TheVariants.{Local, Load, Assign, Update, CopyAssign, Materialize, Call, VirtualCall, PointerCall, Builtin as CallBuiltin, Store, Construct, CopyConstruct, CopyFrom, Pieces, Piece, Elements, Init, Handler, Atomic, Destroy}
+use Rattle.cpp_tree.specs.declared.kinds.TKind.TheVariants.{Local, Load, Assign, Update, CopyAssign, Materialize, Call, VirtualCall, PointerCall}
+use Rattle.cpp_tree.specs.declared.kinds.TKind.TheVariants.{Builtin as CallBuiltin, Store, Construct, CopyConstruct, CopyFrom, Pieces, Piece, Elements, Init}
+use Rattle.cpp_tree.specs.declared.kinds.TKind.TheVariants.{Handler, Atomic, Destroy}
 use Rattle.cpp_tree.specs.Trees.{Tree, node, Trees, none, more, kind_of, typ_in, rest}
 use Rattle.cpp_tree.specs.Arena.{tree_at}
 use Rattle.cpp_tree.specs.declared.arena.TNode.{TNode}

@@ -94,7 +94,8 @@ each = (run_fits, (check_fits, (selftest_fits, (build_fits, (exec_fits, (replay_
 
 -- what the code asks of the matches
 pub entered_fits : (words : List Text) → fault_of txcc_app words ≡ [] → IfSome (subcommand_of txcc_app words) (λ p. Fits p.0 p.1)
-entered_fits words e = entered_ok (λ p. Fits p.0 p.1) (built txcc_app) (stop_after (built txcc_app).top.rules (names_of (built txcc_app)) (argument_words txcc_app words)) each (nil_both _ _ (nil_both _ _ e).1).0
+entered_fits words e = entered_ok (λ p. Fits p.0 p.1) (built txcc_app)
+    (stop_after (built txcc_app).top.rules (names_of (built txcc_app)) (argument_words txcc_app words)) each (nil_both _ _ (nil_both _ _ e).1).0
 
 top_required : (built txcc_app).top.subcommand_required ≡ true
 unfolding txcc_app
@@ -102,7 +103,8 @@ top_required = refl
 
 -- the subcommand is there
 pub is_there : (words : List Text) → fault_of txcc_app words ≡ [] → is_some (subcommand_of txcc_app words) ≡ true
-is_there words e = go (is_some (subcommand_of txcc_app words)) (built txcc_app).top.subcommand_required top_required (level_checked (built txcc_app).top (names_of (built txcc_app)) nothing_held (argument_words txcc_app words) (is_some (subcommand_of txcc_app words)) _ e).0
+is_there words e = go (is_some (subcommand_of txcc_app words)) (built txcc_app).top.subcommand_required top_required
+    (level_checked (built txcc_app).top (names_of (built txcc_app)) nothing_held (argument_words txcc_app words) (is_some (subcommand_of txcc_app words)) _ e).0
   where
     go : (t r : Bool) → r ≡ true → (not t && r) ≡ false → t ≡ true
     go true r e f = refl

@@ -10,7 +10,8 @@ pub own : IsNumeralModel (λ ds. all_ascii_digits ds ≡ true) (digits_value 10)
 own = numerals_by_value _ (search rules)
 
 -- what is read of digits that begin with no zero
-pub written : {E : Type 0} (ds : List ℕ) (n : ℕ) (r : Result ℕ E) → ParsesUnsigned 32 10 ds r → r ≡ Ok n → get_or ds 0 0 ≢ 43 → get_or ds 0 0 ≢ 48 → ds ≡ decimal n
+pub written : {E : Type 0} (ds : List ℕ) (n : ℕ) (r : Result ℕ E) → ParsesUnsigned 32 10 ds r → r ≡ Ok n → get_or ds 0 0 ≢ 43 → get_or ds 0 0 ≢ 48
+    → ds ≡ decimal n
 written {E} ds n (Ok m) p e plus zero =
     let h = parse_plain own {E = E} 32 ds (Ok m) p plus in
     let same : m ≡ n = cc in

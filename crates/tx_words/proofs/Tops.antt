@@ -1,12 +1,14 @@
 -- Where nothing fails, the words name one of the commands, and the matches have what its arguments ask for.
-use Rattle.std.proofs.Common.{◌≡◌, ◌∙◌, ◌⊎◌, inl, inr, ap, sym, subst, refl, true, false, true≢false, ℕ, List, [], ◌∷◌, ◌++◌, Bool, Option, Some, None, codes, IfSome, is_some}
+use Rattle.std.proofs.Common.{◌≡◌, ◌∙◌, ◌⊎◌, inl, inr, ap, sym, subst, refl, true, false, true≢false, ℕ, List, [], ◌∷◌, ◌++◌, Bool, Option, Some, None, codes}
+use Rattle.std.proofs.Common.{IfSome, is_some}
 use Rattle.std.specs.Prelude.{if◌then◌else◌, find, not, ◌&&◌, ◌||◌, slice_get, take, drop, option_map, option_and_then, unwrap_or, zero, suc}
 use Rattle.std.specs.Option.{option_map_or}
 use Rattle.std.specs.List.{list_all, list_any}
 use Rattle.std.specs.Str.{bytes_eq}
 use Rattle.clap.proofs.WalkLemmas.{both}
 use Rattle.std.proofs.lemmas.Slice.Eq.{bytes_eq-Decides}
-use Rattle.clap.specs.Walk.{Row, Rule, Text, Held, first_of, all_of, one_of, row_text, nothing_held, rows_after, answers_to, reading_by, action_of, walk, Names, walk_from, settled, finished}
+use Rattle.clap.specs.Walk.{Row, Rule, Text, Held, first_of, all_of, one_of, row_text, nothing_held, rows_after, answers_to, reading_by, action_of, walk, Names}
+use Rattle.clap.specs.Walk.{walk_from, settled, finished}
 use Rattle.clap.specs.Takes.{is_given, value_passes, values_pass}
 use Rattle.clap.specs.Facts.{explicit_source}
 use Rattle.clap.specs.Faults.{walk_fault, settle_fault, defaults_fault, level_fault, entered_fault}
@@ -29,7 +31,8 @@ pub row_found : (a : Rule) (rows : List Row) → RowsOk a rows → IfSome (find 
 row_found a [] p = tt
 row_found a (r ∷ rs) p = pick (row_found a rs p.1) (bytes_eq r.id a.id) refl
   where
-    pick : IfSome (find (λ r. bytes_eq r.id a.id) rs) (Sound a) → (t : Bool) → bytes_eq r.id a.id ≡ t → IfSome (if t then Some r else find (λ r. bytes_eq r.id a.id) rs) (Sound a)
+    pick : IfSome (find (λ r. bytes_eq r.id a.id) rs) (Sound a) → (t : Bool) → bytes_eq r.id a.id ≡ t
+        → IfSome (if t then Some r else find (λ r. bytes_eq r.id a.id) rs) (Sound a)
     pick rest true e = p.0 e
     pick rest false e = rest
 
@@ -57,7 +60,8 @@ has_first (v ∷ vs) e = refl
 pub given_first : (a : Rule) (rows : List Row) → RowsOk a rows → is_given a.id rows ≡ true → is_some (first_of a.id rows) ≡ true
 given_first a rows p g = at (find (λ r. bytes_eq r.id a.id) rows) (row_found a rows p) g
   where
-    at : (o : Option Row) → IfSome o (Sound a) → option_map_or (λ r. explicit_source r.source) o false ≡ true → is_some (option_and_then (λ r. slice_get r.values 0) o) ≡ true
+    at : (o : Option Row) → IfSome o (Sound a) → option_map_or (λ r. explicit_source r.source) o false ≡ true
+        → is_some (option_and_then (λ r. slice_get r.values 0) o) ≡ true
     at None h g = absurd (true≢false (sym g))
     at (Some r) h g = has_first r.values h.2
 
@@ -112,7 +116,8 @@ rest_plain : (a : Rule) (bs : List Rule) → list_all (is_apart a) bs ≡ true �
 rest_plain a [] e = tt
 rest_plain a (b ∷ bs) e = let two = both _ _ e in (apart_plain a b two.0, rest_plain a bs two.1)
 
-split_plain : (a : Rule) (front back : List Rule) → list_all (is_apart a) front ≡ true → is_own a ≡ true → list_all (is_apart a) back ≡ true → AllPlain a (front ++ a ∷ back)
+split_plain : (a : Rule) (front back : List Rule) → list_all (is_apart a) front ≡ true → is_own a ≡ true → list_all (is_apart a) back ≡ true
+    → AllPlain a (front ++ a ∷ back)
 split_plain a [] back e f g = (own_plain a f, rest_plain a back g)
 split_plain a (b ∷ front) back e f g = let two = both _ _ e in (apart_plain a b two.0, split_plain a front back two.1 f g)
 
@@ -121,7 +126,8 @@ abbrev pub rule_at : List Rule → ℕ → Rule
 rule_at rules i = unwrap_or (slice_get rules i) help_rule
 
 abbrev pub is_one_at : List Rule → ℕ → Bool
-is_one_at rules i = list_all (is_apart (rule_at rules i)) (take i rules) && (is_own (rule_at rules i) && list_all (is_apart (rule_at rules i)) (drop (suc i) rules))
+is_one_at rules i = list_all (is_apart (rule_at rules i)) (take i rules)
+    && (is_own (rule_at rules i) && list_all (is_apart (rule_at rules i)) (drop (suc i) rules))
 
 no_kinds : (x w y : Bool) → check_kinds x w y ≡ [] → (w ≡ false) × (y ≡ false)
 no_kinds true w y e = absurd (true≢false (sym (ap is_nil e)))
@@ -132,15 +138,18 @@ no_kinds false false false e = (refl, refl)
 -- the last checks at a level where nothing fails
 pub level_checked : (s : Shape) (names : Names) (h : Held) (words : List Text) (has : Bool) (below : Kinds) → level_fault s names h words has below ≡ []
     → ((not has && s.subcommand_required) ≡ false)
-    × ((not (s.subcommand_negates_reqs && has) && list_any (λ a. a.required && not (is_given a.id (finished s.rules (walk s.rules names h words).held))) s.rules) ≡ false)
+    × ((not (s.subcommand_negates_reqs && has) && list_any
+    (λ a. a.required && not (is_given a.id (finished s.rules (walk s.rules names h words).held))) s.rules) ≡ false)
 level_checked s names h words has below e =
     let one = nil_both (walk_fault s names (walk_from h) words) _ e in
     let two = nil_both below _ one.1 in
     let three = nil_both (settle_fault s.rules s.args_override_self (walk s.rules names h words).held) _ two.1 in
     let four = nil_both (defaults_fault (settled s.rules (walk s.rules names h words).held).rows s.rules) _ three.1 in
-    no_kinds (not has && (s.arg_required_else_help && not (list_any (λ r. explicit_source r.source) (finished s.rules (walk s.rules names h words).held)))) _ _ four.1
+    no_kinds (not has && (s.arg_required_else_help && not
+    (list_any (λ r. explicit_source r.source) (finished s.rules (walk s.rules names h words).held)))) _ _ four.1
 
-required_given : (rules : List Rule) (i : ℕ) (rows : List Row) → list_any (λ a. a.required && not (is_given a.id rows)) rules ≡ false → (rule_at rules i).required ≡ true → is_given (rule_at rules i).id rows ≡ true
+required_given : (rules : List Rule) (i : ℕ) (rows : List Row) → list_any (λ a. a.required && not (is_given a.id rows)) rules ≡ false
+    → (rule_at rules i).required ≡ true → is_given (rule_at rules i).id rows ≡ true
 required_given [] i rows e q = absurd (true≢false (sym q))
 required_given (a ∷ more) i rows e q = at i (λ i q. required_given more i rows (two e) q) q
   where
@@ -156,7 +165,8 @@ required_given (a ∷ more) i rows e q = at i (λ i q. required_given more i row
     here true false e q = absurd (true≢false e)
     here false false e q = absurd (true≢false (sym q))
 
-    at : (i : ℕ) → ((i : ℕ) → (rule_at more i).required ≡ true → is_given (rule_at more i).id rows ≡ true) → (rule_at (a ∷ more) i).required ≡ true → is_given (rule_at (a ∷ more) i).id rows ≡ true
+    at : (i : ℕ) → ((i : ℕ) → (rule_at more i).required ≡ true → is_given (rule_at more i).id rows ≡ true) → (rule_at (a ∷ more) i).required ≡ true
+        → is_given (rule_at (a ∷ more) i).id rows ≡ true
     at zero rest q = here _ _ (none (a.required && not (is_given a.id rows)) _ e).0 q
     at (suc i) rest q = rest i q
 
@@ -185,26 +195,33 @@ rows_ok s i ws h e =
     let two = both _ _ one.1 in
     let three = both _ _ two.1 in
     level_ok (rule_at s.rules i) s [] ws false []
-    (subst (AllPlain (rule_at s.rules i)) (sym (split_at s.rules i one.0)) (split_plain (rule_at s.rules i) (take i s.rules) (drop (suc i) s.rules) two.0 three.0 three.1)) e
+    (subst (AllPlain (rule_at s.rules i)) (sym (split_at s.rules i one.0))
+    (split_plain (rule_at s.rules i) (take i s.rules) (drop (suc i) s.rules) two.0 three.0 three.1)) e
 
-pub is_given_at : (s : Shape) (i : ℕ) (ws : List Text) → s.subcommand_negates_reqs ≡ false → (rule_at s.rules i).required ≡ true → Passes s ws → is_given (rule_at s.rules i).id (after s ws) ≡ true
+pub is_given_at : (s : Shape) (i : ℕ) (ws : List Text) → s.subcommand_negates_reqs ≡ false → (rule_at s.rules i).required ≡ true → Passes s ws
+    → is_given (rule_at s.rules i).id (after s ws) ≡ true
 is_given_at s i ws n q e = required_given s.rules i (after s ws) (go s.subcommand_negates_reqs n (level_checked s [] nothing_held ws false [] e).1) q
   where
-    go : (t : Bool) → t ≡ false → (not (t && false) && list_any (λ a. a.required && not (is_given a.id (after s ws))) s.rules) ≡ false → list_any (λ a. a.required && not (is_given a.id (after s ws))) s.rules ≡ false
+    go : (t : Bool) → t ≡ false → (not (t && false) && list_any (λ a. a.required && not (is_given a.id (after s ws))) s.rules) ≡ false
+        → list_any (λ a. a.required && not (is_given a.id (after s ws))) s.rules ≡ false
     go true e f = absurd (true≢false e)
     go false e f = f
 
-pub text_at : (s : Shape) (i : ℕ) (ws : List Text) → is_one s.rules i ≡ true → s.subcommand_negates_reqs ≡ false → (rule_at s.rules i).required ≡ true → Passes s ws → HasText (rule_at s.rules i).id (after s ws)
+pub text_at : (s : Shape) (i : ℕ) (ws : List Text) → is_one s.rules i ≡ true → s.subcommand_negates_reqs ≡ false → (rule_at s.rules i).required ≡ true
+    → Passes s ws → HasText (rule_at s.rules i).id (after s ws)
 text_at s i ws h n q e = given_first (rule_at s.rules i) (after s ws) (rows_ok s i ws h e) (is_given_at s i ws n q e)
 
-pub number_at : (s : Shape) (i : ℕ) (ws : List Text) → is_one s.rules i ≡ true → s.subcommand_negates_reqs ≡ false → (rule_at s.rules i).required ≡ true → Passes s ws → is_some (one_of (rule_at s.rules i).id (after s ws)) ≡ true
+pub number_at : (s : Shape) (i : ℕ) (ws : List Text) → is_one s.rules i ≡ true → s.subcommand_negates_reqs ≡ false → (rule_at s.rules i).required ≡ true
+    → Passes s ws → is_some (one_of (rule_at s.rules i).id (after s ws)) ≡ true
 number_at s i ws h n q e = given_one (rule_at s.rules i) (after s ws) (rows_ok s i ws h e) (is_given_at s i ws n q e)
 
-pub texts_at : (s : Shape) (i : ℕ) (ws : List Text) → s.subcommand_negates_reqs ≡ false → (rule_at s.rules i).required ≡ true → Passes s ws → HasTexts (rule_at s.rules i).id (after s ws)
+pub texts_at : (s : Shape) (i : ℕ) (ws : List Text) → s.subcommand_negates_reqs ≡ false → (rule_at s.rules i).required ≡ true → Passes s ws
+    → HasTexts (rule_at s.rules i).id (after s ws)
 texts_at s i ws n q e = given_all (rule_at s.rules i).id (after s ws) (is_given_at s i ws n q e)
 
 -- the text that is read of an argument has what its parser sees to
-pub one_at : (P : Text → Type 0) (s : Shape) (i : ℕ) (ws : List Text) → is_one s.rules i ≡ true → reading_by (rule_at s.rules i) ≡ AsWritten → ((t : Text) → value_passes (rule_at s.rules i) t ≡ true → P t)
+pub one_at : (P : Text → Type 0) (s : Shape) (i : ℕ) (ws : List Text) → is_one s.rules i ≡ true → reading_by (rule_at s.rules i) ≡ AsWritten
+    → ((t : Text) → value_passes (rule_at s.rules i) t ≡ true → P t)
     → Passes s ws → IfSome (one_of (rule_at s.rules i).id (after s ws)) P
 one_at P s i ws h how weak e = go (one_of (rule_at s.rules i).id (after s ws)) (one_passes (rule_at s.rules i) (after s ws) how (rows_ok s i ws h e))
   where
@@ -225,7 +242,8 @@ abbrev pub Each : (Text × List Row → Type 0) → List Shape → Type 0
 Each Q [] = Unit
 Each Q (s ∷ ss) = ((ws : List Text) → Passes s ws → Q (rows_at s ws)) × Each Q ss
 
-pub entered_ok : (Q : Text × List Row → Type 0) (a : App) (stop : Option (Text × List Text)) → Each Q a.subs → entered_fault a stop ≡ [] → IfSome (entered a stop) Q
+pub entered_ok : (Q : Text × List Row → Type 0) (a : App) (stop : Option (Text × List Text)) → Each Q a.subs → entered_fault a stop ≡ []
+    → IfSome (entered a stop) Q
 entered_ok Q a None each e = tt
 entered_ok Q a (Some p) each e = go a.subs each e
   where

@@ -32,7 +32,8 @@ abbrev pub no_files : List Wanted
 no_files = []
 
 abbrev pub Builds : Build → HostState → HostState → Answer → Type 0
-Builds b old new a = Ends (wanted kind.Source (string_bytes b.source) ∷ []) (on_one (DecidesBuild b.fold (string_bytes b.source) (string_bytes b.object_file))) old new a
+Builds b old new a = Ends (wanted kind.Source (string_bytes b.source) ∷ [])
+    (on_one (DecidesBuild b.fold (string_bytes b.source) (string_bytes b.object_file))) old new a
 
 -- what each command comes to
 abbrev pub Does : Command → HostState → HostState → Answer → Type 0
@@ -43,7 +44,8 @@ Does (command.Build b) old new a = Builds b old new a
 Does (command.Exec e) old new a = Executes e old new a
 Does (command.Replay r) old new a = Replays r old new a
 Does (command.Dis object) old new a = Ends (wanted kind.Object (string_bytes object) ∷ []) (on_one (Disassembles (string_bytes object))) old new a
-Does (command.Asm m) old new a = Ends (wanted kind.Text (string_bytes m.text) ∷ []) (on_one (Assembles (string_bytes m.text) (string_bytes m.object_file))) old new a
+Does (command.Asm m) old new a = Ends (wanted kind.Text (string_bytes m.text) ∷ [])
+    (on_one (Assembles (string_bytes m.text) (string_bytes m.object_file))) old new a
 Does (command.Races r) old new a = Reports r old new a
 Does (command.Explain rule) old new a = Ends no_files (DecidesExplanation (string_bytes rule)) old new a
 

@@ -1,5 +1,6 @@
 -- Where a word stands last in a list.
-use Rattle.std.proofs.Common.{ℕ, ◌≡◌, ◌==◌, ◌||◌, suc, zero, Bool, true, false, cond, Option, Some, None, List, [], ◌∷◌, ◌++◌, length, drop, refl, ap, sym, ◌∙◌, add-one}
+use Rattle.std.proofs.Common.{ℕ, ◌≡◌, ◌==◌, ◌||◌, suc, zero, Bool, true, false, cond, Option, Some, None, List, [], ◌∷◌, ◌++◌, length, drop, refl, ap, sym, ◌∙◌}
+use Rattle.std.proofs.Common.{add-one}
 use Rattle.std.proofs.Math.Dec.{leb, leb-zero, leb-suc-zero, leb-suc-suc}
 use Rattle.std.specs.List.{list_any}
 use Rattle.std.specs.Option.{is_some}
@@ -10,7 +11,8 @@ pub last_push : (ws : List ℕ) (w word : ℕ) → last_position (ws ++ w ∷ []
 last_push [] w word = refl
 last_push (x ∷ xs) w word =
     ap (λ o. with_head o (x == word)) (last_push xs w word)
-    ∙ elim (w == word) as (λ b. with_head (cond b (Some (length xs)) (last_position xs word)) (x == word) ≡ cond b (Some (length (x ∷ xs))) (with_head (last_position xs word) (x == word))) [
+    ∙ elim (w == word) as (λ b. with_head (cond b (Some (length xs)) (last_position xs word)) (x == word) ≡ cond b (Some (length (x ∷ xs)))
+    (with_head (last_position xs word) (x == word))) [
       | true ↦ ap (λ n. Some n) (add-one (length xs))
       | false ↦ refl
     ]
@@ -30,7 +32,11 @@ is_since start None = false
 is_since start (Some position) = leb start position
 
 pub since_law : (start : ℕ) (ws : List ℕ) (word : ℕ) → list_any (λ w. w == word) (drop start ws) ≡ is_since start (last_position ws word)
-since_law zero ws word = any_is ws word ∙ elim (last_position ws word) as (λ o. is_some o ≡ is_since 0 o) [ None ↦ refl | Some position ↦ sym (leb-zero position) ]
+since_law zero ws word = any_is ws word ∙ elim (last_position ws word) as (λ o. is_some o ≡ is_since 0 o) [
+  | None ↦ refl
+  | Some position ↦ sym
+      (leb-zero position)
+]
 since_law (suc s) [] word = refl
 since_law (suc s) (x ∷ xs) word =
     since_law s xs word

@@ -1,5 +1,6 @@
 -- Lists of notes and of marks.
-use Rattle.std.proofs.Common.{ℕ, ◌≡◌, ◌==◌, ◌<◌, ◌≤◌, ◌+◌, ◌-◌, suc, zero, true, false, not, cond, Some, None, unwrap_or, option_map, List, [], ◌∷◌, ◌++◌, length, take, drop, map, get_or, refl, ap, sym, ◌∙◌, inl, inr, append_assoc, append-nil, add-one, drop-cons, length-drop, arith}
+use Rattle.std.proofs.Common.{ℕ, ◌≡◌, ◌==◌, ◌<◌, ◌≤◌, ◌+◌, ◌-◌, suc, zero, true, false, not, cond, Some, None, unwrap_or, option_map, List, [], ◌∷◌, ◌++◌}
+use Rattle.std.proofs.Common.{length, take, drop, map, get_or, refl, ap, sym, ◌∙◌, inl, inr, append_assoc, append-nil, add-one, drop-cons, length-drop, arith}
 use Rattle.std.proofs.Math.ListN.{set, length-set}
 use Rattle.std.proofs.Math.Path.{fun_ext}
 use Rattle.std.specs.List.{find}
@@ -21,10 +22,12 @@ pub put_push : (xs : List Note) (n : Note) (m : ℕ → ℕ) (x : ℕ) → put_b
 put_push [] n m x =
     elim (n.word == x) as (λ b. unwrap_or (option_map (λ (k : Note). k.old) (cond b (Some n) None)) (m x) ≡ cond b n.old (m x)) [ true ↦ refl | false ↦ refl ]
     ∙ ap (λ b. cond b n.old (m x)) (eqb_sym n.word x)
-put_push (y ∷ ys) n m x = elim (y.word == x) as (λ b. unwrap_or (option_map (λ (k : Note). k.old) (cond b (Some y) (find (λ (k : Note). k.word == x) (ys ++ n ∷ [])))) (m x) ≡ unwrap_or (option_map (λ (k : Note). k.old) (cond b (Some y) (find (λ (k : Note). k.word == x) ys))) (update m n.word n.old x)) [
-  | true ↦ refl
-  | false ↦ put_push ys n m x
-]
+put_push (y ∷ ys) n m x = elim (y.word == x) as (λ b. unwrap_or
+    (option_map (λ (k : Note). k.old) (cond b (Some y) (find (λ (k : Note). k.word == x) (ys ++ n ∷ [])))) (m x)
+    ≡ unwrap_or (option_map (λ (k : Note). k.old) (cond b (Some y) (find (λ (k : Note). k.word == x) ys))) (update m n.word n.old x)) [
+      | true ↦ refl
+      | false ↦ put_push ys n m x
+    ]
 
 -- the newest note is put back first
 pub put_back-push : (xs : List Note) (n : Note) (m : ℕ → ℕ) → put_back (xs ++ n ∷ []) m ≡ put_back xs (update m n.word n.old)
@@ -61,16 +64,19 @@ others-cons_other word x xs e = ap (λ b. cond (not b) (x ∷ others word xs) (o
 split_at : (xs : List Note) (position : ℕ) (x : Note) → position < length xs → x ≡ get_or xs position x → drop position xs ≡ x ∷ drop (position + 1) xs
 split_at xs position x l e = drop-cons xs position x l ∙ (ap (λ y. y ∷ drop (suc position) xs) (sym e) ∙ ap (λ n. x ∷ drop n xs) (sym (add-one position)))
 
-pub removes_skip : {word start : ℕ} {xs ys : List Note} {kept position : ℕ} (x : Note) → Removes word start xs ys kept position → position < length xs → x ≡ get_or ys position x → (x.word ≡ word) → Removes word start xs ys kept (position + 1)
+pub removes_skip : {word start : ℕ} {xs ys : List Note} {kept position : ℕ} (x : Note) → Removes word start xs ys kept position → position < length xs
+    → x ≡ get_or ys position x → (x.word ≡ word) → Removes word start xs ys kept (position + 1)
 removes_skip {word} {start} {xs} {ys} {kept} {position} x h l at e = record {
   behind = omega (arith, h.behind);
   within = omega (arith, l);
   long = h.long;
-  front = ap (λ r. take kept ys ++ r) (sym (ap (others word) (split_at xs position x l (at ∙ h.rest position x (omega arith))) ∙ others-cons_same word x (drop (position + 1) xs) (eq-eqb x.word word e))) ∙ h.front;
+  front = ap (λ r. take kept ys ++ r) (sym (ap (others word) (split_at xs position x l (at ∙ h.rest position x (omega arith))) ∙ others-cons_same word x
+      (drop (position + 1) xs) (eq-eqb x.word word e))) ∙ h.front;
   rest = λ k d m. h.rest k d (omega (arith, m));
 }
 
-pub removes_keep : {word start : ℕ} {xs ys : List Note} {kept position : ℕ} (x : Note) → Removes word start xs ys kept position → position < length xs → x ≡ get_or ys position x → (x.word ≡ word → ⊥) → Removes word start xs (set ys kept x) (kept + 1) (position + 1)
+pub removes_keep : {word start : ℕ} {xs ys : List Note} {kept position : ℕ} (x : Note) → Removes word start xs ys kept position → position < length xs
+    → x ≡ get_or ys position x → (x.word ≡ word → ⊥) → Removes word start xs (set ys kept x) (kept + 1) (position + 1)
 removes_keep {word} {start} {xs} {ys} {kept} {position} x h l at e =
     let below : kept < length ys = omega (arith, h.behind, l, h.long) in
     record {
@@ -79,12 +85,15 @@ removes_keep {word} {start} {xs} {ys} {kept} {position} x h l at e =
       long = length-set ys kept x ∙ h.long;
       front = ap (λ r. r ++ others word (drop (position + 1) xs)) (take_set ys kept x below)
           ∙ (append_assoc (take kept ys) (x ∷ []) (others word (drop (position + 1) xs))
-          ∙ (ap (λ r. take kept ys ++ r) (sym (ap (others word) (split_at xs position x l (at ∙ h.rest position x (omega arith))) ∙ others-cons_other word x (drop (position + 1) xs) (ne_eqb x.word word e))) ∙ h.front));
+          ∙ (ap (λ r. take kept ys ++ r) (sym (ap (others word) (split_at xs position x l (at ∙ h.rest position x (omega arith))) ∙ others-cons_other word x
+          (drop (position + 1) xs) (ne_eqb x.word word e))) ∙ h.front));
       rest = λ k d m. get_or-set_other ys kept k x d (λ q. absurd (omega (arith, q, m, h.behind))) ∙ h.rest k d (omega (arith, m));
     }
 
-pub removes_all : {word start : ℕ} {xs ys : List Note} {kept position : ℕ} → Removes word start xs ys kept position → length xs ≤ position → take kept ys ≡ take start xs ++ others word (drop start xs)
-removes_all {word} {start} {xs} {ys} {kept} {position} h l = sym (append-nil (take kept ys)) ∙ (ap (λ r. take kept ys ++ others word r) (sym (drop_past xs position l)) ∙ h.front)
+pub removes_all : {word start : ℕ} {xs ys : List Note} {kept position : ℕ} → Removes word start xs ys kept position → length xs ≤ position
+    → take kept ys ≡ take start xs ++ others word (drop start xs)
+removes_all {word} {start} {xs} {ys} {kept} {position} h l = sym (append-nil (take kept ys))
+    ∙ (ap (λ r. take kept ys ++ others word r) (sym (drop_past xs position l)) ∙ h.front)
 
 -- ys began as xs; the first i are mapped
 pub record Maps (f : ℕ → ℕ) (xs ys : List ℕ) (i : ℕ) : Type 0 where
@@ -105,7 +114,8 @@ take_more_notes (x ∷ xs) zero d h = refl
 take_more_notes (x ∷ xs) (suc i) d h = ap (λ r. x ∷ r) (take_more_notes xs i d (omega (arith, h)))
 
 -- a step of putting back, from the newest note on
-pub put_back_step : (notes : List Note) (left : ℕ) (d n : Note) (before after : ℕ → ℕ) → 0 < left → left ≤ length notes → n ≡ get_or notes (left - 1) d → after ≡ update before n.word n.old → put_back (take (left - 1) notes) after ≡ put_back (take left notes) before
+pub put_back_step : (notes : List Note) (left : ℕ) (d n : Note) (before after : ℕ → ℕ) → 0 < left → left ≤ length notes → n ≡ get_or notes (left - 1) d
+    → after ≡ update before n.word n.old → put_back (take (left - 1) notes) after ≡ put_back (take left notes) before
 put_back_step notes zero d n before after p h at e = absurd (omega (arith, p))
 put_back_step notes (suc i) d n before after p h at e =
     let same : suc i - 1 ≡ i = omega arith in
@@ -122,14 +132,18 @@ noted_access p (n ∷ ns) w h k =
       | inr r ↦ noted_access p ns w r all.1
     ]
 
-pub access_at : (p : MemoryLayout) (notes : List Note) (i : ℕ) (d : Note) → i < length notes → can_put_back p notes ≡ true → can_access p (get_or notes i d).word 8 ≡ true
+pub access_at : (p : MemoryLayout) (notes : List Note) (i : ℕ) (d : Note) → i < length notes → can_put_back p notes ≡ true
+    → can_access p (get_or notes i d).word 8 ≡ true
 access_at p notes i d l all = and_at (can_put_back p) (λ (n : Note). can_access p n.word 8) refl (λ x ys. refl) notes i d l all
 
 one_more : (word : ℕ) (n : Note) (xs : List Note) → length (others word xs) ≤ length (others word (n ∷ xs))
-one_more word n xs = elim (not (n.word == word)) as (λ b. length (others word xs) ≤ length (cond b (n ∷ others word xs) (others word xs))) [ true ↦ omega arith | false ↦ omega arith ]
+one_more word n xs = elim (not (n.word == word)) as (λ b. length (others word xs) ≤ length
+    (cond b (n ∷ others word xs) (others word xs))) [ true ↦ omega arith | false ↦ omega arith ]
 
-longer : (word : ℕ) (n : Note) (xs ys : List Note) → length (others word xs) ≤ length (others word ys) → length (others word (n ∷ xs)) ≤ length (others word (n ∷ ys))
-longer word n xs ys h = elim (not (n.word == word)) as (λ b. length (cond b (n ∷ others word xs) (others word xs)) ≤ length (cond b (n ∷ others word ys) (others word ys))) [ true ↦ omega (arith, h) | false ↦ h ]
+longer : (word : ℕ) (n : Note) (xs ys : List Note) → length (others word xs) ≤ length (others word ys)
+    → length (others word (n ∷ xs)) ≤ length (others word (n ∷ ys))
+longer word n xs ys h = elim (not (n.word == word)) as (λ b. length (cond b (n ∷ others word xs) (others word xs)) ≤ length
+    (cond b (n ∷ others word ys) (others word ys))) [ true ↦ omega (arith, h) | false ↦ h ]
 
 -- more notes have no fewer of other words
 pub others_below : (word : ℕ) (notes : List Note) (a b : ℕ) → a ≤ b → length (others word (take a notes)) ≤ length (others word (take b notes))
@@ -155,14 +169,27 @@ length_map : (f : ℕ → ℕ) (xs : List ℕ) → length (map f xs) ≡ length 
 length_map f [] = refl
 length_map f (x ∷ xs) = omega (arith, length_map f xs)
 
-pub marks_within : (word : ℕ) (notes : List Note) (marks : List ℕ) (i : ℕ) → i < length (map (moved_to word notes) marks) → get_or (map (moved_to word notes) marks) i 0 ≤ length (others word notes)
+pub marks_within : (word : ℕ) (notes : List Note) (marks : List ℕ) (i : ℕ) → i < length (map (moved_to word notes) marks)
+    → get_or (map (moved_to word notes) marks) i 0 ≤ length (others word notes)
 marks_within word notes marks i h =
-    omega (arith, index-map (moved_to word notes) marks i (omega (arith, h, length_map (moved_to word notes) marks)), others_within word notes (get_or marks i 0))
+    omega (
+      arith,
+      index-map (moved_to word notes) marks i (omega (arith, h, length_map (moved_to word notes) marks)),
+      others_within word notes
+          (get_or marks i 0),
+    )
 
-pub marks_ascending : (word : ℕ) (notes : List Note) (marks : List ℕ) → ((i j : ℕ) → i ≤ j → j < length marks → get_or marks i 0 ≤ get_or marks j 0) → (i j : ℕ) → i ≤ j → j < length (map (moved_to word notes) marks) → get_or (map (moved_to word notes) marks) i 0 ≤ get_or (map (moved_to word notes) marks) j 0
+pub marks_ascending : (word : ℕ) (notes : List Note) (marks : List ℕ) → ((i j : ℕ) → i ≤ j → j < length marks → get_or marks i 0 ≤ get_or marks j 0) → (i j : ℕ)
+    → i ≤ j → j < length (map (moved_to word notes) marks) → get_or (map (moved_to word notes) marks) i 0 ≤ get_or (map (moved_to word notes) marks) j 0
 marks_ascending word notes marks up i j l h =
     let last : j < length marks = omega (arith, h, length_map (moved_to word notes) marks) in
-    omega (arith, index-map (moved_to word notes) marks i (omega (arith, l, last)), index-map (moved_to word notes) marks j last, others_below word notes (get_or marks i 0) (get_or marks j 0) (up i j l last))
+    omega (
+      arith,
+      index-map (moved_to word notes) marks i (omega (arith, l, last)),
+      index-map (moved_to word notes) marks j last,
+      others_below word notes
+          (get_or marks i 0) (get_or marks j 0) (up i j l last),
+    )
 
 take_past : (xs : List Note) (n : ℕ) → length xs ≤ n → take n xs ≡ xs
 take_past [] zero h = refl
@@ -186,6 +213,7 @@ fewer [] (suc n) = omega arith
 fewer (m ∷ ms) (suc n) = omega (arith, fewer ms n)
 
 -- the oldest marks ascend as all do
-pub ascending_cut : (marks : List ℕ) (n : ℕ) → ((i j : ℕ) → i ≤ j → j < length marks → get_or marks i 0 ≤ get_or marks j 0) → (i j : ℕ) → i ≤ j → j < length (take n marks) → get_or (take n marks) i 0 ≤ get_or (take n marks) j 0
+pub ascending_cut : (marks : List ℕ) (n : ℕ) → ((i j : ℕ) → i ≤ j → j < length marks → get_or marks i 0 ≤ get_or marks j 0) → (i j : ℕ) → i ≤ j
+    → j < length (take n marks) → get_or (take n marks) i 0 ≤ get_or (take n marks) j 0
 ascending_cut marks n up i j l h =
     omega (arith, mark_at marks n i (omega (arith, l, h)), mark_at marks n j h, up i j l (omega (arith, h, fewer marks n)))

@@ -1,5 +1,7 @@
 -- Lists of notes in order of their words, and words that are noted once.
-use Rattle.std.proofs.Common.{ℕ, ◌≡◌, ◌==◌, ◌<◌, ◌≤◌, ◌+◌, ◌-◌, suc, zero, Bool, true, false, not, cond, Option, Some, None, option_map, List, [], ◌∷◌, ◌++◌, length, take, drop, reverse, map, get_or, refl, ap, sym, subst, ◌∙◌, inl, inr, length-drop, length-append, get_or-drop, get_or-take, take-append-drop, take-take, drop-drop, arith}
+use Rattle.std.proofs.Common.{ℕ, ◌≡◌, ◌==◌, ◌<◌, ◌≤◌, ◌+◌, ◌-◌, suc, zero, Bool, true, false, not, cond, Option, Some, None, option_map, List, [], ◌∷◌, ◌++◌}
+use Rattle.std.proofs.Common.{length, take, drop, reverse, map, get_or, refl, ap, sym, subst, ◌∙◌, inl, inr, length-drop, length-append, get_or-drop}
+use Rattle.std.proofs.Common.{get_or-take, take-append-drop, take-take, drop-drop, arith}
 use Rattle.std.specs.Prelude.{All, IfSome, ◌||◌, sum_by}
 use Rattle.std.specs.List.{slice_get}
 use Rattle.std.specs.List.Sorted.{IsPermutation, IsNonDecreasingBy}
@@ -27,7 +29,8 @@ not_noted : (ns : List Note) (w : ℕ) → times_noted ns w ≡ 0 → is_noted n
 not_noted [] w h = refl
 not_noted (n ∷ ns) w h = elim (cases_Bool (n.word == w)) [
   | inl e ↦ let here : is_of w n ≡ 1 = ap (λ b. cond b 1 0) e in absurd (omega (arith, here, sum_by-cons (is_of w) n ns, h))
-  | inr e ↦ ap (λ b. b || is_noted ns w) e ∙ not_noted ns w (let here : is_of w n ≡ 0 = ap (λ b. cond b 1 0) e in omega (arith, here, sum_by-cons (is_of w) n ns, h))
+  | inr e ↦ ap (λ b. b || is_noted ns w) e ∙ not_noted ns w
+      (let here : is_of w n ≡ 0 = ap (λ b. cond b 1 0) e in omega (arith, here, sum_by-cons (is_of w) n ns, h))
 ]
 
 -- the rest of a list has no more of them
@@ -65,7 +68,8 @@ times_push ns n zero w = omega (arith, sum_by_push (is_of w) ns n)
 times_push [] n (suc k) w = subst (λ z. times_noted z w ≤ times_noted [] w + is_of w n) (sym (drop_none k)) (omega arith)
 times_push (x ∷ xs) n (suc k) w = times_push xs n k w
 
-pub once_new : (ns : List Note) (n : Note) (d : ℕ) → ((w : ℕ) → times_noted (drop d ns) w ≤ 1) → is_noted (drop d ns) n.word ≡ false → (w : ℕ) → times_noted (drop d (ns ++ n ∷ [])) w ≤ 1
+pub once_new : (ns : List Note) (n : Note) (d : ℕ) → ((w : ℕ) → times_noted (drop d ns) w ≤ 1) → is_noted (drop d ns) n.word ≡ false → (w : ℕ)
+    → times_noted (drop d (ns ++ n ∷ [])) w ≤ 1
 once_new ns n d once none w = elim (cases_Bool (n.word == w)) [
   | inl e ↦
       let here : is_of w n ≡ 1 = ap (λ b. cond b 1 0) e in
@@ -77,7 +81,8 @@ once_new ns n d once none w = elim (cases_Bool (n.word == w)) [
 ]
 
 -- a word that is noted since d, and not since s, stands before s
-pub once_again : (ns : List Note) (n : Note) (d s : ℕ) → ((w : ℕ) → times_noted (drop d ns) w ≤ 1) → is_noted (drop d ns) n.word ≡ true → is_noted (drop s ns) n.word ≡ false → (w : ℕ) → times_noted (drop s (ns ++ n ∷ [])) w ≤ 1
+pub once_again : (ns : List Note) (n : Note) (d s : ℕ) → ((w : ℕ) → times_noted (drop d ns) w ≤ 1) → is_noted (drop d ns) n.word ≡ true
+    → is_noted (drop s ns) n.word ≡ false → (w : ℕ) → times_noted (drop s (ns ++ n ∷ [])) w ≤ 1
 once_again ns n d s once there none w = elim (cases_lt s d) [
   | inl l ↦
       let nothing : times_noted (drop d ns) n.word ≡ 0 = omega (arith, times_later ns s d n.word (omega (arith, l)), none_times (drop s ns) n.word none) in
@@ -99,7 +104,8 @@ descends_past ns n k e = nothing_descends (drop k (ns ++ n ∷ [])) (drop_end ns
 
 pub descends_later : (ns : List Note) (s k : ℕ) → s ≤ k → IsDescending (drop s ns) → IsDescending (drop k ns)
 descends_later ns s k h down i j d le l =
-    let at : (m : ℕ) → get_or (drop k ns) m d ≡ get_or (drop s ns) (k - s + m) d = λ m. get_or-drop k ns m d ∙ (ap (λ z. get_or ns z d) (omega (arith, h)) ∙ sym (get_or-drop s ns (k - s + m) d)) in
+    let at : (m : ℕ) → get_or (drop k ns) m d ≡ get_or (drop s ns) (k - s + m) d = λ m. get_or-drop k ns m d
+    ∙ (ap (λ z. get_or ns z d) (omega (arith, h)) ∙ sym (get_or-drop s ns (k - s + m) d)) in
     let step = down (k - s + i) (k - s + j) d (omega (arith, le)) (omega (arith, l, h, length-drop k ns, length-drop s ns)) in
     omega (arith, step, ap (λ (n : Note). n.word) (at i), ap (λ (n : Note). n.word) (at j))
 
@@ -119,7 +125,13 @@ descends_cut ns s k down = subst IsDescending (sym (drop_take ns s k)) (λ i j d
     let rest = drop s ns in
     let short : j < m = omega (arith, l, shorter rest m) in
     let long : j < length rest = omega (arith, l, no_longer rest m) in
-    omega (arith, down i j d le long, ap (λ (n : Note). n.word) (get_or-take m rest i d (omega (arith, le, short))), ap (λ (n : Note). n.word) (get_or-take m rest j d short)))
+    omega (
+      arith,
+      down i j d le long,
+      ap (λ (n : Note). n.word) (get_or-take m rest i d (omega (arith, le, short))),
+      ap (λ (n : Note). n.word)
+          (get_or-take m rest j d short),
+    ))
 
 -- the words rise, and turned round they fall
 pub turned_round : (xs ys : List Note) → IsNonDecreasingBy (λ n. n.word) xs → ys ≡ reverse xs → length ys ≡ length xs → IsDescending ys
@@ -167,13 +179,15 @@ noted_push (x ∷ xs) n w e = ap (λ b. (x.word == w) || b) (noted_push xs n w e
 pub last_noted : (ns : List Note) (last : Note) (w : ℕ) → slice_get ns (length ns - 1) ≡ Some last → last.word ≡ w → is_noted ns w ≡ true
 last_noted ns last w h e = ap (λ z. is_noted z w) (split_last ns last h) ∙ noted_push (take (length ns - 1) ns) last w e
 
-pub noted_by : (ns : List Note) (o : Option Note) (r : Option ℕ) → slice_get ns (length ns - 1) ≡ o → r ≡ option_map (λ n. n.word) o → IfSome r (λ w. is_noted ns w ≡ true)
+pub noted_by : (ns : List Note) (o : Option Note) (r : Option ℕ) → slice_get ns (length ns - 1) ≡ o → r ≡ option_map (λ n. n.word) o
+    → IfSome r (λ w. is_noted ns w ≡ true)
 noted_by ns None None h e = tt
 noted_by ns None (Some w) h e = absurd (none-some w (sym e))
 noted_by ns (Some last) None h e = absurd (none-some last.word e)
 noted_by ns (Some last) (Some w) h e = last_noted ns last w h (sym (same_Some w last.word e))
 
-pub least_by : (ns : List Note) (o : Option Note) (r : Option ℕ) → IsDescending ns → slice_get ns (length ns - 1) ≡ o → r ≡ option_map (λ n. n.word) o → IfSome r (λ w. All (λ n. w ≤ n.word) ns)
+pub least_by : (ns : List Note) (o : Option Note) (r : Option ℕ) → IsDescending ns → slice_get ns (length ns - 1) ≡ o → r ≡ option_map (λ n. n.word) o
+    → IfSome r (λ w. All (λ n. w ≤ n.word) ns)
 least_by ns None None down h e = tt
 least_by ns None (Some w) down h e = absurd (none-some w (sym e))
 least_by ns (Some last) None down h e = absurd (none-some last.word e)
@@ -206,20 +220,30 @@ others_push (x ∷ xs) n w h e =
     let both = or_parts (x.word == w) (is_noted xs w) h in
     ap (λ b. cond (not b) (x ∷ others w (xs ++ n ∷ [])) (others w (xs ++ n ∷ []))) both.0 ∙ ap (λ z. x ∷ z) (others_push xs n w both.1 e)
 
-pub ends : (start word : ℕ) (ns : List Note) (last : Note) → start < length ns → slice_get ns (length ns - 1) ≡ Some last → last.word ≡ word → ((w : ℕ) → times_noted (drop start ns) w ≤ 1) → EndsIn start word ns
+pub ends : (start word : ℕ) (ns : List Note) (last : Note) → start < length ns → slice_get ns (length ns - 1) ≡ Some last → last.word ≡ word
+    → ((w : ℕ) → times_noted (drop start ns) w ≤ 1) → EndsIn start word ns
 ends start word ns last some h e once =
     let rest = take (length ns - 1) ns in
     let split : ns ≡ rest ++ last ∷ [] = split_last ns last h in
     let long : length rest + 1 ≡ length ns = omega (arith, ap length split, length-append rest (last ∷ [])) in
     let newer : drop start ns ≡ drop start rest ++ last ∷ [] = ap (drop start) split ∙ drop-append-le start rest (last ∷ []) (omega (arith, some, long)) in
     let here : is_of word last ≡ 1 = ap (λ b. cond b 1 0) (eq-eqb last.word word e) in
-    let none : is_noted (drop start rest) word ≡ false = not_noted (drop start rest) word (omega (arith, once word, ap (λ z. times_noted z word) newer, sum_by_push (is_of word) (drop start rest) last, here)) in
+    let none : is_noted (drop start rest) word ≡ false =
+    not_noted (drop start rest) word (omega (
+      arith,
+      once word,
+      ap (λ z. times_noted z word) newer,
+      sum_by_push (is_of word) (drop start rest) last,
+      here,
+    )) in
     record {
       some = some;
       before = none;
       rest = ap (λ z. take start ns ++ z) (ap (others word) newer ∙ others_push (drop start rest) last word none e)
-          ∙ (ap (λ z. z ++ drop start rest) (ap (take start) split ∙ take-append-le start rest (last ∷ []) (omega (arith, some, long))) ∙ take-append-drop start rest);
-      first = λ d. ap (λ z. first_note z word) newer ∙ (first_push (drop start rest) last word none e ∙ ap (λ (n : Note). Some n.old) (sym (read_last ns last h d (omega (arith, some)))));
+          ∙ (ap (λ z. z ++ drop start rest) (ap (take start) split ∙ take-append-le start rest (last ∷ []) (omega (arith, some, long)))
+          ∙ take-append-drop start rest);
+      first = λ d. ap (λ z. first_note z word) newer ∙
+          (first_push (drop start rest) last word none e ∙ ap (λ (n : Note). Some n.old) (sym (read_last ns last h d (omega (arith, some)))));
     }
 
 -- a list that does not note the word keeps its length without it
@@ -245,21 +269,29 @@ unnoted_long w ns m h l = ap length (others_none (take m ns) w (none_in_front ns
 pub ended_long : (w : ℕ) (ns : List Note) (m : ℕ) → EndsIn 0 w ns → m < length ns → length (others w (take m ns)) ≡ m
 ended_long w ns m h l =
     let k = length ns - 1 in
-    ap (λ z. length (others w z)) (sym (take-take m k ns (omega (arith, l)))) ∙ unnoted_long w (take k ns) m h.before (omega (arith, l, take_long ns k (omega arith)))
+    ap (λ z. length (others w z)) (sym (take-take m k ns (omega (arith, l))))
+    ∙ unnoted_long w (take k ns) m h.before (omega (arith, l, take_long ns k (omega arith)))
 
 map_same : (f : ℕ → ℕ) (xs : List ℕ) → ((i : ℕ) → i < length xs → f (get_or xs i 0) ≡ get_or xs i 0) → map f xs ≡ xs
 map_same f [] h = refl
 map_same f (x ∷ xs) h = ap (λ z. z ∷ map f xs) (h 0 (omega arith)) ∙ ap (λ z. x ∷ z) (map_same f xs (λ i l. h (suc i) (omega (arith, l))))
 
-pub marks_unnoted : (w : ℕ) (ns : List Note) (marks : List ℕ) → is_noted ns w ≡ false → ((i : ℕ) → i < length marks → get_or marks i 0 ≤ length ns) → marks ≡ map (λ m. length (others w (take m ns))) marks
+pub marks_unnoted : (w : ℕ) (ns : List Note) (marks : List ℕ) → is_noted ns w ≡ false → ((i : ℕ) → i < length marks → get_or marks i 0 ≤ length ns)
+    → marks ≡ map (λ m. length (others w (take m ns))) marks
 marks_unnoted w ns marks h within = sym (map_same (λ m. length (others w (take m ns))) marks (λ i l. unnoted_long w ns (get_or marks i 0) h (within i l)))
 
-pub marks_ended : (w : ℕ) (ns : List Note) (marks : List ℕ) → EndsIn 0 w ns → ((i j : ℕ) → i ≤ j → j < length marks → get_or marks i 0 ≤ get_or marks j 0) → get_or marks (length marks - 1) 0 < length ns → marks ≡ map (λ m. length (others w (take m ns))) marks
-marks_ended w ns marks h up last = sym (map_same (λ m. length (others w (take m ns))) marks (λ i l. ended_long w ns (get_or marks i 0) h (omega (arith, last, up i (length marks - 1) (omega (arith, l)) (omega (arith, l))))))
+pub marks_ended : (w : ℕ) (ns : List Note) (marks : List ℕ) → EndsIn 0 w ns → ((i j : ℕ) → i ≤ j → j < length marks → get_or marks i 0 ≤ get_or marks j 0)
+    → get_or marks (length marks - 1) 0 < length ns → marks ≡ map (λ m. length (others w (take m ns))) marks
+marks_ended w ns marks h up last = sym (map_same (λ m. length (others w (take m ns))) marks
+    (λ i l. ended_long w ns (get_or marks i 0) h (omega (arith, last, up i (length marks - 1) (omega (arith, l)) (omega (arith, l))))))
 
 pub others_fewer : (w : ℕ) (ns : List Note) → length (others w ns) ≤ length ns
 others_fewer w [] = omega arith
-others_fewer w (n ∷ ns) = elim (not (n.word == w)) as (λ b. length (cond b (n ∷ others w ns) (others w ns)) ≤ suc (length ns)) [ true ↦ omega (arith, others_fewer w ns) | false ↦ omega (arith, others_fewer w ns) ]
+others_fewer w (n ∷ ns) = elim (not (n.word == w)) as (λ b. length (cond b (n ∷ others w ns) (others w ns)) ≤ suc (length ns)) [
+  | true ↦ omega
+      (arith, others_fewer w ns)
+  | false ↦ omega (arith, others_fewer w ns)
+]
 
 -- the first note of each word, where none is noted twice
 

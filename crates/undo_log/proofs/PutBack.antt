@@ -1,5 +1,6 @@
 -- What putting back comes to.
-use Rattle.std.proofs.Common.{ℕ, ◌≡◌, ◌==◌, ◌||◌, Bool, true, false, not, cond, Option, Some, None, unwrap_or, option_map, List, [], ◌∷◌, ◌++◌, refl, ap, sym, ◌∙◌, inl, inr}
+use Rattle.std.proofs.Common.{ℕ, ◌≡◌, ◌==◌, ◌||◌, Bool, true, false, not, cond, Option, Some, None, unwrap_or, option_map, List, [], ◌∷◌, ◌++◌, refl, ap, sym}
+use Rattle.std.proofs.Common.{◌∙◌, inl, inr}
 use Rattle.std.proofs.Math.Path.{fun_ext}
 use Rattle.std.specs.List.{find}
 use Rattle.std.proofs.lemmas.Bool.{eqb-true, eqb-false, eq-eqb, ne_eqb, cases_Bool, cases_eq, or_parts, false≢true, true≢false}
@@ -12,7 +13,8 @@ abbrev pub first_by : Bool → Note → Option ℕ → Option ℕ
 first_by b n rest = cond b (Some n.old) rest
 
 pub first-cons : (n : Note) (ns : List Note) (x : ℕ) → first_note (n ∷ ns) x ≡ first_by (n.word == x) n (first_note ns x)
-first-cons n ns x = elim (n.word == x) as (λ b. option_map (λ (k : Note). k.old) (cond b (Some n) (find (λ (k : Note). k.word == x) ns)) ≡ cond b (Some n.old) (first_note ns x)) [ true ↦ refl | false ↦ refl ]
+first-cons n ns x = elim (n.word == x) as (λ b. option_map (λ (k : Note). k.old) (cond b (Some n) (find (λ (k : Note). k.word == x) ns)) ≡ cond b (Some n.old)
+    (first_note ns x)) [ true ↦ refl | false ↦ refl ]
 
 -- a word is noted exactly where it has a first note
 pub first_is : (notes : List Note) (x : ℕ) → is_noted notes x ≡ true → (v : ℕ) × (first_note notes x ≡ Some v)
@@ -38,7 +40,8 @@ noted_law notes then now word holds h =
 pub untouched_law : (notes : List Note) (now : ℕ → ℕ) (word : ℕ) → is_noted notes word ≡ false → put_back notes now word ≡ now word
 untouched_law notes now word h = ap (λ o. unwrap_or o (now word)) (first_none notes word h)
 
-store_at : (notes : List Note) (memory : ℕ → ℕ) (word value x : ℕ) → put_back (noted_too notes word (memory word)) (update memory word value) x ≡ put_back notes memory x
+store_at : (notes : List Note) (memory : ℕ → ℕ) (word value x : ℕ)
+    → put_back (noted_too notes word (memory word)) (update memory word value) x ≡ put_back notes memory x
 store_at notes memory word value x = elim (cases_Bool (is_noted notes word)) [
   | inl e ↦
       ap (λ b. put_back (cond b notes (notes ++ record { word = word; old = memory word } ∷ [])) (update memory word value) x) e
@@ -47,7 +50,8 @@ store_at notes memory word value x = elim (cases_Bool (is_noted notes word)) [
         | inr k ↦
             let none = first_none notes x k in
             ap (λ o. unwrap_or o (update memory word value x)) none
-            ∙ (ap (λ b. cond b value (memory x)) (ne_eqb x word (λ q. true≢false (sym e ∙ (ap (is_noted notes) (sym q) ∙ k)))) ∙ sym (ap (λ o. unwrap_or o (memory x)) none))
+            ∙ (ap (λ b. cond b value (memory x)) (ne_eqb x word (λ q. true≢false (sym e ∙ (ap (is_noted notes) (sym q) ∙ k))))
+            ∙ sym (ap (λ o. unwrap_or o (memory x)) none))
       ]
   | inr e ↦
       ap (λ b. put_back (cond b notes (notes ++ record { word = word; old = memory word } ∷ [])) (update memory word value) x) e
@@ -58,14 +62,16 @@ store_at notes memory word value x = elim (cases_Bool (is_noted notes word)) [
       ]))
 ]
 
-pub store_law : (notes : List Note) (memory : ℕ → ℕ) (word value : ℕ) → put_back (noted_too notes word (memory word)) (update memory word value) ≡ put_back notes memory
+pub store_law : (notes : List Note) (memory : ℕ → ℕ) (word value : ℕ)
+    → put_back (noted_too notes word (memory word)) (update memory word value) ≡ put_back notes memory
 store_law notes memory word value = fun_ext (store_at notes memory word value)
 
 parts_at : (older newer : List Note) (memory : ℕ → ℕ) (x : ℕ) → put_back (older ++ newer) memory x ≡ put_back older (put_back newer memory) x
 parts_at [] newer memory x = refl
 parts_at (n ∷ ns) newer memory x =
     ap (λ o. unwrap_or o (memory x)) (first-cons n (ns ++ newer) x)
-    ∙ (elim (n.word == x) as (λ b. unwrap_or (first_by b n (first_note (ns ++ newer) x)) (memory x) ≡ unwrap_or (first_by b n (first_note ns x)) (put_back newer memory x)) [
+    ∙ (elim (n.word == x) as (λ b. unwrap_or (first_by b n (first_note (ns ++ newer) x)) (memory x) ≡ unwrap_or (first_by b n (first_note ns x))
+    (put_back newer memory x)) [
       | true ↦ refl
       | false ↦ parts_at ns newer memory x
     ]
@@ -82,15 +88,19 @@ first_others (n ∷ ns) word x = elim (cases_Bool (n.word == word)) [
       ap (λ b. first_note (cond (not b) (n ∷ others word ns) (others word ns)) x) e
       ∙ (first_others ns word x ∙ elim (cases_Bool (word == x)) [
         | inl q ↦ ap (λ b. cond b None (first_note ns x)) q ∙ sym (ap (λ b. cond b None (first_note (n ∷ ns) x)) q)
-        | inr q ↦ ap (λ b. cond b None (first_note ns x)) q ∙ sym (ap (λ b. cond b None (first_note (n ∷ ns) x)) q ∙ (first-cons n ns x ∙ ap (λ b. first_by b n (first_note ns x)) (ap (λ a. a == x) (eqb-true n.word word e) ∙ q)))
+        | inr q ↦ ap (λ b. cond b None (first_note ns x)) q
+            ∙ sym (ap (λ b. cond b None (first_note (n ∷ ns) x)) q ∙
+            (first-cons n ns x ∙ ap (λ b. first_by b n (first_note ns x)) (ap (λ a. a == x) (eqb-true n.word word e) ∙ q)))
       ])
   | inr e ↦
       ap (λ b. first_note (cond (not b) (n ∷ others word ns) (others word ns)) x) e
       ∙ (first-cons n (others word ns) x ∙ (ap (first_by (n.word == x) n) (first_others ns word x) ∙ elim (cases_Bool (word == x)) [
         | inl q ↦
             let other : (n.word == x) ≡ false = ne_eqb n.word x (λ z. eqb-false n.word word e (z ∙ sym (eqb-true word x q))) in
-            ap (λ b. first_by b n (cond (word == x) None (first_note ns x))) other ∙ (ap (λ b. cond b None (first_note ns x)) q ∙ sym (ap (λ b. cond b None (first_note (n ∷ ns) x)) q))
-        | inr q ↦ ap (λ b. first_by (n.word == x) n (cond b None (first_note ns x))) q ∙ (sym (first-cons n ns x) ∙ sym (ap (λ b. cond b None (first_note (n ∷ ns) x)) q))
+            ap (λ b. first_by b n (cond (word == x) None (first_note ns x))) other
+            ∙ (ap (λ b. cond b None (first_note ns x)) q ∙ sym (ap (λ b. cond b None (first_note (n ∷ ns) x)) q))
+        | inr q ↦ ap (λ b. first_by (n.word == x) n (cond b None (first_note ns x))) q
+            ∙ (sym (first-cons n ns x) ∙ sym (ap (λ b. cond b None (first_note (n ∷ ns) x)) q))
       ]))
 ]
 
@@ -102,7 +112,8 @@ back_other : (o : Option ℕ) (word x : ℕ) (memory : ℕ → ℕ) → (x == wo
 back_other None word x memory e = refl
 back_other (Some v) word x memory e = ap (λ b. cond b v (memory x)) e
 
-by_word_at : (notes : List Note) (memory : ℕ → ℕ) (word x : ℕ) → put_back (others word notes) (word_back (first_note notes word) word memory) x ≡ put_back notes memory x
+by_word_at : (notes : List Note) (memory : ℕ → ℕ) (word x : ℕ)
+    → put_back (others word notes) (word_back (first_note notes word) word memory) x ≡ put_back notes memory x
 by_word_at notes memory word x = ap (λ o. unwrap_or o (word_back (first_note notes word) word memory x)) (first_others notes word x) ∙ elim (cases_eq word x) [
   | inl e ↦
       ap (λ b. unwrap_or (cond b None (first_note notes x)) (word_back (first_note notes word) word memory x)) (eq-eqb word x e)
@@ -112,5 +123,6 @@ by_word_at notes memory word x = ap (λ o. unwrap_or o (word_back (first_note no
       ∙ ap (unwrap_or (first_note notes x)) (back_other (first_note notes word) word x memory (ne_eqb x word (λ e. d (sym e))))
 ]
 
-pub by_word_law : (notes : List Note) (memory : ℕ → ℕ) (word : ℕ) → put_back (others word notes) (word_back (first_note notes word) word memory) ≡ put_back notes memory
+pub by_word_law : (notes : List Note) (memory : ℕ → ℕ) (word : ℕ)
+    → put_back (others word notes) (word_back (first_note notes word) word memory) ≡ put_back notes memory
 by_word_law notes memory word = fun_ext (by_word_at notes memory word)

@@ -1,5 +1,6 @@
 -- The entries of a unit's object: what it defines and refers to.
-use Rattle.std.specs.Prelude.{ℕ, zero, suc, ◌+◌, Bool, true, false, not, ◌&&◌, ◌||◌, nat_eq, cond, codes, List, [], ◌∷◌, ◌++◌, map, length, slice_get, Option, Some, None, is_some, unwrap_or, option_map}
+use Rattle.std.specs.Prelude.{ℕ, zero, suc, ◌+◌, Bool, true, false, not, ◌&&◌, ◌||◌, nat_eq, cond, codes, List, [], ◌∷◌, ◌++◌, map, length, slice_get, Option}
+use Rattle.std.specs.Prelude.{Some, None, is_some, unwrap_or, option_map}
 use Rattle.std.specs.Option.{option_map_or}
 use Rattle.cpp_tree.specs.cpp_types.Typ.{Typ, typ, func, Signature, signature}
 use Rattle.cpp_tree.specs.cpp_types.Class.{Class, Member, Function}
@@ -78,7 +79,22 @@ frame_of classes f = cond (is_some f.body) (frame_size (item_extents classes f.f
 
 -- of a function with this index; these of the unit's functions are safe
 abbrev pub func_entry_of : List Class → List Definition → Marks → List Bool → ℕ → Func → FuncRecord
-func_entry_of classes defs marks safe i f = record { entry = record { symbol = f.symbol; ty = type_text classes f.class f.kind f.declared.signature; linkage = linkage_number f.linkage; defined = is_some f.body; text = inline_text defs f; wanted_safe = is_promised f.declared || is_set marks.wanted i; safe = is_some f.body && is_set safe i }; no_except = f.declared.no_except; frame = frame_of classes f }
+func_entry_of classes defs marks safe i f = record {
+  entry =
+      record {
+        symbol = f.symbol;
+        ty = type_text classes f.class f.kind f.declared.signature;
+        linkage = linkage_number f.linkage;
+        defined = is_some f.body;
+        text =
+            inline_text defs f;
+        wanted_safe = is_promised f.declared || is_set marks.wanted i;
+        safe = is_some f.body && is_set safe i;
+      };
+  no_except =
+      f.declared.no_except;
+  frame = frame_of classes f;
+}
 
 -- what is defined has an entry, and what is referred to and is not pure
 abbrev pub has_entry : Marks → ℕ → Func → Bool
@@ -116,7 +132,20 @@ abbrev pub cell_entry_of : Cell → CellRecord
 cell_entry_of c = record { offset = c.offset; size = c.size; what = kind_number c.what; value = c.value; symbol = cell_symbol c.what c.symbol }
 
 abbrev pub global_entry_of : List Class → Global → GlobalRecord
-global_entry_of classes g = record { entry = record { symbol = g.symbol; ty = spelling classes g.typ; linkage = global_linkage g.linkage; defined = g.defined; text = None; wanted_safe = false; safe = false }; size = cond g.defined (extent_of classes g.typ).size 0; cells = cond g.defined (map cell_entry_of g.init) [] }
+global_entry_of classes g = record {
+  entry = record {
+    symbol = g.symbol;
+    ty = spelling classes g.typ;
+    linkage = global_linkage g.linkage;
+    defined = g.defined;
+    text = None;
+    wanted_safe = false;
+    safe = false;
+  };
+  size = cond g.defined (extent_of classes g.typ).size 0;
+  cells =
+      cond g.defined (map cell_entry_of g.init) [];
+}
 
 -- what is defined has an entry, and what is referred to
 abbrev pub global_entries_at : List Class → Marks → ℕ → Global → List GlobalRecord
@@ -148,7 +177,8 @@ end_of_base classes (Some b) = next_multiple (class_extent classes b).size 8
 -- behind the base of the first class of a chain of so many bases that has the class pointer
 abbrev pub pointer_from : ℕ → List Class → ℕ → ℕ
 pointer_from zero classes n = no_pointer
-pointer_from (suc most) classes n = cond (has_class_pointer classes n) (end_of_base classes (class_at classes n).base) (option_map_or (λ (b : ℕ). pointer_from most classes b) (class_at classes n).base no_pointer)
+pointer_from (suc most) classes n = cond (has_class_pointer classes n) (end_of_base classes (class_at classes n).base)
+    (option_map_or (λ (b : ℕ). pointer_from most classes b) (class_at classes n).base no_pointer)
 
 abbrev pub pointer_offset : List Class → ℕ → ℕ
 pointer_offset classes n = pointer_from (length classes) classes n
@@ -177,7 +207,19 @@ abbrev pub slot_symbol : List Class → List Func → SlotFunc → Option (List 
 slot_symbol classes funcs s = cond (is_pure (slot_function classes s)) None (symbol_at funcs (slot_index classes funcs s))
 
 abbrev pub class_entry_of : TypedProgram → List Func → Definition → ClassRecord
-class_entry_of p funcs d = record { name = (class_at p.classes d.class).name; size = (class_extent p.classes d.class).size; align = (class_extent p.classes d.class).align; base = base_name p.classes (class_at p.classes d.class).base; pointer = pointer_offset p.classes d.class; text = d.text; members = members_from p.classes d.class 0 (class_at p.classes d.class).members; slots = map (slot_symbol p.classes funcs) (slots_in p.slots d.class) }
+class_entry_of p funcs d = record {
+  name = (class_at p.classes d.class).name;
+  size = (class_extent p.classes d.class).size;
+  align =
+      (class_extent p.classes d.class).align;
+  base = base_name p.classes (class_at p.classes d.class).base;
+  pointer = pointer_offset p.classes d.class;
+  text =
+      d.text;
+  members = members_from p.classes d.class 0 (class_at p.classes d.class).members;
+  slots =
+      map (slot_symbol p.classes funcs) (slots_in p.slots d.class);
+}
 
 abbrev pub unit_classes : TypedProgram → Unit → List ClassRecord
 unit_classes p u = map (class_entry_of p u.funcs) u.classes

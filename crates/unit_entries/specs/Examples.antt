@@ -18,17 +18,48 @@ abbrev pub void_type : Typ
 void_type = typ void false false
 
 abbrev pub declared : List ℕ → Typ → Function
-declared name result = record { name = name; signature = signature none result false; is_const = false; is_virtual = false; is_override = false; is_final = false; pure_virtual = false; safety = Undeclared; considered = false; no_except = false; at = nowhere }
+declared name result = record {
+  name = name;
+  signature = signature none result false;
+  is_const = false;
+  is_virtual = false;
+  is_override = false;
+  is_final =
+      false;
+  pure_virtual = false;
+  safety = Undeclared;
+  considered = false;
+  no_except = false;
+  at = nowhere;
+}
 
 abbrev pub function : List ℕ → List ℕ → Typ → Option Tree → Func
-function name symbol result body = record { symbol = symbol; declared = declared name result; linkage = External; text = []; kind = Plain; class = None; implicit = false; words = 0; params = []; frame = []; body = body; closed_at = 0 }
+function name symbol result body = record {
+  symbol = symbol;
+  declared = declared name result;
+  linkage = External;
+  text = [];
+  kind = Plain;
+  class = None;
+  implicit = false;
+  words = 0;
+  params = [];
+  frame = [];
+  body = body;
+  closed_at = 0;
+}
 
 -- a call of the second function, in an atomic block
 abbrev pub body : Tree
 body = node (Atomic Commit) void_type Prvalue nowhere (one (node (Call 1) void_type Prvalue nowhere no_trees))
 
 abbrev pub example : Unit
-example = record { funcs = function (codes "main") (codes "main()") (typ (int Int) false false) (Some body) ∷ function (codes "g") (codes "g()") void_type None ∷ function (codes "h") (codes "h()") void_type None ∷ []; globals = []; classes = [] }
+example = record {
+  funcs = function (codes "main") (codes "main()") (typ (int Int) false false) (Some body) ∷ function (codes "g") (codes "g()") void_type None
+      ∷ function (codes "h") (codes "h()") void_type None ∷ [];
+  globals = [];
+  classes = [];
+}
 
 abbrev pub program : TypedProgram
 program = record { units = example ∷ []; classes = []; slots = [] }

@@ -1,5 +1,6 @@
 -- What a unit refers to: marks for its functions and globals, by their indexes.
-use Rattle.std.specs.Prelude.{ℕ, ◌+◌, Bool, true, false, ◌&&◌, ◌||◌, ◌==◌, cond, List, [], ◌∷◌, length, replicate, slice_get, slice_set, Option, Some, None, unwrap_or, option_and_then}
+use Rattle.std.specs.Prelude.{ℕ, ◌+◌, Bool, true, false, ◌&&◌, ◌||◌, ◌==◌, cond, List, [], ◌∷◌, length, replicate, slice_get, slice_set, Option, Some, None}
+use Rattle.std.specs.Prelude.{unwrap_or, option_and_then}
 use Rattle.cpp_tree.specs.cpp_types.Class.{Class, Function}
 use Rattle.cpp_tree.specs.cpp_types.Equal.{flag_eq, name_eq, signature_eq}
 use Rattle.cpp_tree.specs.declared.kinds.TKind.{TKind}

@@ -1,5 +1,6 @@
 -- The table of bodies by nodes.
-use Rattle.std.proofs.Common.{◌≡◌, ℕ, zero, suc, ◌+◌, ◌<◌, nat_eq, if◌then◌else◌, List, [], ◌∷◌, ◌++◌, length, take, set, replicate, slice_get, Option, Some, None, refl, sym, ◌∙◌, ap, arith, inl, inr, append-nil}
+use Rattle.std.proofs.Common.{◌≡◌, ℕ, zero, suc, ◌+◌, ◌<◌, nat_eq, if◌then◌else◌, List, [], ◌∷◌, ◌++◌, length, take, set, replicate, slice_get, Option, Some}
+use Rattle.std.proofs.Common.{None, refl, sym, ◌∙◌, ap, arith, inl, inr, append-nil}
 use Rattle.std.proofs.lemmas.Bool.{cases_eq}
 use Rattle.std.proofs.lemmas.Option.{none-some, get_or_from_slice_get}
 use Rattle.std.proofs.lemmas.List.{take_more}
@@ -59,7 +60,8 @@ table_more bodies i b table new inside at h free written = record {
   each = λ kids id.
       let taken : take (i + 1) bodies ≡ take i bodies ++ b ∷ [] = take_more bodies i b inside ∙ ap (λ (c : LamBody). take i bodies ++ c ∷ [])
       (get_or_from_slice_get bodies i b b at) in
-      let more : kids_with kids (take (i + 1) bodies) id ≡ (if nat_eq b.lam.0 id then kids_with kids (take i bodies) id ++ b.body ∷ [] else kids_with kids (take i bodies) id) = ap
+      let more : kids_with kids (take (i + 1) bodies) id
+      ≡ (if nat_eq b.lam.0 id then kids_with kids (take i bodies) id ++ b.body ∷ [] else kids_with kids (take i bodies) id) = ap
       (λ (bs : List LamBody). kids_with kids bs id) taken ∙ kids_with-snoc (take i bodies) b kids id in
       let front : kids_with kids (take i bodies) id ≡ kids ++ body_in (slice_get table id) = h.each kids id in
       elim (cases_eq b.lam.0 id) [

@@ -17,22 +17,27 @@ shown_none : (t : ℕ) (ss : List Suspended) (ws : List ℕ) (bs : List Block) (
 shown_none t [] ws bs cs h = refl
 shown_none t (s ∷ ss) ws bs cs h = absurd (omega arith)
 
-shown_some : (t : ℕ) (ss : List Suspended) (ws : List ℕ) (bs : List Block) (cs : List Exception) → 0 < length ss → is_outermost (frames_of t ss ws bs cs) ≡ false
+shown_some : (t : ℕ) (ss : List Suspended) (ws : List ℕ) (bs : List Block) (cs : List Exception) → 0 < length ss
+    → is_outermost (frames_of t ss ws bs cs) ≡ false
 shown_some t [] ws bs cs h = absurd (omega arith)
 shown_some t (s ∷ ss) ws bs cs h = refl
 
-pub outermost_shown : (t n : ℕ) (ss : List Suspended) (ws : List ℕ) (bs : List Block) (cs : List Exception) → n ≡ length ss → nat_eq n 0 ≡ is_outermost (frames_of t (reverse ss) ws bs cs)
+pub outermost_shown : (t n : ℕ) (ss : List Suspended) (ws : List ℕ) (bs : List Block) (cs : List Exception) → n ≡ length ss
+    → nat_eq n 0 ≡ is_outermost (frames_of t (reverse ss) ws bs cs)
 outermost_shown t n [] ws bs cs h = ap (λ z. nat_eq z 0) h
-outermost_shown t n (s ∷ ss) ws bs cs h = not_none n (nat_eq n 0) refl (omega arith) ∙ sym (shown_some t (reverse (s ∷ ss)) ws bs cs (omega (arith, length-reverse (s ∷ ss)))) where
-  not_none : (n : ℕ) (b : Bool) → nat_eq n 0 ≡ b → 0 < n → b ≡ false
-  not_none n true e h = let z : n ≡ 0 = eqb-true n 0 e in absurd (omega arith)
-  not_none n false e h = refl
+outermost_shown t n (s ∷ ss) ws bs cs h = not_none n (nat_eq n 0) refl (omega arith)
+    ∙ sym (shown_some t (reverse (s ∷ ss)) ws bs cs (omega (arith, length-reverse (s ∷ ss)))) where
+      not_none : (n : ℕ) (b : Bool) → nat_eq n 0 ≡ b → 0 < n → b ≡ false
+      not_none n true e h = let z : n ≡ 0 = eqb-true n 0 e in absurd (omega arith)
+      not_none n false e h = refl
 
 -- a frame is handed these words
-pub returns : (f : meaning.Frame) (rest : List meaning.Frame) (h : meaning.Home) → is_outermost rest ≡ false → Means (Does Silent (Return None)) (meaning.back_act h [] rest) f rest
+pub returns : (f : meaning.Frame) (rest : List meaning.Frame) (h : meaning.Home) → is_outermost rest ≡ false
+    → Means (Does Silent (Return None)) (meaning.back_act h [] rest) f rest
 returns f [] h e = absurd (true≢false e)
 returns f (g ∷ rest) h e = record { is = refl; fits = refl }
 
-pub returns_word : (f : meaning.Frame) (rest : List meaning.Frame) (h : meaning.Home) (w : ℕ) → is_outermost rest ≡ false → Means (Does Silent (Return (Some w))) (meaning.back_act h (w ∷ []) rest) f rest
+pub returns_word : (f : meaning.Frame) (rest : List meaning.Frame) (h : meaning.Home) (w : ℕ) → is_outermost rest ≡ false
+    → Means (Does Silent (Return (Some w))) (meaning.back_act h (w ∷ []) rest) f rest
 returns_word f [] h w e = absurd (true≢false e)
 returns_word f (g ∷ rest) h w e = record { is = refl; fits = refl }

@@ -49,7 +49,8 @@ pub get_none : (bs : List ℕ) (p : ℕ) → 0 ≡ get_bytes bs p 0
 unfolding get_bytes
 get_none bs p = refl
 
-pub get_more : (bs : List ℕ) (p q i value byte : ℕ) → value ≡ get_bytes bs q i → q ≡ p + 1 → byte ≡ slice_index_or bs p 0 → value * 256 + byte ≡ get_bytes bs p (i + 1)
+pub get_more : (bs : List ℕ) (p q i value byte : ℕ) → value ≡ get_bytes bs q i → q ≡ p + 1 → byte ≡ slice_index_or bs p 0
+    → value * 256 + byte ≡ get_bytes bs p (i + 1)
 unfolding get_bytes
 get_more bs p q i value byte e h b =
     let s : suc i ≡ i + 1 = omega arith in

@@ -1,5 +1,6 @@
 -- Stacks as lists with the top last.
-use Rattle.std.proofs.Common.{◌≡◌, ◌<◌, ◌≤◌, ℕ, zero, suc, ◌+◌, ◌-◌, List, [], ◌∷◌, ◌++◌, length, take, drop, reverse, refl, sym, ap, ◌∙◌, arith, length-drop, get_or}
+use Rattle.std.proofs.Common.{◌≡◌, ◌<◌, ◌≤◌, ℕ, zero, suc, ◌+◌, ◌-◌, List, [], ◌∷◌, ◌++◌, length, take, drop, reverse, refl, sym, ap, ◌∙◌, arith, length-drop}
+use Rattle.std.proofs.Common.{get_or}
 use Rattle.std.proofs.lemmas.List.{reverse-append, length-reverse, take-append-le, take-append-drop, length-take-le, get_or-take, take_all, drop_all}
 use Rattle.std.proofs.Math.Seq.{take-length, take-suc, take-append_seam}
 use Rattle.std.specs.Prelude.{false}
@@ -41,7 +42,8 @@ drop_reversed : {A : Type 0} (k : ℕ) (ys : List A) → k ≤ length ys → dro
 drop_reversed k ys h =
     let e : reverse ys ≡ reverse (drop k ys) ++ reverse (take k ys) = ap reverse (sym (take-append-drop k ys)) ∙ reverse-append (take k ys) (drop k ys) in
     let l : length (reverse (drop k ys)) ≡ length ys - k = length-reverse (drop k ys) ∙ length-drop k ys in
-    ap (drop (length ys - k)) e ∙ ap (λ z. drop z (reverse (drop k ys) ++ reverse (take k ys))) (sym l) ∙ dropped (reverse (drop k ys)) (reverse (take k ys)) where
+    ap (drop (length ys - k)) e ∙ ap (λ z. drop z (reverse (drop k ys) ++ reverse (take k ys))) (sym l)
+    ∙ dropped (reverse (drop k ys)) (reverse (take k ys)) where
       dropped : {A : Type 0} (us vs : List A) → drop (length us) (us ++ vs) ≡ vs
       dropped [] vs = refl
       dropped (u ∷ us) vs = dropped us vs
@@ -59,7 +61,8 @@ pub taken_off : {A : Type 0} (n count m : ℕ) (xs : List A) → m + count ≡ l
 taken_off n count m xs h k = let e : length xs - m ≡ count = omega arith in above_cut n m xs k (omega arith) ∙ ap (λ z. drop z (above n xs)) e
 
 pub all_off : {A : Type 0} (n count : ℕ) (xs : List A) → n ≤ length xs → length xs - n ≤ count → above n (take n xs) ≡ drop count (above n xs)
-all_off n count xs h k = above_cut n n xs (omega arith) h ∙ drop_all (length xs - n) (above n xs) (omega (arith, above_length n xs)) ∙ sym (drop_all count (above n xs) (omega (arith, above_length n xs)))
+all_off n count xs h k = above_cut n n xs (omega arith) h ∙ drop_all (length xs - n) (above n xs) (omega (arith, above_length n xs))
+    ∙ sym (drop_all count (above n xs) (omega (arith, above_length n xs)))
 
 take_twice : {A : Type 0} (n m : ℕ) (xs : List A) → n ≤ m → take n (take m xs) ≡ take n xs
 take_twice zero m xs h = refl
@@ -91,10 +94,12 @@ top_is {A} n xs x h e =
 -- ---- a frame that begins with the last ones, turned round
 
 pub front_kept : {A : Type 0} (n m : ℕ) (xs ys : List A) → m ≤ length xs → n ≤ m → take n (take m (take m xs ++ ys)) ≡ take n xs
-front_kept n m xs ys h k = ap (take n) (take-append-le m (take m xs) ys (omega (arith, length-take-le m xs h)) ∙ take_all m (take m xs) (omega (arith, length-take-le m xs h))) ∙ take_twice n m xs k
+front_kept n m xs ys h k = ap (take n) (take-append-le m (take m xs) ys (omega (arith, length-take-le m xs h)) ∙ take_all m (take m xs)
+    (omega (arith, length-take-le m xs h))) ∙ take_twice n m xs k
 
 pub front_cut : {A : Type 0} (m : ℕ) (xs ys : List A) → m ≤ length xs → take m (take m xs ++ ys) ≡ take m xs
-front_cut m xs ys h = let l : length (take m xs) ≡ m = length-take-le m xs h in take-append-le m (take m xs) ys (omega arith) ∙ take_all m (take m xs) (omega arith)
+front_cut m xs ys h = let l : length (take m xs) ≡ m = length-take-le m xs h in take-append-le m (take m xs) ys (omega arith)
+    ∙ take_all m (take m xs) (omega arith)
 
 drop_seam : {A : Type 0} (us vs : List A) → drop (length us) (us ++ vs) ≡ vs
 drop_seam [] vs = refl
@@ -116,27 +121,33 @@ take_reversed : {A : Type 0} (k : ℕ) (ys : List A) → k ≤ length ys → tak
 take_reversed k ys h =
     let e : reverse ys ≡ reverse (drop k ys) ++ reverse (take k ys) = ap reverse (sym (take-append-drop k ys)) ∙ reverse-append (take k ys) (drop k ys) in
     let l : length (reverse (drop k ys)) ≡ length ys - k = length-reverse (drop k ys) ∙ length-drop k ys in
-    ap (take (length ys - k)) e ∙ ap (λ z. take z (reverse (drop k ys) ++ reverse (take k ys))) (sym l) ∙ take-append_seam (reverse (drop k ys)) (reverse (take k ys))
+    ap (take (length ys - k)) e ∙ ap (λ z. take z (reverse (drop k ys) ++ reverse (take k ys))) (sym l)
+    ∙ take-append_seam (reverse (drop k ys)) (reverse (take k ys))
 
-pub turned : {A : Type 0} (n count m : ℕ) (xs : List A) → n ≤ m → m + count ≡ length xs → above m (take m xs ++ reverse (drop m xs)) ≡ reverse (take count (above n xs))
+pub turned : {A : Type 0} (n count m : ℕ) (xs : List A) → n ≤ m → m + count ≡ length xs
+    → above m (take m xs ++ reverse (drop m xs)) ≡ reverse (take count (above n xs))
 unfolding above
 turned n count m xs h e =
     let l : length (take m xs) ≡ m = length-take-le m xs (omega arith) in
-    let a : drop m (take m xs ++ reverse (drop m xs)) ≡ reverse (drop m xs) = ap (λ z. drop z (take m xs ++ reverse (drop m xs))) (sym l) ∙ drop_seam (take m xs) (reverse (drop m xs)) in
+    let a : drop m (take m xs ++ reverse (drop m xs)) ≡ reverse (drop m xs) = ap (λ z. drop z (take m xs ++ reverse (drop m xs))) (sym l)
+    ∙ drop_seam (take m xs) (reverse (drop m xs)) in
     let k : length (drop n xs) ≡ length xs - n = length-drop n xs in
     let j : count ≡ length (drop n xs) - (m - n) = omega arith in
-    let b : take count (reverse (drop n xs)) ≡ reverse (drop m xs) = ap (λ z. take z (reverse (drop n xs))) j ∙ take_reversed (m - n) (drop n xs) (omega arith) ∙ ap reverse (drop_twice n m xs h) in
+    let b : take count (reverse (drop n xs)) ≡ reverse (drop m xs) = ap (λ z. take z (reverse (drop n xs))) j ∙ take_reversed (m - n) (drop n xs) (omega arith)
+    ∙ ap reverse (drop_twice n m xs h) in
     ap reverse (a ∙ sym b)
 
 -- the two top items
-pub top_two_are : {A : Type 0} (n : ℕ) (xs : List A) (x y : A) → n + 2 ≤ length xs → x ≡ get_or xs (length xs - 1) x → y ≡ get_or xs (length xs - 2) y → above n xs ≡ x ∷ y ∷ drop 2 (above n xs)
+pub top_two_are : {A : Type 0} (n : ℕ) (xs : List A) (x y : A) → n + 2 ≤ length xs → x ≡ get_or xs (length xs - 1) x → y ≡ get_or xs (length xs - 2) y
+    → above n xs ≡ x ∷ y ∷ drop 2 (above n xs)
 top_two_are {A} n xs x y h e f =
     let front : List A = take (length xs - 1) xs in
     let whole : xs ≡ front ++ x ∷ [] = split_last xs x (omega arith) ∙ ap (λ z. front ++ z ∷ []) (sym e) in
     let k : length front ≡ length xs - 1 = length-take-le (length xs - 1) xs (omega arith) in
     let j : length front - 1 ≡ length xs - 2 = omega arith in
     let a : above n xs ≡ x ∷ above n front = ap (above n) whole ∙ above_pushed n front x (omega arith) in
-    let l : y ≡ get_or front (length front - 1) y = f ∙ sym (get_or-take (length xs - 1) xs (length xs - 2) y (omega arith)) ∙ ap (λ z. get_or front z y) (sym j) in
+    let l : y ≡ get_or front (length front - 1) y = f ∙ sym (get_or-take (length xs - 1) xs (length xs - 2) y (omega arith))
+    ∙ ap (λ z. get_or front z y) (sym j) in
     let b : above n front ≡ y ∷ drop 1 (above n front) = top_is n front y (omega arith) l in
     let w : above n xs ≡ x ∷ y ∷ drop 1 (above n front) = a ∙ ap (λ z. x ∷ z) b in
     w ∙ ap (λ z. x ∷ y ∷ drop 2 z) (sym w)
@@ -151,7 +162,8 @@ pub one_more_turned : {A : Type 0} (n : ℕ) (xs : List A) → n < length xs →
 one_more_turned n [] h = absurd (omega arith)
 one_more_turned n (x ∷ xs) h =
     let e : n + 1 ≡ suc n = omega arith in
-    ap (λ z. drop 1 (reverse (take z (x ∷ xs)))) e ∙ ap (λ z. drop 1 (reverse z)) (take-suc (x ∷ xs) n x h) ∙ ap (drop 1) (reverse-append (take n (x ∷ xs)) (get_or (x ∷ xs) n x ∷ []))
+    ap (λ z. drop 1 (reverse (take z (x ∷ xs)))) e ∙ ap (λ z. drop 1 (reverse z)) (take-suc (x ∷ xs) n x h)
+    ∙ ap (drop 1) (reverse-append (take n (x ∷ xs)) (get_or (x ∷ xs) n x ∷ []))
 
 drop_more : {A : Type 0} (j k : ℕ) (xs : List A) → drop j (drop k xs) ≡ drop (k + j) xs
 unfolding the_nil
@@ -160,11 +172,13 @@ drop_more {A} j (suc k) [] = drop_nil j ∙ sym (drop_nil (suc k + j))
 drop_more j (suc k) (x ∷ xs) = let e : suc k + j ≡ suc (k + j) = omega arith in drop_more j k xs ∙ sym (ap (λ z. drop z (x ∷ xs)) e)
 
 -- the item under the first so many
-pub item_is : {A : Type 0} (n k : ℕ) (xs : List A) (x : A) → n + k < length xs → x ≡ get_or xs (length xs - 1 - k) x → drop k (above n xs) ≡ x ∷ drop (k + 1) (above n xs)
+pub item_is : {A : Type 0} (n k : ℕ) (xs : List A) (x : A) → n + k < length xs → x ≡ get_or xs (length xs - 1 - k) x
+    → drop k (above n xs) ≡ x ∷ drop (k + 1) (above n xs)
 item_is {A} n k xs x h e =
     let front : List A = take (length xs - k) xs in
     let l : length front ≡ length xs - k = length-take-le (length xs - k) xs (omega arith) in
     let j : length front - 1 ≡ length xs - 1 - k = omega arith in
     let a : above n front ≡ drop k (above n xs) = taken_off n k (length xs - k) xs (omega arith) (omega arith) in
-    let t : above n front ≡ x ∷ drop 1 (above n front) = top_is n front x (omega arith) (e ∙ sym (get_or-take (length xs - k) xs (length xs - 1 - k) x (omega arith)) ∙ ap (λ z. get_or front z x) (sym j)) in
+    let t : above n front ≡ x ∷ drop 1 (above n front) =
+    top_is n front x (omega arith) (e ∙ sym (get_or-take (length xs - k) xs (length xs - 1 - k) x (omega arith)) ∙ ap (λ z. get_or front z x) (sym j)) in
     sym a ∙ t ∙ ap (λ z. x ∷ drop 1 z) a ∙ ap (λ z. x ∷ z) (drop_more 1 k (above n xs))

@@ -36,7 +36,8 @@ frame_of t f words blocks caught = record {
 -- the frames below, the innermost first
 abbrev pub frames_of : (thread : ℕ) → List Suspended → List ℕ → List Block → List Exception → List meaning.Frame
 frames_of t [] words blocks caught = []
-frames_of t (s ∷ ss) words blocks caught = frame_of t s.frame (above s.words words) (above s.blocks blocks) (above s.caught caught) ∷ frames_of t ss (take s.words words) (take s.blocks blocks) (take s.caught caught)
+frames_of t (s ∷ ss) words blocks caught = frame_of t s.frame (above s.words words) (above s.blocks blocks) (above s.caught caught)
+    ∷ frames_of t ss (take s.words words) (take s.blocks blocks) (take s.caught caught)
 
 -- what a frame has begins where that of the frame below it begins, or above, and that of the outermost begins at 0
 abbrev pub are_nested : (words blocks caught : ℕ) → List Suspended → Bool

@@ -10,7 +10,8 @@ use Rattle.vm_frames.specs.Frames.{exception_of, held_of, open_of, returned, lef
 use Rattle.vm_frames.specs.declared.step.Given.{Given}
 use Rattle.vm_frames.specs.declared.step.Given.TheVariants.{Nothing, Word, Loaded, Answered}
 use Rattle.vm_frames.specs.declared.step.Change.{Change}
-use Rattle.vm_frames.specs.declared.step.Change.TheVariants.{Operate, Exchange, Call, CallIndirect, Return, Open, Close, Hold, EndHandler, Fly, Clean, Handle, Cross, Leave}
+use Rattle.vm_frames.specs.declared.step.Change.TheVariants.{Operate, Exchange, Call, CallIndirect, Return, Open, Close, Hold, EndHandler, Fly, Clean, Handle}
+use Rattle.vm_frames.specs.declared.step.Change.TheVariants.{Cross, Leave}
 use Rattle.vm_frames.specs.declared.step.Step.{Step}
 use Rattle.vm_frames.specs.declared.step.Step.TheVariants.{Does, Ends, Lost}
 
@@ -24,8 +25,10 @@ given_word Answered r = Some (word_of (answered r))
 abbrev pub changed : Change → Reply → meaning.Frame → List meaning.Frame → State
 changed (Operate taken given index) r f rest = Runs (at f index (put (given_word given r) (drop taken f.words))) rest
 changed (Exchange index) r f rest = Runs (at f index (swapped f.words)) rest
-changed (Call c) r f rest = Runs (first_frame (record { thread = f.home.thread; func = c.func; safe = c.safe; base = c.address }) (reverse (take c.words f.words))) (at f f.index (drop c.words f.words) ∷ rest)
-changed (CallIndirect c) r f rest = Runs (first_frame (record { thread = f.home.thread; func = c.func; safe = c.safe; base = c.address }) (reverse (take c.words f.words))) (at f f.index (drop (c.words + 1) f.words) ∷ rest)
+changed (Call c) r f rest = Runs (first_frame (record { thread = f.home.thread; func = c.func; safe = c.safe; base = c.address })
+    (reverse (take c.words f.words))) (at f f.index (drop c.words f.words) ∷ rest)
+changed (CallIndirect c) r f rest = Runs (first_frame (record { thread = f.home.thread; func = c.func; safe = c.safe; base = c.address })
+    (reverse (take c.words f.words))) (at f f.index (drop (c.words + 1) f.words) ∷ rest)
 changed (Return given) r f rest = returned given f rest
 changed (Open block index) r f rest = Runs (nested f (opening f.nest (open_of block)) index f.words) rest
 changed (Close index) r f rest = Runs (nested f (closing f.nest) index f.words) rest

@@ -11,8 +11,10 @@ other a b true e h = absurd (h (eqb-true a b e))
 other a b false e h = refl
 
 -- from a class that is not the one looked for on to its base
-pub goes_on : (cs : List ImageClassView) (m at next base : ℕ) (k : ImageClassView) → (at ≡ base → ⊥) → slice_get cs at ≡ Some k → k.base ≡ Some next → derives cs (suc m) at base ≡ derives cs m next base
+pub goes_on : (cs : List ImageClassView) (m at next base : ℕ) (k : ImageClassView) → (at ≡ base → ⊥) → slice_get cs at ≡ Some k → k.base ≡ Some next
+    → derives cs (suc m) at base ≡ derives cs m next base
 goes_on cs m at next base k h is e =
-    ap (λ t. t || option_map_or (λ (k : ImageClassView). option_map_or (λ d. derives cs m d base) k.base false) (slice_get cs at) false) (other at base _ refl h)
+    ap (λ t. t || option_map_or (λ (k : ImageClassView). option_map_or (λ d. derives cs m d base) k.base false) (slice_get cs at) false)
+    (other at base _ refl h)
     ∙ ap (λ o. option_map_or (λ (k : ImageClassView). option_map_or (λ d. derives cs m d base) k.base false) o false) is
     ∙ ap (λ o. option_map_or (λ d. derives cs m d base) o false) e

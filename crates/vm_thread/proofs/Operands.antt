@@ -1,5 +1,6 @@
 -- Operands that are there, and those that are not.
-use Rattle.std.proofs.Common.{Bool, true, false, ◌≡◌, ◌<◌, ◌≤◌, ℕ, zero, suc, List, [], ◌∷◌, ◌++◌, length, take, drop, reverse, Option, Some, None, refl, sym, ap, ◌∙◌, arith, append_assoc}
+use Rattle.std.proofs.Common.{Bool, true, false, ◌≡◌, ◌<◌, ◌≤◌, ℕ, zero, suc, List, [], ◌∷◌, ◌++◌, length, take, drop, reverse, Option, Some, None, refl, sym}
+use Rattle.std.proofs.Common.{ap, ◌∙◌, arith, append_assoc}
 use Rattle.std.proofs.lemmas.List.{reverse-append, append-nil, drop_all}
 use Rattle.std.specs.Prelude.{nat_le}
 use Rattle.std.proofs.lemmas.Bool.{true≢false, leb-true, leb-false}
@@ -30,7 +31,8 @@ moved_on : (n : ℕ) (ws args : List ℕ) (g : List ℕ → List ℕ → Act) �
 moved_on zero ws args g h = refl
 moved_on (suc n) [] args g h = absurd (omega arith)
 moved_on (suc n) (w ∷ ws) args g h =
-    moved_on n ws (w ∷ args) g (omega arith) ∙ ap (λ z. g z (drop n ws)) (sym (append_assoc (reverse (take n ws)) (w ∷ []) args) ∙ ap (λ z. z ++ args) (sym (reverse-append (w ∷ []) (take n ws))))
+    moved_on n ws (w ∷ args) g (omega arith) ∙ ap (λ z. g z (drop n ws))
+    (sym (append_assoc (reverse (take n ws)) (w ∷ []) args) ∙ ap (λ z. z ++ args) (sym (reverse-append (w ∷ []) (take n ws))))
 
 pub moved_are : (n : ℕ) (ws : List ℕ) (g : List ℕ → List ℕ → Act) → n ≤ length ws → moved n ws [] g ≡ g (reverse (take n ws)) (drop n ws)
 moved_are n ws g h = moved_on n ws [] g h ∙ ap (λ z. g z (drop n ws)) (append-nil (reverse (take n ws)))

@@ -23,7 +23,8 @@ before_suffix [] front h = absurd (omega arith)
 before_suffix (s ∷ ss) [] h = ap (λ b. if b then [] else (s ∷ without_suffix (s ∷ ss) ss)) (eq_true (s ∷ ss) (s ∷ ss) refl)
 before_suffix (s ∷ ss) (f ∷ fs) h =
     let l : length (s ∷ ss) < length (f ∷ fs ++ s ∷ ss) = omega (arith, length-append fs (s ∷ ss)) in
-    ap (λ b. if b then [] else (f ∷ without_suffix (s ∷ ss) (fs ++ s ∷ ss))) (longer (s ∷ ss) (f ∷ fs ++ s ∷ ss) _ refl l) ∙ ap (λ z. f ∷ z) (before_suffix (s ∷ ss) fs h)
+    ap (λ b. if b then [] else (f ∷ without_suffix (s ∷ ss) (fs ++ s ∷ ss))) (longer (s ∷ ss) (f ∷ fs ++ s ∷ ss) _ refl l)
+    ∙ ap (λ z. f ∷ z) (before_suffix (s ∷ ss) fs h)
 
 -- and a spelling that has another end
 pub no_suffix : (suffix name : List ℕ) → ((front : List ℕ) → name ≡ front ++ suffix → ⊥) → without_suffix suffix name ≡ name
@@ -33,9 +34,11 @@ no_suffix suffix (c ∷ cs) h = by_test (pointwise nat_eq suffix (c ∷ cs)) ref
   by_test true e k = absurd (h [] (sym (true_eq suffix (c ∷ cs) e)))
   by_test false e k = ap (λ z. c ∷ z) k
 
-pub stripped : (suffix name front : List ℕ) → 0 < length suffix → pointwise nat_eq (drop (length name - length suffix) name) suffix ≡ true → front ≡ take (length name - length suffix) name → front ≡ without_suffix suffix name
+pub stripped : (suffix name front : List ℕ) → 0 < length suffix → pointwise nat_eq (drop (length name - length suffix) name) suffix ≡ true
+    → front ≡ take (length name - length suffix) name → front ≡ without_suffix suffix name
 stripped suffix name front h e f =
-    let w : name ≡ front ++ suffix = sym (take-append-drop (length name - length suffix) name) ∙ ap (λ z. take (length name - length suffix) name ++ z) (true_eq _ suffix e) ∙ ap (λ z. z ++ suffix) (sym f) in
+    let w : name ≡ front ++ suffix = sym (take-append-drop (length name - length suffix) name)
+    ∙ ap (λ z. take (length name - length suffix) name ++ z) (true_eq _ suffix e) ∙ ap (λ z. z ++ suffix) (sym f) in
     sym (before_suffix suffix front h) ∙ ap (without_suffix suffix) (sym w)
 
 pub whole : (suffix name : List ℕ) → pointwise nat_eq (drop (length name - length suffix) name) suffix ≡ false → name ≡ without_suffix suffix name

@@ -63,18 +63,23 @@ spawned_there : (s : Running) (number func : ℕ) (arg : ℤ) → Stands (runnin
 spawned_there s number func arg k = (Decides-ltb func (length s.image.funcs)).1 (slice_get_within s.image.funcs func k.shaped.0.spot.func k.shaped.0.spot.is)
 
 pub spawned_within : (s : Running) (number func : ℕ) (arg : ℤ) → IsReached s → running.next s ≡ Spawn func arg → func < length s.image.funcs
-spawned_within s number func arg h e = ltb-true func (length s.image.funcs) (is_true _ (running_laws.starts s number func arg h e) (spawned_there s number func arg))
+spawned_within s number func arg h e = ltb-true func (length s.image.funcs)
+    (is_true _ (running_laws.starts s number func arg h e) (spawned_there s number func arg))
 
 -- ---- modes
 
 module _ (i : ImageView) (f : Frame) (rest : List Frame) where
-  instr_there : Sound i → Ready i f → (a : Instr) → fetch (names_of i) f.home f.index ≡ Some a → (ready : Ready i f) → slice_get ready.spot.body.code f.index ≡ Some a
+  instr_there : Sound i → Ready i f → (a : Instr) → fetch (names_of i) f.home f.index ≡ Some a → (ready : Ready i f)
+      → slice_get ready.spot.body.code f.index ≡ Some a
   instr_there sound r a e ready =
       let b = instr_at (table_of i) (signature ready.spot.func.ty) f.home.safe ready.spot.body (spot_sound i sound f.home ready.spot) ready.reached in
-      let k : fetch (names_of i) f.home f.index ≡ Some b.0 = ap (λ o. option_map (renamed itself) (slice_get (code_of o) f.index)) (body_here i sound f.home ready.spot) ∙ ap (option_map (renamed itself)) b.1 ∙ ap Some (same_instr b.0) in
+      let k : fetch (names_of i) f.home f.index ≡ Some b.0 =
+      ap (λ o. option_map (renamed itself) (slice_get (code_of o) f.index)) (body_here i sound f.home ready.spot) ∙ ap (option_map (renamed itself)) b.1
+      ∙ ap Some (same_instr b.0) in
       b.1 ∙ sym k ∙ e
 
-  outside_here : Stands (record { image = i; state = Runs f rest }) → (a : Instr) → fetch (names_of i) f.home f.index ≡ Some a → Rattle.tx_code.specs.Sound.inside_right (table_of i) a ≡ false → in_transaction f rest ≡ false
+  outside_here : Stands (record { image = i; state = Runs f rest }) → (a : Instr) → fetch (names_of i) f.home f.index ≡ Some a
+      → Rattle.tx_code.specs.Sound.inside_right (table_of i) a ≡ false → in_transaction f rest ≡ false
   outside_here k a e r =
       let is = instr_there k.sound k.shaped.0 a e k.shaped.0 in
       let o = outside_now i k.sound f rest k.shaped.0 k.shaped.1 a is r in
@@ -82,8 +87,10 @@ module _ (i : ImageView) (f : Frame) (rest : List Frame) where
       let n : no_atomic (blocks_in (f ∷ rest)) ≡ true = outside_all i k.sound f rest k.shaped.1 o in
       ap (λ z. z || not (no_atomic (blocks_in (f ∷ rest)))) s.0 ∙ ap not n
 
-  inside_here : Stands (record { image = i; state = Runs f rest }) → (a : Instr) → fetch (names_of i) f.home f.index ≡ Some a → Rattle.tx_code.specs.Sound.outside_right a ≡ false → in_transaction f rest ≡ true
-  inside_here k a e r = inside_all i k.sound f.home.safe f.nest.opens (blocks_in rest) (inside_now i k.sound f rest k.shaped.0 k.shaped.1 a (instr_there k.sound k.shaped.0 a e k.shaped.0) r)
+  inside_here : Stands (record { image = i; state = Runs f rest }) → (a : Instr) → fetch (names_of i) f.home f.index ≡ Some a
+      → Rattle.tx_code.specs.Sound.outside_right a ≡ false → in_transaction f rest ≡ true
+  inside_here k a e r = inside_all i k.sound f.home.safe f.nest.opens (blocks_in rest)
+      (inside_now i k.sound f rest k.shaped.0 k.shaped.1 a (instr_there k.sound k.shaped.0 a e k.shaped.0) r)
 
   knows : IsReached (record { image = i; state = Runs f rest }) → KnowsMode (names_of i) f rest
   knows h (CallIndirect ty n) e = is_false _ h (λ k. outside_here k (CallIndirect ty n) e refl)

@@ -25,5 +25,6 @@ pieces-preserved c =
     record {
       inside = w.inside;
       first = c.is_first_after-is_first.ensures;
-      read = read_on c.args.text.now c.pieces.at c.in-Some.piece.to c.in-Some.piece.kind (map lexeme_of c.pieces.items.items) (map lexeme_of c.add_piece.new.tokens.items) c.pieces.invariant.read c.in-Some.ensures.at c.in-Ok.ensures;
+      read = read_on c.args.text.now c.pieces.at c.in-Some.piece.to c.in-Some.piece.kind (map lexeme_of c.pieces.items.items)
+          (map lexeme_of c.add_piece.new.tokens.items) c.pieces.invariant.read c.in-Some.ensures.at c.in-Ok.ensures;
     }

@@ -81,10 +81,18 @@ abbrev pub decreases-declarators::parameter : goal.decreases-declarators::parame
 decreases-declarators::parameter l = l.id.0 * 8 + 1
 
 abbrev pub invariant-expressions::operands-loop-id : goal.invariant-expressions::operands-loop-id
-invariant-expressions::operands-loop-id l = SoFar (lexemes_of l.tokens) (ctx_of l.env) (map closure_of l.closures) (trees_of l.fn.work.nodes.items) (trees_of l.work.nodes.items) (work_of l.work) l.found.items (trees_at (syntax_of l.nodes) (drop l.id-index l.ids)) (operands_with (lexemes_of l.tokens) (ctx_of l.env) (map closure_of l.closures) (work_of l.fn.work) (trees_at (syntax_of l.nodes) l.ids))
+invariant-expressions::operands-loop-id l = SoFar (lexemes_of l.tokens) (ctx_of l.env) (map closure_of l.closures) (trees_of l.fn.work.nodes.items)
+    (trees_of l.work.nodes.items) (work_of l.work) l.found.items (trees_at (syntax_of l.nodes) (drop l.id-index l.ids))
+    (operands_with (lexemes_of l.tokens) (ctx_of l.env) (map closure_of l.closures) (work_of l.fn.work) (trees_at (syntax_of l.nodes) l.ids))
 
 abbrev pub invariant-declarators::type_of_specifiers-loop-kid : goal.invariant-declarators::type_of_specifiers-loop-kid
-invariant-declarators::type_of_specifiers-loop-kid l = all_specified_with (lexemes_of l.tokens) (ctx_of l.env) (map closure_of l.closures) (work_of l.work) no_specifiers (trees_at (syntax_of l.nodes) l.node.kids.items) ≡ all_specified_with (lexemes_of l.tokens) (ctx_of l.env) (map closure_of l.closures) (work_of l.work) (specifiers_of (lexemes_of l.tokens) l.specifiers) (trees_at (syntax_of l.nodes) (drop l.kid-index l.node.kids.items))
+invariant-declarators::type_of_specifiers-loop-kid l =
+    all_specified_with (lexemes_of l.tokens) (ctx_of l.env) (map closure_of l.closures) (work_of l.work) no_specifiers
+    (trees_at (syntax_of l.nodes) l.node.kids.items) ≡ all_specified_with (lexemes_of l.tokens) (ctx_of l.env) (map closure_of l.closures) (work_of l.work)
+    (specifiers_of (lexemes_of l.tokens) l.specifiers) (trees_at (syntax_of l.nodes) (drop l.kid-index l.node.kids.items))
 
 abbrev pub invariant-declarators::parameters-loop-kid : goal.invariant-declarators::parameters-loop-kid
-invariant-declarators::parameters-loop-kid l = parameters_in_with (lexemes_of l.tokens) (ctx_of l.env) (map closure_of l.closures) (work_of l.work) (tree_at (syntax_of l.nodes) l.fn.id) ≡ after (map parameter_of l.found.items) (parameters_with (lexemes_of l.tokens) (ctx_of l.env) (map closure_of l.closures) (work_of l.work) (trees_at (syntax_of l.nodes) (drop l.kid-index l.kid-items)))
+invariant-declarators::parameters-loop-kid l = parameters_in_with (lexemes_of l.tokens) (ctx_of l.env) (map closure_of l.closures) (work_of l.work)
+    (tree_at (syntax_of l.nodes) l.fn.id) ≡ after (map parameter_of l.found.items)
+    (parameters_with (lexemes_of l.tokens) (ctx_of l.env) (map closure_of l.closures) (work_of l.work)
+    (trees_at (syntax_of l.nodes) (drop l.kid-index l.kid-items)))

@@ -10,7 +10,8 @@ pub returns : goal.returns
 unfolding text_of
 returns c =
     let o = object_view c.args.object.now in
-    whole line_text (Of (kind.Txob o.version)) (map Name o.names) (source_lines o.version o.names o.source) (flat_map class_lines o.classes) (flat_map global_lines o.globals) (flat_map func_lines o.funcs) end_text _ _ _ _ _ _ _
+    whole line_text (Of (kind.Txob o.version)) (map Name o.names) (source_lines o.version o.names o.source) (flat_map class_lines o.classes)
+    (flat_map global_lines o.globals) (flat_map func_lines o.funcs) end_text _ _ _ _ _ _ _
     (rw c.new-out.ensures.items at c.in_ok-put_version.ensures)
     (rw c.deref.ensures.value at c.in_ok-put_names.ensures)
     (rw c.deref-2.ensures.value at c.in_ok-put_source.ensures)

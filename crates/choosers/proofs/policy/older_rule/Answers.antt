@@ -12,4 +12,8 @@ yields true = (λ e. cc, λ e. cc)
 yields false = (λ _. refl, λ _. refl)
 
 pub returns : goal.returns
-returns c = λ clash choice. elim choice as (λ a. (is_older clash a ≡ true) ↔ (a ≡ cond (nat_lt clash.mine clash.least) Wait Yield)) [ Wait ↦ waits (nat_lt clash.mine clash.least) | Yield ↦ yields (nat_lt clash.mine clash.least) ]
+returns c = λ clash choice. elim choice as (λ a. (is_older clash a ≡ true) ↔ (a ≡ cond (nat_lt clash.mine clash.least) Wait Yield)) [
+  | Wait ↦ waits
+      (nat_lt clash.mine clash.least)
+  | Yield ↦ yields (nat_lt clash.mine clash.least)
+]

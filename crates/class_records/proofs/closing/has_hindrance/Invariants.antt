@@ -5,4 +5,5 @@ use Rattle.cpp_types.specs.Trivial.{hinders}
 use Rattle.class_records.proofs.closing.has_hindrance.Given as goal
 
 abbrev pub invariant-loop-function : goal.invariant-loop-function
-invariant-loop-function l = list_any (hinders l.class l.name) (map function_of l.functions) ≡ list_any (hinders l.class l.name) (map function_of (drop l.function-index l.functions))
+invariant-loop-function l = list_any (hinders l.class l.name) (map function_of l.functions)
+    ≡ list_any (hinders l.class l.name) (map function_of (drop l.function-index l.functions))

@@ -6,4 +6,5 @@ use Rattle.elab_init.specs.elab_rules.Classes.{is_pure, slot_function}
 use Rattle.class_records.proofs.closing.has_pure.Given as goal
 
 abbrev pub invariant-loop-slot : goal.invariant-loop-slot
-invariant-loop-slot l = list_any (λ (s : SlotFunc). is_pure (slot_function (classes_of l.classes) s)) (map slot_of l.slots) ≡ list_any (λ (s : SlotFunc). is_pure (slot_function (classes_of l.classes) s)) (map slot_of (drop l.slot-index l.slots))
+invariant-loop-slot l = list_any (λ (s : SlotFunc). is_pure (slot_function (classes_of l.classes) s)) (map slot_of l.slots)
+    ≡ list_any (λ (s : SlotFunc). is_pure (slot_function (classes_of l.classes) s)) (map slot_of (drop l.slot-index l.slots))

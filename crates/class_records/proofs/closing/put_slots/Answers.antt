@@ -6,4 +6,5 @@ use Rattle.elab_init.specs.elab_ctx.Ctx.{ctx_of}
 use Rattle.class_records.proofs.closing.put_slots.Goals as goal
 
 pub returns : goal.returns
-returns c = ap (λ (z : List (List SlotFunc)). record (ctx_of c.args.env.now) { slots = z }) (map-set (λ (v : Vec SlotRec Global). map slot_of v.items) c.args.env.now.slots.items c.args.class c.args.slots)
+returns c = ap (λ (z : List (List SlotFunc)). record (ctx_of c.args.env.now) { slots = z })
+    (map-set (λ (v : Vec SlotRec Global). map slot_of v.items) c.args.env.now.slots.items c.args.class c.args.slots)

@@ -7,7 +7,12 @@ use Rattle.class_records.proofs.Renewal.{renewed}
 use Rattle.class_records.proofs.renewing.put_class.Goals as goal
 
 pub invariant_of-env : goal.invariant_of-env
-invariant_of-env c = record { in_order = ap all_consistent (map-set class_of c.args.env.now.classes.items c.args.class c.args.class_record) ∙ renewed (classes_of c.args.env.now.classes.items) c.args.class c.args.number (class_of c.args.class_record) c.args.env.now.in_order (sym c.may_stand.ensures ∙ c.if-not-may_stand.false) c.requires }
+invariant_of-env c = record {
+  in_order = ap all_consistent (map-set class_of c.args.env.now.classes.items c.args.class c.args.class_record) ∙ renewed
+      (classes_of c.args.env.now.classes.items) c.args.class c.args.number (class_of c.args.class_record) c.args.env.now.in_order
+      (sym c.may_stand.ensures ∙ c.if-not-may_stand.false) c.requires;
+}
 
 pub returns : goal.returns
-returns c = ap (λ (z : List Class). record (ctx_of c.args.env.now) { classes = z }) (map-set class_of c.args.env.now.classes.items c.args.class c.args.class_record)
+returns c = ap (λ (z : List Class). record (ctx_of c.args.env.now) { classes = z })
+    (map-set class_of c.args.env.now.classes.items c.args.class c.args.class_record)

@@ -5,4 +5,5 @@ use Rattle.elab_init.specs.elab_rules.Classes.{overrider_from}
 use Rattle.class_records.proofs.slots.overrider.Given as goal
 
 abbrev pub invariant-loop-i : goal.invariant-loop-i
-invariant-loop-i l = overrider_from l.class 0 (Some (function_of l.over)) (slot_shown l.slot) (map function_of l.functions) ≡ overrider_from l.class l.i (Some (function_of l.over)) (slot_shown l.slot) (map function_of (drop l.i l.functions))
+invariant-loop-i l = overrider_from l.class 0 (Some (function_of l.over)) (slot_shown l.slot) (map function_of l.functions)
+    ≡ overrider_from l.class l.i (Some (function_of l.over)) (slot_shown l.slot) (map function_of (drop l.i l.functions))

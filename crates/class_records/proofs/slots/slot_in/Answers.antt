@@ -6,4 +6,5 @@ use Rattle.class_records.proofs.Overriders.{copy_none}
 use Rattle.class_records.proofs.slots.slot_in.Goals as goal
 
 pub returns-in-None : goal.returns-in-None
-returns-in-None c = copy_none c.slot_copy.result c.args.class (slot_function (classes_of c.args.classes.now) (slot_shown c.args.slot.now)) (slot_shown c.args.slot.now) (map function_of c.args.functions.now) c.slot_copy.ensures c.in-None.ensures
+returns-in-None c = copy_none c.slot_copy.result c.args.class (slot_function (classes_of c.args.classes.now) (slot_shown c.args.slot.now))
+    (slot_shown c.args.slot.now) (map function_of c.args.functions.now) c.slot_copy.ensures c.in-None.ensures

@@ -6,4 +6,5 @@ use Rattle.class_specials.specs.Tests.{member_passes}
 use Rattle.class_specials.proofs.part_tests.all_pass.Given as goal
 
 abbrev pub invariant-loop-member : goal.invariant-loop-member
-invariant-loop-member l = list_all (member_passes l.what (ctx_of l.env)) (map member_of l.members) ≡ list_all (member_passes l.what (ctx_of l.env)) (map member_of (drop l.member-index l.members))
+invariant-loop-member l = list_all (member_passes l.what (ctx_of l.env)) (map member_of l.members)
+    ≡ list_all (member_passes l.what (ctx_of l.env)) (map member_of (drop l.member-index l.members))

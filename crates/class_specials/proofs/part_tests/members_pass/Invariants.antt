@@ -7,4 +7,5 @@ use Rattle.class_specials.specs.Tests.{passes}
 use Rattle.class_specials.proofs.part_tests.members_pass.Given as goal
 
 abbrev pub invariant-loop-member : goal.invariant-loop-member
-invariant-loop-member l = list_all (λ (m : Member). class_test (passes l.what (ctx_of l.env)) (held m.typ)) (map member_of l.members) ≡ list_all (λ (m : Member). class_test (passes l.what (ctx_of l.env)) (held m.typ)) (map member_of (drop l.member-index l.members))
+invariant-loop-member l = list_all (λ (m : Member). class_test (passes l.what (ctx_of l.env)) (held m.typ)) (map member_of l.members)
+    ≡ list_all (λ (m : Member). class_test (passes l.what (ctx_of l.env)) (held m.typ)) (map member_of (drop l.member-index l.members))

@@ -15,10 +15,22 @@ use Rattle.class_table.proofs.member_walk.declared_member.Goals as goal
 
 pub returns-then-is_function : goal.returns-then-is_function
 returns-then-is_function c w bodies =
-    answers_same (reading (ctx_of c.function_declared.new.env) w bodies c.args.members.now) c.function_declared.result (function_declared (lexemes_of c.args.tokens.now) (home_of c.args.home.now) (reading (ctx_of c.args.env.now) w bodies c.args.members.now) c.args.at (storage_of c.args.storage) (trees_at (syntax_of c.args.nodes.now) c.args.rest.now) (declared_of c.args.found) (form_in (typ_of c.args.found.ty))) (member_declared (lexemes_of c.args.tokens.now) (home_of c.args.home.now) (reading (ctx_of c.args.env.now) w bodies c.args.members.now) c.args.at (storage_of c.args.storage) (trees_at (syntax_of c.args.nodes.now) c.args.rest.now) (declared_of c.args.found))
-    (function_chosen (lexemes_of c.args.tokens.now) (home_of c.args.home.now) (reading (ctx_of c.args.env.now) w bodies c.args.members.now) c.args.at (storage_of c.args.storage) (trees_at (syntax_of c.args.nodes.now) c.args.rest.now) (declared_of c.args.found) (form_in (typ_of c.args.found.ty)) (sym c.is_function.ensures ∙ c.if-is_function.true)) (c.function_declared.ensures w bodies)
+    answers_same (reading (ctx_of c.function_declared.new.env) w bodies c.args.members.now) c.function_declared.result
+    (function_declared (lexemes_of c.args.tokens.now) (home_of c.args.home.now) (reading (ctx_of c.args.env.now) w bodies c.args.members.now) c.args.at
+    (storage_of c.args.storage) (trees_at (syntax_of c.args.nodes.now) c.args.rest.now) (declared_of c.args.found) (form_in (typ_of c.args.found.ty)))
+    (member_declared (lexemes_of c.args.tokens.now) (home_of c.args.home.now) (reading (ctx_of c.args.env.now) w bodies c.args.members.now) c.args.at
+    (storage_of c.args.storage) (trees_at (syntax_of c.args.nodes.now) c.args.rest.now) (declared_of c.args.found))
+    (function_chosen (lexemes_of c.args.tokens.now) (home_of c.args.home.now) (reading (ctx_of c.args.env.now) w bodies c.args.members.now) c.args.at
+    (storage_of c.args.storage) (trees_at (syntax_of c.args.nodes.now) c.args.rest.now) (declared_of c.args.found) (form_in (typ_of c.args.found.ty))
+    (sym c.is_function.ensures ∙ c.if-is_function.true)) (c.function_declared.ensures w bodies)
 
 pub returns : goal.returns
 returns c w bodies =
-    answers_same (reading (ctx_of c.args.env.now) w bodies c.data_declared.new.members) c.data_declared.result (data_declared (lexemes_of c.args.tokens.now) (home_of c.args.home.now) (reading (ctx_of c.args.env.now) w bodies c.args.members.now) c.args.at (storage_of c.args.storage) (trees_at (syntax_of c.args.nodes.now) c.args.rest.now) (declared_of c.args.found)) (member_declared (lexemes_of c.args.tokens.now) (home_of c.args.home.now) (reading (ctx_of c.args.env.now) w bodies c.args.members.now) c.args.at (storage_of c.args.storage) (trees_at (syntax_of c.args.nodes.now) c.args.rest.now) (declared_of c.args.found))
-    (data_chosen (lexemes_of c.args.tokens.now) (home_of c.args.home.now) (reading (ctx_of c.args.env.now) w bodies c.args.members.now) c.args.at (storage_of c.args.storage) (trees_at (syntax_of c.args.nodes.now) c.args.rest.now) (declared_of c.args.found) (form_in (typ_of c.args.found.ty)) (sym c.is_function.ensures ∙ c.if-is_function.false)) (c.data_declared.ensures w bodies)
+    answers_same (reading (ctx_of c.args.env.now) w bodies c.data_declared.new.members) c.data_declared.result
+    (data_declared (lexemes_of c.args.tokens.now) (home_of c.args.home.now) (reading (ctx_of c.args.env.now) w bodies c.args.members.now) c.args.at
+    (storage_of c.args.storage) (trees_at (syntax_of c.args.nodes.now) c.args.rest.now) (declared_of c.args.found))
+    (member_declared (lexemes_of c.args.tokens.now) (home_of c.args.home.now) (reading (ctx_of c.args.env.now) w bodies c.args.members.now) c.args.at
+    (storage_of c.args.storage) (trees_at (syntax_of c.args.nodes.now) c.args.rest.now) (declared_of c.args.found))
+    (data_chosen (lexemes_of c.args.tokens.now) (home_of c.args.home.now) (reading (ctx_of c.args.env.now) w bodies c.args.members.now) c.args.at
+    (storage_of c.args.storage) (trees_at (syntax_of c.args.nodes.now) c.args.rest.now) (declared_of c.args.found) (form_in (typ_of c.args.found.ty))
+    (sym c.is_function.ensures ∙ c.if-is_function.false)) (c.data_declared.ensures w bodies)

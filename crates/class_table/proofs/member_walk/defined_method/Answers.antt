@@ -13,7 +13,18 @@ use Rattle.class_table.proofs.member_walk.defined_method.Goals as goal
 
 pub returns : goal.returns
 returns c bodies =
-    answers_same (reading (ctx_of c.declared_method.new.env) (work_of c.args.work.now) bodies c.args.members.now) c.declared_method.result (declared_method (lexemes_of c.args.tokens.now) (home_of c.args.home.now) (reading (ctx_of c.args.env.now) (work_of c.args.work.now) bodies c.args.members.now) c.args.kind c.args.at (Some (definition_of c.in_ok-definition.definition)) (trees_at (syntax_of c.args.nodes.now) c.args.kids.now)) (defined_method (lexemes_of c.args.tokens.now) (home_of c.args.home.now) (reading (ctx_of c.args.env.now) (work_of c.args.work.now) bodies c.args.members.now) c.args.kind c.args.at c.args.token (trees_at (syntax_of c.args.nodes.now) c.args.kids.now))
-    (ap (λ z. defined_method (lexemes_of c.args.tokens.now) (home_of c.args.home.now) (reading (ctx_of c.args.env.now) (work_of c.args.work.now) bodies c.args.members.now) c.args.kind c.args.at z (trees_at (syntax_of c.args.nodes.now) c.args.kids.now)) c.in-Some.is
-    ∙ ap (λ (z : Definition). declared_method (lexemes_of c.args.tokens.now) (home_of c.args.home.now) (reading (ctx_of c.args.env.now) (work_of c.args.work.now) bodies c.args.members.now) c.args.kind c.args.at (Some z) (trees_at (syntax_of c.args.nodes.now) c.args.kids.now)) (ap (definition_between (lexemes_of c.args.tokens.now) c.in-Some.first) (sym c.body_end-last.ensures) ∙ sym c.in_ok-definition.ensures))
+    answers_same (reading (ctx_of c.declared_method.new.env) (work_of c.args.work.now) bodies c.args.members.now) c.declared_method.result
+    (declared_method (lexemes_of c.args.tokens.now) (home_of c.args.home.now)
+    (reading (ctx_of c.args.env.now) (work_of c.args.work.now) bodies c.args.members.now) c.args.kind c.args.at
+    (Some (definition_of c.in_ok-definition.definition)) (trees_at (syntax_of c.args.nodes.now) c.args.kids.now))
+    (defined_method (lexemes_of c.args.tokens.now) (home_of c.args.home.now)
+    (reading (ctx_of c.args.env.now) (work_of c.args.work.now) bodies c.args.members.now) c.args.kind c.args.at c.args.token
+    (trees_at (syntax_of c.args.nodes.now) c.args.kids.now))
+    (ap (λ z. defined_method (lexemes_of c.args.tokens.now) (home_of c.args.home.now)
+    (reading (ctx_of c.args.env.now) (work_of c.args.work.now) bodies c.args.members.now) c.args.kind c.args.at z
+    (trees_at (syntax_of c.args.nodes.now) c.args.kids.now)) c.in-Some.is
+    ∙ ap (λ (z : Definition). declared_method (lexemes_of c.args.tokens.now) (home_of c.args.home.now)
+    (reading (ctx_of c.args.env.now) (work_of c.args.work.now) bodies c.args.members.now) c.args.kind c.args.at (Some z)
+    (trees_at (syntax_of c.args.nodes.now) c.args.kids.now))
+    (ap (definition_between (lexemes_of c.args.tokens.now) c.in-Some.first) (sym c.body_end-last.ensures) ∙ sym c.in_ok-definition.ensures))
     (c.declared_method.ensures bodies)

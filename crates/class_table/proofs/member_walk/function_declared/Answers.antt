@@ -19,14 +19,31 @@ use Rattle.class_table.proofs.member_walk.function_declared.Goals as goal
 pub returns-in_err-header : goal.returns-in_err-header
 returns-in_err-header c w bodies =
     let is_error : c.from_residual.result ≡ Err c.in_err-header.field-0.0 = search rules in
-    refused (reading (ctx_of c.args.env.now) w bodies c.args.members.now) c.from_residual.result c.in_err-header.field-0.0 (function_declared (lexemes_of c.args.tokens.now) (home_of c.args.home.now) (reading (ctx_of c.args.env.now) w bodies c.args.members.now) c.args.at (storage_of c.args.storage) (trees_at (syntax_of c.args.nodes.now) c.args.rest.now) (declared_of c.args.found) (form_in (typ_of c.args.found.ty))) (function_declared (lexemes_of c.args.tokens.now) (home_of c.args.home.now) (reading (ctx_of c.args.env.now) w bodies c.args.members.now) c.args.at (storage_of c.args.storage) (trees_at (syntax_of c.args.nodes.now) c.args.rest.now) (declared_of c.args.found) (form_in (typ_of c.args.found.ty))) is_error refl
-    (function_fails (lexemes_of c.args.tokens.now) (home_of c.args.home.now) (reading (ctx_of c.args.env.now) w bodies c.args.members.now) c.args.at (storage_of c.args.storage) (trees_at (syntax_of c.args.nodes.now) c.args.rest.now) (declared_of c.args.found) (form_in (typ_of c.args.found.ty)) true c.in_err-header.field-0.0 (ap (λ z. check c.args.at BadDeclaration (not z)) (sym c.has_equal.ensures ∙ c.if-has_equal.false))
-    (subst (λ z. Faults c.in_err-header.field-0.0 (header_in c.args.home.now.number (storage_of c.args.storage) Plain c.args.at z (declared_of c.args.found) (form_in (typ_of c.args.found.ty)))) c.name_of-name.ensures c.in_err-header.ensures))
+    refused (reading (ctx_of c.args.env.now) w bodies c.args.members.now) c.from_residual.result c.in_err-header.field-0.0
+    (function_declared (lexemes_of c.args.tokens.now) (home_of c.args.home.now) (reading (ctx_of c.args.env.now) w bodies c.args.members.now) c.args.at
+    (storage_of c.args.storage) (trees_at (syntax_of c.args.nodes.now) c.args.rest.now) (declared_of c.args.found) (form_in (typ_of c.args.found.ty)))
+    (function_declared (lexemes_of c.args.tokens.now) (home_of c.args.home.now) (reading (ctx_of c.args.env.now) w bodies c.args.members.now) c.args.at
+    (storage_of c.args.storage) (trees_at (syntax_of c.args.nodes.now) c.args.rest.now) (declared_of c.args.found)
+    (form_in (typ_of c.args.found.ty))) is_error refl
+    (function_fails (lexemes_of c.args.tokens.now) (home_of c.args.home.now) (reading (ctx_of c.args.env.now) w bodies c.args.members.now) c.args.at
+    (storage_of c.args.storage) (trees_at (syntax_of c.args.nodes.now) c.args.rest.now) (declared_of c.args.found)
+    (form_in (typ_of c.args.found.ty)) true c.in_err-header.field-0.0
+    (ap (λ z. check c.args.at BadDeclaration (not z)) (sym c.has_equal.ensures ∙ c.if-has_equal.false))
+    (subst (λ z. Faults c.in_err-header.field-0.0 (header_in c.args.home.now.number (storage_of c.args.storage) Plain c.args.at z (declared_of c.args.found)
+    (form_in (typ_of c.args.found.ty)))) c.name_of-name.ensures c.in_err-header.ensures))
 
 pub returns : goal.returns
 returns c w bodies =
-    answers_same (reading (ctx_of c.member_function.new.env) w bodies c.args.members.now) c.member_function.result (member_function (home_of c.args.home.now) (reading (ctx_of c.args.env.now) w bodies c.args.members.now) (header_of c.in_ok-header.header) (marks_of c.marks_from-marks.result) None) (function_declared (lexemes_of c.args.tokens.now) (home_of c.args.home.now) (reading (ctx_of c.args.env.now) w bodies c.args.members.now) c.args.at (storage_of c.args.storage) (trees_at (syntax_of c.args.nodes.now) c.args.rest.now) (declared_of c.args.found) (form_in (typ_of c.args.found.ty)))
-    (function_is (lexemes_of c.args.tokens.now) (home_of c.args.home.now) (reading (ctx_of c.args.env.now) w bodies c.args.members.now) c.args.at (storage_of c.args.storage) (trees_at (syntax_of c.args.nodes.now) c.args.rest.now) (declared_of c.args.found) (form_in (typ_of c.args.found.ty)) true (header_of c.in_ok-header.header) (ap (λ z. check c.args.at BadDeclaration (not z)) (sym c.has_equal.ensures ∙ c.if-has_equal.false))
-    (ap (λ z. header_in c.args.home.now.number (storage_of c.args.storage) Plain c.args.at z (declared_of c.args.found) (form_in (typ_of c.args.found.ty))) (sym c.name_of-name.ensures) ∙ c.in_ok-header.ensures)
-    ∙ ap (λ z. member_function (home_of c.args.home.now) (reading (ctx_of c.args.env.now) w bodies c.args.members.now) (header_of c.in_ok-header.header) z None) (sym c.marks_from-marks.ensures))
+    answers_same (reading (ctx_of c.member_function.new.env) w bodies c.args.members.now) c.member_function.result
+    (member_function (home_of c.args.home.now) (reading (ctx_of c.args.env.now) w bodies c.args.members.now) (header_of c.in_ok-header.header)
+    (marks_of c.marks_from-marks.result) None) (function_declared (lexemes_of c.args.tokens.now) (home_of c.args.home.now)
+    (reading (ctx_of c.args.env.now) w bodies c.args.members.now) c.args.at (storage_of c.args.storage)
+    (trees_at (syntax_of c.args.nodes.now) c.args.rest.now) (declared_of c.args.found) (form_in (typ_of c.args.found.ty)))
+    (function_is (lexemes_of c.args.tokens.now) (home_of c.args.home.now) (reading (ctx_of c.args.env.now) w bodies c.args.members.now) c.args.at
+    (storage_of c.args.storage) (trees_at (syntax_of c.args.nodes.now) c.args.rest.now) (declared_of c.args.found) (form_in (typ_of c.args.found.ty)) true
+    (header_of c.in_ok-header.header) (ap (λ z. check c.args.at BadDeclaration (not z)) (sym c.has_equal.ensures ∙ c.if-has_equal.false))
+    (ap (λ z. header_in c.args.home.now.number (storage_of c.args.storage) Plain c.args.at z (declared_of c.args.found) (form_in (typ_of c.args.found.ty)))
+    (sym c.name_of-name.ensures) ∙ c.in_ok-header.ensures)
+    ∙ ap (λ z. member_function (home_of c.args.home.now) (reading (ctx_of c.args.env.now) w bodies c.args.members.now) (header_of c.in_ok-header.header) z None)
+    (sym c.marks_from-marks.ensures))
     (c.member_function.ensures w bodies)

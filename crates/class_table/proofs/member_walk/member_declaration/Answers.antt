@@ -17,12 +17,43 @@ use Rattle.class_table.proofs.member_walk.member_declaration.Goals as goal
 pub returns-in_err-ty : goal.returns-in_err-ty
 returns-in_err-ty c bodies =
     let is_error : c.from_residual.result ≡ Err c.in_err-ty.field-0.0 = search rules in
-    refused (reading (ctx_of c.args.env.now) (work_of c.args.work.now) bodies c.args.members.now) c.from_residual.result c.in_err-ty.field-0.0 (member_declaration (lexemes_of c.args.tokens.now) (home_of c.args.home.now) (reading (ctx_of c.args.env.now) (work_of c.args.work.now) bodies c.args.members.now) c.args.at (started_from (lexemes_of c.args.tokens.now) no_storage (trees_at (syntax_of c.args.nodes.now) c.args.kids.now))) (member_declaration (lexemes_of c.args.tokens.now) (home_of c.args.home.now) (reading (ctx_of c.args.env.now) (work_of c.args.work.now) bodies c.args.members.now) c.args.at (started_from (lexemes_of c.args.tokens.now) no_storage (trees_at (syntax_of c.args.nodes.now) c.args.kids.now))) is_error refl
-    (declaration_fails (lexemes_of c.args.tokens.now) (home_of c.args.home.now) (reading (ctx_of c.args.env.now) (work_of c.args.work.now) bodies c.args.members.now) c.args.at (started_from (lexemes_of c.args.tokens.now) no_storage (trees_at (syntax_of c.args.nodes.now) c.args.kids.now)) (storage_of c.started_from-started.result.storage) (tree_at (syntax_of c.args.nodes.now) c.in-Some.base) (trees_at (syntax_of c.args.nodes.now) (drop (c.started_from-started.result.count + 1) c.args.kids.now)) c.in_err-ty.field-0.0 (started_more (started_from (lexemes_of c.args.tokens.now) no_storage (trees_at (syntax_of c.args.nodes.now) c.args.kids.now)) (storage_of c.started_from-started.result.storage) (syntax_of c.args.nodes.now) c.args.kids.now c.started_from-started.result.count c.in-Some.base (ap (λ z. started_from (lexemes_of c.args.tokens.now) z (trees_at (syntax_of c.args.nodes.now) c.args.kids.now)) (sym c.no_storage.ensures) ∙ c.started_from-started.ensures.started) c.in-Some.ensures.kid) c.in_err-ty.ensures)
+    refused (reading (ctx_of c.args.env.now) (work_of c.args.work.now) bodies c.args.members.now) c.from_residual.result c.in_err-ty.field-0.0
+    (member_declaration (lexemes_of c.args.tokens.now) (home_of c.args.home.now)
+    (reading (ctx_of c.args.env.now) (work_of c.args.work.now) bodies c.args.members.now) c.args.at
+    (started_from (lexemes_of c.args.tokens.now) no_storage (trees_at (syntax_of c.args.nodes.now) c.args.kids.now)))
+    (member_declaration (lexemes_of c.args.tokens.now) (home_of c.args.home.now)
+    (reading (ctx_of c.args.env.now) (work_of c.args.work.now) bodies c.args.members.now) c.args.at
+    (started_from (lexemes_of c.args.tokens.now) no_storage (trees_at (syntax_of c.args.nodes.now) c.args.kids.now))) is_error refl
+    (declaration_fails (lexemes_of c.args.tokens.now) (home_of c.args.home.now)
+    (reading (ctx_of c.args.env.now) (work_of c.args.work.now) bodies c.args.members.now) c.args.at
+    (started_from (lexemes_of c.args.tokens.now) no_storage (trees_at (syntax_of c.args.nodes.now) c.args.kids.now))
+    (storage_of c.started_from-started.result.storage) (tree_at (syntax_of c.args.nodes.now) c.in-Some.base)
+    (trees_at (syntax_of c.args.nodes.now) (drop (c.started_from-started.result.count + 1) c.args.kids.now)) c.in_err-ty.field-0.0
+    (started_more (started_from (lexemes_of c.args.tokens.now) no_storage (trees_at (syntax_of c.args.nodes.now) c.args.kids.now))
+    (storage_of c.started_from-started.result.storage) (syntax_of c.args.nodes.now) c.args.kids.now c.started_from-started.result.count c.in-Some.base
+    (ap (λ z. started_from (lexemes_of c.args.tokens.now) z (trees_at (syntax_of c.args.nodes.now) c.args.kids.now)) (sym c.no_storage.ensures)
+    ∙ c.started_from-started.ensures.started) c.in-Some.ensures.kid) c.in_err-ty.ensures)
 
 pub returns : goal.returns
 returns c bodies =
-    answers_same (reading (ctx_of c.member_declarators.new.env) (work_of c.args.work.now) bodies c.member_declarators.new.members) c.member_declarators.result (each_of (member_declarator (lexemes_of c.args.tokens.now) (home_of c.args.home.now) (storage_of c.started_from-started.result.storage) (typ_of c.in_ok-ty.ty)) (reading (ctx_of c.args.env.now) (work_of c.args.work.now) bodies c.args.members.now) (trees_at (syntax_of c.args.nodes.now) c.rest_from-rest.result.now)) (member_declaration (lexemes_of c.args.tokens.now) (home_of c.args.home.now) (reading (ctx_of c.args.env.now) (work_of c.args.work.now) bodies c.args.members.now) c.args.at (started_from (lexemes_of c.args.tokens.now) no_storage (trees_at (syntax_of c.args.nodes.now) c.args.kids.now)))
-    (declaration_by (lexemes_of c.args.tokens.now) (home_of c.args.home.now) (reading (ctx_of c.args.env.now) (work_of c.args.work.now) bodies c.args.members.now) c.args.at (started_from (lexemes_of c.args.tokens.now) no_storage (trees_at (syntax_of c.args.nodes.now) c.args.kids.now)) (storage_of c.started_from-started.result.storage) (tree_at (syntax_of c.args.nodes.now) c.in-Some.base) (trees_at (syntax_of c.args.nodes.now) (drop (c.started_from-started.result.count + 1) c.args.kids.now)) (typ_of c.in_ok-ty.ty) (started_more (started_from (lexemes_of c.args.tokens.now) no_storage (trees_at (syntax_of c.args.nodes.now) c.args.kids.now)) (storage_of c.started_from-started.result.storage) (syntax_of c.args.nodes.now) c.args.kids.now c.started_from-started.result.count c.in-Some.base (ap (λ z. started_from (lexemes_of c.args.tokens.now) z (trees_at (syntax_of c.args.nodes.now) c.args.kids.now)) (sym c.no_storage.ensures) ∙ c.started_from-started.ensures.started) c.in-Some.ensures.kid) c.in_ok-ty.ensures
-    ∙ ap (λ (z : List NodeId). each_of (member_declarator (lexemes_of c.args.tokens.now) (home_of c.args.home.now) (storage_of c.started_from-started.result.storage) (typ_of c.in_ok-ty.ty)) (reading (ctx_of c.args.env.now) (work_of c.args.work.now) bodies c.args.members.now) (trees_at (syntax_of c.args.nodes.now) z)) (sym c.rest_from-rest.ensures.rest))
+    answers_same (reading (ctx_of c.member_declarators.new.env) (work_of c.args.work.now) bodies c.member_declarators.new.members) c.member_declarators.result
+    (each_of (member_declarator (lexemes_of c.args.tokens.now) (home_of c.args.home.now) (storage_of c.started_from-started.result.storage)
+    (typ_of c.in_ok-ty.ty)) (reading (ctx_of c.args.env.now) (work_of c.args.work.now) bodies c.args.members.now)
+    (trees_at (syntax_of c.args.nodes.now) c.rest_from-rest.result.now))
+    (member_declaration (lexemes_of c.args.tokens.now) (home_of c.args.home.now)
+    (reading (ctx_of c.args.env.now) (work_of c.args.work.now) bodies c.args.members.now) c.args.at
+    (started_from (lexemes_of c.args.tokens.now) no_storage (trees_at (syntax_of c.args.nodes.now) c.args.kids.now)))
+    (declaration_by (lexemes_of c.args.tokens.now) (home_of c.args.home.now)
+    (reading (ctx_of c.args.env.now) (work_of c.args.work.now) bodies c.args.members.now) c.args.at
+    (started_from (lexemes_of c.args.tokens.now) no_storage (trees_at (syntax_of c.args.nodes.now) c.args.kids.now))
+    (storage_of c.started_from-started.result.storage) (tree_at (syntax_of c.args.nodes.now) c.in-Some.base)
+    (trees_at (syntax_of c.args.nodes.now) (drop (c.started_from-started.result.count + 1) c.args.kids.now)) (typ_of c.in_ok-ty.ty)
+    (started_more (started_from (lexemes_of c.args.tokens.now) no_storage (trees_at (syntax_of c.args.nodes.now) c.args.kids.now))
+    (storage_of c.started_from-started.result.storage) (syntax_of c.args.nodes.now) c.args.kids.now c.started_from-started.result.count c.in-Some.base
+    (ap (λ z. started_from (lexemes_of c.args.tokens.now) z (trees_at (syntax_of c.args.nodes.now) c.args.kids.now)) (sym c.no_storage.ensures)
+    ∙ c.started_from-started.ensures.started) c.in-Some.ensures.kid) c.in_ok-ty.ensures
+    ∙ ap (λ (z : List NodeId). each_of (member_declarator (lexemes_of c.args.tokens.now) (home_of c.args.home.now)
+    (storage_of c.started_from-started.result.storage) (typ_of c.in_ok-ty.ty))
+    (reading (ctx_of c.args.env.now) (work_of c.args.work.now) bodies c.args.members.now) (trees_at (syntax_of c.args.nodes.now) z))
+    (sym c.rest_from-rest.ensures.rest))
     (c.member_declarators.ensures bodies)

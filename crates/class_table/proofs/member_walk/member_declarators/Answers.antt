@@ -1,4 +1,5 @@
-use Rattle.std.proofs.Common.{◌≡◌, ◌∙◌, rules, refl, sym, ap, subst, map, drop, get_or, List, Option, Some, None, Ok, Err, true, false, not, option_map, ◌∷◌, ◌+◌}
+use Rattle.std.proofs.Common.{◌≡◌, ◌∙◌, rules, refl, sym, ap, subst, map, drop, get_or, List, Option, Some, None, Ok, Err, true, false, not, option_map, ◌∷◌}
+use Rattle.std.proofs.Common.{◌+◌}
 use Rattle.elab_expr.specs.cpp_lex.Tokens.{lexemes_of}
 use Rattle.elab_expr.specs.cpp_types.Typ.{Typ, typ_of}
 use Rattle.elab_expr.specs.elab_ctx.Ctx.{ctx_of, work_of}
@@ -14,12 +15,33 @@ use Rattle.class_table.proofs.member_walk.member_declarators.Goals as goal
 
 pub loop-id-preserved : goal.loop-id-preserved
 loop-id-preserved c bodies =
-    each_more (member_declarator (lexemes_of c.args.tokens.now) (home_of c.args.home.now) (storage_of c.args.storage) (typ_of c.args.ty.now)) (reading (ctx_of c.loop-id.env) (work_of c.args.work.now) bodies c.loop-id.members) (reading (ctx_of c.member_declarator.new.env) (work_of c.args.work.now) bodies c.member_declarator.new.members) (tree_at (syntax_of c.args.nodes.now) (get_or c.args.ids.now c.loop-id.id-index (record { 0 = 0 }))) (trees_at (syntax_of c.args.nodes.now) (drop (c.loop-id.id-index + 1) c.args.ids.now)) _ (c.in_ok-member_declarator.ensures bodies) (c.loop-id.invariant bodies ∙ ap (each_of (member_declarator (lexemes_of c.args.tokens.now) (home_of c.args.home.now) (storage_of c.args.storage) (typ_of c.args.ty.now)) (reading (ctx_of c.loop-id.env) (work_of c.args.work.now) bodies c.loop-id.members)) (trees_step (syntax_of c.args.nodes.now) c.args.ids.now c.loop-id.id-index (record { 0 = 0 }) c.loop-id-test.true))
+    each_more (member_declarator (lexemes_of c.args.tokens.now) (home_of c.args.home.now) (storage_of c.args.storage) (typ_of c.args.ty.now))
+    (reading (ctx_of c.loop-id.env) (work_of c.args.work.now) bodies c.loop-id.members)
+    (reading (ctx_of c.member_declarator.new.env) (work_of c.args.work.now) bodies c.member_declarator.new.members)
+    (tree_at (syntax_of c.args.nodes.now) (get_or c.args.ids.now c.loop-id.id-index (record { 0 = 0 })))
+    (trees_at (syntax_of c.args.nodes.now) (drop (c.loop-id.id-index + 1) c.args.ids.now)) _ (c.in_ok-member_declarator.ensures bodies)
+    (c.loop-id.invariant bodies ∙ ap (each_of (member_declarator (lexemes_of c.args.tokens.now) (home_of c.args.home.now) (storage_of c.args.storage)
+    (typ_of c.args.ty.now)) (reading (ctx_of c.loop-id.env) (work_of c.args.work.now) bodies c.loop-id.members))
+    (trees_step (syntax_of c.args.nodes.now) c.args.ids.now c.loop-id.id-index (record { 0 = 0 }) c.loop-id-test.true))
 
 pub returns-in_err-member_declarator : goal.returns-in_err-member_declarator
 returns-in_err-member_declarator c bodies =
     let is_error : c.from_residual.result ≡ Err c.in_err-member_declarator.field-0.0 = search rules in
-    refused _ c.from_residual.result c.in_err-member_declarator.field-0.0 _ (each_of (member_declarator (lexemes_of c.args.tokens.now) (home_of c.args.home.now) (storage_of c.args.storage) (typ_of c.args.ty.now)) (reading (ctx_of c.args.env.now) (work_of c.args.work.now) bodies c.args.members.now) (trees_at (syntax_of c.args.nodes.now) c.args.ids.now)) is_error refl (each_fails (member_declarator (lexemes_of c.args.tokens.now) (home_of c.args.home.now) (storage_of c.args.storage) (typ_of c.args.ty.now)) (reading (ctx_of c.loop-id.env) (work_of c.args.work.now) bodies c.loop-id.members) (tree_at (syntax_of c.args.nodes.now) (get_or c.args.ids.now c.loop-id.id-index (record { 0 = 0 }))) (trees_at (syntax_of c.args.nodes.now) (drop (c.loop-id.id-index + 1) c.args.ids.now)) _ c.in_err-member_declarator.field-0.0 (c.in_err-member_declarator.ensures bodies) (c.loop-id.invariant bodies ∙ ap (each_of (member_declarator (lexemes_of c.args.tokens.now) (home_of c.args.home.now) (storage_of c.args.storage) (typ_of c.args.ty.now)) (reading (ctx_of c.loop-id.env) (work_of c.args.work.now) bodies c.loop-id.members)) (trees_step (syntax_of c.args.nodes.now) c.args.ids.now c.loop-id.id-index (record { 0 = 0 }) c.loop-id-test.true)))
+    refused _ c.from_residual.result c.in_err-member_declarator.field-0.0 _
+    (each_of (member_declarator (lexemes_of c.args.tokens.now) (home_of c.args.home.now) (storage_of c.args.storage) (typ_of c.args.ty.now))
+    (reading (ctx_of c.args.env.now) (work_of c.args.work.now) bodies c.args.members.now)
+    (trees_at (syntax_of c.args.nodes.now) c.args.ids.now)) is_error refl
+    (each_fails (member_declarator (lexemes_of c.args.tokens.now) (home_of c.args.home.now) (storage_of c.args.storage) (typ_of c.args.ty.now))
+    (reading (ctx_of c.loop-id.env) (work_of c.args.work.now) bodies c.loop-id.members)
+    (tree_at (syntax_of c.args.nodes.now) (get_or c.args.ids.now c.loop-id.id-index (record { 0 = 0 })))
+    (trees_at (syntax_of c.args.nodes.now) (drop (c.loop-id.id-index + 1) c.args.ids.now)) _ c.in_err-member_declarator.field-0.0
+    (c.in_err-member_declarator.ensures bodies) (c.loop-id.invariant bodies ∙ ap
+    (each_of (member_declarator (lexemes_of c.args.tokens.now) (home_of c.args.home.now) (storage_of c.args.storage) (typ_of c.args.ty.now))
+    (reading (ctx_of c.loop-id.env) (work_of c.args.work.now) bodies c.loop-id.members))
+    (trees_step (syntax_of c.args.nodes.now) c.args.ids.now c.loop-id.id-index (record { 0 = 0 }) c.loop-id-test.true)))
 
 pub returns : goal.returns
-returns c bodies = c.loop-id.invariant bodies ∙ ap (each_of (member_declarator (lexemes_of c.args.tokens.now) (home_of c.args.home.now) (storage_of c.args.storage) (typ_of c.args.ty.now)) (reading (ctx_of c.loop-id.env) (work_of c.args.work.now) bodies c.loop-id.members)) (trees_past (syntax_of c.args.nodes.now) c.args.ids.now c.loop-id.id-index c.loop-id-test.false)
+returns c bodies = c.loop-id.invariant bodies ∙ ap (each_of
+    (member_declarator (lexemes_of c.args.tokens.now) (home_of c.args.home.now) (storage_of c.args.storage) (typ_of c.args.ty.now))
+    (reading (ctx_of c.loop-id.env) (work_of c.args.work.now) bodies c.loop-id.members))
+    (trees_past (syntax_of c.args.nodes.now) c.args.ids.now c.loop-id.id-index c.loop-id-test.false)

@@ -10,4 +10,7 @@ use Rattle.class_members.specs.Shown.{home_of, reading, storage_of}
 use Rattle.class_table.proofs.member_walk.member_declarators.Given as goal
 
 abbrev pub invariant-loop-id : goal.invariant-loop-id
-invariant-loop-id l = (bodies : List Body) → each_of (member_declarator (lexemes_of l.tokens) (home_of l.home) (storage_of l.storage) (typ_of l.ty)) (reading (ctx_of l.fn.env) (work_of l.work) bodies l.fn.members) (trees_at (syntax_of l.nodes) l.ids) ≡ each_of (member_declarator (lexemes_of l.tokens) (home_of l.home) (storage_of l.storage) (typ_of l.ty)) (reading (ctx_of l.env) (work_of l.work) bodies l.members) (trees_at (syntax_of l.nodes) (drop l.id-index l.ids))
+invariant-loop-id l = (bodies : List Body) → each_of (member_declarator (lexemes_of l.tokens) (home_of l.home) (storage_of l.storage) (typ_of l.ty))
+    (reading (ctx_of l.fn.env) (work_of l.work) bodies l.fn.members) (trees_at (syntax_of l.nodes) l.ids)
+    ≡ each_of (member_declarator (lexemes_of l.tokens) (home_of l.home) (storage_of l.storage) (typ_of l.ty))
+    (reading (ctx_of l.env) (work_of l.work) bodies l.members) (trees_at (syntax_of l.nodes) (drop l.id-index l.ids))

@@ -14,4 +14,6 @@ abbrev pub decreases-member_among : goal.decreases-member_among
 decreases-member_among l = l.parent.0 * 2
 
 abbrev pub invariant-member_among-loop-kid : goal.invariant-member_among-loop-kid
-invariant-member_among-loop-kid l = (w : Work) (bodies : List Body) → member_among (lexemes_of l.tokens) l.class (reading (ctx_of l.env) w bodies l.members) (trees_at (syntax_of l.nodes) l.kids) ≡ member_among (lexemes_of l.tokens) l.class (reading (ctx_of l.env) w bodies l.members) (trees_at (syntax_of l.nodes) (drop l.kid-index l.kids))
+invariant-member_among-loop-kid l = (w : Work) (bodies : List Body)
+    → member_among (lexemes_of l.tokens) l.class (reading (ctx_of l.env) w bodies l.members) (trees_at (syntax_of l.nodes) l.kids)
+    ≡ member_among (lexemes_of l.tokens) l.class (reading (ctx_of l.env) w bodies l.members) (trees_at (syntax_of l.nodes) (drop l.kid-index l.kids))

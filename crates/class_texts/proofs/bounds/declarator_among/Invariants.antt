@@ -8,4 +8,6 @@ use Rattle.elab_types.specs.Syntax.{syntax_of, trees_at}
 use Rattle.class_texts.proofs.bounds.declarator_among.Given as goal
 
 abbrev pub invariant-loop-kid : goal.invariant-loop-kid
-invariant-loop-kid l = (w : Work) (bodies : List Body) → declarator_among (lexemes_of l.tokens) l.class (reading (ctx_of l.env) w bodies l.members) (trees_at (syntax_of l.nodes) l.kids) ≡ declarator_among (lexemes_of l.tokens) l.class (reading (ctx_of l.env) w bodies l.members) (trees_at (syntax_of l.nodes) (drop l.kid-index l.kids))
+invariant-loop-kid l = (w : Work) (bodies : List Body)
+    → declarator_among (lexemes_of l.tokens) l.class (reading (ctx_of l.env) w bodies l.members) (trees_at (syntax_of l.nodes) l.kids)
+    ≡ declarator_among (lexemes_of l.tokens) l.class (reading (ctx_of l.env) w bodies l.members) (trees_at (syntax_of l.nodes) (drop l.kid-index l.kids))

@@ -13,8 +13,11 @@ returns-in-Some c =
     let fs = c.args.image.now.funcs.items in
     let n = c.loop-number.number in
     let h : c.loop-number.number < length c.args.image.now.funcs.items = omega (arith, ap length c.deref-func-items.ensures.value) in
-    let g : c.func-item.result ≡ get_or c.args.image.now.funcs.items c.loop-number.number c.func-item.result = c.func-item.is ∙ ap (λ z. get_or z c.loop-number.number c.func-item.result) c.deref-func-items.ensures.value in
-    sym (c.loop-number.invariant ∙ funcs_here x fs n c.func-item.result h g ∙ ap (λ (o : Option Fault). or_below n o (first_of_funcs x (n + 1) (map image_func_view (drop (n + 1) fs)))) (sym c.in_ok-func_fault.ensures ∙ c.in-Some.is))
+    let g : c.func-item.result ≡ get_or c.args.image.now.funcs.items c.loop-number.number c.func-item.result = c.func-item.is
+    ∙ ap (λ z. get_or z c.loop-number.number c.func-item.result) c.deref-func-items.ensures.value in
+    sym (c.loop-number.invariant ∙ funcs_here x fs n c.func-item.result h g
+    ∙ ap (λ (o : Option Fault). or_below n o (first_of_funcs x (n + 1) (map image_func_view (drop (n + 1) fs))))
+    (sym c.in_ok-func_fault.ensures ∙ c.in-Some.is))
 
 pub loop-number-preserved : goal.loop-number-preserved
 loop-number-preserved c =
@@ -22,5 +25,8 @@ loop-number-preserved c =
     let fs = c.args.image.now.funcs.items in
     let n = c.loop-number.number in
     let h : c.loop-number.number < length c.args.image.now.funcs.items = omega (arith, ap length c.deref-func-items.ensures.value) in
-    let g : c.func-item.result ≡ get_or c.args.image.now.funcs.items c.loop-number.number c.func-item.result = c.func-item.is ∙ ap (λ z. get_or z c.loop-number.number c.func-item.result) c.deref-func-items.ensures.value in
-    c.loop-number.invariant ∙ funcs_here x fs n c.func-item.result h g ∙ ap (λ (o : Option Fault). or_below n o (first_of_funcs x (n + 1) (map image_func_view (drop (n + 1) fs)))) (sym c.in_ok-func_fault.ensures ∙ c.in-None.is)
+    let g : c.func-item.result ≡ get_or c.args.image.now.funcs.items c.loop-number.number c.func-item.result = c.func-item.is
+    ∙ ap (λ z. get_or z c.loop-number.number c.func-item.result) c.deref-func-items.ensures.value in
+    c.loop-number.invariant ∙ funcs_here x fs n c.func-item.result h g
+    ∙ ap (λ (o : Option Fault). or_below n o (first_of_funcs x (n + 1) (map image_func_view (drop (n + 1) fs))))
+    (sym c.in_ok-func_fault.ensures ∙ c.in-None.is)

@@ -6,4 +6,5 @@ use Rattle.code_verify.specs.Faults.{first_of_funcs, image_fault}
 use Rattle.code_verify.proofs.faults.image_fault.Given as goal
 
 abbrev pub invariant-loop-number : goal.invariant-loop-number
-invariant-loop-number l = image_fault (image_view l.image) ≡ first_of_funcs (table_of (image_view l.image)) l.number (map image_func_view (drop l.number l.image.funcs.items))
+invariant-loop-number l = image_fault (image_view l.image)
+    ≡ first_of_funcs (table_of (image_view l.image)) l.number (map image_func_view (drop l.number l.image.funcs.items))

@@ -10,5 +10,6 @@ use Rattle.code_verify.proofs.faults.safe_fault.Goals as goal
 pub returns-in_ok-fault-in-Some : goal.returns-in_ok-fault-in-Some
 returns-in_ok-fault-in-Some c =
     let n : c.len.result ≡ length c.args.func.now.plain.code.items = omega (arith, c.len.ensures, c.args.func.now.plain.code.ok) in
-    safe_is (table_of (image_view c.args.image.now)) (image_func_view c.args.func.now) (body_view c.in-Some.body.now) (option_map body_view c.args.func.now.safe) c.len.result c.args.takes c.args.gives c.in_ok-fault-in-Some.fault c.behind.result
+    safe_is (table_of (image_view c.args.image.now)) (image_func_view c.args.func.now) (body_view c.in-Some.body.now)
+    (option_map body_view c.args.func.now.safe) c.len.result c.args.takes c.args.gives c.in_ok-fault-in-Some.fault c.behind.result
     (ap (option_map body_view) c.in-Some.ensures.value) c.requires.takes c.requires.gives c.in_ok-fault-in-Some.ensures n c.behind.ensures

@@ -14,6 +14,8 @@ returns-clause-right t c = λ u ss.
     let er : c.in_ok-new-2.field-0.value ≡ c.in_ok-right.right = c.in_ok-new-2.ensures.ok in (
       subst (Right u ss) (sym el) (c.in_ok-left.ensures.right u ss),
       subst (Right u ss) (sym er) (c.in_ok-right.ensures.right u ss),
-      subst (λ z. SpanOf c.joined-span.result (rows_of z ++ rows_of c.in_ok-new-2.field-0.value)) (sym el) (subst (λ z. SpanOf c.joined-span.result (rows_of c.in_ok-left.left ++ rows_of z)) (sym er) (c.joined-span.ensures (rows_of c.in_ok-left.left) (rows_of c.in_ok-right.right) c.span_of.ensures c.span_of-2.ensures)),
+      subst (λ z. SpanOf c.joined-span.result (rows_of z ++ rows_of c.in_ok-new-2.field-0.value)) (sym el)
+          (subst (λ z. SpanOf c.joined-span.result (rows_of c.in_ok-left.left ++ rows_of z)) (sym er)
+          (c.joined-span.ensures (rows_of c.in_ok-left.left) (rows_of c.in_ok-right.right) c.span_of.ensures c.span_of-2.ensures)),
       tt,
     )

@@ -20,8 +20,10 @@ give-requires-clause-right c =
     let t = c.args.nests.now in
     let a = c.args.slots.now in
     let i = c.in-Some.looked.index in
-    let w : c.in-Some.looked.index < length (map (slot_of c.args.nests.now) c.args.slots.now) = omega (arith, c.in-Some.ensures.within, length_map (slot_of t) a) in
-    subst (λ z. Right t z c.args.rows.now) (sym (ap (map (slot_of t)) c.in-Some.ensures.looked ∙ mark_is (table_in j) (signature_in j) (view_in j) t a i c.in-Some.looked.slot c.in-Some.ensures.within c.in-Some.ensures.slot))
+    let w : c.in-Some.looked.index < length (map (slot_of c.args.nests.now) c.args.slots.now) =
+    omega (arith, c.in-Some.ensures.within, length_map (slot_of t) a) in
+    subst (λ z. Right t z c.args.rows.now) (sym (ap (map (slot_of t)) c.in-Some.ensures.looked ∙ mark_is (table_in j) (signature_in j)
+    (view_in j) t a i c.in-Some.looked.slot c.in-Some.ensures.within c.in-Some.ensures.slot))
     (right_seen t (map (slot_of t) a) i c.args.rows.now w c.requires.right)
 
 pub returns-in-None-shape-clause-steps : goal.returns-in-None-shape-clause-steps
@@ -41,9 +43,12 @@ returns-in-None-shape-clause-rows c =
     let t = c.args.nests.now in
     let a = c.args.slots.now in
     let i = c.in-Some.looked.index in
-    let w : c.in-Some.looked.index < length (map (slot_of c.args.nests.now) c.args.slots.now) = omega (arith, c.in-Some.ensures.within, length_map (slot_of t) a) in
+    let w : c.in-Some.looked.index < length (map (slot_of c.args.nests.now) c.args.slots.now) =
+    omega (arith, c.in-Some.ensures.within, length_map (slot_of t) a) in
     record {
-      right = subst (λ z. Right t z c.args.rows.now) (sym (ap (map (slot_of t)) c.in-Some.ensures.looked ∙ mark_is (table_in j) (signature_in j) (view_in j) t a i c.in-Some.looked.slot c.in-Some.ensures.within c.in-Some.ensures.slot))
+      right = subst (λ z. Right t z c.args.rows.now) (sym
+          (ap (map (slot_of t)) c.in-Some.ensures.looked
+          ∙ mark_is (table_in j) (signature_in j) (view_in j) t a i c.in-Some.looked.slot c.in-Some.ensures.within c.in-Some.ensures.slot))
           (right_seen t (map (slot_of t) a) i c.args.rows.now w c.requires.right);
       rows = refl;
     }
@@ -56,6 +61,8 @@ returns-in_ok-give-in-Some-shape-clause-steps c =
     let i = c.in-Some.looked.index in
     let d = c.in-Some.looked.slot in
     let s = c.in-Some-shape.shape in
-    let st = subst (λ z. Steps t c.give.new.nests z c.give.new.slots (note_all tested (map (slot_of t) z) ((space_in j).gives i (shape_of t s)))) c.in-Some.ensures.looked c.in_ok-give-in-Some-shape.ensures.steps in
+    let st = subst (λ z. Steps t c.give.new.nests z c.give.new.slots
+    (note_all tested (map (slot_of t) z) ((space_in j).gives i (shape_of t s)))) c.in-Some.ensures.looked c.in_ok-give-in-Some-shape.ensures.steps in
     subst (λ z. Steps t c.give.new.nests a c.give.new.slots z) (sym (ap (step_at (space_in j) (map (slot_of t) a)) (c.in-Some.ensures.lowest t)))
-    (looked_some (table_in j) (signature_in j) (view_in j) t a i d c.in-Some.ensures.within c.in-Some.ensures.slot c.give.new.nests c.give.new.slots s (sym c.in-Some-shape.is) st)
+    (looked_some (table_in j) (signature_in j) (view_in j) t a i d c.in-Some.ensures.within c.in-Some.ensures.slot c.give.new.nests c.give.new.slots s
+    (sym c.in-Some-shape.is) st)

@@ -15,24 +15,35 @@ note_falls-requires-clause-slots c = slots_fit c.args.nests.now c.outgoing.new.n
 pub note_rows-requires-clause-right : goal.note_rows-requires-clause-right
 note_rows-requires-clause-right c =
     let t = c.outgoing.new.nests in
-    right_noted t (map (slot_of t) c.args.slots.now) (map (slot_of t) c.note_falls.new.slots) (falls_to (targets_of c.targets_at.result) (shape_of t c.in-Some.next)) c.args.rows.now c.in_ok-note_falls-in-Some.ensures.slots
+    right_noted t (map (slot_of t) c.args.slots.now) (map (slot_of t) c.note_falls.new.slots)
+    (falls_to (targets_of c.targets_at.result) (shape_of t c.in-Some.next)) c.args.rows.now c.in_ok-note_falls-in-Some.ensures.slots
     (right_slots c.args.nests.now t c.args.slots.now c.in_ok-outgoing.ensures.more c.requires.slots c.args.rows.now c.requires.right)
 
 pub returns-in-None-clause-steps : goal.returns-in-None-clause-steps
 returns-in-None-clause-steps c =
     let s = shape_of c.args.nests.now c.args.shape in
-    let e : None ≡ outgoing (table_in c.args.judged) c.args.judged.gives c.args.instr s = sym (ap (option_map (shape_of c.outgoing.new.nests)) c.in-None.is) ∙ c.in_ok-outgoing.ensures.is in
-    still_steps c.args.nests.now c.outgoing.new.nests c.args.slots.now c.in_ok-outgoing.ensures.more c.requires.slots _ (ap (λ o. given_on o c.args.instr (rows_of c.args.rows.now) c.args.index s) e)
+    let e : None ≡ outgoing (table_in c.args.judged) c.args.judged.gives c.args.instr s = sym (ap (option_map (shape_of c.outgoing.new.nests)) c.in-None.is)
+    ∙ c.in_ok-outgoing.ensures.is in
+    still_steps c.args.nests.now c.outgoing.new.nests c.args.slots.now c.in_ok-outgoing.ensures.more c.requires.slots _
+    (ap (λ o. given_on o c.args.instr (rows_of c.args.rows.now) c.args.index s) e)
 
 pub returns-in-None-clause-rows : goal.returns-in-None-clause-rows
-returns-in-None-clause-rows c = record { right = right_slots c.args.nests.now c.outgoing.new.nests c.args.slots.now c.in_ok-outgoing.ensures.more c.requires.slots c.args.rows.now c.requires.right; rows = refl }
+returns-in-None-clause-rows c =
+    record {
+      right =
+          right_slots c.args.nests.now c.outgoing.new.nests c.args.slots.now c.in_ok-outgoing.ensures.more c.requires.slots c.args.rows.now c.requires.right;
+      rows =
+          refl;
+    }
 
 pub returns-in_ok-note_rows-in-Some-clause-steps : goal.returns-in_ok-note_rows-in-Some-clause-steps
 returns-in_ok-note_rows-in-Some-clause-steps c =
     let s = shape_of c.args.nests.now c.args.shape in
     let u = shape_of c.outgoing.new.nests c.in-Some.next in
-    let e : Some u ≡ outgoing (table_in c.args.judged) c.args.judged.gives c.args.instr s = sym (ap (option_map (shape_of c.outgoing.new.nests)) c.in-Some.is) ∙ c.in_ok-outgoing.ensures.is in
-    gave c.args.nests.now c.outgoing.new.nests c.args.slots.now c.note_falls.new.slots c.note_rows.new.slots c.args.shape (targets_of c.targets_at.result) (rows_of c.args.rows.now) c.args.index c.in-Some.next
+    let e : Some u ≡ outgoing (table_in c.args.judged) c.args.judged.gives c.args.instr s = sym (ap (option_map (shape_of c.outgoing.new.nests)) c.in-Some.is)
+    ∙ c.in_ok-outgoing.ensures.is in
+    gave c.args.nests.now c.outgoing.new.nests c.args.slots.now c.note_falls.new.slots c.note_rows.new.slots c.args.shape (targets_of c.targets_at.result)
+    (rows_of c.args.rows.now) c.args.index c.in-Some.next
     c.in_ok-outgoing.ensures.more c.requires.slots c.requires.shape c.in_ok-note_falls-in-Some.ensures c.in_ok-note_rows-in-Some.ensures.notes _
     (ap (λ js. falls_to js u ++ lands_in (rows_of c.args.rows.now) c.args.index s) c.targets_at.ensures
     ∙ ap (λ o. given_on o c.args.instr (rows_of c.args.rows.now) c.args.index s) e)

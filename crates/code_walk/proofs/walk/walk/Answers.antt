@@ -17,7 +17,8 @@ steps-init c =
     let t = c.new-nests.result in
     let n : c.len-count.result ≡ length c.args.judged.body.now.code.items = omega (arith, c.len-count.ensures, j.body.now.code.ok) in
     let e : c.in_ok-slots.slots ≡ replicate (length c.args.judged.body.now.code.items) bare_slot = c.in_ok-slots.ensures ∙ ap (λ z. replicate z bare_slot) n in
-    let m = subst (λ (o : List Open). Notes t c.in_ok-slots.slots c.note.new.self (given 0 (shapes.shape j.takes o 0 shapes.Empty) ∷ [])) (ap (λ (z : List (List Open)). nest z 0) c.new-nests.ensures) c.in_ok-note.ensures in
+    let m = subst (λ (o : List Open). Notes t c.in_ok-slots.slots c.note.new.self (given 0 (shapes.shape j.takes o 0 shapes.Empty) ∷ []))
+    (ap (λ (z : List (List Open)). nest z 0) c.new-nests.ensures) c.in_ok-note.ensures in
     record {
       slots = start_slots (table_in j) (signature_in j) (view_in j) t c.in_ok-slots.slots c.note.new.self e m c.requires;
       fit = c.in_ok-note.ensures.fit;

@@ -14,4 +14,6 @@ pub returns-in-None-depth_with-clause-is : goal.returns-in-None-depth_with-claus
 returns-in-None-depth_with-clause-is c =
     let e : c.bytes.at - 1 + 1 ≡ c.bytes.at = omega arith in
     let h : c.bytes.at - 1 < length c.args.name.now = omega (arith, c.bytes.invariant.within) in
-    begins c.args.name.now (c.bytes.at - 1) c.bytes.depth h (subst (λ z. ending (drop z c.args.name.now) ≡ spelling.Open c.bytes.depth (inside_from c.args.name.now z)) (sym e) c.bytes.invariant.ends) c.in-None-depth_with.ensures
+    begins c.args.name.now (c.bytes.at - 1) c.bytes.depth h
+    (subst (λ z. ending (drop z c.args.name.now) ≡ spelling.Open c.bytes.depth (inside_from c.args.name.now z))
+    (sym e) c.bytes.invariant.ends) c.in-None-depth_with.ensures

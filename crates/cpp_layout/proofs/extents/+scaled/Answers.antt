@@ -10,4 +10,8 @@ use Rattle.cpp_layout.proofs.extents.+scaled.Goals as goal
 pub returns-in_err-scaled-in-Array : goal.returns-in_err-scaled-in-Array
 returns-in_err-scaled-in-Array t c =
     let e : c.deref.result.now ≡ c.in-Array.element.value = cc in
-    none_answers c.from_residual.result (form_extent (λ n. shown c.args.part) (shape_form c.args.shape.now)) c.from_residual.ensures (large_elements (λ n. shown c.args.part) (shape_form c.args.shape.now) (shape_form c.in-Array.element.value.shape) c.in-Array.element.value.is_const c.in-Array.element.value.is_volatile c.in-Array.count (ap shape_form c.in-Array.is) c.requires.elements (subst (λ (z : Ty). GREATEST_SIZE < (form_extent (λ n. shown c.args.part) (shape_form z.shape)).size) e c.in_err-scaled-in-Array.ensures))
+    none_answers c.from_residual.result (form_extent (λ n. shown c.args.part) (shape_form c.args.shape.now)) c.from_residual.ensures
+    (large_elements (λ n. shown c.args.part) (shape_form c.args.shape.now)
+    (shape_form c.in-Array.element.value.shape) c.in-Array.element.value.is_const c.in-Array.element.value.is_volatile c.in-Array.count
+    (ap shape_form c.in-Array.is) c.requires.elements
+    (subst (λ (z : Ty). GREATEST_SIZE < (form_extent (λ n. shown c.args.part) (shape_form z.shape)).size) e c.in_err-scaled-in-Array.ensures))

@@ -3,7 +3,8 @@ use Rattle.cpp_layout.proofs.Stacks.{item_complete, frame_over, next_end, next_o
 use Rattle.cpp_layout.proofs.frames.frame.Goals as goal
 
 pub placed-requires-clause-complete : goal.placed-requires-clause-complete
-placed-requires-clause-complete c = item_complete (classes_of c.args.classes.now) c.args.items.now c.loop-item.item-index c.item-item.result c.requires.complete c.loop-item-test.true c.item-item.is
+placed-requires-clause-complete c = item_complete
+    (classes_of c.args.classes.now) c.args.items.now c.loop-item.item-index c.item-item.result c.requires.complete c.loop-item-test.true c.item-item.is
 
 pub returns-in_default : goal.returns-in_default
 returns-in_default c = frame_over (classes_of c.args.classes.now) c.args.items.now c.loop-item.item-index c.loop-item.end c.item-item.result c.loop-item-test.true c.item-item.is c.loop-item.invariant.end c.in_default.ensures

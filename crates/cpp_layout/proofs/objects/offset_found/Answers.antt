@@ -9,16 +9,23 @@ use Rattle.cpp_layout.specs.declared.extents.TheConstants.{GREATEST_SIZE}
 use Rattle.cpp_layout.proofs.objects.offset_found.Goals as goal
 
 pub base_cursor-requires-clause-complete : goal.base_cursor-requires-clause-complete
-base_cursor-requires-clause-complete c = base_complete (classes_of c.args.classes.now) c.requires.in_order c.args.class c.in_ok-number.number (class_of c.in_ok-found.found.now) c.in_ok-found.ensures c.in_ok-number.was
+base_cursor-requires-clause-complete c = base_complete (classes_of c.args.classes.now) c.requires.in_order c.args.class c.in_ok-number.number
+    (class_of c.in_ok-found.found.now) c.in_ok-found.ensures c.in_ok-number.was
 
 pub returns-in_err-base : goal.returns-in_err-base
-returns-in_err-base c = none_of _ _ _ c.from_residual-in_err-base.ensures (over_base (classes_of c.args.classes.now) c.requires.in_order c.args.class c.in_ok-number.number (class_of c.in_ok-found.found.now) c.in_ok-found.ensures c.in_ok-number.was c.in_err-base.ensures)
+returns-in_err-base c = none_of _ _ _ c.from_residual-in_err-base.ensures
+    (over_base (classes_of c.args.classes.now) c.requires.in_order c.args.class c.in_ok-number.number
+    (class_of c.in_ok-found.found.now) c.in_ok-found.ensures c.in_ok-number.was c.in_err-base.ensures)
 
 pub returns-in_err-head : goal.returns-in_err-head
-returns-in_err-head c = none_of _ _ _ c.from_residual-in_err-head.ensures (over_pointer (classes_of c.args.classes.now) c.requires.in_order c.args.class c.in_ok-number.number (class_of c.in_ok-found.found.now) c.in_ok-found.ensures c.in_ok-number.was c.in_ok-base.base c.in_ok-base.ensures c.in_err-head.ensures)
+returns-in_err-head c = none_of _ _ _ c.from_residual-in_err-head.ensures
+    (over_pointer (classes_of c.args.classes.now) c.requires.in_order c.args.class c.in_ok-number.number
+    (class_of c.in_ok-found.found.now) c.in_ok-found.ensures c.in_ok-number.was c.in_ok-base.base c.in_ok-base.ensures c.in_err-head.ensures)
 
 pub member_found-requires-clause-held : goal.member_found-requires-clause-held
-member_found-requires-clause-held c = subst (λ (z : List MemberRec). HeldBelow (classes_of c.args.classes.now) c.in_ok-number.number (map member_of z)) (sym c.deref.ensures.value) (members_below (classes_of c.args.classes.now) c.requires.in_order c.args.class c.in_ok-number.number (class_of c.in_ok-found.found.now) c.in_ok-found.ensures c.in_ok-number.was)
+member_found-requires-clause-held c = subst (λ (z : List MemberRec). HeldBelow (classes_of c.args.classes.now) c.in_ok-number.number (map member_of z))
+    (sym c.deref.ensures.value) (members_below (classes_of c.args.classes.now) c.requires.in_order c.args.class c.in_ok-number.number
+    (class_of c.in_ok-found.found.now) c.in_ok-found.ensures c.in_ok-number.was)
 
 pub returns : goal.returns
 returns c = match_map _ _ _ _ _

@@ -5,4 +5,5 @@ use Rattle.cpp_layout.specs.Layout.{is_virtual_function}
 use Rattle.cpp_layout.proofs.pointers.has_virtual_one.Given as goal
 
 abbrev pub invariant-loop-function : goal.invariant-loop-function
-invariant-loop-function l = list_any is_virtual_function (map function_of l.functions) ≡ list_any is_virtual_function (map function_of (drop l.function-index l.functions))
+invariant-loop-function l = list_any is_virtual_function (map function_of l.functions)
+    ≡ list_any is_virtual_function (map function_of (drop l.function-index l.functions))

@@ -34,7 +34,8 @@ returns-else-text-at-eq39 c = record {
       let no_digit : is_digit c.args.base (slice_index c.args.text.now c.digits.at) ≡ false = cc in
       digits_furthest c.args.base c.args.text.now c.args.from c.digits.at c.digits.invariant.digits no_digit
       (λ mark. elim c.else-text-at-eq39.branch [
-        | else-text-at-eq39-via-then-text-at-eq39+else-is_digit-2 w ↦ let no_next : is_digit c.args.base (slice_index c.args.text.now (c.digits.at + 1)) ≡ false = cc in no_next
+        | else-text-at-eq39-via-then-text-at-eq39+else-is_digit-2 w ↦ let no_next : is_digit c.args.base (slice_index c.args.text.now (c.digits.at + 1))
+            ≡ false = cc in no_next
         | else-text-at-eq39-via-else-text-at-eq39 w ↦ absurd (w.if-text-at-eq39.false mark)
       ])
       end ds;
@@ -43,5 +44,7 @@ returns-else-text-at-eq39 c = record {
 pub returns : goal.returns
 returns c = record {
   reads = c.digits.invariant.digits;
-  furthest = digits_furthest c.args.base c.args.text.now c.args.from c.digits.at c.digits.invariant.digits (end_is_no_digit c.args.base c.args.text.now c.digits.at c.digits-test.false) (λ mark. absurd (end_is_no_mark c.args.text.now c.digits.at c.digits-test.false mark));
+  furthest = digits_furthest c.args.base c.args.text.now c.args.from c.digits.at c.digits.invariant.digits
+      (end_is_no_digit c.args.base c.args.text.now c.digits.at c.digits-test.false)
+      (λ mark. absurd (end_is_no_mark c.args.text.now c.digits.at c.digits-test.false mark));
 }

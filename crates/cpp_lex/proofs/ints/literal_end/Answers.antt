@@ -9,4 +9,5 @@ pub returns-in-Some : goal.returns-in-Some
 returns-in-Some c = prefixed_end c.args.text.now c.args.from c.in-Some.end (sym c.byte.ensures.is ∙ c.if-byte-ne48.false) c.in-Some.ensures
 
 pub returns-in-None : goal.returns-in-None
-returns-in-None c = octal_end c.args.text.now c.args.from (sym c.byte.ensures.is ∙ c.if-byte-ne48.false) c.in-None.ensures c.digits_end-in-None.result c.digits_end-in-None.ensures
+returns-in-None c = octal_end c.args.text.now c.args.from
+    (sym c.byte.ensures.is ∙ c.if-byte-ne48.false) c.in-None.ensures c.digits_end-in-None.result c.digits_end-in-None.ensures

@@ -10,7 +10,8 @@ pub returns-in_default : goal.returns-in_default
 returns-in_default c = λ small.
     let bytes = c.args.bytes.now in
     let step = fold_step c.args.base c.loop-b.total c.loop-b.b-index bytes c.loop-b-test.true in
-    let grows = fold_grows c.args.base (with_byte c.args.base c.loop-b.total (slice_index bytes c.loop-b.b-index)) (drop (c.loop-b.b-index + 1) bytes) c.requires.at_least in
+    let grows = fold_grows c.args.base (with_byte c.args.base c.loop-b.total (slice_index bytes c.loop-b.b-index))
+    (drop (c.loop-b.b-index + 1) bytes) c.requires.at_least in
     let invariant = c.loop-b.invariant.rest in
     c.in_default.ensures (omega arith)
 

@@ -32,10 +32,13 @@ pub slice_bounds-piece_value-end : goal.slice_bounds-piece_value-end
 slice_bounds-piece_value-end c = let w = within (goal.at.slice_bounds-piece_value-end c).In-Some in w.inside
 
 pub piece_value-requires : goal.piece_value-requires
-piece_value-requires c = let here = furthest (goal.at.piece_value-requires c).In-Some in char_room c.args.text.now c.kind_by-kind.result c.args.from c.in-Some.to here.reads
+piece_value-requires c = let here = furthest (goal.at.piece_value-requires c).In-Some in
+    char_room c.args.text.now c.kind_by-kind.result c.args.from c.in-Some.to here.reads
 
 pub returns-in_default-piece_value : goal.returns-in_default-piece_value
-returns-in_default-piece_value c = let d = (goal.at.returns-in_default-piece_value c).In-Some in no_value c.args.text.now c.kind_by-kind.result c.args.from c.in-Some.to (kind_here d) (furthest d) (great_value (piece_value c.kind_by-kind.result (slice_range c.args.text.now c.args.from c.in-Some.to)) c.in_default-piece_value.ensures)
+returns-in_default-piece_value c = let d = (goal.at.returns-in_default-piece_value c).In-Some in
+    no_value c.args.text.now c.kind_by-kind.result c.args.from c.in-Some.to (kind_here d) (furthest d)
+    (great_value (piece_value c.kind_by-kind.result (slice_range c.args.text.now c.args.from c.in-Some.to)) c.in_default-piece_value.ensures)
 
 pub is_legal-requires-clause-ordered : goal.is_legal-requires-clause-ordered
 is_legal-requires-clause-ordered c = let w = within (goal.at.is_legal-requires-clause-ordered c).In-Some in let after = w.after in omega arith
@@ -43,10 +46,12 @@ is_legal-requires-clause-ordered c = let w = within (goal.at.is_legal-requires-c
 pub returns-then-is_legal : goal.returns-then-is_legal
 returns-then-is_legal c =
     let d = (goal.at.returns-then-is_legal c).In-Some in
-    let value : c.in-Some-piece_value.value ≡ piece_value c.kind_by-kind.result (slice_range c.args.text.now c.args.from c.in-Some.to) = c.in-Some-piece_value.ensures.1 in
+    let value : c.in-Some-piece_value.value ≡ piece_value c.kind_by-kind.result (slice_range c.args.text.now c.args.from c.in-Some.to) =
+    c.in-Some-piece_value.ensures.1 in
     record { at = piece_at c.args.text.now c.kind_by-kind.result c.args.from c.in-Some.to (furthest d) (c.if-is_legal.ensures.0 refl); value = value }
 
 pub returns-else-is_legal : goal.returns-else-is_legal
 returns-else-is_legal c =
     let d = (goal.at.returns-else-is_legal c).In-Some in
-    not_legal c.args.text.now c.kind_by-kind.result c.args.from c.in-Some.to (kind_here d) (furthest d) (λ l. let legal : IsTrue false = c.if-is_legal.ensures.1 l in cc)
+    not_legal c.args.text.now c.kind_by-kind.result c.args.from c.in-Some.to (kind_here d) (furthest d)
+    (λ l. let legal : IsTrue false = c.if-is_legal.ensures.1 l in cc)

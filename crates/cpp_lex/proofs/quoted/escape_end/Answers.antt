@@ -9,4 +9,5 @@ pub returns-then-letter-eq120 : goal.returns-then-letter-eq120
 returns-then-letter-eq120 c = by_hex c.args.text.now c.args.from (cc) (cc) c.hex_escape_end.result c.hex_escape_end.ensures
 
 pub returns-else-letter-eq120 : goal.returns-else-letter-eq120
-returns-else-letter-eq120 c = by_octal c.args.text.now c.args.from (cc) (cc) (λ e. let same : c.byte-letter.result ≡ 120 = cc in c.if-letter-eq120.false same) c.octal_escape_end.result c.octal_escape_end.ensures
+returns-else-letter-eq120 c = by_octal c.args.text.now c.args.from (cc) (cc)
+    (λ e. let same : c.byte-letter.result ≡ 120 = cc in c.if-letter-eq120.false same) c.octal_escape_end.result c.octal_escape_end.ensures

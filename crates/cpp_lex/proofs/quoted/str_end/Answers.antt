@@ -8,4 +8,5 @@ pub inner-preserved : goal.inner-preserved
 inner-preserved c = read_more c.args.text.now _ c.inner.at c.in-Some.next c.inner.invariant c.in-Some.ensures c.if-text-at-eq34.false
 
 pub returns : goal.returns
-returns c = no_str c.args.text.now c.args.from c.inner.at c.inner.invariant (no_quote_behind c.args.text.now c.inner.at c.inner-test.false) (nothing_behind c.args.text.now c.inner.at c.inner-test.false)
+returns c = no_str c.args.text.now c.args.from c.inner.at c.inner.invariant (no_quote_behind c.args.text.now c.inner.at c.inner-test.false)
+    (nothing_behind c.args.text.now c.inner.at c.inner-test.false)

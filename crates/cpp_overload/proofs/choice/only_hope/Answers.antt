@@ -12,10 +12,19 @@ loop-i-preserved c =
     elim c.if-not-is_passed.branch [
       | then-not-is_passed w ↦
           let no_ = w.if-not-is_passed.ensures.no refl in
-          hope_at (classes_of c.args.classes.now) (map candidate_of c.args.cands.now) (map argument_of c.args.args.now) (c.loop-i.i + 1) c.if-not-is_passed.hope c.loop-i.i (candidate_of c.if-not-is_passed.best.now) (candidate_of c.index-cands-i.result) w.hope-is (cc) (hope_new (classes_of c.args.classes.now) (map candidate_of c.args.cands.now) (map argument_of c.args.args.now) c.loop-i.i c.loop-i.hope (candidate_of c.loop-i.best.now) (candidate_of c.index-cands-i.result) c.loop-i.invariant there (eqb-false c.loop-i.i c.loop-i.hope no_.0) no_.1 no_.2)
+          hope_at (classes_of c.args.classes.now) (map candidate_of c.args.cands.now) (map argument_of c.args.args.now)
+          (c.loop-i.i + 1) c.if-not-is_passed.hope c.loop-i.i (candidate_of c.if-not-is_passed.best.now) (candidate_of c.index-cands-i.result) w.hope-is
+          (cc) (hope_new (classes_of c.args.classes.now) (map candidate_of c.args.cands.now) (map argument_of c.args.args.now) c.loop-i.i c.loop-i.hope
+          (candidate_of c.loop-i.best.now) (candidate_of c.index-cands-i.result) c.loop-i.invariant there
+          (eqb-false c.loop-i.i c.loop-i.hope no_.0) no_.1 no_.2)
       | else-not-is_passed w ↦
-          hope_at (classes_of c.args.classes.now) (map candidate_of c.args.cands.now) (map argument_of c.args.args.now) (c.loop-i.i + 1) c.if-not-is_passed.hope c.loop-i.hope (candidate_of c.if-not-is_passed.best.now) (candidate_of c.loop-i.best.now) w.hope-is (cc) (hope_kept (classes_of c.args.classes.now) (map candidate_of c.args.cands.now) (map argument_of c.args.args.now) c.loop-i.i c.loop-i.hope (candidate_of c.loop-i.best.now) (candidate_of c.index-cands-i.result) c.loop-i.invariant there (λ n. w.if-not-is_passed.ensures.yes refl (ne_eqb c.loop-i.i c.loop-i.hope n)))
+          hope_at (classes_of c.args.classes.now) (map candidate_of c.args.cands.now) (map argument_of c.args.args.now)
+          (c.loop-i.i + 1) c.if-not-is_passed.hope c.loop-i.hope (candidate_of c.if-not-is_passed.best.now) (candidate_of c.loop-i.best.now) w.hope-is (cc)
+          (hope_kept (classes_of c.args.classes.now) (map candidate_of c.args.cands.now) (map argument_of c.args.args.now) c.loop-i.i c.loop-i.hope
+          (candidate_of c.loop-i.best.now) (candidate_of c.index-cands-i.result) c.loop-i.invariant there
+          (λ n. w.if-not-is_passed.ensures.yes refl (ne_eqb c.loop-i.i c.loop-i.hope n)))
     ]
 
 pub returns : goal.returns
-returns c = hope_end (classes_of c.args.classes.now) (map candidate_of c.args.cands.now) (map argument_of c.args.args.now) c.loop-i.i c.loop-i.hope (length c.args.cands.now) (candidate_of c.loop-i.best.now) c.loop-i.invariant c.loop-i-test.false
+returns c = hope_end (classes_of c.args.classes.now) (map candidate_of c.args.cands.now) (map argument_of c.args.args.now) c.loop-i.i c.loop-i.hope
+    (length c.args.cands.now) (candidate_of c.loop-i.best.now) c.loop-i.invariant c.loop-i-test.false

@@ -9,7 +9,11 @@ use Rattle.cpp_parse.proofs.MemberShapes.{not_pure, zero_alone, zero_unlisted, n
 use Rattle.cpp_parse.proofs.single_members.begins_values.Goals as goal
 
 pub returns-then-is_at : goal.returns-then-is_at
-returns-then-is_at c = (none_unlike comma (passed comma terminal.Comma refl _ (c.if-is_at.ensures.yes refl)) refl refl, none_unlike comma (passed comma terminal.Comma refl _ (c.if-is_at.ensures.yes refl)) refl refl)
+returns-then-is_at c = (
+  none_unlike comma (passed comma terminal.Comma refl _ (c.if-is_at.ensures.yes refl)) refl refl,
+  none_unlike comma
+      (passed comma terminal.Comma refl _ (c.if-is_at.ensures.yes refl)) refl refl,
+)
 
 pub returns-then-not-is_at : goal.returns-then-not-is_at
 returns-then-not-is_at c = (
@@ -19,13 +23,15 @@ returns-then-not-is_at c = (
 
 pub returns-then-not-is_at-2 : goal.returns-then-not-is_at-2
 returns-then-not-is_at-2 c = (
-  not_pure (passed equal terminal.Equal refl _ (c.if-not-is_at.ensures.yes refl)) (λ t u. true≢false (back t ∙ refused is_zero terminal.Zero refl _ (c.if-not-is_at-2.ensures.no refl))),
+  not_pure (passed equal terminal.Equal refl _ (c.if-not-is_at.ensures.yes refl))
+      (λ t u. true≢false (back t ∙ refused is_zero terminal.Zero refl _ (c.if-not-is_at-2.ensures.no refl))),
   none_unlike equal (passed equal terminal.Equal refl _ (c.if-not-is_at.ensures.yes refl)) refl refl,
 )
 
 pub returns-then-not-is_at-3 : goal.returns-then-not-is_at-3
 returns-then-not-is_at-3 c = (
-  not_pure (passed equal terminal.Equal refl _ (c.if-not-is_at.ensures.yes refl)) (λ t u. true≢false (back u ∙ refused semicolon terminal.Semicolon refl _ (c.if-not-is_at-3.ensures.no refl))),
+  not_pure (passed equal terminal.Equal refl _ (c.if-not-is_at.ensures.yes refl))
+      (λ t u. true≢false (back u ∙ refused semicolon terminal.Semicolon refl _ (c.if-not-is_at-3.ensures.no refl))),
   none_unlike equal (passed equal terminal.Equal refl _ (c.if-not-is_at.ensures.yes refl)) refl refl,
 )
 

@@ -16,7 +16,8 @@ pub returns-then-not-is_at : goal.returns-then-not-is_at
 returns-then-not-is_at c = λ before m x.
     parsed_right _ _ _ _ _ _ _ c.several_members.result
     (initialized_none (none_initialized x (none_seq (node_none (seq_none (mark_none (refused equal terminal.Equal refl _ (c.if-not-is_at.ensures.no refl))))))))
-    (c.several_members.ensures before _ m x (reads_left_out (node_none (seq_none (mark_none (refused equal terminal.Equal refl _ (c.if-not-is_at.ensures.no refl)))))
+    (c.several_members.ensures before _ m x (reads_left_out
+    (node_none (seq_none (mark_none (refused equal terminal.Equal refl _ (c.if-not-is_at.ensures.no refl)))))
     c.requires.behind refl))
 
 pub returns-in_err-next : goal.returns-in_err-next
@@ -48,10 +49,12 @@ returns-then-is_at c = λ before m x.
 pub returns-then-is_zero_alone : goal.returns-then-is_zero_alone
 returns-then-is_zero_alone c = λ before m x.
     let read_next = rw c.in-Some.is at c.in_ok-next.ensures in
-    let valued = made (mark_and {test = equal} (passed equal terminal.Equal refl _ (c.if-not-is_at.ensures.yes refl)) (c.if-not-is_at.ensures.inside refl refl) read_next refl refl)
+    let valued = made (mark_and {test = equal} (passed equal terminal.Equal refl _ (c.if-not-is_at.ensures.yes refl))
+    (c.if-not-is_at.ensures.inside refl refl) read_next refl refl)
     c.checkpoint-mark.ensures c.in_ok-node.ensures.read in (
       leaves_both (leaves_typed x) (leaves_both (leaves_read valued) (leaves_same c.expected_at.ensures)),
-      neither (initialized_none (none_initialized x (none_seq (node_none (none_second_mark (none_but_zero (reached read_next) (back c.if-is_zero_alone.ensures)))))))
+      neither (initialized_none (none_initialized x (none_seq
+          (node_none (none_second_mark (none_but_zero (reached read_next) (back c.if-is_zero_alone.ensures)))))))
           (listed_none (none_listed x (no_more (passed equal terminal.Equal refl _ (c.if-not-is_at.ensures.yes refl)) (reached read_next)
           (refused comma terminal.Comma refl _ (c.if-is_at.ensures.no refl))))),
     )
@@ -60,7 +63,8 @@ pub returns : goal.returns
 returns c = λ before m x.
     let read_next = rw c.in-Some.is at c.in_ok-next.ensures in
     parsed_left _ _ _ _ _ _ _ c.initialized_member.result
-    (listed_none (none_listed x (no_more (passed equal terminal.Equal refl _ (c.if-not-is_at.ensures.yes refl)) (reached read_next) (refused comma terminal.Comma refl _ (c.if-is_at.ensures.no refl)))))
+    (listed_none (none_listed x (no_more (passed equal terminal.Equal refl _ (c.if-not-is_at.ensures.yes refl)) (reached read_next)
+    (refused comma terminal.Comma refl _ (c.if-is_at.ensures.no refl)))))
     (c.initialized_member.ensures before _ m x (made (mark_and (passed equal terminal.Equal refl _ (c.if-not-is_at.ensures.yes refl))
     (c.if-not-is_at.ensures.inside refl refl) (reads_where read_next (back c.if-is_zero_alone.ensures)) refl refl) c.checkpoint-mark.ensures
     c.in_ok-node.ensures.read))

@@ -1,12 +1,14 @@
 -- Where the first node of some trees stands that lies too deep, and the depths of their lambdas.
-use Rattle.std.proofs.Common.{rules, ◌≡◌, Bool, ◌≤◌, ◌++◌, List, refl, sym, ◌∙◌, ap, subst, arith, length, Some, None, get_or, slice_get, true, append-nil, Option, ◌<◌}
+use Rattle.std.proofs.Common.{rules, ◌≡◌, Bool, ◌≤◌, ◌++◌, List, refl, sym, ◌∙◌, ap, subst, arith, length, Some, None, get_or, slice_get, true, append-nil}
+use Rattle.std.proofs.Common.{Option, ◌<◌}
 use Rattle.std.proofs.lemmas.Option.{slice_get-get_or}
 use Rattle.cpp_ast.specs.declared.arena.NodeId.{NodeId}
 use Rattle.cpp_ast.specs.Orders.{are_below}
 use Rattle.cpp_ast.specs.Trees.{ShowsAllWith}
 use Rattle.cpp_parse_expr.specs.Depths.{at_most_one}
 use Rattle.cpp_parse_expr.proofs.NodeIds.{below_at, below_more}
-use Rattle.cpp_parse_expr.proofs.FirstDeepNode.{parts_of, node_beyond, found_in_kids, found_in_body, past_both, own_depth, nothing_there, none_noted_past, passing_more, passing_found, passing_all}
+use Rattle.cpp_parse_expr.proofs.FirstDeepNode.{parts_of, node_beyond, found_in_kids, found_in_body, past_both, own_depth, nothing_there, none_noted_past}
+use Rattle.cpp_parse_expr.proofs.FirstDeepNode.{passing_more, passing_found, passing_all}
 use Rattle.cpp_parse_expr.proofs.depth.+down.Goals as goal
 
 abbrev first_id : NodeId
@@ -30,7 +32,8 @@ first_deep-returns-in-Some t c = λ bodies tree noted s.
     let here = rw c.in-Some.is at c.in_ok-position.ensures in
     found_in_kids bodies c.args.nodes.now c.args.limit c.args.depth c.node-node.result.now (at_most_one (slice_get c.args.noted.now c.args.id.0)) tree
     (parts_of bodies c.args.nodes.now c.args.id.0 c.node-node.result.now (at_most_one (slice_get c.args.noted.now c.args.id.0)) tree
-    c.node-node.ensures.node (λ kids. noted.each kids c.args.id.0) s) (let h = c.if-depth-most.false in let e = c.from-most.ensures in omega (arith, h, e)) c.in-Some.position
+    c.node-node.ensures.node (λ kids. noted.each kids c.args.id.0) s)
+    (let h = c.if-depth-most.false in let e = c.from-most.ensures in omega (arith, h, e)) c.in-Some.position
     (λ trees shown. here bodies trees noted (subst (λ (kids : List NodeId). ShowsAllWith bodies c.args.nodes.now kids trees)
     (sym c.deref.ensures.value) shown))
 

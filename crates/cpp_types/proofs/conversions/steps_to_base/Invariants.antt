@@ -6,4 +6,5 @@ use Rattle.cpp_types.proofs.conversions.steps_to_base.Given as goal
 
 -- `k` more steps up the chain may be looked at
 abbrev pub invariant-loop-passed : goal.invariant-loop-passed
-invariant-loop-passed l = (k : ℕ) → l.passed + k ≡ l.most → base_steps (classes_of l.classes) l.class l.base ≡ left (classes_of l.classes) l.base l.passed k l.below
+invariant-loop-passed l = (k : ℕ) → l.passed + k ≡ l.most
+    → base_steps (classes_of l.classes) l.class l.base ≡ left (classes_of l.classes) l.base l.passed k l.below

@@ -1,13 +1,13 @@
-use Rattle.std.proofs.Common.{◌∙◌, sym}
+use Rattle.std.proofs.Common.{◌∙◌, ap, not, map}
+use Rattle.elab_make.specs.elab_ctx.Ctx.{func_of}
+use Rattle.elab_make.specs.elab_rules.Initialising.{same_number, is_constructor, makes}
 use Rattle.elab_make.specs.elab_rules.Braces.{is_written_constructor}
-use Rattle.elab_aggregates.proofs.NoneFound.{passed_over, one_found, none_left}
+use Rattle.elab_make.proofs.elab_rules.Found.{class_any, asks_first}
+use Rattle.elab_aggregates.proofs.NoneFound.{none_from}
 use Rattle.elab_aggregates.proofs.aggregates.has_no_constructor.Goals as goal
 
-pub returns-then-is_written_constructor : goal.returns-then-is_written_constructor
-returns-then-is_written_constructor c = sym (one_found (is_written_constructor c.args.class) c.args.funcs.now c.loop-found.found-index c.found-item.result _ c.loop-found-test.true c.found-item.is (sym c.is_written_constructor.ensures ∙ c.if-is_written_constructor.true)) ∙ c.loop-found.invariant
-
-pub loop-found-preserved : goal.loop-found-preserved
-loop-found-preserved c = sym (passed_over (is_written_constructor c.args.class) c.args.funcs.now c.loop-found.found-index c.found-item.result _ c.loop-found-test.true c.found-item.is (sym c.is_written_constructor.ensures ∙ c.if-is_written_constructor.false)) ∙ c.loop-found.invariant
-
-pub returns : goal.returns
-returns c = sym (none_left (is_written_constructor c.args.class) c.args.funcs.now c.loop-found.found-index c.loop-found-test.false) ∙ c.loop-found.invariant
+pub loop-place-init : goal.loop-place-init
+loop-place-init c = ap not (class_any c.args.class (is_written_constructor c.args.class)
+    (λ f h. asks_first (same_number c.args.class f.class) (makes f.kind)
+    (asks_first (is_constructor c.args.class f) (not f.implicit) h)) c.args.funcs.now c.of_class-members.result.now c.of_class-members.ensures)
+    ∙ none_from (is_written_constructor c.args.class) 0 (map func_of c.args.funcs.now)

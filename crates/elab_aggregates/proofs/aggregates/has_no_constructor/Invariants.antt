@@ -1,8 +1,10 @@
-use Rattle.std.proofs.Common.{◌≡◌, drop, map}
+use Rattle.std.proofs.Common.{◌≡◌, not, drop, map}
 use Rattle.elab_make.specs.elab_ctx.Ctx.{func_of}
+use Rattle.elab_make.specs.elab_ctx.Places.{any_among}
 use Rattle.elab_make.specs.elab_rules.Initialising.{places_from}
 use Rattle.elab_make.specs.elab_rules.Braces.{is_written_constructor, is_empty}
 use Rattle.elab_aggregates.proofs.aggregates.has_no_constructor.Given as goal
 
-abbrev pub invariant-loop-found : goal.invariant-loop-found
-invariant-loop-found l = is_empty (places_from (is_written_constructor l.class) l.found-index (map func_of (drop l.found-index l.funcs))) ≡ is_empty (places_from (is_written_constructor l.class) 0 (map func_of l.funcs))
+abbrev pub invariant-loop-place : goal.invariant-loop-place
+invariant-loop-place l = not (any_among (λ f. is_written_constructor l.class (func_of f)) l.funcs (drop l.place-index l.members))
+    ≡ is_empty (places_from (is_written_constructor l.class) 0 (map func_of l.funcs))

@@ -13,4 +13,6 @@ abbrev pub decreases-all_relocated : goal.decreases-all_relocated
 decreases-all_relocated l = l.parent.0 * 2
 
 abbrev pub invariant-all_relocated-loop-id : goal.invariant-all_relocated-loop-id
-invariant-all_relocated-loop-id l = Adding (trees_of l.fn.nodes.items) (trees_of l.nodes.items) l.list.items (all_relocated l.by (this_at (trees_of l.fn.nodes.items) (typ_of l.target) l.this) (trees_at (trees_of l.from.items) (drop l.id-index l.ids))) (all_relocated l.by (this_at (trees_of l.fn.nodes.items) (typ_of l.target) l.this) (trees_at (trees_of l.from.items) l.ids))
+invariant-all_relocated-loop-id l = Adding (trees_of l.fn.nodes.items) (trees_of l.nodes.items) l.list.items
+    (all_relocated l.by (this_at (trees_of l.fn.nodes.items) (typ_of l.target) l.this) (trees_at (trees_of l.from.items) (drop l.id-index l.ids)))
+    (all_relocated l.by (this_at (trees_of l.fn.nodes.items) (typ_of l.target) l.this) (trees_at (trees_of l.from.items) l.ids))

@@ -6,4 +6,5 @@ use Rattle.elab_make.proofs.elab_init.Listing.{Adding}
 use Rattle.elab_aggregates.proofs.strings.byte_pieces.Given as goal
 
 abbrev pub invariant-loop-i : goal.invariant-loop-i
-invariant-loop-i l = Adding (trees_of l.fn.nodes.items) (trees_of l.nodes.items) l.kids.items (byte_pieces (typ_of l.ty) l.at l.i (drop l.i l.bytes)) (byte_pieces (typ_of l.ty) l.at 0 l.bytes)
+invariant-loop-i l = Adding (trees_of l.fn.nodes.items) (trees_of l.nodes.items) l.kids.items (byte_pieces (typ_of l.ty) l.at l.i (drop l.i l.bytes))
+    (byte_pieces (typ_of l.ty) l.at 0 l.bytes)

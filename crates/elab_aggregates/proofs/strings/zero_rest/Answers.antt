@@ -10,4 +10,7 @@ use Rattle.elab_aggregates.proofs.StringParts.{zero_is, list_adds}
 use Rattle.elab_aggregates.proofs.strings.zero_rest.Goals as goal
 
 pub returns : goal.returns
-returns c = list_adds _ _ _ c.in_ok-kid.kid _ _ c.in_ok-kid.ensures (zero_is (ctx_of c.args.env.now) (typ_of c.args.element.now) c.args.at c.args.offset c.args.count c.if-count-eq0.false ∙ ap (λ z. one (node (Piece c.args.offset) z Prvalue c.args.at (one (zeros (classes_of c.args.env.now.classes.items) c.args.at z)))) (sym c.in_ok-ty.ensures)) c.one_of.ensures
+returns c = list_adds _ _ _ c.in_ok-kid.kid _ _ c.in_ok-kid.ensures
+    (zero_is (ctx_of c.args.env.now) (typ_of c.args.element.now) c.args.at c.args.offset c.args.count c.if-count-eq0.false
+    ∙ ap (λ z. one (node (Piece c.args.offset) z Prvalue c.args.at (one (zeros (classes_of c.args.env.now.classes.items) c.args.at z))))
+    (sym c.in_ok-ty.ensures)) c.one_of.ensures

@@ -24,4 +24,8 @@ abbrev pub decreases-placed_item : goal.decreases-placed_item
 decreases-placed_item l = l.id.0 * 8 + 3
 
 abbrev pub invariant-items-loop-index : goal.invariant-items-loop-index
-invariant-items-loop-index l = Making (trees_of l.fn.work.nodes.items) (trees_of l.work.nodes.items) l.list.items (items_of (lexemes_of l.tokens) (ctx_of l.env) (work_of l.work) (tree_at (trees_of l.fn.work.nodes.items) l.object) (typ_of l.ty) l.index l.at (trees_at (syntax_of l.nodes) (drop l.index l.ids))) (items_of (lexemes_of l.tokens) (ctx_of l.env) (work_of l.fn.work) (tree_at (trees_of l.fn.work.nodes.items) l.object) (typ_of l.ty) 0 l.at (trees_at (syntax_of l.nodes) l.ids))
+invariant-items-loop-index l = Making (trees_of l.fn.work.nodes.items) (trees_of l.work.nodes.items) l.list.items
+    (items_of (lexemes_of l.tokens) (ctx_of l.env) (work_of l.work) (tree_at (trees_of l.fn.work.nodes.items) l.object) (typ_of l.ty) l.index l.at
+    (trees_at (syntax_of l.nodes) (drop l.index l.ids)))
+    (items_of (lexemes_of l.tokens) (ctx_of l.env) (work_of l.fn.work) (tree_at (trees_of l.fn.work.nodes.items) l.object) (typ_of l.ty) 0 l.at
+    (trees_at (syntax_of l.nodes) l.ids))

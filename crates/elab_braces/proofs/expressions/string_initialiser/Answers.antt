@@ -7,4 +7,5 @@ use Rattle.elab_expr.specs.elab_rules.Braces.{string_object}
 use Rattle.elab_braces.proofs.expressions.string_initialiser.Goals as goal
 
 pub returns : goal.returns
-returns c = gives_same _ _ _ _ _ (ap (λ z. string_object (ctx_of c.args.env.now) (typ_of c.args.ty.now) c.args.at z) (sym (c.deref.ensures.value ∙ c.in_ok-bytes.ensures ∙ ap string_bytes c.spelling.ensures))) c.string_object.ensures
+returns c = gives_same _ _ _ _ _ (ap (λ z. string_object (ctx_of c.args.env.now) (typ_of c.args.ty.now) c.args.at z)
+    (sym (c.deref.ensures.value ∙ c.in_ok-bytes.ensures ∙ ap string_bytes c.spelling.ensures))) c.string_object.ensures

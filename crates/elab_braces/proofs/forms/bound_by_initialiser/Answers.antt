@@ -8,4 +8,5 @@ pub bound_by-requires : goal.bound_by-requires
 bound_by-requires c = lower_within _ _ _ c.read_initialiser-form.ensures.lower c.requires.within
 
 pub returns : goal.returns
-returns c = bound_made (lexemes_of c.args.tokens.now) (typ_of c.args.ty.now) (trees_at (syntax_of c.args.nodes.now) c.args.ids.now) _ _ c.read_initialiser-form.ensures.is c.bound_by.ensures
+returns c = bound_made (lexemes_of c.args.tokens.now) (typ_of c.args.ty.now)
+    (trees_at (syntax_of c.args.nodes.now) c.args.ids.now) _ _ c.read_initialiser-form.ensures.is c.bound_by.ensures

@@ -10,7 +10,12 @@ use Rattle.elab_braces.proofs.objects.by_values.Goals as goal
 pub returns-in_err-os : goal.returns-in_err-os
 returns-in_err-os c =
     let is_error : c.from_residual.result ≡ Err c.in_err-os.field-0.0 = search rules in
-    refused_made _ _ _ _ _ _ is_error (values_refused (lexemes_of c.args.tokens.now) (ctx_of c.args.env.now) _ (typ_of c.args.ty.now) c.args.at _ (tree_at (syntax_of c.args.nodes.now) c.args.id) _ _ _ _ _ _ (ap (map closure_of) c.deref.ensures.value) (ap (trees_at (syntax_of c.args.nodes.now)) c.deref-2.ensures.value) c.node_at.ensures.node c.in_err-os.ensures)
+    refused_made _ _ _ _ _ _ is_error (values_refused (lexemes_of c.args.tokens.now) (ctx_of c.args.env.now) _ (typ_of c.args.ty.now) c.args.at _
+    (tree_at (syntax_of c.args.nodes.now) c.args.id) _ _ _ _ _ _ (ap (map closure_of) c.deref.ensures.value)
+    (ap (trees_at (syntax_of c.args.nodes.now)) c.deref-2.ensures.value) c.node_at.ensures.node c.in_err-os.ensures)
 
 pub returns : goal.returns
-returns c = values_given (lexemes_of c.args.tokens.now) (ctx_of c.args.env.now) _ _ _ (typ_of c.args.ty.now) c.args.at _ (tree_at (syntax_of c.args.nodes.now) c.args.id) _ _ _ _ _ _ _ _ _ _ _ (ap (map closure_of) c.deref.ensures.value) (ap (trees_at (syntax_of c.args.nodes.now)) c.deref-2.ensures.value) c.node_at.ensures.node c.deref-3.ensures.value c.in_ok-os.ensures c.directly_initialised.ensures
+returns c = values_given (lexemes_of c.args.tokens.now) (ctx_of c.args.env.now) _ _ _ (typ_of c.args.ty.now) c.args.at _
+    (tree_at (syntax_of c.args.nodes.now) c.args.id) _ _ _ _ _ _ _ _ _ _ _ (ap (map closure_of) c.deref.ensures.value)
+    (ap (trees_at
+    (syntax_of c.args.nodes.now)) c.deref-2.ensures.value) c.node_at.ensures.node c.deref-3.ensures.value c.in_ok-os.ensures c.directly_initialised.ensures

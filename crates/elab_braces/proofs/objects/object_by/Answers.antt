@@ -9,4 +9,5 @@ pub by_written-requires-clause-form : goal.by_written-requires-clause-form
 by_written-requires-clause-form c = lower_within _ _ _ c.read_initialiser-form.ensures.lower c.requires.within
 
 pub returns : goal.returns
-returns c = form_makes (lexemes_of c.args.tokens.now) (ctx_of c.args.env.now) _ _ _ (typ_of c.args.ty.now) c.args.at (trees_at (syntax_of c.args.nodes.now) c.args.ids.now) _ _ _ _ c.read_initialiser-form.ensures.is c.by_written.ensures
+returns c = form_makes (lexemes_of c.args.tokens.now) (ctx_of c.args.env.now) _ _ _ (typ_of c.args.ty.now) c.args.at
+    (trees_at (syntax_of c.args.nodes.now) c.args.ids.now) _ _ _ _ c.read_initialiser-form.ensures.is c.by_written.ensures

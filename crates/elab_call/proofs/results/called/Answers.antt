@@ -10,4 +10,8 @@ use Rattle.elab_call.proofs.Made.{called_made}
 use Rattle.elab_call.proofs.results.called.Goals as goal
 
 pub returns : goal.returns
-returns c = called_made (ctx_of c.args.env.now) (work_of c.args.work.now) _ _ (signature_of c.args.ty.now) _ (typ_of (out-FnTy c.args.ty.now).ret) (out-FnTy c.args.ty.now).safe _ none (operands_in (trees_of c.args.work.now.nodes.items) c.args.os.now) _ _ _ _ c.in_ok-passed.passed.items c.in_ok-passed.passed.items _ (signature_view c.args.ty.now ∙ ap (λ z. signature (typs_of z) (typ_of (out-FnTy c.args.ty.now).ret) (out-FnTy c.args.ty.now).safe) (sym c.deref.ensures.value)) c.in_ok-_complete.ensures c.in_ok-passed.ensures refl c.in_ok-made.ensures
+returns c = called_made (ctx_of c.args.env.now) (work_of c.args.work.now) _ _ (signature_of c.args.ty.now) _ (typ_of (out-FnTy c.args.ty.now).ret)
+    (out-FnTy c.args.ty.now).safe _ none (operands_in
+    (trees_of c.args.work.now.nodes.items) c.args.os.now) _ _ _ _ c.in_ok-passed.passed.items c.in_ok-passed.passed.items _
+    (signature_view c.args.ty.now ∙ ap (λ z. signature (typs_of z) (typ_of (out-FnTy c.args.ty.now).ret) (out-FnTy c.args.ty.now).safe)
+    (sym c.deref.ensures.value)) c.in_ok-_complete.ensures c.in_ok-passed.ensures refl c.in_ok-made.ensures

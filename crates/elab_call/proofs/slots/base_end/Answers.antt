@@ -8,4 +8,6 @@ use Rattle.elab_call.proofs.slots.base_end.Goals as goal
 pub returns-in-Some-base : goal.returns-in-Some-base
 returns-in-Some-base c =
     let cs = classes_of c.args.env.now.classes.items in
-    same_number_ok c.size_of.result _ (end_of_base cs c.args.class) (ap (λ t. (extent_of cs t).size) c.plain_type.ensures ∙ base_ends cs c.args.class c.in-Some-base.base (class_of c.in-Some.found.now) c.in-Some.ensures c.in-Some-base.is) c.size_of.ensures
+    same_number_ok c.size_of.result _ (end_of_base cs c.args.class)
+    (ap (λ t. (extent_of cs t).size) c.plain_type.ensures
+    ∙ base_ends cs c.args.class c.in-Some-base.base (class_of c.in-Some.found.now) c.in-Some.ensures c.in-Some-base.is) c.size_of.ensures

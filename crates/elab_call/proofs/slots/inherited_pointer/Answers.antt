@@ -27,7 +27,8 @@ returns-then-has_pointer c =
     let h : c.loop-passed._passed + suc j ≡ c.args.most = omega arith in
     let e : base_of cs c.loop-passed.below ≡ Some c.in-Some.base = cc (c.deref.ensures.value, c.in-Some.ensures) in
     let found : has_class_pointer cs c.in-Some.base ≡ true = cc (c.deref-in-loop-passed.ensures.value, c.has_pointer.ensures, c.if-has_pointer.true) in
-    ap (λ (z : ℕ). Some z) c.in_ok-offset.ensures ∙ sym (along_found cs c.in-Some.base (chain j cs c.in-Some.base) found) ∙ sym (c.loop-passed.invariant (suc j) h ∙ ap (pointer_along cs) (chain_some cs j c.loop-passed.below c.in-Some.base e))
+    ap (λ (z : ℕ). Some z) c.in_ok-offset.ensures ∙ sym (along_found cs c.in-Some.base (chain j cs c.in-Some.base) found)
+    ∙ sym (c.loop-passed.invariant (suc j) h ∙ ap (pointer_along cs) (chain_some cs j c.loop-passed.below c.in-Some.base e))
 
 pub loop-passed-preserved : goal.loop-passed-preserved
 loop-passed-preserved c = λ k h.
@@ -35,4 +36,5 @@ loop-passed-preserved c = λ k h.
     let i : c.loop-passed._passed + suc k ≡ c.args.most = omega (arith, h) in
     let e : base_of cs c.loop-passed.below ≡ Some c.in-Some.base = cc (c.deref.ensures.value, c.in-Some.ensures) in
     let none : has_class_pointer cs c.in-Some.base ≡ false = cc (c.deref-in-loop-passed.ensures.value, c.has_pointer.ensures, c.if-has_pointer.false) in
-    c.loop-passed.invariant (suc k) i ∙ ap (pointer_along cs) (chain_some cs k c.loop-passed.below c.in-Some.base e) ∙ along_next cs c.in-Some.base (chain k cs c.in-Some.base) none
+    c.loop-passed.invariant (suc k) i ∙ ap (pointer_along cs) (chain_some cs k c.loop-passed.below c.in-Some.base e)
+    ∙ along_next cs c.in-Some.base (chain k cs c.in-Some.base) none

@@ -8,4 +8,6 @@ use Rattle.elab_forms.proofs.Steps.{then_adds}
 use Rattle.elab_casts.proofs.casts.object_cast.Goals as goal
 
 pub returns : goal.returns
-returns c = then_adds _ _ _ _ _ _ (initial (ctx_of c.args.env.now) (work_of c.args.work.now) (typ_of c.args.ty.now) (operand_in (trees_of c.args.work.now.nodes.items) c.args.o)) (reference_cast c.args.at (typ_of c.args.target.now)) c.in_ok-object.ensures c.in_ok-made.ensures
+returns c = then_adds _ _ _ _ _ _ (initial (ctx_of c.args.env.now) (work_of c.args.work.now) (typ_of c.args.ty.now)
+    (operand_in (trees_of c.args.work.now.nodes.items) c.args.o))
+    (reference_cast c.args.at (typ_of c.args.target.now)) c.in_ok-object.ensures c.in_ok-made.ensures

@@ -6,5 +6,6 @@ use Rattle.elab_casts.proofs.throws.throw_node.Goals as goal
 
 pub returns : goal.returns
 returns c =
-    let kids = kids_behind _ _ c.args.id _ _ _ _ (c.in_ok-kids.ensures ∙ ap (λ z. c.args.id ∷ z) c.deref.ensures.value) c.requires refl c.in_ok-scalars.ensures in
+    let kids = kids_behind _ _ c.args.id _ _ _ _ (c.in_ok-kids.ensures ∙ ap
+    (λ z. c.args.id ∷ z) c.deref.ensures.value) c.requires refl c.in_ok-scalars.ensures in
     last_adds _ _ _ _ _ _ c.in_ok-scalars.ensures.grows (node_same _ _ _ _ _ _ _ c.in_ok-ty.ensures kids) c.add_node.ensures.tree

@@ -11,4 +11,5 @@ pub returns-in-None-clause-members : goal.returns-in-None-clause-members
 returns-in-None-clause-members c n = none_less _ _ (no_member n c.args.function.now c.in-None.is)
 
 pub returns-in-None-clause-named : goal.returns-in-None-clause-named
-returns-in-None-clause-named c name = less_of _ _ _ _ (free_is name c.deref.result.now c.args.function.now c.in-None.is c.deref.ensures.value) (c.drop_last-in-None.ensures name)
+returns-in-None-clause-named c name = less_of _ _ _ _ (free_is name c.deref.result.now c.args.function.now c.in-None.is c.deref.ensures.value)
+    (c.drop_last-in-None.ensures name)

@@ -9,7 +9,8 @@ pub size_align-requires-clause-in_order : goal.size_align-requires-clause-in_ord
 size_align-requires-clause-in_order c = rw c.deref.ensures.value (in_order (classes_of c.args.env.now.classes.items) c.args.env.now.in_order)
 
 pub size_align-requires-clause-complete : goal.size_align-requires-clause-complete
-size_align-requires-clause-complete c = rw c.deref.ensures.value (holds_complete (classes_of c.args.env.now.classes.items) (shape_form c.args.ty.now.shape) (sym c.is_sized.ensures ∙ c.if-not-is_sized.false))
+size_align-requires-clause-complete c = rw c.deref.ensures.value
+    (holds_complete (classes_of c.args.env.now.classes.items) (shape_form c.args.ty.now.shape) (sym c.is_sized.ensures ∙ c.if-not-is_sized.false))
 
 pub returns-in-Ok-clause-size : goal.returns-in-Ok-clause-size
 returns-in-Ok-clause-size c = c.in-Ok.ensures.size ∙ ap (λ z. (extent_of (classes_of z) (typ_of c.args.ty.now)).size) c.deref.ensures.value

@@ -5,7 +5,8 @@ use Rattle.elab_ctx.proofs.nodes.node_at.Goals as goal
 
 pub index-requires : goal.index-requires
 unfolding trees_of
-index-requires c = let h : length (fold with_node [] c.args.nodes.now.items) ≡ 0 + length c.args.nodes.now.items = length_shown [] c.args.nodes.now.items in omega arith
+index-requires c = let h : length (fold with_node [] c.args.nodes.now.items) ≡ 0 + length c.args.nodes.now.items = length_shown [] c.args.nodes.now.items in
+    omega arith
 
 pub returns-clause-kind : goal.returns-clause-kind
 unfolding trees_of

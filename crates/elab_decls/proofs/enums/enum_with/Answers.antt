@@ -10,6 +10,8 @@ use Rattle.elab_decls.proofs.enums.enum_with.Goals as goal
 
 pub returns : goal.returns
 returns c bodies =
-    enum_is (lexemes_of c.args.tokens.now) (changed (ctx_of c.args.env.now) (work_of c.args.work.now) bodies) c.args.at c.args.name.now c.args.scoped (trees_at (syntax_of c.args.nodes.now) c.args.ids.now) (ctx_of c.enum_named.new.env) c.in_ok-from.from (typ_of c.in_ok-ty.ty) (counted (ctx_of c.enumerators_declared.new.env) (work_of c.enumerators_declared.new.work) bodies c.in_ok-enumerators_declared.field-0)
+    enum_is (lexemes_of c.args.tokens.now) (changed (ctx_of c.args.env.now) (work_of c.args.work.now) bodies) c.args.at c.args.name.now c.args.scoped
+    (trees_at (syntax_of c.args.nodes.now) c.args.ids.now) (ctx_of c.enum_named.new.env) c.in_ok-from.from (typ_of c.in_ok-ty.ty)
+    (counted (ctx_of c.enumerators_declared.new.env) (work_of c.enumerators_declared.new.work) bodies c.in_ok-enumerators_declared.field-0)
     c.in_ok-enum_named.ensures.done c.in_ok-enum_named.ensures.behind c.in_ok-from.ensures c.in_ok-ty.ensures (c.in_ok-enumerators_declared.ensures bodies)
     ∙ ap (λ (z : State). Ok z) (sym (c.in_ok-close_enum.ensures (work_of c.enumerators_declared.new.work) bodies))

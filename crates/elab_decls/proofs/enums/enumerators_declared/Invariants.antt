@@ -8,4 +8,7 @@ use Rattle.elab_decls.specs.Says.{counted}
 use Rattle.elab_decls.proofs.enums.enumerators_declared.Given as goal
 
 abbrev pub invariant-loop-id : goal.invariant-loop-id
-invariant-loop-id l = (bodies : List Body) → enumerators_declared (lexemes_of l.tokens) l.scoped l.owner (counted (ctx_of l.initial.env) (work_of l.initial.work) bodies (pos 0)) (trees_at (syntax_of l.nodes) l.ids) ≡ enumerators_declared (lexemes_of l.tokens) l.scoped l.owner (counted (ctx_of l.env) (work_of l.work) bodies l.next) (trees_at (syntax_of l.nodes) (drop l.id-index l.ids))
+invariant-loop-id l = (bodies : List Body) → enumerators_declared (lexemes_of l.tokens) l.scoped l.owner
+    (counted (ctx_of l.initial.env) (work_of l.initial.work) bodies (pos 0)) (trees_at (syntax_of l.nodes) l.ids)
+    ≡ enumerators_declared (lexemes_of l.tokens) l.scoped l.owner (counted (ctx_of l.env) (work_of l.work) bodies l.next)
+    (trees_at (syntax_of l.nodes) (drop l.id-index l.ids))

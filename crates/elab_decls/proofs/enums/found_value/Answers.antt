@@ -12,11 +12,16 @@ use Rattle.elab_decls.proofs.enums.found_value.Goals as goal
 
 pub returns-in-None-clause-value : goal.returns-in-None-clause-value
 returns-in-None-clause-value c =
-    ap (λ (z : List NodeId). found_value (lexemes_of c.args.tokens.now) (ctx_of c.args.env.now) (work_of c.args.work.now) c.args.at c.args.next (trees_at (syntax_of c.args.nodes.now) z)) c.in-None.ensures.kid
+    ap (λ (z : List NodeId). found_value (lexemes_of c.args.tokens.now) (ctx_of c.args.env.now) (work_of c.args.work.now) c.args.at c.args.next
+    (trees_at (syntax_of c.args.nodes.now) z)) c.in-None.ensures.kid
     ∙ ap (λ (n : ℤ). found n c.args.at) (sym (to_z-of_z w128 c.args.next c.ranges.next))
 
 pub returns-in-Some-clause-value : goal.returns-in-Some-clause-value
 returns-in-Some-clause-value c =
-    says_same valued_shown c.written_value.result (written_value (lexemes_of c.args.tokens.now) (ctx_of c.args.env.now) (work_of c.args.work.now) c.args.at (tree_at (syntax_of c.args.nodes.now) c.in-Some.kid)) (found_value (lexemes_of c.args.tokens.now) (ctx_of c.args.env.now) (work_of c.args.work.now) c.args.at c.args.next (trees_at (syntax_of c.args.nodes.now) c.args.ids.now))
-    (ap (λ (z : List NodeId). found_value (lexemes_of c.args.tokens.now) (ctx_of c.args.env.now) (work_of c.args.work.now) c.args.at c.args.next (trees_at (syntax_of c.args.nodes.now) z)) c.in-Some.ensures.kid)
+    says_same valued_shown c.written_value.result (written_value (lexemes_of c.args.tokens.now) (ctx_of c.args.env.now) (work_of c.args.work.now) c.args.at
+    (tree_at (syntax_of c.args.nodes.now) c.in-Some.kid))
+    (found_value (lexemes_of c.args.tokens.now) (ctx_of c.args.env.now) (work_of c.args.work.now) c.args.at c.args.next
+    (trees_at (syntax_of c.args.nodes.now) c.args.ids.now))
+    (ap (λ (z : List NodeId). found_value (lexemes_of c.args.tokens.now) (ctx_of c.args.env.now) (work_of c.args.work.now) c.args.at c.args.next
+    (trees_at (syntax_of c.args.nodes.now) z)) c.in-Some.ensures.kid)
     (c.written_value.ensures.value c.args.at)

@@ -14,5 +14,7 @@ pub returns : goal.returns
 returns c =
     let header = header_of c.args.header.now in
     ap (λ (z : List Func). record (ctx_of c.args.env.now) { funcs = z }) (ap (map func_of) c.define.ensures
-    ∙ changed_shown func_of (λ (f : FuncDecl). record f { is_defined = true; params = c.in_ok-params.params; text = c.args.text; closed_at = c.args.closed_at }) (λ (z : Func). defined_function z header c.args.text.items c.args.closed_at) c.args.env.now.funcs c.args.place no_function
-    (λ (f : FuncDecl). ap (λ (z : List Param). record (func_of f) { is_defined = true; params = z; text = c.args.text.items; closed_at = c.args.closed_at }) (c.in_ok-params.ensures ∙ ap (λ (z : List Parameter). map param_of (map parameter_of z)) c.deref.ensures.value)))
+    ∙ changed_shown func_of (λ (f : FuncDecl). record f { is_defined = true; params = c.in_ok-params.params; text = c.args.text; closed_at = c.args.closed_at })
+    (λ (z : Func). defined_function z header c.args.text.items c.args.closed_at) c.args.env.now.funcs c.args.place no_function
+    (λ (f : FuncDecl). ap (λ (z : List Param). record (func_of f) { is_defined = true; params = z; text = c.args.text.items; closed_at = c.args.closed_at })
+    (c.in_ok-params.ensures ∙ ap (λ (z : List Parameter). map param_of (map parameter_of z)) c.deref.ensures.value)))

@@ -10,10 +10,14 @@ use Rattle.elab_decls.proofs.functions.first_declared.Goals as goal
 pub returns-in_err-name_declared : goal.returns-in_err-name_declared
 returns-in_err-name_declared c =
     let is_error : c.from_residual-in_err-name_declared.result ≡ Err c.in_err-name_declared.field-0.0 = search rules in
-    says_refused (placed_at c.name_declared.new.env) c.from_residual-in_err-name_declared.result c.in_err-name_declared.field-0.0 (newly_declared (ctx_of c.args.env.now) (header_of c.args.header.now)) is_error
-    (faults_then c.in_err-name_declared.field-0.0 (name_declared (ctx_of c.args.env.now) (header_of c.args.header.now) c.args.header.now.class) _ c.in_err-name_declared.ensures)
+    says_refused (placed_at c.name_declared.new.env) c.from_residual-in_err-name_declared.result c.in_err-name_declared.field-0.0
+    (newly_declared (ctx_of c.args.env.now) (header_of c.args.header.now)) is_error
+    (faults_then c.in_err-name_declared.field-0.0 (name_declared (ctx_of c.args.env.now)
+    (header_of c.args.header.now) c.args.header.now.class) _ c.in_err-name_declared.ensures)
 
 pub returns : goal.returns
 returns c =
-    newly_is (ctx_of c.args.env.now) (ctx_of c.name_declared.new.env) (ctx_of c.add_function.new.env) (header_of c.args.header.now) c.in_ok-place.place c.in_ok-place.ensures c.in_ok-name_declared.ensures
-    (c.in_ok-add_function.ensures ∙ ap (λ (z : Func). record (ctx_of c.name_declared.new.env) { funcs = (ctx_of c.name_declared.new.env).funcs ++ z ∷ [] }) c.in_ok-made.ensures)
+    newly_is (ctx_of c.args.env.now) (ctx_of c.name_declared.new.env) (ctx_of c.add_function.new.env)
+    (header_of c.args.header.now) c.in_ok-place.place c.in_ok-place.ensures c.in_ok-name_declared.ensures
+    (c.in_ok-add_function.ensures ∙ ap (λ (z : Func).
+    record (ctx_of c.name_declared.new.env) { funcs = (ctx_of c.name_declared.new.env).funcs ++ z ∷ [] }) c.in_ok-made.ensures)

@@ -13,4 +13,5 @@ returns-then-i-len c =
 pub returns : goal.returns
 returns c =
     let within : c.args.i < length c.args.list.now.items = search (rules, arith) in
-    typed_at c.args.list.now.items c.args.i c.in_ok-ty.ty c.index_mut.result.now within c.index_mut.ensures.value ∙ ap (with_typ (map enumerator_of c.args.list.now.items) c.args.i) c.in_ok-ty.ensures
+    typed_at c.args.list.now.items c.args.i c.in_ok-ty.ty c.index_mut.result.now within c.index_mut.ensures.value
+    ∙ ap (with_typ (map enumerator_of c.args.list.now.items) c.args.i) c.in_ok-ty.ensures

@@ -7,4 +7,5 @@ use Rattle.elab_entry.proofs.Leaving.{left_is}
 use Rattle.elab_entry.proofs.around.leave_function.Goals as goal
 
 pub returns-clause-is : goal.returns-clause-is
-returns-clause-is c = left_is (round_of c.args.around) (state_of c.args.st.now) _ _ _ _ c.close_scopes.ensures c.put_variables.ensures (ap returns_of c.replace.ensures.after) (ap (λ z. map typ_of z.items) c.replace-3.ensures.after)
+returns-clause-is c = left_is (round_of c.args.around) (state_of c.args.st.now) _ _ _ _ c.close_scopes.ensures c.put_variables.ensures
+    (ap returns_of c.replace.ensures.after) (ap (λ z. map typ_of z.items) c.replace-3.ensures.after)

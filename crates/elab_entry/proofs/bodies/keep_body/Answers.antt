@@ -5,4 +5,5 @@ use Rattle.elab_entry.proofs.bodies.keep_body.Goals as goal
 
 pub copy_tree-requires : goal.copy_tree-requires
 unfolding trees_of
-copy_tree-requires c = let h : length (fold with_node [] c.args.inside.nodes.items) ≡ 0 + length c.args.inside.nodes.items = length_shown [] c.args.inside.nodes.items in omega arith
+copy_tree-requires c = let h : length (fold with_node [] c.args.inside.nodes.items) ≡ 0 + length c.args.inside.nodes.items =
+    length_shown [] c.args.inside.nodes.items in omega arith

@@ -10,4 +10,5 @@ abbrev pub decreases-copy_all : goal.decreases-copy_all
 decreases-copy_all l = l.parent.0 * 2
 
 abbrev pub invariant-copy_all-loop-id : goal.invariant-copy_all-loop-id
-invariant-copy_all-loop-id l = Adding (trees_of l.fn.nodes.items) (trees_of l.nodes.items) l.list.items (trees_at (trees_of l.from.items) (drop l.id-index l.ids)) (trees_at (trees_of l.from.items) l.ids)
+invariant-copy_all-loop-id l = Adding (trees_of l.fn.nodes.items) (trees_of l.nodes.items) l.list.items
+    (trees_at (trees_of l.from.items) (drop l.id-index l.ids)) (trees_at (trees_of l.from.items) l.ids)

@@ -11,4 +11,5 @@ abbrev pub decreases-all_untyped : goal.decreases-all_untyped
 decreases-all_untyped l = l.parent.0 * 2
 
 abbrev pub invariant-all_untyped-loop-id : goal.invariant-all_untyped-loop-id
-invariant-all_untyped-loop-id l = Adding (trees_of l.fn.nodes.items) (trees_of l.nodes.items) l.list.items (all_untyped (trees_at (trees_of l.from.items) (drop l.id-index l.ids))) (all_untyped (trees_at (trees_of l.from.items) l.ids))
+invariant-all_untyped-loop-id l = Adding (trees_of l.fn.nodes.items) (trees_of l.nodes.items) l.list.items
+    (all_untyped (trees_at (trees_of l.from.items) (drop l.id-index l.ids))) (all_untyped (trees_at (trees_of l.from.items) l.ids))

@@ -7,4 +7,5 @@ use Rattle.elab_entry.proofs.OneByOne.{Steps}
 use Rattle.elab_entry.proofs.parameters.with_parameters.Given as goal
 
 abbrev pub invariant-loop-param : goal.invariant-loop-param
-invariant-loop-param l = Steps l.fn.st l.st (with_parameters (lexemes_of l.tokens) (state_of l.st) (map parameter_of (drop l.param-index l.params))) (with_parameters (lexemes_of l.tokens) (state_of l.fn.st) (map parameter_of l.params))
+invariant-loop-param l = Steps l.fn.st l.st (with_parameters (lexemes_of l.tokens) (state_of l.st) (map parameter_of (drop l.param-index l.params)))
+    (with_parameters (lexemes_of l.tokens) (state_of l.fn.st) (map parameter_of l.params))

@@ -12,4 +12,7 @@ pub returns : goal.returns
 returns c =
     let old = trees_of c.args.work.now.nodes.items in
     let scalar : is_some (kind_in (form_in (typ_in (tree_at old c.args.a.id)))) ≡ true = search rules in
-    scalar_makes (ctx_of c.args.env.now) (work_of c.args.work.now) (work_of c.initial.new.work) c.args.at c.args.a (operand_in old c.args.b) (typ_of c.in_ok-ty.ty) old (trees_of c.initial.new.work.nodes.items) (trees_of c.assigned.new.nodes.items) c.in_ok-value.value c.assigned.result c.requires.left scalar (c.in_ok-ty.ensures ∙ ap unqualified (sym c.node_at-node.ensures.typ)) c.in_ok-value.ensures c.assigned.ensures
+    scalar_makes (ctx_of c.args.env.now) (work_of c.args.work.now) (work_of c.initial.new.work) c.args.at c.args.a (operand_in old c.args.b)
+    (typ_of c.in_ok-ty.ty) old (trees_of c.initial.new.work.nodes.items)
+    (trees_of c.assigned.new.nodes.items) c.in_ok-value.value c.assigned.result c.requires.left scalar
+    (c.in_ok-ty.ensures ∙ ap unqualified (sym c.node_at-node.ensures.typ)) c.in_ok-value.ensures c.assigned.ensures

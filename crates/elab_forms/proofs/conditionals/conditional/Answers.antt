@@ -13,4 +13,6 @@ use Rattle.elab_forms.proofs.conditionals.conditional.Goals as goal
 pub returns : goal.returns
 returns c =
     let old = trees_of c.args.work.now.nodes.items in
-    makes_same _ _ _ _ _ _ (ap (λ (z : Result Tree ElabFault). and_then z (λ (t : Tree). branches (ctx_of c.args.env.now) (work_of c.args.work.now) c.args.at t (operand_in old c.args.a) (operand_in old c.args.b))) (truth_is (ctx_of c.args.env.now) (work_of c.args.work.now) (operand_in old c.args.test))) c.conditional_by.ensures
+    makes_same _ _ _ _ _ _ (ap (λ (z : Result Tree ElabFault). and_then z
+    (λ (t : Tree). branches (ctx_of c.args.env.now) (work_of c.args.work.now) c.args.at t (operand_in old c.args.a) (operand_in old c.args.b)))
+    (truth_is (ctx_of c.args.env.now) (work_of c.args.work.now) (operand_in old c.args.test))) c.conditional_by.ensures

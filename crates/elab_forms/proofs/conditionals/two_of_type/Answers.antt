@@ -8,4 +8,8 @@ use Rattle.elab_forms.proofs.Steps.{three_ok}
 use Rattle.elab_forms.proofs.conditionals.two_of_type.Goals as goal
 
 pub returns : goal.returns
-returns c = three_ok (trees_of c.args.nodes.now.items) _ _ _ c.args.test c.args.b.id _ _ _ (λ (p x y : Tree). conditional_node c.args.at (typ_of c.args.ty) Prvalue p x y) (λ (z : Tree). value (record { tree = z; at = c.args.b.at; zero = c.args.b.zero })) (value (operand_in (trees_of c.args.nodes.now.items) c.args.a)) c.requires.test c.requires.right c.in_ok-x.ensures c.in_ok-y.ensures c.conditional_node.ensures
+returns c = three_ok (trees_of c.args.nodes.now.items) _ _ _ c.args.test c.args.b.id _ _ _
+    (λ (p x y : Tree). conditional_node c.args.at (typ_of c.args.ty) Prvalue p x y)
+    (λ (z : Tree). value (record { tree = z; at = c.args.b.at; zero = c.args.b.zero }))
+    (value
+    (operand_in (trees_of c.args.nodes.now.items) c.args.a)) c.requires.test c.requires.right c.in_ok-x.ensures c.in_ok-y.ensures c.conditional_node.ensures

@@ -13,4 +13,6 @@ cells_of-returns t c = cells_say _ _ _ (cells_from (ctx_of c.args.env.now) (work
 pub cells_of_all-loop-kid-preserved : goal.cells_of_all-loop-kid-preserved
 cells_of_all-loop-kid-preserved t c =
     let d : TNodeId = record { 0 = 0 } in
-    collecting_more (ctx_of c.args.env.now) (work_of c.args.work.now) (trees_of c.args.work.now.nodes.items) c.args.kids.now c.loop-kid.kid-index (get_or c.args.kids.now c.loop-kid.kid-index d) d (map cell_of c.loop-kid.cells.items) (cells_shown c.in_ok-more.more) (map cell_of c.keep_cells.new.cells.items) c.loop-kid.invariant c.loop-kid-test.true refl c.in_ok-more.ensures c.in_ok-keep_cells.ensures
+    collecting_more (ctx_of c.args.env.now) (work_of c.args.work.now) (trees_of c.args.work.now.nodes.items) c.args.kids.now c.loop-kid.kid-index
+    (get_or c.args.kids.now c.loop-kid.kid-index d) d (map cell_of c.loop-kid.cells.items) (cells_shown c.in_ok-more.more)
+    (map cell_of c.keep_cells.new.cells.items) c.loop-kid.invariant c.loop-kid-test.true refl c.in_ok-more.ensures c.in_ok-keep_cells.ensures

@@ -18,4 +18,5 @@ abbrev pub decreases-cells_of_all : goal.decreases-cells_of_all
 decreases-cells_of_all l = 3 * l.limit
 
 abbrev pub invariant-cells_of_all-loop-kid : goal.invariant-cells_of_all-loop-kid
-invariant-cells_of_all-loop-kid l = Collecting (ctx_of l.env) (work_of l.work) (trees_of l.work.nodes.items) l.kids (drop l.kid-index l.kids) (map cell_of l.cells.items)
+invariant-cells_of_all-loop-kid l = Collecting (ctx_of l.env) (work_of l.work) (trees_of l.work.nodes.items) l.kids (drop l.kid-index l.kids)
+    (map cell_of l.cells.items)

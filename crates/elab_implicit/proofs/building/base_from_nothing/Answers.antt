@@ -10,4 +10,5 @@ pub returns-clause-ctx : goal.returns-clause-ctx
 returns-clause-ctx c = abstract_back (ctx_of c.args.env.now) _ _ c.args.base _ c.allow_base-was.ensures.ctx c.allow_base-was.ensures.was c.restore_base.ensures
 
 pub returns-clause-made : goal.returns-clause-made
-returns-clause-made c = nothing_same _ _ _ (as_base_of (ctx_of c.args.env.now) c.args.base) _ (plain (class c.args.base)) _ c.args.at c.allow_base-was.ensures.ctx c.class_type.ensures c.default_object-made.ensures
+returns-clause-made c = nothing_same _ _ _ (as_base_of (ctx_of c.args.env.now) c.args.base) _
+    (plain (class c.args.base)) _ c.args.at c.allow_base-was.ensures.ctx c.class_type.ensures c.default_object-made.ensures

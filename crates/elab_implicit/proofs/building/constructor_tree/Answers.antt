@@ -5,4 +5,6 @@ use Rattle.elab_implicit.proofs.ObjectParts.{constructor_made}
 use Rattle.elab_implicit.proofs.building.constructor_tree.Goals as goal
 
 pub returns : goal.returns
-returns c = constructor_made _ _ _ c.args.at c.args.parts.items c.args.list.items _ _ _ (subst (λ z. are_within (length (trees_of c.args.nodes.now.items)) z ≡ true) c.deref.ensures.value c.in_ok-all_stand.ensures) c.in_ok-inner.ensures c.in_ok-keep.ensures c.statement.ensures
+returns c = constructor_made _ _ _ c.args.at c.args.parts.items c.args.list.items _ _ _
+    (subst (λ z. are_within (length (trees_of c.args.nodes.now.items)) z
+    ≡ true) c.deref.ensures.value c.in_ok-all_stand.ensures) c.in_ok-inner.ensures c.in_ok-keep.ensures c.statement.ensures

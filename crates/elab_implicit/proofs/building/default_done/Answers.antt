@@ -8,7 +8,8 @@ use Rattle.elab_implicit.proofs.PartLists.{default_is_done, default_refused}
 use Rattle.elab_implicit.proofs.building.default_done.Goals as goal
 
 pub returns-clause-is : goal.returns-clause-is
-returns-clause-is c = default_is_done c.args.st.now _ c.args.at c.args.class c.args.member (typ_of c.args.ty.now) _ _ c.in_ok-made.ensures (cleared_is (state_of c.args.st.now) _ _ _ refl (ap (map closure_of) c.clear.ensures.items))
+returns-clause-is c = default_is_done c.args.st.now _ c.args.at c.args.class c.args.member (typ_of c.args.ty.now) _ _ c.in_ok-made.ensures
+    (cleared_is (state_of c.args.st.now) _ _ _ refl (ap (map closure_of) c.clear.ensures.items))
 
 pub returns-in_err-made-clause-is : goal.returns-in_err-made-clause-is
 returns-in_err-made-clause-is c =

@@ -23,7 +23,8 @@ returns c =
     let test = c.loop-member-test.false in
     let size = c.in_ok-count.ensures in
     let high : length ms ≤ c.loop-member.member = omega arith in
-    members_done c.args.st.now c.loop-member.st c.args.at c.args.class c.loop-member.member ms (map (given_in (made c.args.st.now)) c.args.given.now) _ _ _ c.loop-member.invariant.so_far high
+    members_done c.args.st.now c.loop-member.st c.args.at c.args.class c.loop-member.member ms
+    (map (given_in (made c.args.st.now)) c.args.given.now) _ _ _ c.loop-member.invariant.so_far high
 
 pub returns-in_err-made : goal.returns-in_err-made
 returns-in_err-made c =

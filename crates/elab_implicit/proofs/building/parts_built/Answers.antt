@@ -11,7 +11,8 @@ returns c = parts_done c.args.st.now _ _ c.args.at c.args.class c.args.given.now
 pub returns-in_err-list : goal.returns-in_err-list
 returns-in_err-list c =
     let is_error : c.from_residual-in_err-list.result ≡ Err c.in_err-list.field-0.0 = search rules in
-    lists_fail _ _ _ _ _ is_error (parts_refused c.args.st.now c.args.at c.args.class c.args.given.now c.given_for-found.result _ c.given_for-found.ensures c.in_err-list.ensures.made)
+    lists_fail _ _ _ _ _ is_error
+    (parts_refused c.args.st.now c.args.at c.args.class c.args.given.now c.given_for-found.result _ c.given_for-found.ensures c.in_err-list.ensures.made)
 
 pub returns-in_err-members_built : goal.returns-in_err-members_built
 returns-in_err-members_built c =

@@ -10,4 +10,5 @@ pub returns-clause-ctx : goal.returns-clause-ctx
 returns-clause-ctx c = abstract_back (ctx_of c.args.env.now) _ _ c.args.base _ c.allow_base-was.ensures.ctx c.allow_base-was.ensures.was c.restore_base.ensures
 
 pub returns-clause-made : goal.returns-clause-made
-returns-clause-made c = class_same _ _ _ _ (as_base_of (ctx_of c.args.env.now) c.args.base) _ (work_of c.args.work.now) (plain (class c.args.base)) _ c.args.at _ c.allow_base-was.ensures.ctx c.class_type.ensures c.class_from-copied.ensures
+returns-clause-made c = class_same _ _ _ _ (as_base_of (ctx_of c.args.env.now) c.args.base) _ (work_of c.args.work.now)
+    (plain (class c.args.base)) _ c.args.at _ c.allow_base-was.ensures.ctx c.class_type.ensures c.class_from-copied.ensures

@@ -24,7 +24,8 @@ returns c =
     let test = c.loop-member-test.false in
     let size = c.in_ok-count.ensures in
     let high : length ms ≤ c.loop-member.member = omega arith in
-    members_done c.args.st.now c.loop-member.st c.args.at c.args.class (source_object c.args.class (typ_of c.args.param.now) c.args.at) (source_const (typ_of c.args.param.now)) c.loop-member.member ms _ _ _ c.loop-member.invariant.so_far high
+    members_done c.args.st.now c.loop-member.st c.args.at c.args.class (source_object c.args.class (typ_of c.args.param.now) c.args.at)
+    (source_const (typ_of c.args.param.now)) c.loop-member.member ms _ _ _ c.loop-member.invariant.so_far high
 
 pub returns-in_err-made : goal.returns-in_err-made
 returns-in_err-made c =

@@ -8,4 +8,6 @@ use Rattle.elab_entry.specs.elab_rules.Members.{members_deferred}
 use Rattle.elab_implicit.proofs.ending.members_deferred.Given as goal
 
 abbrev pub invariant-loop-member : goal.invariant-loop-member
-invariant-loop-member l = Adding (trees_of l.fn.nodes.items) (trees_of l.nodes.items) l.list.items (members_deferred (ctx_of l.env) l.at l.class l.member (drop l.member (members_in (slice_get (classes_of l.env.classes.items) l.class)))) (members_deferred (ctx_of l.env) l.at l.class 0 (members_in (slice_get (classes_of l.env.classes.items) l.class)))
+invariant-loop-member l = Adding (trees_of l.fn.nodes.items) (trees_of l.nodes.items) l.list.items
+    (members_deferred (ctx_of l.env) l.at l.class l.member (drop l.member (members_in (slice_get (classes_of l.env.classes.items) l.class))))
+    (members_deferred (ctx_of l.env) l.at l.class 0 (members_in (slice_get (classes_of l.env.classes.items) l.class)))

@@ -23,4 +23,5 @@ pub returns-in_err-implied : goal.returns-in_err-implied
 returns-in_err-implied c =
     let test = c.loop-left-test.true in
     let is_error : c.from_residual.result ≡ Err c.in_err-implied.field-0.0 = search rules in
-    changes_fail _ _ _ _ _ is_error (implied_fails c.args.st.now c.loop-left.st _ c.loop-left.left _ _ c.loop-left.invariant.step (omega arith) c.in_err-implied.ensures.is)
+    changes_fail _ _ _ _ _ is_error (implied_fails c.args.st.now c.loop-left.st _ c.loop-left.left _ _ c.loop-left.invariant.step
+    (omega arith) c.in_err-implied.ensures.is)

@@ -10,4 +10,5 @@ abbrev pub decreases-mark_all : goal.decreases-mark_all
 decreases-mark_all l = l.parent.0 * 2
 
 abbrev pub invariant-mark_all-loop-id : goal.invariant-mark_all-loop-id
-invariant-mark_all-loop-id l = all_marked (trees_at (trees_of l.nodes.items) (drop l.id-index l.ids)) l.marks.items ≡ all_marked (trees_at (trees_of l.nodes.items) l.ids) l.fn.marks.items
+invariant-mark_all-loop-id l = all_marked (trees_at (trees_of l.nodes.items) (drop l.id-index l.ids)) l.marks.items
+    ≡ all_marked (trees_at (trees_of l.nodes.items) l.ids) l.fn.marks.items

@@ -4,4 +4,5 @@ use Rattle.elab_implicit.specs.Marks.{slots_marked}
 use Rattle.elab_implicit.proofs.slots.mark_list.Given as goal
 
 abbrev pub invariant-loop-slot : goal.invariant-loop-slot
-invariant-loop-slot l = slots_marked l.funcs l.marks.items (map slot_of (drop l.slot-index l.slots)) ≡ slots_marked l.funcs l.fn.marks.items (map slot_of l.slots)
+invariant-loop-slot l = slots_marked l.funcs l.marks.items (map slot_of (drop l.slot-index l.slots))
+    ≡ slots_marked l.funcs l.fn.marks.items (map slot_of l.slots)

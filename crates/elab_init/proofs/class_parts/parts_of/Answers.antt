@@ -11,5 +11,7 @@ returns c =
     c.in_ok-add_members.ensures
     ∙ ap (λ zs. zs ++ placed (classes_of c.args.env.now.classes.items) c.in_ok-end.end (map member_of c.deref.result.now)) c.in_ok-parts.ensures
     ∙ ap (λ z. base_part c.in-Some.found.now.base ++ placed (classes_of c.args.env.now.classes.items) z (map member_of c.deref.result.now)) c.in_ok-end.ensures
-    ∙ ap (λ ms. base_part c.in-Some.found.now.base ++ placed (classes_of c.args.env.now.classes.items) (end_from 0 (head_items (class_extent (classes_of c.args.env.now.classes.items)) (classes_of c.args.env.now.classes.items) c.args.class (class_of c.in-Some.found.now))) (map member_of ms)) c.deref.ensures.value
+    ∙ ap (λ ms. base_part c.in-Some.found.now.base ++ placed (classes_of c.args.env.now.classes.items)
+    (end_from 0 (head_items (class_extent (classes_of c.args.env.now.classes.items)) (classes_of c.args.env.now.classes.items) c.args.class
+    (class_of c.in-Some.found.now))) (map member_of ms)) c.deref.ensures.value
     ∙ sym (parts_placed (classes_of c.args.env.now.classes.items) c.args.class (class_of c.in-Some.found.now) c.in-Some.ensures)

@@ -19,4 +19,6 @@ abbrev pub decreases-add_pieces : goal.decreases-add_pieces
 decreases-add_pieces l = l.levels
 
 abbrev pub invariant-add_pieces-loop-part : goal.invariant-add_pieces-loop-part
-invariant-add_pieces-loop-part l = Adding (trees_of l.fn.nodes.items) (trees_of l.nodes.items) l.kids.items (pieces_by l.depth (leaf_of l.leaf) (classes_of l.env.classes.items) l.at l.is_const l.is_volatile (map part_of (drop l.part-index l.parts))) (pieces_by l.depth (leaf_of l.leaf) (classes_of l.env.classes.items) l.at l.is_const l.is_volatile (map part_of l.parts))
+invariant-add_pieces-loop-part l = Adding (trees_of l.fn.nodes.items) (trees_of l.nodes.items) l.kids.items
+    (pieces_by l.depth (leaf_of l.leaf) (classes_of l.env.classes.items) l.at l.is_const l.is_volatile (map part_of (drop l.part-index l.parts)))
+    (pieces_by l.depth (leaf_of l.leaf) (classes_of l.env.classes.items) l.at l.is_const l.is_volatile (map part_of l.parts))

@@ -5,4 +5,5 @@ use Rattle.elab_conv.specs.elab_rules.Initialising.{candidate, candidates_at}
 use Rattle.elab_init.proofs.overloads.candidates.Given as goal
 
 abbrev pub invariant-loop-place : goal.invariant-loop-place
-invariant-loop-place l = map candidate_of l.list.items ++ candidates_at candidate (ctx_of l.env).funcs (drop l.place-index l.places) ≡ candidates_at candidate (ctx_of l.env).funcs l.places
+invariant-loop-place l = map candidate_of l.list.items ++ candidates_at candidate (ctx_of l.env).funcs (drop l.place-index l.places)
+    ≡ candidates_at candidate (ctx_of l.env).funcs l.places

@@ -11,4 +11,5 @@ pub returns-in-Err-NoViable : goal.returns-in-Err-NoViable
 returns-in-Err-NoViable c = ap (meant c.args.at) (chosen_is_meant _ _ _ (Err NoViable) (rw c.in-Err-NoViable.field-0-is at c.in-Err-NoViable.ensures))
 
 pub returns-in-Err-Ambiguous : goal.returns-in-Err-Ambiguous
-returns-in-Err-Ambiguous c = ap (meant c.args.at) (chosen_is_meant _ _ _ (Err (Ambiguous c.in-Err-Ambiguous.field-0-0 c.in-Err-Ambiguous.field-0-1)) (rw c.in-Err-Ambiguous.field-0-is at c.in-Err-Ambiguous.ensures))
+returns-in-Err-Ambiguous c = ap (meant c.args.at) (chosen_is_meant _ _ _ (Err (Ambiguous c.in-Err-Ambiguous.field-0-0 c.in-Err-Ambiguous.field-0-1))
+    (rw c.in-Err-Ambiguous.field-0-is at c.in-Err-Ambiguous.ensures))

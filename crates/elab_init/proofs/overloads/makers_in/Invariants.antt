@@ -5,4 +5,5 @@ use Rattle.elab_conv.specs.elab_rules.Initialising.{maker, candidates_at}
 use Rattle.elab_init.proofs.overloads.makers_in.Given as goal
 
 abbrev pub invariant-loop-place : goal.invariant-loop-place
-invariant-loop-place l = map candidate_of l.list.items ++ candidates_at maker (ctx_of l.env).funcs (drop l.place-index l.places) ≡ candidates_at maker (ctx_of l.env).funcs l.places
+invariant-loop-place l = map candidate_of l.list.items ++ candidates_at maker (ctx_of l.env).funcs (drop l.place-index l.places)
+    ≡ candidates_at maker (ctx_of l.env).funcs l.places

@@ -5,4 +5,6 @@ use Rattle.elab_init.proofs.Wholes.{many_trees}
 use Rattle.elab_init.proofs.temporaries.only_kid_or.Goals as goal
 
 pub returns-in_default-2-clause-is : goal.returns-in_default-2-clause-is
-returns-in_default-2-clause-is c = let h = c.in_default.len_at_least in sym (ap (λ z. only_tree z (tree_at (trees_of c.args.nodes.now.items) c.args.id)) c.in_ok-kids_at.ensures.kids ∙ many_trees (trees_of c.args.nodes.now.items) c.in_ok-kids_at.field-0.now (tree_at (trees_of c.args.nodes.now.items) c.args.id) (omega arith))
+returns-in_default-2-clause-is c = let h = c.in_default.len_at_least in
+    sym (ap (λ z. only_tree z (tree_at (trees_of c.args.nodes.now.items) c.args.id)) c.in_ok-kids_at.ensures.kids
+    ∙ many_trees (trees_of c.args.nodes.now.items) c.in_ok-kids_at.field-0.now (tree_at (trees_of c.args.nodes.now.items) c.args.id) (omega arith))

@@ -11,4 +11,6 @@ use Rattle.elab_lambdas.proofs.making.body_statements.Goals as goal
 pub returns : goal.returns
 returns c =
     let x = written_of (syntax_of c.args.nodes.now) c.args.x.now in
-    lists_after c.args.st.now c.add_parameters.new.st c.statements_in.new.st (with_parameters (lexemes_of c.args.tokens.now) (state_of c.args.st.now) x.params) (λ (y : State). statements_of no_lambda (lexemes_of c.args.tokens.now) y x.body) c.statements_in.result c.in_ok-add_parameters.ensures c.statements_in.ensures
+    lists_after c.args.st.now c.add_parameters.new.st c.statements_in.new.st (with_parameters (lexemes_of c.args.tokens.now) (state_of c.args.st.now) x.params)
+    (λ (y : State). statements_of no_lambda
+    (lexemes_of c.args.tokens.now) y x.body) c.statements_in.result c.in_ok-add_parameters.ensures c.statements_in.ensures

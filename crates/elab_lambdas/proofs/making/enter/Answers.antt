@@ -9,10 +9,24 @@ use Rattle.elab_lambdas.proofs.making.enter.Goals as goal
 
 pub returns-clause-is : goal.returns-clause-is
 returns-clause-is c trees =
-    entered_is (state_of c.args.st.now) (record { ctx = ctx_of c.declare_closure.new.env; work = work_of c.args.st.now.work; bodies = map body_of c.args.st.now.bodies.items }) (state_of c.enter_lambda.new.st) (written_of trees c.args.x.now) (returns_of c.args.returns) (typ_of c.args.ret.now) (typ_of c.object_type.result) (signature_of c.args.function.now) (lambda_of c.in_ok-lambda.lambda) c.in_ok-class.class
-    (ap (λ (z : Ctx). record (state_of c.args.st.now) { ctx = z }) c.in_ok-declare_closure.ensures) c.in_ok-around.ensures.is c.object_type.ensures c.in_ok-lambda.ensures c.in_ok-class.ensures
+    entered_is (state_of c.args.st.now) (record {
+      ctx = ctx_of c.declare_closure.new.env;
+      work = work_of c.args.st.now.work;
+      bodies =
+          map body_of c.args.st.now.bodies.items;
+    }) (state_of c.enter_lambda.new.st) (written_of trees c.args.x.now) (returns_of c.args.returns)
+    (typ_of c.args.ret.now) (typ_of c.object_type.result) (signature_of c.args.function.now) (lambda_of c.in_ok-lambda.lambda) c.in_ok-class.class
+    (ap (λ (z : Ctx). record (state_of c.args.st.now) {
+      ctx =
+          z;
+    }) c.in_ok-declare_closure.ensures) c.in_ok-around.ensures.is c.object_type.ensures c.in_ok-lambda.ensures c.in_ok-class.ensures
 
 pub returns-clause-round : goal.returns-clause-round
 returns-clause-round c =
-    round_is (state_of c.args.st.now) (record { ctx = ctx_of c.declare_closure.new.env; work = work_of c.args.st.now.work; bodies = map body_of c.args.st.now.bodies.items }) (written_of [] c.args.x.now) (signature_of c.args.function.now) (round_of c.in_ok-around.around)
+    round_is (state_of c.args.st.now) (record {
+      ctx = ctx_of c.declare_closure.new.env;
+      work = work_of c.args.st.now.work;
+      bodies =
+          map body_of c.args.st.now.bodies.items;
+    }) (written_of [] c.args.x.now) (signature_of c.args.function.now) (round_of c.in_ok-around.around)
     (ap (λ (z : Ctx). record (state_of c.args.st.now) { ctx = z }) c.in_ok-declare_closure.ensures) c.in_ok-around.ensures.round

@@ -5,4 +5,5 @@ use Rattle.elab_entry.specs.elab_rules.Lambdas.{all_captured}
 use Rattle.elab_lambdas.proofs.traits.all_whole.Given as goal
 
 abbrev pub invariant-loop-found : goal.invariant-loop-found
-invariant-loop-found l = all_captured (λ n. not (traits_at (ctx_of l.env) n).is_volatile) (map capture_of l.captures) ≡ all_captured (λ n. not (traits_at (ctx_of l.env) n).is_volatile) (map capture_of (drop l.found-index l.captures))
+invariant-loop-found l = all_captured (λ n. not (traits_at (ctx_of l.env) n).is_volatile) (map capture_of l.captures)
+    ≡ all_captured (λ n. not (traits_at (ctx_of l.env) n).is_volatile) (map capture_of (drop l.found-index l.captures))

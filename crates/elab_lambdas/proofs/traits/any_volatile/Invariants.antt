@@ -5,4 +5,5 @@ use Rattle.elab_entry.specs.elab_ctx.Ctx.{Capture, capture_of}
 use Rattle.elab_lambdas.proofs.traits.any_volatile.Given as goal
 
 abbrev pub invariant-loop-found : goal.invariant-loop-found
-invariant-loop-found l = list_any (λ (x : Capture). volatile_of x.typ) (map capture_of l.captures) ≡ list_any (λ (x : Capture). volatile_of x.typ) (map capture_of (drop l.found-index l.captures))
+invariant-loop-found l = list_any (λ (x : Capture). volatile_of x.typ) (map capture_of l.captures)
+    ≡ list_any (λ (x : Capture). volatile_of x.typ) (map capture_of (drop l.found-index l.captures))

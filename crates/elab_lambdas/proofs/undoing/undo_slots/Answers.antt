@@ -8,4 +8,6 @@ use Rattle.elab_entry.specs.elab_ctx.Ctx.{ctx_of}
 use Rattle.elab_lambdas.proofs.undoing.undo_slots.Goals as goal
 
 pub returns : goal.returns
-returns c = ap (λ (z : List (List SlotFunc)). record (ctx_of c.args.env.now) { slots = z }) (ap (map (λ (slots : Vec SlotRec Global). map slot_of slots.items)) c.truncate.ensures.items ∙ sym (take-map (λ (slots : Vec SlotRec Global). map slot_of slots.items) c.args.count c.args.env.now.slots.items))
+returns c = ap (λ (z : List (List SlotFunc)). record (ctx_of c.args.env.now) { slots = z })
+    (ap (map (λ (slots : Vec SlotRec Global). map slot_of slots.items)) c.truncate.ensures.items
+    ∙ sym (take-map (λ (slots : Vec SlotRec Global). map slot_of slots.items) c.args.count c.args.env.now.slots.items))

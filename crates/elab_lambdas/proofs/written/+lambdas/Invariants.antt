@@ -13,4 +13,5 @@ abbrev pub decreases-all_among : goal.decreases-all_among
 decreases-all_among l = l.parent.0 * 2
 
 abbrev pub invariant-all_among-loop-id : goal.invariant-all_among-loop-id
-invariant-all_among-loop-id l = Making l.fn.st l.st (lambdas_among (lexemes_of l.tokens) (state_of l.st) (trees_at (syntax_of l.nodes) (drop l.id-index l.ids))) (lambdas_among (lexemes_of l.tokens) (state_of l.fn.st) (trees_at (syntax_of l.nodes) l.ids))
+invariant-all_among-loop-id l = Making l.fn.st l.st (lambdas_among (lexemes_of l.tokens) (state_of l.st) (trees_at (syntax_of l.nodes) (drop l.id-index l.ids)))
+    (lambdas_among (lexemes_of l.tokens) (state_of l.fn.st) (trees_at (syntax_of l.nodes) l.ids))

@@ -6,5 +6,7 @@ use Rattle.elab_lambdas.proofs.Parts.{from_is}
 use Rattle.elab_lambdas.proofs.written.lambda_from.Goals as goal
 
 pub returns : goal.returns
-returns c = from_is (lexemes_of c.args.tokens.now) c.args.st.now c.lambda_made.new.st c.args.at (kids_of (tree_at (syntax_of c.args.nodes.now) c.args.intro)) (trees_at (syntax_of c.args.nodes.now) c.args.ids.now) (tree_at (syntax_of c.args.nodes.now) c.args.body) (written_of (syntax_of c.args.nodes.now) c.in_ok-written.written) c.lambda_made.result
+returns c = from_is (lexemes_of c.args.tokens.now) c.args.st.now c.lambda_made.new.st c.args.at (kids_of (tree_at (syntax_of c.args.nodes.now) c.args.intro))
+    (trees_at (syntax_of c.args.nodes.now) c.args.ids.now) (tree_at (syntax_of c.args.nodes.now) c.args.body)
+    (written_of (syntax_of c.args.nodes.now) c.in_ok-written.written) c.lambda_made.result
     c.in_ok-written.ensures.is c.lambda_made.ensures

@@ -13,6 +13,11 @@ use Rattle.elab_lambdas.proofs.written.lambda_written.Goals as goal
 
 pub returns-clause-is : goal.returns-clause-is
 returns-clause-is c =
-    written_is (lexemes_of c.args.tokens.now) (state_of c.args.st.now) c.args.at (kids_of (tree_at (syntax_of c.args.nodes.now) c.args.intro)) (trees_at (syntax_of c.args.nodes.now) c.args.ids.now) (tree_at (syntax_of c.args.nodes.now) c.args.body) (otherwise_of c.default_of-otherwise.result) (qualifiers_of c.args.qualifiers)
-    (map capture_of c.in_ok-captures.captures.items) (map capture_of c.default_captures.new.captures.items) (map parameter_of c.in_ok-params.params.items) c.in_ok-not_dynamic.field-0 (option_map typ_of c.in_ok-result.result) c.has_mutable.result c.closing.result
-    c.default_of-otherwise.ensures c.requires.words c.in_ok-captures.ensures c.in_ok-params.ensures c.in_ok-not_dynamic.ensures c.in_ok-result.ensures (rw c.deref.ensures.value at c.in_ok-default_captures.ensures) c.has_mutable.ensures c.closing.ensures
+    written_is (lexemes_of c.args.tokens.now) (state_of c.args.st.now) c.args.at (kids_of (tree_at (syntax_of c.args.nodes.now) c.args.intro))
+    (trees_at (syntax_of c.args.nodes.now) c.args.ids.now) (tree_at (syntax_of c.args.nodes.now) c.args.body) (otherwise_of c.default_of-otherwise.result)
+    (qualifiers_of c.args.qualifiers)
+    (map capture_of c.in_ok-captures.captures.items) (map capture_of c.default_captures.new.captures.items)
+    (map parameter_of c.in_ok-params.params.items) c.in_ok-not_dynamic.field-0
+    (option_map typ_of c.in_ok-result.result) c.has_mutable.result c.closing.result
+    c.default_of-otherwise.ensures c.requires.words c.in_ok-captures.ensures c.in_ok-params.ensures c.in_ok-not_dynamic.ensures c.in_ok-result.ensures
+    (rw c.deref.ensures.value at c.in_ok-default_captures.ensures) c.has_mutable.ensures c.closing.ensures

@@ -5,4 +5,5 @@ use Rattle.elab_lambdas.proofs.Results.{result_says}
 use Rattle.elab_lambdas.proofs.written.result_among.Goals as goal
 
 pub returns : goal.returns
-returns c = result_says (lexemes_of c.args.tokens.now) (ctx_of c.args.env.now) (work_of c.args.work.now) (trees_at (syntax_of c.args.nodes.now) c.args.ids.now) _ c.type_written.result c.trailing_type-found.ensures.found c.type_written.ensures
+returns c = result_says (lexemes_of c.args.tokens.now) (ctx_of c.args.env.now) (work_of c.args.work.now)
+    (trees_at (syntax_of c.args.nodes.now) c.args.ids.now) _ c.type_written.result c.trailing_type-found.ensures.found c.type_written.ensures

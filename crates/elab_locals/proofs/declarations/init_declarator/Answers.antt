@@ -7,4 +7,6 @@ use Rattle.elab_locals.proofs.Declared.{declarator_then}
 use Rattle.elab_locals.proofs.declarations.init_declarator.Goals as goal
 
 pub returns : goal.returns
-returns g c = declarator_then (g.L.MakeLambdas.lambdas c.args.lams.now) (lexemes_of c.args.tokens.now) c.args.st.now _ c.args.at (typ_of c.args.ty.now) c.args.list.now.items _ c.args.auto.now _ (tree_at (syntax_of c.args.nodes.now) c.args.kid) (trees_at (syntax_of c.args.nodes.now) c.args.ids.now) (declared_of c.in_ok-found.found) _ c.in_ok-found.ensures c.declared_from.ensures
+returns g c = declarator_then (g.L.MakeLambdas.lambdas c.args.lams.now) (lexemes_of c.args.tokens.now) c.args.st.now _ c.args.at
+    (typ_of c.args.ty.now) c.args.list.now.items _ c.args.auto.now _ (tree_at (syntax_of c.args.nodes.now) c.args.kid)
+    (trees_at (syntax_of c.args.nodes.now) c.args.ids.now) (declared_of c.in_ok-found.found) _ c.in_ok-found.ensures c.declared_from.ensures

@@ -10,9 +10,14 @@ pub returns-in_err-declarators : goal.returns-in_err-declarators
 returns-in_err-declarators g c =
     let empty : c.new-list.result.items ≡ [] = search rules in
     let is_error : c.from_residual-in_err-declarators.result ≡ Err c.in_err-declarators.field-0.0 = search rules in
-    all_fail _ _ _ _ _ _ _ is_error (specified_fails (g.L.MakeLambdas.lambdas c.args.lams.now) (lexemes_of c.args.tokens.now) c.args.st.now (tree_at (syntax_of c.args.nodes.now) c.args.specifiers) (trees_at (syntax_of c.args.nodes.now) c.args.ids.now) (typ_of c.in_ok-ty.ty) _ _ c.in_ok-ty.ensures empty c.in_err-declarators.ensures)
+    all_fail _ _ _ _ _ _ _ is_error (specified_fails (g.L.MakeLambdas.lambdas c.args.lams.now) (lexemes_of c.args.tokens.now) c.args.st.now
+    (tree_at (syntax_of c.args.nodes.now) c.args.specifiers) (trees_at (syntax_of c.args.nodes.now) c.args.ids.now)
+    (typ_of c.in_ok-ty.ty) _ _ c.in_ok-ty.ensures empty c.in_err-declarators.ensures)
 
 pub returns : goal.returns
 returns g c =
     let empty : c.new-list.result.items ≡ [] = search rules in
-    specified_made (g.L.MakeLambdas.lambdas c.args.lams.now) (lexemes_of c.args.tokens.now) c.args.st.now _ (tree_at (syntax_of c.args.nodes.now) c.args.specifiers) (trees_at (syntax_of c.args.nodes.now) c.args.ids.now) (typ_of c.in_ok-ty.ty) c.args.out.now.items _ _ _ c.requires.out c.in_ok-ty.ensures empty c.in_ok-declarators.ensures (c.in_ok-keep_all.ensures ∙ ap (λ z. c.args.out.now.items ++ z) c.deref.ensures.value)
+    specified_made (g.L.MakeLambdas.lambdas c.args.lams.now) (lexemes_of c.args.tokens.now) c.args.st.now _
+    (tree_at (syntax_of c.args.nodes.now) c.args.specifiers) (trees_at (syntax_of c.args.nodes.now) c.args.ids.now)
+    (typ_of c.in_ok-ty.ty) c.args.out.now.items _ _ _ c.requires.out c.in_ok-ty.ensures empty c.in_ok-declarators.ensures
+    (c.in_ok-keep_all.ensures ∙ ap (λ z. c.args.out.now.items ++ z) c.deref.ensures.value)

@@ -8,4 +8,6 @@ use Rattle.elab_locals.proofs.Made.{init_given}
 use Rattle.elab_locals.proofs.written.nothing_made.Goals as goal
 
 pub returns : goal.returns
-returns c = init_given c.args.st.now _ _ c.args.variable _ _ _ c.args.at _ (λ (z : At) (v e : Tree). init_in (ctx_of c.args.st.now.env) (typ_of c.args.ty.now) c.args.at z v e) c.requires refl c.in_ok-init.ensures c.in_ok-made.ensures refl
+returns c = init_given c.args.st.now _ _ c.args.variable _ _ _ c.args.at _
+    (λ (z : At) (v e : Tree). init_in (ctx_of c.args.st.now.env)
+    (typ_of c.args.ty.now) c.args.at z v e) c.requires refl c.in_ok-init.ensures c.in_ok-made.ensures refl

@@ -10,7 +10,12 @@ use Rattle.elab_locals.proofs.written.values_read.Goals as goal
 pub returns-in_err-os : goal.returns-in_err-os
 returns-in_err-os c =
     let is_error : c.from_residual.result ≡ Err c.in_err-os.field-0.0 = search rules in
-    does_fail _ _ _ _ _ is_error (values_fail (lexemes_of c.args.tokens.now) (state_of c.args.st.now) _ (typ_of c.args.ty.now) c.args.at (tree_at (syntax_of c.args.nodes.now) c.args.id) _ _ _ _ (trees_at (syntax_of c.args.nodes.now) c.deref.result.now) _ c.node_at-node.ensures.node (ap (trees_at (syntax_of c.args.nodes.now)) c.deref.ensures.value) c.in_err-os.ensures)
+    does_fail _ _ _ _ _ is_error (values_fail (lexemes_of c.args.tokens.now) (state_of c.args.st.now) _ (typ_of c.args.ty.now) c.args.at
+    (tree_at (syntax_of c.args.nodes.now) c.args.id) _ _ _ _ (trees_at (syntax_of c.args.nodes.now) c.deref.result.now) _ c.node_at-node.ensures.node
+    (ap (trees_at (syntax_of c.args.nodes.now)) c.deref.ensures.value) c.in_err-os.ensures)
 
 pub returns : goal.returns
-returns c = values_done (lexemes_of c.args.tokens.now) c.args.st.now _ _ c.args.variable (typ_of c.args.ty.now) c.args.at _ (tree_at (syntax_of c.args.nodes.now) c.args.id) _ _ _ _ (trees_at (syntax_of c.args.nodes.now) c.deref.result.now) _ _ _ c.requires.variable c.node_at-node.ensures.node (ap (trees_at (syntax_of c.args.nodes.now)) c.deref.ensures.value) c.place.ensures c.in_ok-os.ensures refl c.deref-2.ensures.value c.values_made.ensures
+returns c = values_done (lexemes_of c.args.tokens.now) c.args.st.now _ _ c.args.variable (typ_of c.args.ty.now) c.args.at _
+    (tree_at (syntax_of c.args.nodes.now) c.args.id) _ _ _ _
+    (trees_at (syntax_of c.args.nodes.now) c.deref.result.now) _ _ _ c.requires.variable c.node_at-node.ensures.node
+    (ap (trees_at (syntax_of c.args.nodes.now)) c.deref.ensures.value) c.place.ensures c.in_ok-os.ensures refl c.deref-2.ensures.value c.values_made.ensures

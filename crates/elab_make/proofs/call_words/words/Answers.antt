@@ -11,7 +11,8 @@ use Rattle.elab_make.proofs.Wording.{wording_more, wording_short, wording_done, 
 use Rattle.elab_make.proofs.call_words.words.Goals as goal
 
 pub returns-in_default : goal.returns-in_default
-returns-in_default c = wording_short (ctx_of c.args.env.now) (work_of c.args.work.now) c.args.params.now c.args.os.now _ _ _ _ _ c.args-2.invariant (no_element c.args.os.now c.args-2.i c.operand_at.result c.operand_at.ensures c.in_default.not-Some)
+returns-in_default c = wording_short (ctx_of c.args.env.now) (work_of c.args.work.now) c.args.params.now c.args.os.now _ _ _ _ _ c.args-2.invariant
+    (no_element c.args.os.now c.args-2.i c.operand_at.result c.operand_at.ensures c.in_default.not-Some)
 
 pub args-2-preserved : goal.args-2-preserved
 args-2-preserved c =

@@ -4,4 +4,5 @@ use Rattle.elab_make.proofs.Wording.{Wording}
 use Rattle.elab_make.proofs.call_words.words.Given as goal
 
 abbrev pub invariant-args-2 : goal.invariant-args-2
-invariant-args-2 l = Wording (ctx_of l.env) (work_of l.fn.work) l.params l.os l.i (trees_of l.fn.work.nodes.items) (trees_of l.work.nodes.items) (work_of l.work) l.list.items
+invariant-args-2 l = Wording (ctx_of l.env) (work_of l.fn.work) l.params l.os l.i (trees_of l.fn.work.nodes.items) (trees_of l.work.nodes.items)
+    (work_of l.work) l.list.items

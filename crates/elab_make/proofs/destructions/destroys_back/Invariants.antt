@@ -10,4 +10,5 @@ abbrev pub decreases-parts : goal.decreases-parts
 decreases-parts l = l.left
 
 abbrev pub invariant-parts : goal.invariant-parts
-invariant-parts l = (l.left ≤ length l.parts) × AddsAll (trees_of l.fn.nodes.items) (trees_of l.nodes.items) l.ids.items (backwards (destroys_at (ctx_of l.env) l.at) (map part_of (drop l.left l.parts)))
+invariant-parts l = (l.left ≤ length l.parts) × AddsAll (trees_of l.fn.nodes.items) (trees_of l.nodes.items) l.ids.items
+    (backwards (destroys_at (ctx_of l.env) l.at) (map part_of (drop l.left l.parts)))

@@ -5,4 +5,6 @@ use Rattle.elab_make.proofs.Putting.{last_puts, temporary_same}
 use Rattle.elab_make.proofs.objects.built_object.Goals as goal
 
 pub returns : goal.returns
-returns c = last_puts _ _ _ _ _ _ _ c.in_ok-ends.ensures.grows (temporary_same _ _ _ _ _ _ _ (at_grown _ _ _ c.in_ok-ends.ensures.grows c.in_ok-init.ensures.within ∙ c.in_ok-init.ensures.is) (ap (trees_at (trees_of c.destroys.new.nodes.items)) c.deref.ensures.value ∙ c.in_ok-ends.ensures.are)) c.temporary.ensures
+returns c = last_puts _ _ _ _ _ _ _ c.in_ok-ends.ensures.grows
+    (temporary_same _ _ _ _ _ _ _ (at_grown _ _ _ c.in_ok-ends.ensures.grows c.in_ok-init.ensures.within ∙ c.in_ok-init.ensures.is)
+    (ap (trees_at (trees_of c.destroys.new.nodes.items)) c.deref.ensures.value ∙ c.in_ok-ends.ensures.are)) c.temporary.ensures

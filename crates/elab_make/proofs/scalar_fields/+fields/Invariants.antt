@@ -23,7 +23,11 @@ abbrev pub decreases-add_repeated-objects : goal.decreases-add_repeated-objects
 decreases-add_repeated-objects l = l.left
 
 abbrev pub invariant-add_repeated-objects : goal.invariant-add_repeated-objects
-invariant-add_repeated-objects l = Adding (trees_of l.fn.nodes.items) (trees_of l.nodes.items) l.ids.items (fields_of_each l.depth (classes_of l.env.classes.items) l.at (typ_of l.ty) l.here l.stride l.left) (fields_of_each l.depth (classes_of l.env.classes.items) l.at (typ_of l.ty) l.offset l.stride l.count)
+invariant-add_repeated-objects l = Adding (trees_of l.fn.nodes.items) (trees_of l.nodes.items) l.ids.items
+    (fields_of_each l.depth (classes_of l.env.classes.items) l.at (typ_of l.ty) l.here l.stride l.left)
+    (fields_of_each l.depth (classes_of l.env.classes.items) l.at (typ_of l.ty) l.offset l.stride l.count)
 
 abbrev pub invariant-add_parts-loop-part : goal.invariant-add_parts-loop-part
-invariant-add_parts-loop-part l = Adding (trees_of l.fn.nodes.items) (trees_of l.nodes.items) l.ids.items (fields_of l.depth (classes_of l.env.classes.items) l.at l.offset (map part_of (drop l.part-index l.parts))) (fields_of l.depth (classes_of l.env.classes.items) l.at l.offset (map part_of l.parts))
+invariant-add_parts-loop-part l = Adding (trees_of l.fn.nodes.items) (trees_of l.nodes.items) l.ids.items
+    (fields_of l.depth (classes_of l.env.classes.items) l.at l.offset (map part_of (drop l.part-index l.parts)))
+    (fields_of l.depth (classes_of l.env.classes.items) l.at l.offset (map part_of l.parts))

@@ -7,4 +7,6 @@ use Rattle.elab_members.proofs.blocks.statements_inside.Goals as goal
 pub returns : goal.returns
 returns g c =
     let empty : c.new-list.result.items ≡ [] = search rules in
-    listed_is (g.L.MakeLambdas.lambdas c.args.lams.now) (lexemes_of c.args.tokens.now) c.args.st.now _ (tree_at (syntax_of c.args.nodes.now) c.args.body) _ _ _ _ _ _ _ c.node_at.ensures.node (ap (trees_at (syntax_of c.args.nodes.now)) c.deref.ensures.value) empty c.in_ok-statements.ensures
+    listed_is (g.L.MakeLambdas.lambdas c.args.lams.now) (lexemes_of c.args.tokens.now) c.args.st.now _
+    (tree_at (syntax_of c.args.nodes.now) c.args.body) _ _ _ _ _ _ _ c.node_at.ensures.node
+    (ap (trees_at (syntax_of c.args.nodes.now)) c.deref.ensures.value) empty c.in_ok-statements.ensures

@@ -8,4 +8,6 @@ use Rattle.elab_members.specs.Initialisers.{default_of}
 use Rattle.elab_members.proofs.declarations.defaults_among.Given as goal
 
 abbrev pub invariant-loop-id : goal.invariant-loop-id
-invariant-loop-id g l = Steps l.fn.st l.st (each_of (default_of (g.L.MakeLambdas.lambdas l.lams) (lexemes_of l.tokens) l.class) (state_of l.st) (trees_at (syntax_of l.nodes) (drop l.id-index l.ids))) (each_of (default_of (g.L.MakeLambdas.lambdas l.lams) (lexemes_of l.tokens) l.class) (state_of l.fn.st) (trees_at (syntax_of l.nodes) l.ids))
+invariant-loop-id g l = Steps l.fn.st l.st (each_of (default_of (g.L.MakeLambdas.lambdas l.lams) (lexemes_of l.tokens) l.class) (state_of l.st)
+    (trees_at (syntax_of l.nodes) (drop l.id-index l.ids)))
+    (each_of (default_of (g.L.MakeLambdas.lambdas l.lams) (lexemes_of l.tokens) l.class) (state_of l.fn.st) (trees_at (syntax_of l.nodes) l.ids))

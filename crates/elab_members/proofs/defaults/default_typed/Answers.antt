@@ -17,4 +17,6 @@ returns g c = default_done (g.L.MakeLambdas.lambdas c.args.lams.now) (lexemes_of
 pub returns-in_err-made : goal.returns-in_err-made
 returns-in_err-made g c =
     let is_error : c.from_residual-in_err-made.result ≡ Err c.in_err-made.field-0.0 = search rules in
-    changes_fail _ _ _ _ _ is_error (default_refused (g.L.MakeLambdas.lambdas c.args.lams.now) (lexemes_of c.args.tokens.now) (state_of c.args.st.now) _ c.args.class c.args.member (typ_of c.args.ty.now) (syntax_at (syntax_of c.args.nodes.now) c.args.id) _ c.in_ok-around.ensures.is c.in_err-made.ensures)
+    changes_fail _ _ _ _ _ is_error (default_refused (g.L.MakeLambdas.lambdas c.args.lams.now) (lexemes_of c.args.tokens.now)
+    (state_of c.args.st.now) _ c.args.class c.args.member (typ_of c.args.ty.now)
+    (syntax_at (syntax_of c.args.nodes.now) c.args.id) _ c.in_ok-around.ensures.is c.in_err-made.ensures)

@@ -7,4 +7,5 @@ use Rattle.elab_members.proofs.PartSteps.{wholly_done}
 use Rattle.elab_members.proofs.defaults.value_made.Goals as goal
 
 pub returns : goal.returns
-returns c = wholly_done c.args.st.now _ _ _ _ _ _ (full c.args.o.at) c.in_ok-init.ensures c.in_ok-made.ensures (cleared_is (state_of c.args.st.now) _ _ _ refl (ap (map closure_of) c.clear.ensures.items))
+returns c = wholly_done c.args.st.now _ _ _ _ _ _ (full c.args.o.at) c.in_ok-init.ensures c.in_ok-made.ensures
+    (cleared_is (state_of c.args.st.now) _ _ _ refl (ap (map closure_of) c.clear.ensures.items))

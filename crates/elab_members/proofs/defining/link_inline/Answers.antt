@@ -21,5 +21,7 @@ returns-then-not-storage c = not_inline (ctx_of c.args.env.now) c.args.func (sto
 
 pub returns : goal.returns
 returns c =
-    inline_linked (ctx_of c.args.env.now) c.args.func (storage_of c.args.storage) (map func_of c.make_inline.new.self) (is_yes c.args.storage.is_inline c.if-not-storage.false)
-    (ap (map func_of) c.make_inline.ensures ∙ changed_shown func_of (λ (f : FuncDecl). record f { linkage = Inline }) (λ (z : Func). record z { linkage = Inline }) c.args.env.now.funcs c.args.func no_function (λ (f : FuncDecl). refl))
+    inline_linked (ctx_of c.args.env.now) c.args.func (storage_of c.args.storage) (map func_of c.make_inline.new.self)
+    (is_yes c.args.storage.is_inline c.if-not-storage.false)
+    (ap (map func_of) c.make_inline.ensures ∙ changed_shown func_of (λ (f : FuncDecl). record f { linkage = Inline })
+    (λ (z : Func). record z { linkage = Inline }) c.args.env.now.funcs c.args.func no_function (λ (f : FuncDecl). refl))

@@ -17,4 +17,6 @@ returns g c = body_done c.args.st.now _ _ _ _ (header_of c.args.header.now) c.ar
 pub returns-in_err-made : goal.returns-in_err-made
 returns-in_err-made g c =
     let is_error : c.from_residual-in_err-made.result ≡ Err c.in_err-made.field-0.0 = search rules in
-    changes_fail _ _ _ _ _ is_error (body_refused (state_of c.args.st.now) _ (header_of c.args.header.now) c.args.func c.args.class (λ (z : State). destructor_inside (g.L.MakeLambdas.lambdas c.args.lams.now) (lexemes_of c.args.tokens.now) z (header_of c.args.header.now) c.args.class (syntax_at (syntax_of c.args.nodes.now) c.args.body)) _ c.in_ok-around.ensures.is c.in_err-made.ensures)
+    changes_fail _ _ _ _ _ is_error (body_refused (state_of c.args.st.now) _ (header_of c.args.header.now) c.args.func c.args.class
+    (λ (z : State). destructor_inside (g.L.MakeLambdas.lambdas c.args.lams.now) (lexemes_of c.args.tokens.now) z (header_of c.args.header.now) c.args.class
+    (syntax_at (syntax_of c.args.nodes.now) c.args.body)) _ c.in_ok-around.ensures.is c.in_err-made.ensures)

@@ -8,4 +8,7 @@ use Rattle.elab_members.specs.Whole.{late_of}
 use Rattle.elab_members.proofs.late.all_late.Given as goal
 
 abbrev pub invariant-loop-id : goal.invariant-loop-id
-invariant-loop-id g l = Steps l.fn.st l.st (each_of (late_of (g.L.MakeLambdas.lambdas l.lams) (lexemes_of l.tokens) l.home.number l.home.name.items) (state_of l.st) (trees_at (syntax_of l.nodes) (drop l.id-index l.ids))) (each_of (late_of (g.L.MakeLambdas.lambdas l.lams) (lexemes_of l.tokens) l.home.number l.home.name.items) (state_of l.fn.st) (trees_at (syntax_of l.nodes) l.ids))
+invariant-loop-id g l = Steps l.fn.st l.st (each_of (late_of (g.L.MakeLambdas.lambdas l.lams) (lexemes_of l.tokens) l.home.number l.home.name.items)
+    (state_of l.st) (trees_at (syntax_of l.nodes) (drop l.id-index l.ids)))
+    (each_of (late_of (g.L.MakeLambdas.lambdas l.lams) (lexemes_of l.tokens) l.home.number l.home.name.items) (state_of l.fn.st)
+    (trees_at (syntax_of l.nodes) l.ids))

@@ -7,4 +7,8 @@ use Rattle.elab_members.proofs.ClassSteps.{late_body}
 use Rattle.elab_members.proofs.late.late_function.Goals as goal
 
 pub returns : goal.returns
-returns g c = late_body (g.L.MakeLambdas.lambdas c.args.lams.now) (lexemes_of c.args.tokens.now) c.args.st.now _ c.args.home.now.number c.args.home.now.name.items _ c.args.at c.args.kind (trees_at (syntax_of c.args.nodes.now) c.args.kids.now) (method_shown (syntax_of c.args.nodes.now) c.args.kids.now c.in_ok-method.method) (tree_at (syntax_of c.args.nodes.now) c.in-Some.body) _ c.deref.ensures.value (c.in_ok-method.ensures.method (map body_of c.args.st.now.bodies.items)) c.in-Some.ensures.body c.late_method.ensures
+returns g c = late_body (g.L.MakeLambdas.lambdas c.args.lams.now)
+    (lexemes_of c.args.tokens.now) c.args.st.now _ c.args.home.now.number c.args.home.now.name.items _ c.args.at c.args.kind
+    (trees_at (syntax_of c.args.nodes.now) c.args.kids.now) (method_shown (syntax_of c.args.nodes.now) c.args.kids.now c.in_ok-method.method)
+    (tree_at (syntax_of c.args.nodes.now) c.in-Some.body) _ c.deref.ensures.value
+    (c.in_ok-method.ensures.method (map body_of c.args.st.now.bodies.items)) c.in-Some.ensures.body c.late_method.ensures

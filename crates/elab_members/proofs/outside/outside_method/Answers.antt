@@ -8,4 +8,7 @@ use Rattle.elab_members.proofs.OutsideSteps.{says_kind}
 use Rattle.elab_members.proofs.outside.outside_method.Goals as goal
 
 pub returns-then-is_plain-clause-method : goal.returns-then-is_plain-clause-method
-returns-then-is_plain-clause-method c bodies = says_kind (method_shown (syntax_of c.args.nodes.now) c.args.kids.now) _ (lexemes_of c.args.tokens.now) (at_hand (ctx_of c.args.env.now) (work_of c.args.work.now) bodies) c.args.at (storage_of c.args.storage) c.args.kind (trees_at (syntax_of c.args.nodes.now) (drop c.args.start c.args.kids.now)) (sym c.is_plain.ensures ∙ c.if-is_plain.true) (c.plain_method.ensures.method bodies)
+returns-then-is_plain-clause-method c bodies = says_kind (method_shown (syntax_of c.args.nodes.now) c.args.kids.now) _ (lexemes_of c.args.tokens.now)
+    (at_hand (ctx_of c.args.env.now) (work_of c.args.work.now) bodies) c.args.at (storage_of c.args.storage) c.args.kind
+    (trees_at (syntax_of c.args.nodes.now) (drop c.args.start c.args.kids.now)) (sym c.is_plain.ensures ∙ c.if-is_plain.true)
+    (c.plain_method.ensures.method bodies)

@@ -15,4 +15,10 @@ returns-in_err-header-clause-method c bodies =
 
 pub returns-clause-method : goal.returns-clause-method
 returns-clause-method c bodies =
-    special_made (lexemes_of c.args.tokens.now) (ctx_of c.args.env.now) (work_of c.args.work.now) bodies c.args.at (storage_of c.args.storage) (syntax_of c.args.nodes.now) c.args.kids.now c.args.start c.args.kind c.in-Some.declarator (record { header = c.in_ok-header.header; count = c.args.start + 1 }) c.in_ok-header.header c.requires.special c.in-Some.ensures.kid c.in_ok-header.ensures refl refl
+    special_made (lexemes_of c.args.tokens.now) (ctx_of c.args.env.now) (work_of c.args.work.now) bodies c.args.at (storage_of c.args.storage)
+    (syntax_of c.args.nodes.now) c.args.kids.now c.args.start c.args.kind c.in-Some.declarator
+    (record {
+      header = c.in_ok-header.header;
+      count =
+          c.args.start + 1;
+    }) c.in_ok-header.header c.requires.special c.in-Some.ensures.kid c.in_ok-header.ensures refl refl

@@ -9,4 +9,5 @@ pub returns-clause-ctx : goal.returns-clause-ctx
 returns-clause-ctx c = put_back (ctx_of c.args.env.now) _ _ _ _ c.allow_base-was.ensures.ctx c.allow_base-was.ensures.was c.restore_base.ensures
 
 pub returns-clause-made : goal.returns-clause-made
-returns-clause-made c = initialised_so _ _ _ _ (ctx_of c.args.env.now) _ c.args.class c.args.member _ (work_of c.args.work.now) (typ_of c.args.ty.now) c.args.at (operands_in (trees_of c.args.work.now.nodes.items) c.args.os.now) c.base_for-base.ensures c.allow_base-was.ensures.ctx c.directly_initialised-made.ensures
+returns-clause-made c = initialised_so _ _ _ _ (ctx_of c.args.env.now) _ c.args.class c.args.member _ (work_of c.args.work.now) (typ_of c.args.ty.now) c.args.at
+    (operands_in (trees_of c.args.work.now.nodes.items) c.args.os.now) c.base_for-base.ensures c.allow_base-was.ensures.ctx c.directly_initialised-made.ensures

@@ -8,4 +8,6 @@ use Rattle.elab_members.proofs.PartSteps.{part_done}
 use Rattle.elab_members.proofs.parts.part_made.Goals as goal
 
 pub returns : goal.returns
-returns c = part_done c.args.st.now _ _ _ _ _ c.args.class c.args.member (typ_of c.args.ty.now) c.args.at _ (operands_in (made c.args.st.now) c.args.os.now) c.values_place-whole.ensures c.in_ok-made.ensures.made c.in_ok-init.ensures (cleared_is (state_of c.args.st.now) _ _ _ c.in_ok-made.ensures.ctx (ap (map closure_of) c.clear.ensures.items))
+returns c = part_done c.args.st.now _ _ _ _ _ c.args.class c.args.member (typ_of c.args.ty.now) c.args.at _
+    (operands_in (made c.args.st.now) c.args.os.now) c.values_place-whole.ensures c.in_ok-made.ensures.made c.in_ok-init.ensures
+    (cleared_is (state_of c.args.st.now) _ _ _ c.in_ok-made.ensures.ctx (ap (map closure_of) c.clear.ensures.items))

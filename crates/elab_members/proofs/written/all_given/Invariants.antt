@@ -8,4 +8,8 @@ use Rattle.elab_members.proofs.GivenSteps.{Gathering}
 use Rattle.elab_members.proofs.written.all_given.Given as goal
 
 abbrev pub invariant-loop-id : goal.invariant-loop-id
-invariant-loop-id g l = Gathering l.fn.st l.st l.list.items (all_given (g.L.MakeLambdas.lambdas l.lams) (lexemes_of l.tokens) l.class (giving_in l.st l.list.items) (trees_at (syntax_of l.nodes) (drop l.id-index l.ids))) (all_given (g.L.MakeLambdas.lambdas l.lams) (lexemes_of l.tokens) l.class (record { state = state_of l.fn.st; given = [] }) (trees_at (syntax_of l.nodes) l.ids))
+invariant-loop-id g l = Gathering l.fn.st l.st l.list.items
+    (all_given (g.L.MakeLambdas.lambdas l.lams) (lexemes_of l.tokens) l.class (giving_in l.st l.list.items)
+    (trees_at (syntax_of l.nodes) (drop l.id-index l.ids)))
+    (all_given (g.L.MakeLambdas.lambdas l.lams) (lexemes_of l.tokens) l.class (record { state = state_of l.fn.st; given = [] })
+    (trees_at (syntax_of l.nodes) l.ids))

@@ -5,4 +5,7 @@ use Rattle.elab_members.proofs.GivenSteps.{member_gathered}
 use Rattle.elab_members.proofs.written.given_member.Goals as goal
 
 pub returns : goal.returns
-returns g c = member_gathered (g.L.MakeLambdas.lambdas c.args.lams.now) (lexemes_of c.args.tokens.now) c.args.st.now _ c.args.class c.args.list.now.items _ c.args.at c.args.token c.in_ok-member.member c.spelling.result.now (typ_of c.in_ok-ty.ty) (trees_at (syntax_of c.args.nodes.now) c.args.ids.now) _ c.spelling.ensures c.in_ok-member.ensures c.in_ok-ty.ensures c.given_part.ensures
+returns g c = member_gathered (g.L.MakeLambdas.lambdas c.args.lams.now)
+    (lexemes_of c.args.tokens.now) c.args.st.now _ c.args.class c.args.list.now.items _ c.args.at c.args.token c.in_ok-member.member c.spelling.result.now
+    (typ_of c.in_ok-ty.ty)
+    (trees_at (syntax_of c.args.nodes.now) c.args.ids.now) _ c.spelling.ensures c.in_ok-member.ensures c.in_ok-ty.ensures c.given_part.ensures

@@ -6,4 +6,5 @@ use Rattle.elab_conv.specs.elab_rules.Names.{is_method}
 use Rattle.elab_names.proofs.functions.method_places.Given as goal
 
 abbrev pub invariant-loop-place : goal.invariant-loop-place
-invariant-loop-place l = l.places.items ++ kept_among (λ f. is_method l.class l.name (func_of f)) l.funcs (drop l.place-index l.members) ≡ places_from (is_method l.class l.name) 0 (map func_of l.funcs)
+invariant-loop-place l = l.places.items ++ kept_among (λ f. is_method l.class l.name (func_of f)) l.funcs (drop l.place-index l.members)
+    ≡ places_from (is_method l.class l.name) 0 (map func_of l.funcs)

@@ -22,8 +22,10 @@ returns-in-Some-2 c =
     let j : ℕ = c.args.most - (c.loop-passed._passed + 1) in
     let h : c.loop-passed._passed + suc j ≡ c.args.most = omega arith in
     let e : base_of cs c.loop-passed.below ≡ Some c.in-Some.base = cc (c.deref.ensures.value, c.in-Some.ensures) in
-    let o : own_member C c.args.name.now c.in-Some.base ≡ Some (found_of c.in-Some-2.found) = sym c.in_ok-found.ensures ∙ ap (option_map found_of) c.in-Some-2.is in
-    sym (c.loop-passed.invariant (suc j) h ∙ ap (found_along C c.args.name.now) (chain_some cs j c.loop-passed.below c.in-Some.base e) ∙ ap (λ (z : Option Found). or_else z (found_along C c.args.name.now (chain j cs c.in-Some.base))) o)
+    let o : own_member C c.args.name.now c.in-Some.base ≡ Some (found_of c.in-Some-2.found) = sym c.in_ok-found.ensures
+    ∙ ap (option_map found_of) c.in-Some-2.is in
+    sym (c.loop-passed.invariant (suc j) h ∙ ap (found_along C c.args.name.now) (chain_some cs j c.loop-passed.below c.in-Some.base e)
+    ∙ ap (λ (z : Option Found). or_else z (found_along C c.args.name.now (chain j cs c.in-Some.base))) o)
 
 pub loop-passed-preserved : goal.loop-passed-preserved
 loop-passed-preserved c k e0 =
@@ -32,7 +34,8 @@ loop-passed-preserved c k e0 =
     let h : c.loop-passed._passed + suc k ≡ c.args.most = omega arith in
     let e : base_of cs c.loop-passed.below ≡ Some c.in-Some.base = cc (c.deref.ensures.value, c.in-Some.ensures) in
     let o : own_member C c.args.name.now c.in-Some.base ≡ None = sym c.in_ok-found.ensures ∙ ap (option_map found_of) c.in-None.is in
-    c.loop-passed.invariant (suc k) h ∙ ap (found_along C c.args.name.now) (chain_some cs k c.loop-passed.below c.in-Some.base e) ∙ ap (λ (z : Option Found). or_else z (found_along C c.args.name.now (chain k cs c.in-Some.base))) o
+    c.loop-passed.invariant (suc k) h ∙ ap (found_along C c.args.name.now) (chain_some cs k c.loop-passed.below c.in-Some.base e)
+    ∙ ap (λ (z : Option Found). or_else z (found_along C c.args.name.now (chain k cs c.in-Some.base))) o
 
 pub returns : goal.returns
 returns c =

@@ -11,7 +11,9 @@ pub offset-requires-clause-in_order : goal.offset-requires-clause-in_order
 offset-requires-clause-in_order c = rw c.deref-in-Ok.ensures.value (in_order (classes_of c.args.env.now.classes.items) c.args.env.now.in_order)
 
 pub offset-requires-clause-member : goal.offset-requires-clause-member
-offset-requires-clause-member c = rw c.deref-in-Ok.ensures.value (has_member (classes_of c.args.env.now.classes.items) c.args.class c.args.index c.in-Some.found.now c.in-Some.ensures (omega arith))
+offset-requires-clause-member c = rw c.deref-in-Ok.ensures.value
+    (has_member (classes_of c.args.env.now.classes.items) c.args.class c.args.index c.in-Some.found.now c.in-Some.ensures (omega arith))
 
 pub returns-in-Ok : goal.returns-in-Ok
-returns-in-Ok c = offset_is (classes_of c.args.env.now.classes.items) c.args.class c.args.index c.offset.result c.in-Some.found.now c.in-Some.ensures (omega arith) (rw c.deref-in-Ok.ensures.value at c.offset.ensures)
+returns-in-Ok c = offset_is (classes_of c.args.env.now.classes.items) c.args.class c.args.index c.offset.result c.in-Some.found.now c.in-Some.ensures
+    (omega arith) (rw c.deref-in-Ok.ensures.value at c.offset.ensures)

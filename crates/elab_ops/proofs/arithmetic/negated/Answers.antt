@@ -8,4 +8,10 @@ use Rattle.elab_ops.proofs.Steps.{pair_ok}
 use Rattle.elab_ops.proofs.arithmetic.negated.Goals as goal
 
 pub returns : goal.returns
-returns c = pair_ok _ _ _ _ c.args.a.id _ _ _ (λ (x y : Tree). operated Sub c.args.kind (plain (int c.args.kind)) c.args.at x y) (λ (z : Tree). as_kind c.args.kind (record { tree = z; at = c.args.a.at; zero = c.args.a.zero })) _ c.requires c.in_ok-zero.ensures c.in_ok-value.ensures c.operated_in.ensures
+returns c = pair_ok _ _ _ _ c.args.a.id _ _ _ (λ (x y : Tree). operated Sub c.args.kind (plain (int c.args.kind)) c.args.at x y)
+    (λ (z : Tree). as_kind c.args.kind (record {
+      tree = z;
+      at = c.args.a.at;
+      zero =
+          c.args.a.zero;
+    })) _ c.requires c.in_ok-zero.ensures c.in_ok-value.ensures c.operated_in.ensures

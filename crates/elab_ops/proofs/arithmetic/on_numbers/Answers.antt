@@ -6,4 +6,10 @@ use Rattle.elab_ops.proofs.Steps.{pair_ok}
 use Rattle.elab_ops.proofs.arithmetic.on_numbers.Goals as goal
 
 pub returns : goal.returns
-returns c = pair_ok _ _ _ _ c.args.b.id _ _ _ (λ (x y : Tree). operated c.args.op c.args.kind (typ_of c.args.ty) c.args.at x y) (λ (z : Tree). as_kind c.args.right_kind (record { tree = z; at = c.args.b.at; zero = c.args.b.zero })) _ c.requires.right c.in_ok-left.ensures c.in_ok-right.ensures c.operated.ensures
+returns c = pair_ok _ _ _ _ c.args.b.id _ _ _ (λ (x y : Tree). operated c.args.op c.args.kind (typ_of c.args.ty) c.args.at x y)
+    (λ (z : Tree). as_kind c.args.right_kind (record {
+      tree = z;
+      at = c.args.b.at;
+      zero =
+          c.args.b.zero;
+    })) _ c.requires.right c.in_ok-left.ensures c.in_ok-right.ensures c.operated.ensures

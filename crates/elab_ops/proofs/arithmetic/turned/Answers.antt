@@ -8,4 +8,5 @@ use Rattle.elab_ops.proofs.Steps.{both_ok, adds_as}
 use Rattle.elab_ops.proofs.arithmetic.turned.Goals as goal
 
 pub returns : goal.returns
-returns c = both_ok _ _ _ _ _ _ _ (λ (x y : Tree). operated Xor c.args.kind (plain (int c.args.kind)) c.args.at x y) _ _ c.in_ok-value.ensures (adds_as _ _ _ _ _ (ap (λ n. number c.args.kind n c.args.at) c.all_ones-bits.ensures) c.in_ok-mask.ensures) c.operated_in.ensures
+returns c = both_ok _ _ _ _ _ _ _ (λ (x y : Tree). operated Xor c.args.kind (plain (int c.args.kind)) c.args.at x y) _ _ c.in_ok-value.ensures
+    (adds_as _ _ _ _ _ (ap (λ n. number c.args.kind n c.args.at) c.all_ones-bits.ensures) c.in_ok-mask.ensures) c.operated_in.ensures

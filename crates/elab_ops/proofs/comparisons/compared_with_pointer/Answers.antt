@@ -9,4 +9,5 @@ use Rattle.elab_ops.proofs.comparisons.compared_with_pointer.Goals as goal
 pub returns-in-None : goal.returns-in-None
 returns-in-None c =
     let trees = trees_of c.args.nodes.now.items in
-    gives_same _ _ _ _ _ (with_null_is c.args.op c.args.at (typ_of c.args.target.now) (form_in (typ_of c.args.right.now)) (operand_in trees c.args.a) (operand_in trees c.args.b) c.in-None.ensures) c.pointer_and_null.ensures
+    gives_same _ _ _ _ _ (with_null_is c.args.op c.args.at (typ_of c.args.target.now) (form_in (typ_of c.args.right.now)) (operand_in trees c.args.a)
+    (operand_in trees c.args.b) c.in-None.ensures) c.pointer_and_null.ensures

@@ -9,4 +9,5 @@ use Rattle.elab_ops.proofs.comparisons.compared_with_scalar.Goals as goal
 pub returns-in-None : goal.returns-in-None
 returns-in-None c =
     let trees = trees_of c.args.nodes.now.items in
-    gives_same _ _ _ _ _ (scalars_are c.args.op c.args.at (form_in (typ_of c.args.left.now)) (form_in (typ_of c.args.right.now)) (operand_in trees c.args.a) (operand_in trees c.args.b) c.requires.scalar c.in-None.ensures) c.scalars_compared.ensures
+    gives_same _ _ _ _ _ (scalars_are c.args.op c.args.at (form_in (typ_of c.args.left.now)) (form_in (typ_of c.args.right.now)) (operand_in trees c.args.a)
+    (operand_in trees c.args.b) c.requires.scalar c.in-None.ensures) c.scalars_compared.ensures

@@ -16,4 +16,6 @@ returns c =
     let x = ctx_of c.args.env.now in
     let a = operand_in (trees_of c.args.nodes.now.items) c.args.a in
     let b = operand_in (trees_of c.args.nodes.now.items) c.args.b in
-    gives_same _ _ _ _ _ (ap (λ (f : Form). and_then (sum_of x Add c.args.at (pointed f) (pointed (value_form b)) a b) (object_at c.args.at)) (sym c.in_ok-left.ensures) ∙ ap (λ (f : Form). and_then (sum_of x Add c.args.at (pointed (form_in (typ_of c.in_ok-left.left))) (pointed f) a b) (object_at c.args.at)) (sym c.in_ok-right.ensures)) c.subscript_in.ensures
+    gives_same _ _ _ _ _ (ap (λ (f : Form). and_then (sum_of x Add c.args.at (pointed f) (pointed (value_form b)) a b) (object_at c.args.at))
+    (sym c.in_ok-left.ensures) ∙ ap (λ (f : Form). and_then (sum_of x Add c.args.at (pointed (form_in (typ_of c.in_ok-left.left))) (pointed f) a b)
+    (object_at c.args.at)) (sym c.in_ok-right.ensures)) c.subscript_in.ensures

@@ -10,5 +10,6 @@ pub returns : goal.returns
 returns c = record {
   grows = gives_grows _ _ _ _ c.logical_in.ensures;
   within = gives_within _ _ _ _ c.logical_in.ensures;
-  exact = λ w. gives_same _ _ _ _ _ (logical_is (ctx_of c.args.env.now) w c.args.is_and c.args.at (operand_in (trees_of c.args.nodes.now.items) c.args.a) (operand_in (trees_of c.args.nodes.now.items) c.args.b)) c.logical_in.ensures;
+  exact = λ w. gives_same _ _ _ _ _ (logical_is (ctx_of c.args.env.now) w c.args.is_and c.args.at (operand_in (trees_of c.args.nodes.now.items) c.args.a)
+      (operand_in (trees_of c.args.nodes.now.items) c.args.b)) c.logical_in.ensures;
 }

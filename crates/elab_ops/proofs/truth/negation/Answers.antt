@@ -10,5 +10,6 @@ pub returns : goal.returns
 returns c = record {
   grows = gives_grows _ _ _ _ c.negation_in.ensures;
   within = gives_within _ _ _ _ c.negation_in.ensures;
-  exact = λ w. gives_same _ _ _ _ _ (negation_is (ctx_of c.args.env.now) w c.args.at (operand_in (trees_of c.args.nodes.now.items) c.args.a)) c.negation_in.ensures;
+  exact = λ w. gives_same _ _ _ _ _ (negation_is (ctx_of c.args.env.now) w c.args.at
+      (operand_in (trees_of c.args.nodes.now.items) c.args.a)) c.negation_in.ensures;
 }

@@ -9,13 +9,15 @@ use Rattle.elab_rows.proofs.Piecing.{piecing_more, piecing_short, piecing_done, 
 use Rattle.elab_rows.proofs.closures.captured_pieces.Goals as goal
 
 pub returns-in_default : goal.returns-in_default
-returns-in_default c = piecing_short (ctx_of c.args.env.now) (work_of c.args.work.now) c.args.parts.now c.args.captures.now _ _ _ _ _ c.members.invariant (no_more c.args.captures.now c.members.i c.in_default.ensures)
+returns-in_default c = piecing_short (ctx_of c.args.env.now) (work_of c.args.work.now) c.args.parts.now c.args.captures.now _ _ _ _ _ c.members.invariant
+    (no_more c.args.captures.now c.members.i c.in_default.ensures)
 
 pub members-preserved : goal.members-preserved
 members-preserved c = piecing_more (ctx_of c.args.env.now) (work_of c.args.work.now) c.args.parts.now c.args.captures.now c.members.i _ _ _ _ _ _ _ c.index-parts-i.result _ c.in-Some.capture.now _ _ c.members.invariant c.members-test.true (slice_get_within c.args.captures.now c.members.i c.in-Some.capture.now c.in-Some.ensures) c.index-parts-i.is (element_at c.args.captures.now c.members.i c.in-Some.capture.now c.in-Some.ensures) c.in_ok-kid.ensures c.in_ok-keep.ensures
 
 pub returns : goal.returns
-returns c = piecing_done (ctx_of c.args.env.now) (work_of c.args.work.now) c.args.parts.now c.args.captures.now _ _ _ _ _ c.members.invariant c.members-test.false
+returns c = piecing_done (ctx_of c.args.env.now)
+    (work_of c.args.work.now) c.args.parts.now c.args.captures.now _ _ _ _ _ c.members.invariant c.members-test.false
 
 pub returns-in_err-kid : goal.returns-in_err-kid
 returns-in_err-kid c =

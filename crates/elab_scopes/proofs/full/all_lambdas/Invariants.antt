@@ -7,4 +7,6 @@ use Rattle.elab_scopes.proofs.Makings.{Making}
 use Rattle.elab_scopes.proofs.full.all_lambdas.Given as goal
 
 abbrev pub invariant-loop-id : goal.invariant-loop-id
-invariant-loop-id g l = Making l.fn.st l.st (all_lambdas (g.L.MakeLambdas.lambdas l.lams) (lexemes_of l.tokens) (state_of l.st) (trees_at (syntax_of l.nodes) (drop l.id-index l.ids))) (all_lambdas (g.L.MakeLambdas.lambdas l.lams) (lexemes_of l.tokens) (state_of l.fn.st) (trees_at (syntax_of l.nodes) l.ids))
+invariant-loop-id g l = Making l.fn.st l.st (all_lambdas (g.L.MakeLambdas.lambdas l.lams) (lexemes_of l.tokens) (state_of l.st)
+    (trees_at (syntax_of l.nodes) (drop l.id-index l.ids)))
+    (all_lambdas (g.L.MakeLambdas.lambdas l.lams) (lexemes_of l.tokens) (state_of l.fn.st) (trees_at (syntax_of l.nodes) l.ids))

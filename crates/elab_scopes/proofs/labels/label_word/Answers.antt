@@ -12,8 +12,10 @@ returns-clause-word c =
     let before = trees_of c.args.work.now.nodes.items in
     let made = trees_of c.initial_alone.new.work.nodes.items in
     let all = trees_of c.value.new.nodes.items in
-    label_is (ctx_of c.args.env.now) (work_of c.args.work.now) (work_of c.initial_alone.new.work) (operand_in before c.args.o) (operand_in made c.args.o) (tree_at made c.in_ok-made.made) (tree_at all c.in_ok-made.made) (tree_at all c.in_ok-value.value)
-    c.in_ok-made.ensures.made.is (at_grown made all c.in_ok-made.made c.in_ok-value.ensures.grows c.in_ok-made.ensures.made.within) (operand_kept before made c.args.o c.in_ok-made.ensures.made.grows c.requires) c.in_ok-value.ensures.is c.in_ok-made.ensures.kept
+    label_is (ctx_of c.args.env.now) (work_of c.args.work.now) (work_of c.initial_alone.new.work) (operand_in before c.args.o) (operand_in made c.args.o)
+    (tree_at made c.in_ok-made.made) (tree_at all c.in_ok-made.made) (tree_at all c.in_ok-value.value)
+    c.in_ok-made.ensures.made.is (at_grown made all c.in_ok-made.made c.in_ok-value.ensures.grows c.in_ok-made.ensures.made.within)
+    (operand_kept before made c.args.o c.in_ok-made.ensures.made.grows c.requires) c.in_ok-value.ensures.is c.in_ok-made.ensures.kept
     ∙ c.in_ok-word.ensures
 
 pub returns-in_err-word-clause-word : goal.returns-in_err-word-clause-word
@@ -23,6 +25,8 @@ returns-in_err-word-clause-word c =
     let made = trees_of c.initial_alone.new.work.nodes.items in
     let all = trees_of c.value.new.nodes.items in
     tells_fault c.from_residual-in_err-word.result c.in_err-word.field-0.0 _ _ is_error
-    (label_is (ctx_of c.args.env.now) (work_of c.args.work.now) (work_of c.initial_alone.new.work) (operand_in before c.args.o) (operand_in made c.args.o) (tree_at made c.in_ok-made.made) (tree_at all c.in_ok-made.made) (tree_at all c.in_ok-value.value)
-    c.in_ok-made.ensures.made.is (at_grown made all c.in_ok-made.made c.in_ok-value.ensures.grows c.in_ok-made.ensures.made.within) (operand_kept before made c.args.o c.in_ok-made.ensures.made.grows c.requires) c.in_ok-value.ensures.is c.in_ok-made.ensures.kept)
+    (label_is (ctx_of c.args.env.now) (work_of c.args.work.now) (work_of c.initial_alone.new.work) (operand_in before c.args.o) (operand_in made c.args.o)
+    (tree_at made c.in_ok-made.made) (tree_at all c.in_ok-made.made) (tree_at all c.in_ok-value.value)
+    c.in_ok-made.ensures.made.is (at_grown made all c.in_ok-made.made c.in_ok-value.ensures.grows c.in_ok-made.ensures.made.within)
+    (operand_kept before made c.args.o c.in_ok-made.ensures.made.grows c.requires) c.in_ok-value.ensures.is c.in_ok-made.ensures.kept)
     c.in_err-word.ensures

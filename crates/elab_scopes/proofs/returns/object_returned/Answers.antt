@@ -6,4 +6,5 @@ use Rattle.elab_expr.proofs.elab_ops.Steps.{both_ok}
 use Rattle.elab_scopes.proofs.returns.object_returned.Goals as goal
 
 pub returns : goal.returns
-returns c = both_ok _ _ _ _ _ _ _ (λ (x y : Tree). statement (forms.Block false) c.args.at (two x y)) _ _ c.in_ok-built.ensures c.in_ok-end.ensures c.binary_statement.ensures
+returns c = both_ok _ _ _ _ _ _ _ (λ (x y : Tree). statement (forms.Block false) c.args.at
+    (two x y)) _ _ c.in_ok-built.ensures c.in_ok-end.ensures c.binary_statement.ensures

@@ -6,4 +6,5 @@ use Rattle.elab_scopes.proofs.Wholly.{made_done}
 use Rattle.elab_scopes.proofs.returns.return_scalar.Goals as goal
 
 pub returns : goal.returns
-returns c = made_done c.args.st.now _ (full_in c.args.st.now c.args.o) _ _ _ _ _ (λ (z : Tree). scalar_returned c.args.at c.args.o.at z) c.in_ok-value.ensures c.in_ok-made.ensures refl (search rules)
+returns c = made_done c.args.st.now _ (full_in c.args.st.now c.args.o) _ _ _ _ _
+    (λ (z : Tree). scalar_returned c.args.at c.args.o.at z) c.in_ok-value.ensures c.in_ok-made.ensures refl (search rules)

@@ -128,7 +128,11 @@ abbrev pub decreases-for_tested : goal.decreases-for_tested
 decreases-for_tested g l = l.id.0 * 16 + 11
 
 abbrev pub invariant-statements-loop-id : goal.invariant-statements-loop-id
-invariant-statements-loop-id g l = SoFar l.fn.st l.st l.fn.out.items l.out.items (statements_of (g.L.MakeLambdas.lambdas l.lams) (lexemes_of l.tokens) (state_of l.st) (trees_at (syntax_of l.nodes) (drop l.id-index l.ids))) (statements_of (g.L.MakeLambdas.lambdas l.lams) (lexemes_of l.tokens) (state_of l.fn.st) (trees_at (syntax_of l.nodes) l.ids))
+invariant-statements-loop-id g l = SoFar l.fn.st l.st l.fn.out.items l.out.items
+    (statements_of (g.L.MakeLambdas.lambdas l.lams) (lexemes_of l.tokens) (state_of l.st) (trees_at (syntax_of l.nodes) (drop l.id-index l.ids)))
+    (statements_of (g.L.MakeLambdas.lambdas l.lams) (lexemes_of l.tokens) (state_of l.fn.st) (trees_at (syntax_of l.nodes) l.ids))
 
 abbrev pub invariant-handlers-loop-i : goal.invariant-handlers-loop-i
-invariant-handlers-loop-i g l = SoFar l.fn.st l.st l.fn.out.items l.out.items (handlers_of (g.L.MakeLambdas.lambdas l.lams) (lexemes_of l.tokens) (state_of l.st) (trees_at (syntax_of l.nodes) (drop l.i l.ids))) (handlers_of (g.L.MakeLambdas.lambdas l.lams) (lexemes_of l.tokens) (state_of l.fn.st) (trees_at (syntax_of l.nodes) l.ids))
+invariant-handlers-loop-i g l = SoFar l.fn.st l.st l.fn.out.items l.out.items
+    (handlers_of (g.L.MakeLambdas.lambdas l.lams) (lexemes_of l.tokens) (state_of l.st) (trees_at (syntax_of l.nodes) (drop l.i l.ids)))
+    (handlers_of (g.L.MakeLambdas.lambdas l.lams) (lexemes_of l.tokens) (state_of l.fn.st) (trees_at (syntax_of l.nodes) l.ids))

@@ -5,4 +5,5 @@ use Rattle.elab_types.proofs.KidLists.{wider}
 use Rattle.elab_types.proofs.parts.qualifiers_of.Goals as goal
 
 pub qualifiers_among-requires : goal.qualifiers_among-requires
-qualifiers_among-requires c = subst (λ (z : List NodeId). are_below (length c.args.nodes.now) z ≡ true) (sym c.deref.ensures.value) (wider c.args.id.0 (length c.args.nodes.now) c.node_at.result.now.kids.items c.requires c.node_at.ensures.lower)
+qualifiers_among-requires c = subst (λ (z : List NodeId). are_below (length c.args.nodes.now) z ≡ true) (sym c.deref.ensures.value)
+    (wider c.args.id.0 (length c.args.nodes.now) c.node_at.result.now.kids.items c.requires c.node_at.ensures.lower)

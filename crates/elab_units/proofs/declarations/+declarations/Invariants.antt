@@ -19,4 +19,5 @@ abbrev pub decreases-declarations_of : goal.decreases-declarations_of
 decreases-declarations_of l = l.parent.0 * 4
 
 abbrev pub invariant-declarations_of-loop-id : goal.invariant-declarations_of-loop-id
-invariant-declarations_of-loop-id l = DeclaredTo (lexemes_of l.tokens) (storage_of l.storage) (state_of l.fn.st) (state_of l.st) (trees_at (syntax_of l.nodes) l.ids) (trees_at (syntax_of l.nodes) (drop l.id-index l.ids))
+invariant-declarations_of-loop-id l = DeclaredTo (lexemes_of l.tokens) (storage_of l.storage) (state_of l.fn.st) (state_of l.st)
+    (trees_at (syntax_of l.nodes) l.ids) (trees_at (syntax_of l.nodes) (drop l.id-index l.ids))

@@ -20,5 +20,6 @@ returns c =
     let trees = syntax_of c.args.nodes.now in
     let next : Typ → Result State ElabFault = λ (u : Typ). alias_declared st c.args.at c.args.name.now u in
     answers_same _ c.alias_declared.result _ _
-    (ap (λ (z : List NodeId). alias_of s st c.args.at c.args.name.now (trees_at trees z)) c.in-Some.ensures.kid ∙ ap (λ (z : Result Typ ElabFault). and_then z next) c.in_ok-ty.ensures)
+    (ap (λ (z : List NodeId). alias_of s st c.args.at c.args.name.now (trees_at trees z)) c.in-Some.ensures.kid
+    ∙ ap (λ (z : Result Typ ElabFault). and_then z next) c.in_ok-ty.ensures)
     (alias_answers _ c.alias_declared.result _ (c.alias_declared.ensures.done st.work st.bodies) (c.alias_declared.ensures.fault st.work st.bodies))

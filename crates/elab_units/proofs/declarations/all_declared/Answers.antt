@@ -18,12 +18,15 @@ loop-id-preserved c =
     let s = lexemes_of c.args.tokens.now in
     let trees = syntax_of c.args.nodes.now in
     let tree = tree_at trees (get_or c.args.ids.now c.loop-id.id-index (record { 0 = 0 })) in
-    let done : declaration_of s (storage_of c.no_storage.result) (state_of c.loop-id.st) tree ≡ Ok (state_of c.declaration_of.new.st) = c.in_ok-declaration_of.ensures in
-    declared_more s no_storage (state_of c.args.st.now) (state_of c.loop-id.st) trees c.args.ids.now c.loop-id.id-index c.loop-id.invariant (record { 0 = 0 }) (state_of c.forget.new.st) c.loop-id-test.true
+    let done : declaration_of s (storage_of c.no_storage.result) (state_of c.loop-id.st) tree ≡ Ok (state_of c.declaration_of.new.st) =
+    c.in_ok-declaration_of.ensures in
+    declared_more s no_storage (state_of c.args.st.now) (state_of c.loop-id.st) trees c.args.ids.now c.loop-id.id-index c.loop-id.invariant (record { 0 = 0 })
+    (state_of c.forget.new.st) c.loop-id-test.true
     (ap (λ (z : Storage). declaration_of s z (state_of c.loop-id.st) tree) (sym c.no_storage.ensures) ∙ done ∙ ap (λ (z : State). Ok z) (sym c.forget.ensures))
 
 pub returns : goal.returns
-returns c = declared_last (lexemes_of c.args.tokens.now) no_storage (state_of c.args.st.now) (state_of c.loop-id.st) (syntax_of c.args.nodes.now) c.args.ids.now c.loop-id.id-index c.loop-id.invariant _ c.loop-id-test.false
+returns c = declared_last (lexemes_of c.args.tokens.now) no_storage (state_of c.args.st.now) (state_of c.loop-id.st)
+    (syntax_of c.args.nodes.now) c.args.ids.now c.loop-id.id-index c.loop-id.invariant _ c.loop-id-test.false
 
 pub returns-in_err-declaration_of : goal.returns-in_err-declaration_of
 returns-in_err-declaration_of c =
@@ -31,5 +34,7 @@ returns-in_err-declaration_of c =
     let s = lexemes_of c.args.tokens.now in
     let trees = syntax_of c.args.nodes.now in
     let tree = tree_at trees (get_or c.args.ids.now c.loop-id.id-index (record { 0 = 0 })) in
-    declared_fails s no_storage (state_of c.args.st.now) (state_of c.loop-id.st) trees c.args.ids.now c.loop-id.id-index c.loop-id.invariant (record { 0 = 0 }) _ c.from_residual.result c.in_err-declaration_of.field-0.0 c.loop-id-test.true is_error
-    (subst (λ (z : Storage). Faults c.in_err-declaration_of.field-0.0 (declaration_of s z (state_of c.loop-id.st) tree)) c.no_storage.ensures c.in_err-declaration_of.ensures)
+    declared_fails s no_storage (state_of c.args.st.now) (state_of c.loop-id.st) trees c.args.ids.now c.loop-id.id-index c.loop-id.invariant
+    (record { 0 = 0 }) _ c.from_residual.result c.in_err-declaration_of.field-0.0 c.loop-id-test.true is_error
+    (subst (λ (z : Storage). Faults c.in_err-declaration_of.field-0.0
+    (declaration_of s z (state_of c.loop-id.st) tree)) c.no_storage.ensures c.in_err-declaration_of.ensures)

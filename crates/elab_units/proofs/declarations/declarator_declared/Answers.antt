@@ -29,7 +29,8 @@ returns-in_err-found c =
     let t = typ_of c.args.ty.now in
     let init = trees_at trees (drop 1 c.args.kids.now) in
     let kids : trees_at trees c.args.kids.now ≡ more (tree_at trees c.in-Some.first) init = ap (trees_at trees) c.in-Some.ensures.kid in
-    let next : Declared → Result State ElabFault = λ (r : Declared). and_then (check c.args.at BadDeclaration (is_own_name r)) (λ z. declared_of_type s st x c.args.at r init (form_in r.typ)) in
+    let next : Declared → Result State ElabFault = λ (r : Declared). and_then (check c.args.at BadDeclaration (is_own_name r))
+    (λ z. declared_of_type s st x c.args.at r init (form_in r.typ)) in
     answers_refused _ c.from_residual.result c.in_err-found.field-0.0 _ is_error
     (faults_same c.in_err-found.field-0.0 _ _ (ap (declarator_by s x t st c.args.at) kids) (faults_then c.in_err-found.field-0.0 _ next c.in_err-found.ensures))
 
@@ -43,10 +44,12 @@ returns-then-not-is_own_name c =
     let d = declared_of c.in_ok-found.found in
     let init = trees_at trees (drop 1 c.args.kids.now) in
     let kids : trees_at trees c.args.kids.now ≡ more (tree_at trees c.in-Some.first) init = ap (trees_at trees) c.in-Some.ensures.kid in
-    let next : Declared → Result State ElabFault = λ (r : Declared). and_then (check c.args.at BadDeclaration (is_own_name r)) (λ z. declared_of_type s st x c.args.at r init (form_in r.typ)) in
+    let next : Declared → Result State ElabFault = λ (r : Declared). and_then (check c.args.at BadDeclaration (is_own_name r))
+    (λ z. declared_of_type s st x c.args.at r init (form_in r.typ)) in
     fault_by _ _ _ c.ill-then-not-is_own_name.ensures
     (ap (declarator_by s x t st c.args.at) kids ∙ ap (λ (z : Result Declared ElabFault). and_then z next) c.in_ok-found.ensures
-    ∙ ap (λ (z : Bool). and_then (check c.args.at BadDeclaration z) (λ y. declared_of_type s st x c.args.at d init (form_in d.typ))) (sym c.is_own_name.ensures ∙ c.if-not-is_own_name.true))
+    ∙ ap (λ (z : Bool). and_then (check c.args.at BadDeclaration z) (λ y. declared_of_type s st x c.args.at d init (form_in d.typ)))
+    (sym c.is_own_name.ensures ∙ c.if-not-is_own_name.true))
 
 pub returns : goal.returns
 returns c =
@@ -58,9 +61,11 @@ returns c =
     let d = declared_of c.in_ok-found.found in
     let init = trees_at trees (drop 1 c.args.kids.now) in
     let kids : trees_at trees c.args.kids.now ≡ more (tree_at trees c.in-Some.first) init = ap (trees_at trees) c.in-Some.ensures.kid in
-    let next : Declared → Result State ElabFault = λ (r : Declared). and_then (check c.args.at BadDeclaration (is_own_name r)) (λ z. declared_of_type s st x c.args.at r init (form_in r.typ)) in
+    let next : Declared → Result State ElabFault = λ (r : Declared). and_then (check c.args.at BadDeclaration (is_own_name r))
+    (λ z. declared_of_type s st x c.args.at r init (form_in r.typ)) in
     answers_same _ c.declared_of_type.result _ _
     (ap (declarator_by s x t st c.args.at) kids ∙ ap (λ (z : Result Declared ElabFault). and_then z next) c.in_ok-found.ensures
-    ∙ ap (λ (z : Bool). and_then (check c.args.at BadDeclaration z) (λ y. declared_of_type s st x c.args.at d init (form_in d.typ))) (sym c.is_own_name.ensures ∙ c.if-not-is_own_name.false)
+    ∙ ap (λ (z : Bool). and_then (check c.args.at BadDeclaration z) (λ y. declared_of_type s st x c.args.at d init (form_in d.typ)))
+    (sym c.is_own_name.ensures ∙ c.if-not-is_own_name.false)
     ∙ ap (λ (z : List NodeId). declared_of_type s st x c.args.at d (trees_at trees z) (form_in d.typ)) (sym c.rest_from-init.ensures.rest))
     c.declared_of_type.ensures

@@ -16,7 +16,8 @@ returns-in_default c =
     let st = state_of c.args.st.now in
     let trees = syntax_of c.args.nodes.now in
     fault_by _ _ _ c.ill.ensures
-    (started_is s st c.args.at (trees_at trees c.args.kids.now) (storage_of c.args.storage) ∙ ap (file_started s st c.args.at) c.started_from-started.ensures.started
+    (started_is s st c.args.at (trees_at trees c.args.kids.now) (storage_of c.args.storage)
+    ∙ ap (file_started s st c.args.at) c.started_from-started.ensures.started
     ∙ ap (λ (z : List NodeId). file_typed s st (storage_of c.started_from-started.result.storage) c.args.at (trees_at trees z)) c.in_default.ensures.kid)
 
 pub returns : goal.returns
@@ -25,7 +26,9 @@ returns c =
     let st = state_of c.args.st.now in
     let trees = syntax_of c.args.nodes.now in
     answers_same _ c.declarators_typed.result _ _
-    (started_is s st c.args.at (trees_at trees c.args.kids.now) (storage_of c.args.storage) ∙ ap (file_started s st c.args.at) c.started_from-started.ensures.started
+    (started_is s st c.args.at (trees_at trees c.args.kids.now) (storage_of c.args.storage)
+    ∙ ap (file_started s st c.args.at) c.started_from-started.ensures.started
     ∙ ap (λ (z : List NodeId). file_typed s st (storage_of c.started_from-started.result.storage) c.args.at (trees_at trees z)) c.in-Some.ensures.kid
-    ∙ ap (λ (z : List NodeId). file_typed s st (storage_of c.started_from-started.result.storage) c.args.at (more (tree_at trees c.in-Some.base) (trees_at trees z))) (sym c.rest_from-rest.ensures.rest))
+    ∙ ap (λ (z : List NodeId). file_typed s st (storage_of c.started_from-started.result.storage) c.args.at
+    (more (tree_at trees c.in-Some.base) (trees_at trees z))) (sym c.rest_from-rest.ensures.rest))
     c.declarators_typed.ensures

@@ -13,5 +13,7 @@ returns c =
     let n = c.node_in-node.result.now in
     let trees = syntax_of c.args.nodes.now in
     answers_same _ c.declarator_declared.result _ _
-    (declarator_is (lexemes_of c.args.tokens.now) (storage_of c.args.storage) (typ_of c.args.ty.now) (state_of c.args.st.now) (tree_at trees c.args.id) n.kind n.at n.token (trees_at trees n.kids.items) _ c.place-at.result c.node_in-node.ensures.node (c.is_declarator.ensures.yes c.if-not-is_declarator.false) c.place-at.ensures (ap (trees_at trees) c.deref.ensures.value))
+    (declarator_is (lexemes_of c.args.tokens.now) (storage_of c.args.storage) (typ_of c.args.ty.now) (state_of c.args.st.now)
+    (tree_at trees c.args.id) n.kind n.at n.token (trees_at trees n.kids.items) _ c.place-at.result c.node_in-node.ensures.node
+    (c.is_declarator.ensures.yes c.if-not-is_declarator.false) c.place-at.ensures (ap (trees_at trees) c.deref.ensures.value))
     c.declarator_declared.ensures

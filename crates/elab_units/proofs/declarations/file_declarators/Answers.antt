@@ -14,14 +14,22 @@ pub loop-id-preserved : goal.loop-id-preserved
 loop-id-preserved c =
     let step = file_declarator (lexemes_of c.args.tokens.now) (storage_of c.args.storage) (typ_of c.args.ty.now) in
     let trees = syntax_of c.args.nodes.now in
-    each_more step (state_of c.loop-id.st) (state_of c.file_declarator.new.st) (tree_at trees (get_or c.args.ids.now c.loop-id.id-index (record { 0 = 0 }))) (trees_at trees (drop (c.loop-id.id-index + 1) c.args.ids.now)) _ c.in_ok-file_declarator.ensures (c.loop-id.invariant ∙ ap (file_declarators (lexemes_of c.args.tokens.now) (storage_of c.args.storage) (typ_of c.args.ty.now) (state_of c.loop-id.st)) (trees_step trees c.args.ids.now c.loop-id.id-index (record { 0 = 0 }) c.loop-id-test.true))
+    each_more step (state_of c.loop-id.st) (state_of c.file_declarator.new.st) (tree_at trees (get_or c.args.ids.now c.loop-id.id-index (record { 0 = 0 })))
+    (trees_at trees (drop (c.loop-id.id-index + 1) c.args.ids.now)) _ c.in_ok-file_declarator.ensures
+    (c.loop-id.invariant ∙ ap (file_declarators (lexemes_of c.args.tokens.now) (storage_of c.args.storage) (typ_of c.args.ty.now) (state_of c.loop-id.st))
+    (trees_step trees c.args.ids.now c.loop-id.id-index (record { 0 = 0 }) c.loop-id-test.true))
 
 pub returns-in_err-file_declarator : goal.returns-in_err-file_declarator
 returns-in_err-file_declarator c =
     let is_error : c.from_residual.result ≡ Err c.in_err-file_declarator.field-0.0 = search rules in
     let step = file_declarator (lexemes_of c.args.tokens.now) (storage_of c.args.storage) (typ_of c.args.ty.now) in
     let trees = syntax_of c.args.nodes.now in
-    answers_refused _ c.from_residual.result c.in_err-file_declarator.field-0.0 _ is_error (each_fails step (state_of c.loop-id.st) (tree_at trees (get_or c.args.ids.now c.loop-id.id-index (record { 0 = 0 }))) (trees_at trees (drop (c.loop-id.id-index + 1) c.args.ids.now)) _ c.in_err-file_declarator.field-0.0 c.in_err-file_declarator.ensures (c.loop-id.invariant ∙ ap (file_declarators (lexemes_of c.args.tokens.now) (storage_of c.args.storage) (typ_of c.args.ty.now) (state_of c.loop-id.st)) (trees_step trees c.args.ids.now c.loop-id.id-index (record { 0 = 0 }) c.loop-id-test.true)))
+    answers_refused _ c.from_residual.result c.in_err-file_declarator.field-0.0 _ is_error
+    (each_fails step (state_of c.loop-id.st) (tree_at trees (get_or c.args.ids.now c.loop-id.id-index (record { 0 = 0 })))
+    (trees_at trees (drop (c.loop-id.id-index + 1) c.args.ids.now)) _ c.in_err-file_declarator.field-0.0 c.in_err-file_declarator.ensures
+    (c.loop-id.invariant ∙ ap (file_declarators (lexemes_of c.args.tokens.now) (storage_of c.args.storage) (typ_of c.args.ty.now) (state_of c.loop-id.st))
+    (trees_step trees c.args.ids.now c.loop-id.id-index (record { 0 = 0 }) c.loop-id-test.true)))
 
 pub returns : goal.returns
-returns c = c.loop-id.invariant ∙ ap (file_declarators (lexemes_of c.args.tokens.now) (storage_of c.args.storage) (typ_of c.args.ty.now) (state_of c.loop-id.st)) (trees_past (syntax_of c.args.nodes.now) c.args.ids.now c.loop-id.id-index c.loop-id-test.false)
+returns c = c.loop-id.invariant ∙ ap (file_declarators (lexemes_of c.args.tokens.now) (storage_of c.args.storage) (typ_of c.args.ty.now)
+    (state_of c.loop-id.st)) (trees_past (syntax_of c.args.nodes.now) c.args.ids.now c.loop-id.id-index c.loop-id-test.false)

@@ -8,4 +8,5 @@ use Rattle.class_members.specs.Shown.{storage_of}
 use Rattle.elab_units.proofs.declarations.file_declarators.Given as goal
 
 abbrev pub invariant-loop-id : goal.invariant-loop-id
-invariant-loop-id l = file_declarators (lexemes_of l.tokens) (storage_of l.storage) (typ_of l.ty) (state_of l.fn.st) (trees_at (syntax_of l.nodes) l.ids) ≡ file_declarators (lexemes_of l.tokens) (storage_of l.storage) (typ_of l.ty) (state_of l.st) (trees_at (syntax_of l.nodes) (drop l.id-index l.ids))
+invariant-loop-id l = file_declarators (lexemes_of l.tokens) (storage_of l.storage) (typ_of l.ty) (state_of l.fn.st) (trees_at (syntax_of l.nodes) l.ids)
+    ≡ file_declarators (lexemes_of l.tokens) (storage_of l.storage) (typ_of l.ty) (state_of l.st) (trees_at (syntax_of l.nodes) (drop l.id-index l.ids))

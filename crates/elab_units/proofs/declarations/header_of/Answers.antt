@@ -19,12 +19,17 @@ returns-in_err-header c =
     let is_error : c.from_residual.result ≡ Err c.in_err-header.field-0.0 = search rules in
     let plain : Header → Result Header ElabFault = λ (h : Header). Ok (record h { class = None }) in
     says_refused header_of c.from_residual.result c.in_err-header.field-0.0 _ is_error
-    (faults_same c.in_err-header.field-0.0 _ _ (header_plain (lexemes_of c.args.tokens.now) c.args.at (storage_of c.args.storage) (declared_of c.args.declared) (form_in (typ_of c.args.declared.ty)))
-    (faults_then c.in_err-header.field-0.0 _ plain (subst (λ (z : List ℕ). Faults c.in_err-header.field-0.0 (header_in 0 (storage_of c.args.storage) Plain c.args.at z (declared_of c.args.declared) (form_in (typ_of c.args.declared.ty)))) c.name_of-name.ensures c.in_err-header.ensures)))
+    (faults_same c.in_err-header.field-0.0 _ _ (header_plain (lexemes_of c.args.tokens.now) c.args.at (storage_of c.args.storage) (declared_of c.args.declared)
+    (form_in (typ_of c.args.declared.ty)))
+    (faults_then c.in_err-header.field-0.0 _ plain (subst
+    (λ (z : List ℕ). Faults c.in_err-header.field-0.0
+    (header_in 0 (storage_of c.args.storage) Plain c.args.at z (declared_of c.args.declared)
+    (form_in (typ_of c.args.declared.ty)))) c.name_of-name.ensures c.in_err-header.ensures)))
 
 pub returns : goal.returns
 returns c =
     let plain : Header → Result Header ElabFault = λ (h : Header). Ok (record h { class = None }) in
     header_plain (lexemes_of c.args.tokens.now) c.args.at (storage_of c.args.storage) (declared_of c.args.declared) (form_in (typ_of c.args.declared.ty))
-    ∙ ap (λ (z : List ℕ). and_then (header_in 0 (storage_of c.args.storage) Plain c.args.at z (declared_of c.args.declared) (form_in (typ_of c.args.declared.ty))) plain) (sym c.name_of-name.ensures)
+    ∙ ap (λ (z : List ℕ). and_then (header_in 0 (storage_of c.args.storage) Plain c.args.at z (declared_of c.args.declared)
+    (form_in (typ_of c.args.declared.ty))) plain) (sym c.name_of-name.ensures)
     ∙ ap (λ (z : Result Header ElabFault). and_then z plain) c.in_ok-header.ensures

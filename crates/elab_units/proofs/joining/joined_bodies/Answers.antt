@@ -27,4 +27,5 @@ returns c =
     let none = c.in-None.ensures.steps in
     let empty : into_iter_items at.body-iterator ≡ [] = nothing_left _ (sym at.invariant.count ∙ none.0) in
     let before : List Body = map (placed_in (trees_of at.nodes.items)) at.placed.items in
-    sym (append-nil before) ∙ ap (λ (z : List BodyRec). before ++ map body_of z) (sym empty) ∙ at.invariant.shown ∙ ap (map body_of) c.into_iter-body-iterator.ensures.into_iter_gives.0
+    sym (append-nil before) ∙ ap (λ (z : List BodyRec). before ++ map body_of z) (sym empty) ∙ at.invariant.shown
+    ∙ ap (map body_of) c.into_iter-body-iterator.ensures.into_iter_gives.0

@@ -8,6 +8,7 @@ use Rattle.elab_units.proofs.joining.joined_bodies.Given as goal
 abbrev pub invariant-loop-body : goal.invariant-loop-body
 invariant-loop-body l = record {
   placed : are_placed (length (trees_of l.nodes.items)) l.placed.items ≡ true;
-  shown : map (placed_in (trees_of l.nodes.items)) l.placed.items ++ map body_of (into_iter_items l.body-iterator) ≡ map body_of (into_iter_items l.initial.body-iterator);
+  shown : map (placed_in (trees_of l.nodes.items)) l.placed.items ++ map body_of (into_iter_items l.body-iterator)
+      ≡ map body_of (into_iter_items l.initial.body-iterator);
   count : into_iter_len l.body-iterator ≡ length (into_iter_items l.body-iterator);
 }

@@ -21,4 +21,5 @@ pub returns : goal.returns
 returns c =
     let at = c.loop-node in
     let none = c.in-None.ensures.steps in
-    put_all _ _ _ _ at.invariant.put (nothing_left _ (sym at.invariant.count ∙ none.0)) ∙ ap (λ (z : List TNode). trees_of c.args.nodes.now.items ++ trees_of z) c.into_iter-node-iterator.ensures.into_iter_gives.0
+    put_all _ _ _ _ at.invariant.put (nothing_left _ (sym at.invariant.count ∙ none.0))
+    ∙ ap (λ (z : List TNode). trees_of c.args.nodes.now.items ++ trees_of z) c.into_iter-node-iterator.ensures.into_iter_gives.0

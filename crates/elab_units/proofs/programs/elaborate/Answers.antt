@@ -10,12 +10,18 @@ use Rattle.elab_units.proofs.programs.elaborate.Goals as goal
 pub loop-unit-init : goal.loop-unit-init
 loop-unit-init c =
     let empty : c.new-trees.result.items ≡ [] = search rules in
-    record { long = ap length empty; readable = readable_none c.new-trees.result.items empty; so_far = none_yet c.args.units.now c.new-trees.result.items c.no_classes-known.result empty c.no_classes-known.ensures.known c.no_classes-known.ensures.traits }
+    record {
+      long = ap length empty;
+      readable = readable_none c.new-trees.result.items empty;
+      so_far =
+          none_yet c.args.units.now c.new-trees.result.items c.no_classes-known.result empty c.no_classes-known.ensures.known c.no_classes-known.ensures.traits;
+    }
 
 pub loop-unit-preserved : goal.loop-unit-preserved
 loop-unit-preserved c =
     let all = c.loop-unit.trees.items in let u = c.in_ok-behind.behind.unit in
-    let here : slice_get c.args.units.now c.loop-unit.unit-index ≡ Some c.unit-item.result = slice_get_read c.args.units.now (length c.args.units.now) c.loop-unit.unit-index c.unit-item.result refl c.loop-unit-test.true c.unit-item.is in
+    let here : slice_get c.args.units.now c.loop-unit.unit-index ≡ Some c.unit-item.result =
+    slice_get_read c.args.units.now (length c.args.units.now) c.loop-unit.unit-index c.unit-item.result refl c.loop-unit-test.true c.unit-item.is in
     let source : c.in-Ok.source ≡ c.loop-unit.unit-index = search rules in
     record {
       long = omega (arith, ap length c.in_ok-keep_unit.ensures, length-append all (u ∷ []), c.loop-unit.invariant.long);
@@ -24,12 +30,14 @@ loop-unit-preserved c =
     }
 
 pub returns-clause-elaborates : goal.returns-clause-elaborates
-returns-clause-elaborates c = all_units c.args.units.now c.loop-unit.unit-index c.loop-unit.trees.items c.loop-unit.known c.loop-unit-test.false c.loop-unit.invariant.so_far
+returns-clause-elaborates c =
+    all_units c.args.units.now c.loop-unit.unit-index c.loop-unit.trees.items c.loop-unit.known c.loop-unit-test.false c.loop-unit.invariant.so_far
 
 pub returns-in_err-behind-clause-elaborates : goal.returns-in_err-behind-clause-elaborates
 returns-in_err-behind-clause-elaborates c =
     let is_error : c.from_residual.result ≡ Err c.in_err-behind.field-0.0 = search rules in
-    let here : slice_get c.args.units.now c.loop-unit.unit-index ≡ Some c.unit-item.result = slice_get_read c.args.units.now (length c.args.units.now) c.loop-unit.unit-index c.unit-item.result refl c.loop-unit-test.true c.unit-item.is in
+    let here : slice_get c.args.units.now c.loop-unit.unit-index ≡ Some c.unit-item.result =
+    slice_get_read c.args.units.now (length c.args.units.now) c.loop-unit.unit-index c.unit-item.result refl c.loop-unit-test.true c.unit-item.is in
     let source : c.in-Ok.source ≡ c.loop-unit.unit-index = search rules in
     refused_at c.args.units.now c.loop-unit.unit-index c.in-Ok.source c.loop-unit.trees.items c.loop-unit.known c.unit-item.result c.from_residual.result c.in_err-behind.field-0.0 is_error c.loop-unit.invariant.so_far here source c.in_err-behind.ensures.keeps
 

@@ -25,14 +25,17 @@ returns-clause-keeps c =
       source = source_in c.args.unit.now whole;
       shows = record { tokens = refl; decls = c.in_ok-whole.ensures.whole };
       state = state_of c.with_implied.new.st;
-      made = unit_done s (begun_behind c.args.source c.args.known) started declared (state_of c.with_implied.new.st) (trees_at trees whole.decls.items) c.in_ok-st.ensures.state
-          (ap (λ (z : List NodeId). declarations_of s no_storage started (trees_at trees z)) (sym c.deref.ensures.value) ∙ well) c.in_ok-with_implied.ensures.is;
+      made = unit_done s (begun_behind c.args.source c.args.known) started declared (state_of c.with_implied.new.st)
+          (trees_at trees whole.decls.items) c.in_ok-st.ensures.state
+          (ap (λ (z : List NodeId). declarations_of s no_storage started (trees_at trees z)) (sym c.deref.ensures.value)
+          ∙ well) c.in_ok-with_implied.ensures.is;
       kept = c.in_ok-behind.ensures.kept;
     }
 
 pub returns-in_err-all_declared-clause-keeps : goal.returns-in_err-all_declared-clause-keeps
 returns-in_err-all_declared-clause-keeps c =
-    let is_error : c.from_residual-in_err-all_declared.result ≡ Err c.in_err-all_declared.field-0.0 = handed_on c.from_residual-in_err-all_declared.result c.in_err-all_declared.field-0.0 c.from_residual-in_err-all_declared.ensures.1 in
+    let is_error : c.from_residual-in_err-all_declared.result ≡ Err c.in_err-all_declared.field-0.0 =
+    handed_on c.from_residual-in_err-all_declared.result c.in_err-all_declared.field-0.0 c.from_residual-in_err-all_declared.ensures.1 in
     let s = lexemes_of c.args.unit.now.tokens in
     let whole = c.in_ok-whole.whole in
     let trees = syntax_of whole.nodes in
@@ -47,7 +50,8 @@ returns-in_err-all_declared-clause-keeps c =
 
 pub returns-in_err-with_implied-clause-keeps : goal.returns-in_err-with_implied-clause-keeps
 returns-in_err-with_implied-clause-keeps c =
-    let is_error : c.from_residual-in_err-with_implied.result ≡ Err c.in_err-with_implied.field-0.0 = handed_on c.from_residual-in_err-with_implied.result c.in_err-with_implied.field-0.0 c.from_residual-in_err-with_implied.ensures.1 in
+    let is_error : c.from_residual-in_err-with_implied.result ≡ Err c.in_err-with_implied.field-0.0 =
+    handed_on c.from_residual-in_err-with_implied.result c.in_err-with_implied.field-0.0 c.from_residual-in_err-with_implied.ensures.1 in
     let s = lexemes_of c.args.unit.now.tokens in
     let whole = c.in_ok-whole.whole in
     let trees = syntax_of whole.nodes in
@@ -59,5 +63,6 @@ returns-in_err-with_implied-clause-keeps c =
     keeps_fault c.args.unit.now c.args.source c.args.known c.from_residual-in_err-with_implied.result e is_error (record {
       source = source_in c.args.unit.now whole;
       shows = record { tokens = refl; decls = c.in_ok-whole.ensures.whole };
-      is = unit_unimplied s before started declared (trees_at trees whole.decls.items) e c.in_ok-st.ensures.state (ap (λ (z : List NodeId). declarations_of s no_storage started (trees_at trees z)) (sym c.deref.ensures.value) ∙ well) c.in_err-with_implied.ensures;
+      is = unit_unimplied s before started declared (trees_at trees whole.decls.items) e c.in_ok-st.ensures.state
+          (ap (λ (z : List NodeId). declarations_of s no_storage started (trees_at trees z)) (sym c.deref.ensures.value) ∙ well) c.in_err-with_implied.ensures;
     })

@@ -7,7 +7,9 @@ use Rattle.elab_units.proofs.programs.unit_made.Goals as goal
 
 pub returns-clause-kept : goal.returns-clause-kept
 returns-clause-kept c = record {
-  unit = kept_unit (lexemes_of c.args.unit.now.tokens) (syntax_of c.args.whole.now.nodes) _ c.args.whole.now.decls.items c.args.st _ _ _ refl c.deref.ensures.value c.deref-2.ensures.value (c.in_ok-unit.ensures.shown (state_of c.args.st));
+  unit = kept_unit (lexemes_of c.args.unit.now.tokens)
+      (syntax_of c.args.whole.now.nodes) _ c.args.whole.now.decls.items c.args.st _ _ _ refl c.deref.ensures.value c.deref-2.ensures.value
+      (c.in_ok-unit.ensures.shown (state_of c.args.st));
   classes = refl;
   slots = refl;
   traits = refl;

@@ -17,8 +17,10 @@ loop-id-preserved c x =
     let at = c.loop-id in
     let before : List Definition = map definition_of at.list.items in
     ap (λ (z : List Definition). z ++ definitions_in s d (trees_at trees (drop (at.id-index + 1) c.args.ids.now))) (c.in_ok-keep_definition.ensures x)
-    ∙ append_assoc before (definition_in s d (tree_at trees (get_or c.args.ids.now at.id-index (record { 0 = 0 })))) (definitions_in s d (trees_at trees (drop (at.id-index + 1) c.args.ids.now)))
-    ∙ ap (λ (z : Trees). before ++ definitions_in s d z) (sym (trees_step trees c.args.ids.now at.id-index (record { 0 = 0 }) c.loop-id-test.true)) ∙ at.invariant x
+    ∙ append_assoc before (definition_in s d (tree_at trees (get_or c.args.ids.now at.id-index (record { 0 = 0 }))))
+    (definitions_in s d (trees_at trees (drop (at.id-index + 1) c.args.ids.now)))
+    ∙ ap (λ (z : Trees). before ++ definitions_in s d z) (sym (trees_step trees c.args.ids.now at.id-index (record { 0 = 0 }) c.loop-id-test.true))
+    ∙ at.invariant x
 
 pub returns : goal.returns
 returns c x =
@@ -27,4 +29,5 @@ returns c x =
     let trees = syntax_of c.args.nodes.now in
     let at = c.loop-id in
     let before : List Definition = map definition_of at.list.items in
-    sym (append-nil before) ∙ ap (λ (z : Trees). before ++ definitions_in s d z) (sym (trees_past trees c.args.ids.now at.id-index c.loop-id-test.false)) ∙ at.invariant x
+    sym (append-nil before) ∙ ap (λ (z : Trees). before ++ definitions_in s d z) (sym (trees_past trees c.args.ids.now at.id-index c.loop-id-test.false))
+    ∙ at.invariant x

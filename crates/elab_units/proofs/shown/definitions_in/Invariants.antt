@@ -8,4 +8,6 @@ use Rattle.elab_entry.specs.elab_types.Syntax.{syntax_of, trees_at}
 use Rattle.elab_units.proofs.shown.definitions_in.Given as goal
 
 abbrev pub invariant-loop-id : goal.invariant-loop-id
-invariant-loop-id l = (c : Ctx) → map definition_of l.list.items ++ definitions_in (lexemes_of l.tokens) (record c { types = map named_of l.types }) (trees_at (syntax_of l.nodes) (drop l.id-index l.ids)) ≡ definitions_in (lexemes_of l.tokens) (record c { types = map named_of l.types }) (trees_at (syntax_of l.nodes) l.ids)
+invariant-loop-id l = (c : Ctx) → map definition_of l.list.items
+    ++ definitions_in (lexemes_of l.tokens) (record c { types = map named_of l.types }) (trees_at (syntax_of l.nodes) (drop l.id-index l.ids))
+    ≡ definitions_in (lexemes_of l.tokens) (record c { types = map named_of l.types }) (trees_at (syntax_of l.nodes) l.ids)

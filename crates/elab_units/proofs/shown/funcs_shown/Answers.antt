@@ -13,7 +13,8 @@ pub returns : goal.returns
 returns c trees st classes bodies =
     let fs = map func_of c.args.funcs.items in
     c.put_bodies.ensures trees
-    ∙ ap (λ (z : List TypedFunc). with_bodies 0 z (map (placed_in trees) c.args.bodies.items)) (c.in_ok-list.ensures trees ∙ map_twice (λ (f : Func). typed_func _ f None) func_of c.args.funcs.items)
+    ∙ ap (λ (z : List TypedFunc). with_bodies 0 z (map (placed_in trees) c.args.bodies.items))
+    (c.in_ok-list.ensures trees ∙ map_twice (λ (f : Func). typed_func _ f None) func_of c.args.funcs.items)
     ∙ ap (λ (z : List Class). with_bodies 0 (map (λ (f : Func). typed_func z f None) fs) (map (placed_in trees) c.args.bodies.items)) (sym classes)
     ∙ ap (λ (z : List Body). with_bodies 0 (map (λ (f : Func). typed_func st.ctx.classes f None) fs) z) (sym bodies)
     ∙ bodies_given st 0 fs

@@ -16,7 +16,9 @@ returns-in-None c x =
     let s = lexemes_of c.args.tokens.now in
     let d : Ctx = record x { types = map named_of c.args.types.now } in
     let n = c.node_in-node.result.now in
-    sym (append-nil (map definition_of c.args.list.now.items)) ∙ ap (λ (z : List Definition). map definition_of c.args.list.now.items ++ z) (sym (ap (definition_in s d) c.node_in-node.ensures.node ∙ c.in-None.ensures s d n.at (trees_at (syntax_of c.args.nodes.now) n.kids.items)))
+    sym (append-nil (map definition_of c.args.list.now.items))
+    ∙ ap (λ (z : List Definition). map definition_of c.args.list.now.items ++ z)
+    (sym (ap (definition_in s d) c.node_in-node.ensures.node ∙ c.in-None.ensures s d n.at (trees_at (syntax_of c.args.nodes.now) n.kids.items)))
 
 pub returns-in-Some : goal.returns-in-Some
 returns-in-Some c x =
@@ -25,5 +27,6 @@ returns-in-Some c x =
     let n = c.node_in-node.result.now in
     let trees = syntax_of c.args.nodes.now in
     ok_more c.keep_named.result _ _ _ c.keep_named.ensures (ap (λ (z : List Definition). map definition_of c.args.list.now.items ++ z)
-    (ap (λ (z : List NodeId). definition_if s (type_named (spelling s c.in-Some.token) (map named_of c.args.types.now)) (trees_at trees z)) c.deref.ensures.value
+    (ap (λ (z : List NodeId). definition_if s (type_named (spelling s c.in-Some.token) (map named_of c.args.types.now))
+    (trees_at trees z)) c.deref.ensures.value
     ∙ sym (ap (definition_in s d) c.node_in-node.ensures.node ∙ c.in-Some.ensures s d n.at (trees_at trees n.kids.items))))

@@ -15,14 +15,19 @@ returns-in-None c =
     let s = lexemes_of c.args.tokens.now in
     let kids = trees_at (syntax_of c.args.nodes.now) c.args.kids.now in
     let named = type_named (spelling s c.args.token) (map named_of c.args.types.now) in
-    let none : class_called named ≡ None = ap (λ (z : List ℕ). class_called (type_named z (map named_of c.args.types.now))) (sym c.spelling.ensures) ∙ sym c.class_named.ensures ∙ c.in-None.is in
-    sym (append-nil (map definition_of c.args.list.now.items)) ∙ ap (λ (z : List Definition). map definition_of c.args.list.now.items ++ z) (sym (defined_by s named kids ∙ ap (λ (z : Option ℕ). definition_by z (class_text s kids)) none))
+    let none : class_called named ≡ None = ap (λ (z : List ℕ). class_called (type_named z (map named_of c.args.types.now))) (sym c.spelling.ensures)
+    ∙ sym c.class_named.ensures ∙ c.in-None.is in
+    sym (append-nil (map definition_of c.args.list.now.items))
+    ∙ ap (λ (z : List Definition). map definition_of c.args.list.now.items ++ z)
+    (sym (defined_by s named kids ∙ ap (λ (z : Option ℕ). definition_by z (class_text s kids)) none))
 
 pub returns-in_ok-text-in-Some : goal.returns-in_ok-text-in-Some
 returns-in_ok-text-in-Some c =
     let s = lexemes_of c.args.tokens.now in
     let kids = trees_at (syntax_of c.args.nodes.now) c.args.kids.now in
     let named = type_named (spelling s c.args.token) (map named_of c.args.types.now) in
-    let found : class_called named ≡ Some c.in-Some.class = ap (λ (z : List ℕ). class_called (type_named z (map named_of c.args.types.now))) (sym c.spelling.ensures) ∙ sym c.class_named.ensures ∙ c.in-Some.is in
+    let found : class_called named ≡ Some c.in-Some.class =
+    ap (λ (z : List ℕ). class_called (type_named z (map named_of c.args.types.now))) (sym c.spelling.ensures) ∙ sym c.class_named.ensures ∙ c.in-Some.is in
     ok_more c.keep_class.result _ _ _ c.keep_class.ensures (ap (λ (z : List Definition). map definition_of c.args.list.now.items ++ z)
-    (ap (definition_by (Some c.in-Some.class)) c.in_ok-text-in-Some.ensures ∙ sym (defined_by s named kids ∙ ap (λ (z : Option ℕ). definition_by z (class_text s kids)) found)))
+    (ap (definition_by (Some c.in-Some.class)) c.in_ok-text-in-Some.ensures
+    ∙ sym (defined_by s named kids ∙ ap (λ (z : Option ℕ). definition_by z (class_text s kids)) found)))

@@ -13,7 +13,8 @@ loop-body-preserved c =
     let at = c.loop-body in
     let steps : into_iter_items at.body-iterator ≡ c.in-Some.body ∷ into_iter_items c.next.new.self = c.in-Some.ensures.steps.0 in
     record {
-      given = λ trees. c.put_one.ensures trees (map (placed_in trees) (into_iter_items c.next.new.self)) ∙ ap (λ (z : List Placed). with_bodies 0 (map (func_of trees) at.funcs.items) (map (placed_in trees) z)) (sym steps) ∙ at.invariant.given trees;
+      given = λ trees. c.put_one.ensures trees (map (placed_in trees) (into_iter_items c.next.new.self))
+          ∙ ap (λ (z : List Placed). with_bodies 0 (map (func_of trees) at.funcs.items) (map (placed_in trees) z)) (sym steps) ∙ at.invariant.given trees;
       count = let was = at.invariant.count in let gone = c.in-Some.ensures.steps.1 in let short = ap length steps in omega arith;
     }
 
@@ -22,5 +23,7 @@ returns c trees =
     let at = c.loop-body in
     let none = c.in-None.ensures.steps in
     let empty : into_iter_items at.body-iterator ≡ [] = nothing_left _ (sym at.invariant.count ∙ none.0) in
-    sym (no_bodies 0 (map (func_of trees) at.funcs.items)) ∙ ap (λ (z : List Placed). with_bodies 0 (map (func_of trees) at.funcs.items) (map (placed_in trees) z)) (sym empty) ∙ at.invariant.given trees
-    ∙ ap (λ (z : List Placed). with_bodies 0 (map (func_of trees) c.args.funcs.now.items) (map (placed_in trees) z)) c.into_iter-body-iterator.ensures.into_iter_gives.0
+    sym (no_bodies 0 (map (func_of trees) at.funcs.items))
+    ∙ ap (λ (z : List Placed). with_bodies 0 (map (func_of trees) at.funcs.items) (map (placed_in trees) z)) (sym empty) ∙ at.invariant.given trees
+    ∙ ap (λ (z : List Placed). with_bodies 0 (map (func_of trees) c.args.funcs.now.items)
+    (map (placed_in trees) z)) c.into_iter-body-iterator.ensures.into_iter_gives.0

@@ -8,6 +8,7 @@ use Rattle.elab_units.proofs.shown.put_bodies.Given as goal
 
 abbrev pub invariant-loop-body : goal.invariant-loop-body
 invariant-loop-body l = record {
-  given : (trees : List Tree) → with_bodies 0 (map (shown_of trees) l.funcs.items) (map (placed_in trees) (into_iter_items l.body-iterator)) ≡ with_bodies 0 (map (shown_of trees) l.initial.funcs.items) (map (placed_in trees) (into_iter_items l.initial.body-iterator));
+  given : (trees : List Tree) → with_bodies 0 (map (shown_of trees) l.funcs.items) (map (placed_in trees) (into_iter_items l.body-iterator))
+      ≡ with_bodies 0 (map (shown_of trees) l.initial.funcs.items) (map (placed_in trees) (into_iter_items l.initial.body-iterator));
   count : into_iter_len l.body-iterator ≡ length (into_iter_items l.body-iterator);
 }

@@ -7,4 +7,5 @@ use Rattle.elab_entry.proofs.cpp_types.Views.{signature_view}
 use Rattle.elab_units.proofs.shown.result_words.Goals as goal
 
 pub returns-clause-is : goal.returns-clause-is
-returns-clause-is c = c.one_if.ensures.is ∙ ap one_if (c.is_class_type.ensures ∙ ap (λ (z : Signature). is_class_typ (signature_result z)) (sym (signature_view c.args.found.now.rec.ty)))
+returns-clause-is c = c.one_if.ensures.is ∙ ap one_if
+    (c.is_class_type.ensures ∙ ap (λ (z : Signature). is_class_typ (signature_result z)) (sym (signature_view c.args.found.now.rec.ty)))

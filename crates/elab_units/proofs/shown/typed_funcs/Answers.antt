@@ -14,7 +14,9 @@ loop-found-preserved c =
     let bare : FuncDecl → TypedFunc = λ (f : FuncDecl). typed_func (classes_of c.args.classes.now) (func_of f) None in
     let steps : into_iter_items at.found-iterator ≡ c.in-Some.found ∷ into_iter_items c.next.new.self = c.in-Some.ensures.steps.0 in
     record {
-      shown = λ trees. ap (λ (z : List TypedFunc). z ++ map bare (into_iter_items c.next.new.self)) (ap (map (shown_of trees)) c.in_ok-push.ensures.items ∙ map_more (shown_of trees) at.list.items c.in_ok-made.made ∙ ap (λ (z : TypedFunc). map (shown_of trees) at.list.items ++ z ∷ []) (c.in_ok-made.ensures trees))
+      shown = λ trees. ap (λ (z : List TypedFunc). z ++ map bare (into_iter_items c.next.new.self))
+          (ap (map (shown_of trees)) c.in_ok-push.ensures.items ∙ map_more (shown_of trees) at.list.items c.in_ok-made.made
+          ∙ ap (λ (z : TypedFunc). map (shown_of trees) at.list.items ++ z ∷ []) (c.in_ok-made.ensures trees))
           ∙ append_assoc (map (shown_of trees) at.list.items) (bare c.in-Some.found ∷ []) (map bare (into_iter_items c.next.new.self))
           ∙ ap (λ (z : List FuncDecl). map (shown_of trees) at.list.items ++ map bare z) (sym steps) ∙ at.invariant.shown trees;
       count = let was = at.invariant.count in let gone = c.in-Some.ensures.steps.1 in let short = ap length steps in omega arith;
@@ -26,4 +28,5 @@ returns c trees =
     let bare : FuncDecl → TypedFunc = λ (f : FuncDecl). typed_func (classes_of c.args.classes.now) (func_of f) None in
     let none = c.in-None.ensures.steps in
     let empty : into_iter_items at.found-iterator ≡ [] = nothing_left _ (sym at.invariant.count ∙ none.0) in
-    sym (append-nil (map (shown_of trees) at.list.items)) ∙ ap (λ (z : List FuncDecl). map (shown_of trees) at.list.items ++ map bare z) (sym empty) ∙ at.invariant.shown trees ∙ ap (map bare) c.into_iter-found-iterator.ensures.into_iter_gives.0
+    sym (append-nil (map (shown_of trees) at.list.items)) ∙ ap (λ (z : List FuncDecl). map (shown_of trees) at.list.items ++ map bare z) (sym empty)
+    ∙ at.invariant.shown trees ∙ ap (map bare) c.into_iter-found-iterator.ensures.into_iter_gives.0

@@ -9,6 +9,8 @@ use Rattle.elab_units.proofs.shown.typed_funcs.Given as goal
 
 abbrev pub invariant-loop-found : goal.invariant-loop-found
 invariant-loop-found l = record {
-  shown : (trees : List Tree) → map (shown_of trees) l.list.items ++ map (λ f. typed_func (classes_of l.classes) (func_of f) None) (into_iter_items l.found-iterator) ≡ map (λ f. typed_func (classes_of l.classes) (func_of f) None) (into_iter_items l.initial.found-iterator);
+  shown : (trees : List Tree) → map (shown_of trees) l.list.items
+      ++ map (λ f. typed_func (classes_of l.classes) (func_of f) None) (into_iter_items l.found-iterator)
+      ≡ map (λ f. typed_func (classes_of l.classes) (func_of f) None) (into_iter_items l.initial.found-iterator);
   count : into_iter_len l.found-iterator ≡ length (into_iter_items l.found-iterator);
 }

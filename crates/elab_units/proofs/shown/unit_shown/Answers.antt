@@ -18,8 +18,16 @@ returns-clause-shown c st =
     let decls = trees_at (syntax_of c.args.nodes.now) c.args.ids.now in
     let all = state_with st made (classes_of c.args.classes.now) in
     let globals = map global_of made.globals.items in
-    let funcs : map (shown_of (trees_of c.in_ok-joined.joined.nodes.items)) c.in_ok-funcs.funcs.items ≡ typed_funcs all 0 (map func_of made.funcs) = c.in_ok-funcs.ensures (trees_of c.in_ok-joined.joined.nodes.items) all refl (sym c.in_ok-joined.ensures) ∙ ap (λ (z : List FuncDecl). typed_funcs all 0 (map func_of z)) c.into_list.ensures in
+    let funcs : map (shown_of (trees_of c.in_ok-joined.joined.nodes.items)) c.in_ok-funcs.funcs.items ≡ typed_funcs all 0 (map func_of made.funcs) =
+    c.in_ok-funcs.ensures (trees_of c.in_ok-joined.joined.nodes.items) all refl (sym c.in_ok-joined.ensures)
+    ∙ ap (λ (z : List FuncDecl). typed_funcs all 0 (map func_of z)) c.into_list.ensures in
     let classes : map definition_of c.in_ok-defined.defined.items ≡ definitions_in s all.ctx decls = c.in_ok-defined.ensures all.ctx in
-    ok_shown c.readable_unit.result unit_of (record { nodes = c.in_ok-joined.joined.nodes; funcs = c.in_ok-funcs.funcs; globals = made.globals; classes = c.in_ok-defined.defined }) _ c.readable_unit.ensures.same
+    ok_shown c.readable_unit.result unit_of (record {
+      nodes = c.in_ok-joined.joined.nodes;
+      funcs = c.in_ok-funcs.funcs;
+      globals = made.globals;
+      classes =
+          c.in_ok-defined.defined;
+    }) _ c.readable_unit.ensures.same
     (ap (λ (z : List TypedFunc). record { funcs = z; globals = globals; classes = map definition_of c.in_ok-defined.defined.items }) funcs
     ∙ ap (λ (z : List Definition). record { funcs = typed_funcs all 0 (map func_of made.funcs); globals = globals; classes = z }) classes)

@@ -9,7 +9,8 @@ use Rattle.fold_events.proofs.laws.same_memory.Goals as goal
 
 pub returns-clause-cells : goal.returns-clause-cells
 returns-clause-cells c = λ p l well.
-    ap (λ (z : Program). first_cells (folded_program (program_of p)) z) (linked_kept p well l.safe l.symbol l.main) ∙ cells_are_kept (program_of p) (linked l.safe l.symbol l.main (program_of p))
+    ap (λ (z : Program). first_cells (folded_program (program_of p)) z) (linked_kept p well l.safe l.symbol l.main)
+    ∙ cells_are_kept (program_of p) (linked l.safe l.symbol l.main (program_of p))
 
 pub returns-clause-size : goal.returns-clause-size
 returns-clause-size c = λ p. size_is_kept (program_of p) (linked (λ u n. true) (λ s. None) [] (program_of p))

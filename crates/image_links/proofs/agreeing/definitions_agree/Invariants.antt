@@ -6,4 +6,5 @@ use Rattle.image_links.specs.Agreeing.{definitions_agree}
 use Rattle.image_links.proofs.agreeing.definitions_agree.Given as goal
 
 abbrev pub invariant-loop-definition : goal.invariant-loop-definition
-invariant-loop-definition l = definitions_agree (image_view l.image) (given l.bound) (map definition_of (drop l.definition-index l.definitions)) ≡ definitions_agree (image_view l.image) (given l.bound) (map definition_of l.definitions)
+invariant-loop-definition l = definitions_agree (image_view l.image) (given l.bound) (map definition_of (drop l.definition-index l.definitions))
+    ≡ definitions_agree (image_view l.image) (given l.bound) (map definition_of l.definitions)

@@ -6,4 +6,5 @@ use Rattle.image_links.specs.Agreeing.{same_slot}
 use Rattle.image_links.proofs.agreeing.slots_agree.Given as goal
 
 abbrev pub invariant-loop-n : goal.invariant-loop-n
-invariant-loop-n g l = all_places (same_slot (image_view l.image) (given l.bound) l.class l.of l.at) l.n (drop l.n l.slots) ≡ all_places (same_slot (image_view l.image) (given l.bound) l.class l.of l.at) 0 l.slots
+invariant-loop-n g l = all_places (same_slot (image_view l.image) (given l.bound) l.class l.of l.at) l.n (drop l.n l.slots)
+    ≡ all_places (same_slot (image_view l.image) (given l.bound) l.class l.of l.at) 0 l.slots

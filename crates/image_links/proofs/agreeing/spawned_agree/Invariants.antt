@@ -10,4 +10,6 @@ use Rattle.image_links.specs.Agreeing.{spawned_agree}
 use Rattle.image_links.proofs.agreeing.spawned_agree.Given as goal
 
 abbrev pub invariant-loop-n : goal.invariant-loop-n
-invariant-loop-n l = all_places (λ n. same_number ((names_of (image_view l.image)).spawned (func_address n)) ((linked_of (given l.bound)).pointed (func_address n) thread_signature)) l.n (map image_func_view (drop l.n l.image.funcs.items)) ≡ spawned_agree (image_view l.image) (given l.bound)
+invariant-loop-n l = all_places (λ n. same_number ((names_of (image_view l.image)).spawned (func_address n))
+    ((linked_of (given l.bound)).pointed (func_address n) thread_signature)) l.n (map image_func_view (drop l.n l.image.funcs.items))
+    ≡ spawned_agree (image_view l.image) (given l.bound)

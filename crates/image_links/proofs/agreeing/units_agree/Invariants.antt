@@ -6,4 +6,5 @@ use Rattle.image_links.specs.Agreeing.{units_agree}
 use Rattle.image_links.proofs.agreeing.units_agree.Given as goal
 
 abbrev pub invariant-loop-unit : goal.invariant-loop-unit
-invariant-loop-unit l = units_agree (image_view l.image) (given l.bound) (map unit_of (drop l.unit-index l.units)) ≡ units_agree (image_view l.image) (given l.bound) (map unit_of l.units)
+invariant-loop-unit l = units_agree (image_view l.image) (given l.bound) (map unit_of (drop l.unit-index l.units))
+    ≡ units_agree (image_view l.image) (given l.bound) (map unit_of l.units)

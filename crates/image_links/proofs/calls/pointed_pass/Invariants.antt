@@ -11,4 +11,7 @@ use Rattle.image_links.specs.Books.{all_places, passes_as, pointed_pass}
 use Rattle.image_links.proofs.calls.pointed_pass.Given as goal
 
 abbrev pub invariant-loop-n : goal.invariant-loop-n
-invariant-loop-n l = (sig : Signature) → l.ty ≡ function_spelling (typed (given l.bound)).classes (unsafe sig) [] → all_places (λ n. passes_as (image_view l.image) (linked_of (given l.bound)) (typed (given l.bound)) l.count l.gives ((linked_of (given l.bound)).pointed (func_address n) sig)) l.n (map image_func_view (drop l.n l.image.funcs.items)) ≡ pointed_pass (image_view l.image) (linked_of (given l.bound)) (typed (given l.bound)) sig l.count l.gives
+invariant-loop-n l = (sig : Signature) → l.ty ≡ function_spelling (typed (given l.bound)).classes (unsafe sig) []
+    → all_places (λ n. passes_as (image_view l.image) (linked_of (given l.bound)) (typed (given l.bound)) l.count l.gives
+    ((linked_of (given l.bound)).pointed (func_address n) sig)) l.n (map image_func_view (drop l.n l.image.funcs.items))
+    ≡ pointed_pass (image_view l.image) (linked_of (given l.bound)) (typed (given l.bound)) sig l.count l.gives

@@ -8,4 +8,6 @@ use Rattle.image_links.specs.Books.{all_places, passes_as, slotted_pass}
 use Rattle.image_links.proofs.calls.slotted_pass.Given as goal
 
 abbrev pub invariant-loop-n : goal.invariant-loop-n
-invariant-loop-n l = all_places (λ d. passes_as (image_view l.image) (linked_of (given l.bound)) (typed (given l.bound)) l.count l.gives ((linked_of (given l.bound)).slot (class_address d) l.class l.slot)) l.n (map image_class_view (drop l.n l.image.classes.items)) ≡ slotted_pass (image_view l.image) (linked_of (given l.bound)) (typed (given l.bound)) l.class l.slot l.count l.gives
+invariant-loop-n l = all_places (λ d. passes_as (image_view l.image) (linked_of (given l.bound)) (typed (given l.bound)) l.count l.gives
+    ((linked_of (given l.bound)).slot (class_address d) l.class l.slot)) l.n (map image_class_view (drop l.n l.image.classes.items))
+    ≡ slotted_pass (image_view l.image) (linked_of (given l.bound)) (typed (given l.bound)) l.class l.slot l.count l.gives

@@ -11,4 +11,7 @@ use Rattle.image_links.specs.Books.{all_places, same_number, is_signature}
 use Rattle.image_links.proofs.tables.is_signature.Given as goal
 
 abbrev pub invariant-loop-n : goal.invariant-loop-n
-invariant-loop-n l = (sig : Signature) → l.ty ≡ function_spelling (typed (given l.bound)).classes (unsafe sig) [] → all_places (λ n. same_number ((names_of (image_view l.image)).called l.number (func_address n)) ((linked_of (given l.bound)).pointed (func_address n) sig)) l.n (map image_func_view (drop l.n l.image.funcs.items)) ≡ is_signature (image_view l.image) (linked_of (given l.bound)) (typed (given l.bound)) l.number sig
+invariant-loop-n l = (sig : Signature) → l.ty ≡ function_spelling (typed (given l.bound)).classes (unsafe sig) []
+    → all_places (λ n. same_number ((names_of (image_view l.image)).called l.number (func_address n))
+    ((linked_of (given l.bound)).pointed (func_address n) sig)) l.n (map image_func_view (drop l.n l.image.funcs.items))
+    ≡ is_signature (image_view l.image) (linked_of (given l.bound)) (typed (given l.bound)) l.number sig

@@ -5,4 +5,5 @@ use Rattle.lambda_captures.specs.Shown.{used_of}
 use Rattle.lambda_captures.proofs.captures.capture_uses.Given as goal
 
 abbrev pub invariant-loop-found : goal.invariant-loop-found
-invariant-loop-found l = captured_uses (ctx_of l.env) l.by_ref (map capture_of l.captures.items) (map used_of (drop l.found-index l.used)) ≡ captured_uses (ctx_of l.env) l.by_ref (map capture_of l.fn.captures.items) (map used_of l.used)
+invariant-loop-found l = captured_uses (ctx_of l.env) l.by_ref (map capture_of l.captures.items) (map used_of (drop l.found-index l.used))
+    ≡ captured_uses (ctx_of l.env) l.by_ref (map capture_of l.fn.captures.items) (map used_of l.used)

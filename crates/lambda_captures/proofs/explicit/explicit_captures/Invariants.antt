@@ -8,4 +8,6 @@ use Rattle.lambda_captures.specs.Shown.{otherwise_of}
 use Rattle.lambda_captures.proofs.explicit.explicit_captures.Given as goal
 
 abbrev pub invariant-loop-id : goal.invariant-loop-id
-invariant-loop-id l = each_of (explicit_capture (lexemes_of l.tokens) (ctx_of l.env) (otherwise_of l.otherwise)) (map capture_of l.captures.items) (trees_at (syntax_of l.nodes) (drop l.id-index l.ids)) ≡ explicit_captures (lexemes_of l.tokens) (ctx_of l.env) (otherwise_of l.otherwise) (trees_at (syntax_of l.nodes) l.ids)
+invariant-loop-id l = each_of (explicit_capture (lexemes_of l.tokens) (ctx_of l.env) (otherwise_of l.otherwise)) (map capture_of l.captures.items)
+    (trees_at (syntax_of l.nodes) (drop l.id-index l.ids))
+    ≡ explicit_captures (lexemes_of l.tokens) (ctx_of l.env) (otherwise_of l.otherwise) (trees_at (syntax_of l.nodes) l.ids)

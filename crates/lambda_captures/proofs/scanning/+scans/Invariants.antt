@@ -26,7 +26,11 @@ abbrev pub decreases-scan_apart : goal.decreases-scan_apart
 decreases-scan_apart l = l.parent.0 * 5 + 1
 
 abbrev pub invariant-scan_all-loop-id : goal.invariant-scan_all-loop-id
-invariant-scan_all-loop-id l = Scanning l.fn.scan l.scan (scanned_all (lexemes_of l.tokens) (ctx_of l.env) (scan_of (lexemes_of l.tokens) l.scan) (trees_at (syntax_of l.nodes) (drop l.id-index l.ids))) (scanned_all (lexemes_of l.tokens) (ctx_of l.env) (scan_of (lexemes_of l.tokens) l.fn.scan) (trees_at (syntax_of l.nodes) l.ids))
+invariant-scan_all-loop-id l = Scanning l.fn.scan l.scan
+    (scanned_all (lexemes_of l.tokens) (ctx_of l.env) (scan_of (lexemes_of l.tokens) l.scan) (trees_at (syntax_of l.nodes) (drop l.id-index l.ids)))
+    (scanned_all (lexemes_of l.tokens) (ctx_of l.env) (scan_of (lexemes_of l.tokens) l.fn.scan) (trees_at (syntax_of l.nodes) l.ids))
 
 abbrev pub invariant-scan_apart-loop-id : goal.invariant-scan_apart-loop-id
-invariant-scan_apart-loop-id l = Scanning l.fn.scan l.scan (scanned_apart (lexemes_of l.tokens) (ctx_of l.env) (scan_of (lexemes_of l.tokens) l.scan) (trees_at (syntax_of l.nodes) (drop l.id-index l.ids))) (scanned_apart (lexemes_of l.tokens) (ctx_of l.env) (scan_of (lexemes_of l.tokens) l.fn.scan) (trees_at (syntax_of l.nodes) l.ids))
+invariant-scan_apart-loop-id l = Scanning l.fn.scan l.scan
+    (scanned_apart (lexemes_of l.tokens) (ctx_of l.env) (scan_of (lexemes_of l.tokens) l.scan) (trees_at (syntax_of l.nodes) (drop l.id-index l.ids)))
+    (scanned_apart (lexemes_of l.tokens) (ctx_of l.env) (scan_of (lexemes_of l.tokens) l.fn.scan) (trees_at (syntax_of l.nodes) l.ids))

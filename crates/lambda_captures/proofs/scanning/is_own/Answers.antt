@@ -6,4 +6,5 @@ use Rattle.lambda_captures.proofs.Scans.{own_is}
 use Rattle.lambda_captures.proofs.scanning.is_own.Goals as goal
 
 pub returns : goal.returns
-returns c = c.is_spelled.ensures ∙ ap (list_any (spells (lexemes_of c.args.tokens.now) c.args.name.now)) c.deref.ensures.value ∙ own_is (lexemes_of c.args.tokens.now) c.args.name.now c.args.scan.now.own.items
+returns c = c.is_spelled.ensures ∙ ap (list_any (spells (lexemes_of c.args.tokens.now) c.args.name.now)) c.deref.ensures.value
+    ∙ own_is (lexemes_of c.args.tokens.now) c.args.name.now c.args.scan.now.own.items

@@ -5,4 +5,5 @@ use Rattle.lambda_captures.proofs.Scans.{back_more}
 use Rattle.lambda_captures.proofs.scanning.parameter_tokens.Goals as goal
 
 pub backwards-preserved : goal.backwards-preserved
-backwards-preserved c = back_more parameter_of c.backwards.rest.now c.in-Some.before.now c.in-Some.last.now c.backwards.list.items c.keep_token.new.list.items (tokens_back (map parameter_of c.args.params.now)) c.backwards.invariant c.in-Some.ensures.cases.0 c.in_ok-keep_token.ensures
+backwards-preserved c = back_more parameter_of c.backwards.rest.now c.in-Some.before.now c.in-Some.last.now c.backwards.list.items c.keep_token.new.list.items
+    (tokens_back (map parameter_of c.args.params.now)) c.backwards.invariant c.in-Some.ensures.cases.0 c.in_ok-keep_token.ensures

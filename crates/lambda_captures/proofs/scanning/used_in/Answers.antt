@@ -7,4 +7,5 @@ use Rattle.lambda_captures.proofs.Scans.{used_are}
 use Rattle.lambda_captures.proofs.scanning.used_in.Goals as goal
 
 pub returns : goal.returns
-returns c = used_are (lexemes_of c.args.tokens.now) (ctx_of c.args.env.now) (record { own = c.in_ok-own.own; used = c.new.result }) c.scan_node.new.scan (map parameter_of c.args.params.now) (tree_at (syntax_of c.args.nodes.now) c.args.body) c.in_ok-own.ensures c.new.ensures.items c.in_ok-scan_node.ensures
+returns c = used_are (lexemes_of c.args.tokens.now) (ctx_of c.args.env.now) (record { own = c.in_ok-own.own; used = c.new.result }) c.scan_node.new.scan
+    (map parameter_of c.args.params.now) (tree_at (syntax_of c.args.nodes.now) c.args.body) c.in_ok-own.ensures c.new.ensures.items c.in_ok-scan_node.ensures

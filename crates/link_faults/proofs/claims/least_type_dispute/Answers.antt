@@ -8,4 +8,5 @@ use Rattle.std.proofs.Common.{◌<◌}
 pub least_dispute-requires : goal.least_dispute-requires
 least_dispute-requires c =
     rw (c.deref.ensures.value, c.in_ok-claims.ensures)
-    (All-map (λ (z : Claim). z.symbol < c.args.symbols) said_type _ (All-filter is_seen (λ (e : RankedEntry). e.symbol < c.args.symbols) c.args.entries.now c.requires))
+    (All-map (λ (z : Claim). z.symbol < c.args.symbols) said_type _
+    (All-filter is_seen (λ (e : RankedEntry). e.symbol < c.args.symbols) c.args.entries.now c.requires))

@@ -8,4 +8,7 @@ use Rattle.link_faults.proofs.classes.add_classes.Goals as goal
 pub class_of-requires-clause-fits : goal.class_of-requires-clause-fits
 class_of-requires-clause-fits c =
     rw (← length-map c.args.object.now.names.items bytes_of)
-    (passes_at (class_fits (length (map bytes_of c.args.object.now.names.items))) class_view c.deref-class-items.result.now c.loop-class.class-index c.class-item.result (rw c.deref-class-items.ensures.value c.requires.known.object.classes) c.loop-class-test.true c.class-item.is)
+    (passes_at
+    (class_fits
+    (length (map bytes_of c.args.object.now.names.items))) class_view c.deref-class-items.result.now c.loop-class.class-index c.class-item.result
+    (rw c.deref-class-items.ensures.value c.requires.known.object.classes) c.loop-class-test.true c.class-item.is)

@@ -11,7 +11,8 @@ first_at-requires c =
 
 pub differs_from_first-disputed-requires-clause-first : goal.differs_from_first-disputed-requires-clause-first
 differs_from_first-disputed-requires-clause-first c =
-    within_at c.loop-i.first.items (length c.args.classes.now) c.class_name-name.result c.first_at.result c.loop-i.invariant.2 (rw c.deref.ensures.value at c.first_at.ensures)
+    within_at c.loop-i.first.items (length c.args.classes.now) c.class_name-name.result c.first_at.result c.loop-i.invariant.2
+    (rw c.deref.ensures.value at c.first_at.ensures)
 
 pub note_class-requires : goal.note_class-requires
 note_class-requires c =
@@ -23,7 +24,8 @@ loop-i-preserved c =
     let views = map view_of c.args.classes.now in
     let long = length-map c.args.classes.now view_of in
     let within : c.loop-i.i < length views = omega (arith, c.loop-i-test.true) in
-    let named : c.class_name-name.result < c.args.names = rw c.class_name-name.ensures (name_within c.args.classes.now c.args.names c.loop-i.i c.requires c.loop-i-test.true) in (
+    let named : c.class_name-name.result < c.args.names =
+    rw c.class_name-name.ensures (name_within c.args.classes.now c.args.names c.loop-i.i c.requires c.loop-i-test.true) in (
       c.note_class.ensures.first views (sym c.class_name-name.ensures) within c.loop-i.invariant.0,
       c.note_class.ensures.length ∙ c.loop-i.invariant.1,
       c.note_class.ensures.within (length c.args.classes.now) c.loop-i-test.true c.loop-i.invariant.2,

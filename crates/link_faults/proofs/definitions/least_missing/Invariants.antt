@@ -5,4 +5,5 @@ use Rattle.link_faults.specs.Kept.{is_missing_rank}
 use Rattle.link_faults.proofs.definitions.least_missing.Given as goal
 
 abbrev pub invariant-loop-entry : goal.invariant-loop-entry
-invariant-loop-entry l = IsLeast (λ k. list_any (λ e. nat_eq e.symbol k && is_missing_rank l.entries e) (take l.entry-index l.entries)) l.least × IfSome l.least (λ k. k < length l.kept)
+invariant-loop-entry l = IsLeast (λ k. list_any (λ e. nat_eq e.symbol k && is_missing_rank l.entries e) (take l.entry-index l.entries)) l.least
+    × IfSome l.least (λ k. k < length l.kept)

@@ -5,4 +5,5 @@ use Rattle.link_faults.specs.Ranked.{ranked}
 use Rattle.link_faults.proofs.entries.add_funcs.Given as goal
 
 abbrev pub invariant-loop-func : goal.invariant-loop-func
-invariant-loop-func l = l.entries.items ≡ l.fn.entries.items ++ map (ranked (map bytes_of l.all)) (map (func_entry (object_view l.object)) (map func_view (take l.func-index l.object.funcs.items)))
+invariant-loop-func l = l.entries.items ≡ l.fn.entries.items
+    ++ map (ranked (map bytes_of l.all)) (map (func_entry (object_view l.object)) (map func_view (take l.func-index l.object.funcs.items)))

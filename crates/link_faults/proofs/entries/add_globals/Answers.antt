@@ -8,4 +8,7 @@ use Rattle.link_faults.proofs.entries.add_globals.Goals as goal
 pub ranked_global-requires-clause-fits : goal.ranked_global-requires-clause-fits
 ranked_global-requires-clause-fits c =
     rw (← length-map c.args.object.now.names.items bytes_of)
-    (passes_at (global_fits (length (map bytes_of c.args.object.now.names.items))) global_view c.deref-global-items.result.now c.loop-global.global-index c.global-item.result (rw c.deref-global-items.ensures.value c.requires.known.object.globals) c.loop-global-test.true c.global-item.is)
+    (passes_at
+    (global_fits
+    (length (map bytes_of c.args.object.now.names.items))) global_view c.deref-global-items.result.now c.loop-global.global-index c.global-item.result
+    (rw c.deref-global-items.ensures.value c.requires.known.object.globals) c.loop-global-test.true c.global-item.is)

@@ -7,4 +7,5 @@ use Rattle.link_faults.proofs.MissingByRank.{main_by_rank}
 use Rattle.link_faults.proofs.missing.is_main_defined.Goals as goal
 
 pub returns : goal.returns
-returns c = c.any_main.ensures ∙ ap (list_any (λ (e : RankedEntry). e.main)) (c.deref.ensures.value ∙ c.requires.funcs) ∙ main_by_rank (names_in c.args.tables.now) (func_entries (objects_of c.args.tables.now))
+returns c = c.any_main.ensures ∙ ap (list_any (λ (e : RankedEntry). e.main)) (c.deref.ensures.value ∙ c.requires.funcs)
+    ∙ main_by_rank (names_in c.args.tables.now) (func_entries (objects_of c.args.tables.now))

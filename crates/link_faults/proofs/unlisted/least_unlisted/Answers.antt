@@ -10,8 +10,10 @@ use Rattle.link_faults.proofs.unlisted.least_unlisted.Goals as goal
 pub loop-object-preserved : goal.loop-object-preserved
 loop-object-preserved c =
     let all = map bytes_of c.args.all.now in (
-      any_step (λ k x. misses_in all k (object_view x)) c.args.objects.now c.loop-object.object-index _ c.object-item.result (λ _. false) c.in_ok-least.least c.loop-object-test.true (sym c.object-item.is)
-          (c.in_ok-least.ensures.least (λ k. list_any (λ x. misses_in all k (object_view x)) (take c.loop-object.object-index c.args.objects.now)) c.loop-object.invariant.0),
+      any_step (λ k x. misses_in all k (object_view x)) c.args.objects.now c.loop-object.object-index _ c.object-item.result
+          (λ _. false) c.in_ok-least.least c.loop-object-test.true (sym c.object-item.is)
+          (c.in_ok-least.ensures.least (λ k. list_any (λ x. misses_in all k (object_view x))
+          (take c.loop-object.object-index c.args.objects.now)) c.loop-object.invariant.0),
       c.in_ok-least.ensures.within c.loop-object.invariant.1,
     )
 

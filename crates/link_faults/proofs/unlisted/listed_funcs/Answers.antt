@@ -10,6 +10,8 @@ use Rattle.link_faults.proofs.unlisted.listed_funcs.Goals as goal
 pub mark-requires : goal.mark-requires
 mark-requires c =
     let n = length (map bytes_of c.args.object.now.names.items) in
-    let fits : func_fits c.args.object.now.version n (func_view c.func-item.result) ≡ true = passes_at (func_fits c.args.object.now.version n) func_view c.deref-func-items.result.now c.loop-func.func-index c.func-item.result (rw c.deref-func-items.ensures.value c.requires.funcs) c.loop-func-test.true c.func-item.is in
+    let fits : func_fits c.args.object.now.version n (func_view c.func-item.result) ≡ true =
+    passes_at (func_fits c.args.object.now.version n) func_view c.deref-func-items.result.now c.loop-func.func-index c.func-item.result
+    (rw c.deref-func-items.ensures.value c.requires.funcs) c.loop-func-test.true c.func-item.is in
     let within : c.func-item.result.symbol < n = ltb-true _ _ (func_symbol c.args.object.now.version n (func_view c.func-item.result) fits) in
     omega (arith, within, length-map c.args.object.now.names.items bytes_of, c.loop-func.invariant.1)

@@ -6,4 +6,6 @@ use Rattle.link_faults.specs.Unlisted.{misses_cell}
 use Rattle.link_faults.proofs.unlisted.with_cells.Given as goal
 
 abbrev pub invariant-loop-cell : goal.invariant-loop-cell
-invariant-loop-cell l = ((p : ℕ → Bool) → IsLeast p l.fn.least → IsLeast (λ k. p k || list_any (misses_cell (map bytes_of l.all) (object_view l.object) k) (take l.cell-index l.cells)) l.found) × (IfSome l.fn.least (λ k. k < length l.all) → IfSome l.found (λ k. k < length l.all))
+invariant-loop-cell l = ((p : ℕ → Bool) → IsLeast p l.fn.least → IsLeast
+    (λ k. p k || list_any (misses_cell (map bytes_of l.all) (object_view l.object) k) (take l.cell-index l.cells)) l.found)
+    × (IfSome l.fn.least (λ k. k < length l.all) → IfSome l.found (λ k. k < length l.all))

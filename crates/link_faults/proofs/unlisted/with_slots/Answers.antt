@@ -19,10 +19,13 @@ loop-slot-preserved c =
     let names = c.rank_of_name-name.ensures in
     let misses = c.is_unmarked-missing.ensures (func_symbols o) c.requires.marks in (
       λ p h. any_step (misses_slot all o) c.args.slots.now c.loop-slot.slot-index _ _ p c.with_name-found.result c.loop-slot-test.true refl
-          (rw (names, misses) at (c.with_name-found.ensures.least (λ k. p k || list_any (misses_slot all o k) (take c.loop-slot.slot-index c.args.slots.now)) (c.loop-slot.invariant.0 p h))),
+          (rw (names, misses) at (c.with_name-found.ensures.least (λ k. p k || list_any (misses_slot all o k) (take c.loop-slot.slot-index c.args.slots.now))
+          (c.loop-slot.invariant.0 p h))),
       λ w. c.with_name-found.ensures.within (length c.args.all.now) (λ e.
           let at = get_or c.args.slots.now c.loop-slot.slot-index 0 in
-          let fits : at ≤ length c.args.object.now.names.items = leb-true _ _ (fits_index (is_name_or_none (length c.args.object.now.names.items)) c.args.slots.now c.loop-slot.slot-index 0 c.requires.fit c.loop-slot-test.true) in
+          let fits : at ≤ length c.args.object.now.names.items =
+          leb-true _ _ (fits_index (is_name_or_none
+          (length c.args.object.now.names.items)) c.args.slots.now c.loop-slot.slot-index 0 c.requires.fit c.loop-slot-test.true) in
           let within : at ≤ length (map bytes_of c.args.object.now.names.items) = omega (arith, fits, length-map c.args.object.now.names.items bytes_of) in
           let b = below_within all o (func_symbols o) at c.requires.known within (sym misses ∙ e) in
           omega (arith, names, b, length-map c.args.all.now bytes_of)) (c.loop-slot.invariant.1 w),

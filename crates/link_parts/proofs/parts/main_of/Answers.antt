@@ -11,4 +11,5 @@ returns-then-is_main c =
     sym (first_there is_main_row func_row 0 c.args.kept.now c.loop-func.func-index c.func-item.result c.loop-func-test.true c.func-item.is c.loop-func.invariant.1 (sym c.is_main.ensures ∙ c.if-is_main.true) ∙ ap (λ (k : ℕ). Some k) s)
 
 pub returns : goal.returns
-returns c = sym (first_absent is_main_row 0 (map func_row c.args.kept.now) (rw (whole c.args.kept.now c.loop-func.func-index c.loop-func-test.false) at c.loop-func.invariant.1))
+returns c = sym (first_absent is_main_row 0 (map func_row c.args.kept.now)
+    (rw (whole c.args.kept.now c.loop-func.func-index c.loop-func-test.false) at c.loop-func.invariant.1))

@@ -11,6 +11,8 @@ pub symbol_in-symbol-requires-clause-named : goal.symbol_in-symbol-requires-clau
 symbol_in-symbol-requires-clause-named c =
     let o = c.args.home.object.now in
     let n = length (map bytes_of o.names.items) in
-    let fits : func_fits o.version n (func_view c.func-item.result) ≡ true = passes_at (func_fits o.version n) func_view c.deref-func-items.result.now c.loop-func.func-index c.func-item.result (rw c.deref-func-items.ensures.value c.requires.known.object.funcs) c.loop-func-test.true c.func-item.is in
+    let fits : func_fits o.version n (func_view c.func-item.result) ≡ true =
+    passes_at (func_fits o.version n) func_view c.deref-func-items.result.now c.loop-func.func-index c.func-item.result
+    (rw c.deref-func-items.ensures.value c.requires.known.object.funcs) c.loop-func-test.true c.func-item.is in
     let within = ltb-true _ _ (func_symbol o.version n (func_view c.func-item.result) fits) in
     omega (arith, within, length-map o.names.items bytes_of)

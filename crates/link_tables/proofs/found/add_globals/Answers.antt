@@ -15,11 +15,16 @@ pub add_global-requires-clause-named : goal.add_global-requires-clause-named
 add_global-requires-clause-named c =
     let o = c.args.home.object.now in
     let n = length (map bytes_of o.names.items) in
-    let fits : global_fits n (global_view c.global-item.result) ≡ true = passes_at (global_fits n) global_view c.deref-global-items.result.now c.loop-global.global-index c.global-item.result (rw c.deref-global-items.ensures.value c.requires.known.object.globals) c.loop-global-test.true c.global-item.is in
+    let fits : global_fits n (global_view c.global-item.result) ≡ true =
+    passes_at (global_fits n) global_view c.deref-global-items.result.now c.loop-global.global-index c.global-item.result
+    (rw c.deref-global-items.ensures.value c.requires.known.object.globals) c.loop-global-test.true c.global-item.is in
     let within = ltb-true _ _ (global_symbol n (global_view c.global-item.result) fits) in
     omega (arith, within, length-map o.names.items bytes_of)
 
 pub loop-global-preserved : goal.loop-global-preserved
 loop-global-preserved c =
     let o = object_view c.args.home.object.now in
-    filtered_step global_view (row_of_global (map bytes_of c.args.all.now) (home_view c.args.home)) (λ g. is_defined_global g && same c.args.literals (is_string o g)) c.args.home.object.now.globals.items c.loop-global.global-index c.global-item.result (map global_row c.args.found.now.items) _ _ (rw c.deref-global-items.ensures.value at c.loop-global-test.true) (rw c.deref-global-items.ensures.value at c.global-item.is) c.loop-global.invariant c.in_ok-add_global.ensures
+    filtered_step global_view (row_of_global (map bytes_of c.args.all.now) (home_view c.args.home))
+    (λ g. is_defined_global g && same c.args.literals (is_string o g)) c.args.home.object.now.globals.items c.loop-global.global-index c.global-item.result
+    (map global_row c.args.found.now.items) _ _ (rw c.deref-global-items.ensures.value at c.loop-global-test.true)
+    (rw c.deref-global-items.ensures.value at c.global-item.is) c.loop-global.invariant c.in_ok-add_global.ensures

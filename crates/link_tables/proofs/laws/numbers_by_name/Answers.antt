@@ -16,4 +16,5 @@ returns-clause-classes c = λ all os table k t at n o e l.
 
 pub returns-clause-globals : goal.returns-clause-globals
 returns-clause-globals c = λ all os table k t at n o e l.
-    global_there all os _ _ table (record { are = refl }) (found_global_rows all os _ (all_homes all os (each_of_all all os k))) (globals_are_defs all 0 0 os) t at n o (record { is = e }) (known_at all os at o k e) l
+    global_there all os _ _ table (record { are = refl }) (found_global_rows all os _ (all_homes all os (each_of_all all os k)))
+    (globals_are_defs all 0 0 os) t at n o (record { is = e }) (known_at all os at o k e) l

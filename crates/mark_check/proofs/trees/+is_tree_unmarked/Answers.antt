@@ -9,7 +9,8 @@ returns-then-not-may_store t c =
 
 pub is_tree_unmarked-requires : goal.is_tree_unmarked-requires
 is_tree_unmarked-requires t c =
-    let k = kid_below c.args.nodes.now c.args.id.0 c.index-nodes-id.result c.deref-kid-items.result.now c.loop-kid.kid-index (record { 0 = 0 }) c.requires.ordered c.requires.within c.index-nodes-id.is c.deref-kid-items.ensures.value c.loop-kid-test.true in
+    let k = kid_below c.args.nodes.now c.args.id.0 c.index-nodes-id.result c.deref-kid-items.result.now c.loop-kid.kid-index
+    (record { 0 = 0 }) c.requires.ordered c.requires.within c.index-nodes-id.is c.deref-kid-items.ensures.value c.loop-kid-test.true in
     (omega arith, (c.requires.ordered, omega arith))
 
 pub returns-then-not-is_tree_unmarked : goal.returns-then-not-is_tree_unmarked

@@ -8,4 +8,5 @@ decreases-is_tree_unmarked l = l.id.0
 
 -- the trees of the kids that are left decide
 abbrev pub invariant-loop-kid : goal.invariant-loop-kid
-invariant-loop-kid l = are_unmarked l.deeper (trees_at (trees_of l.nodes) (drop l.kid-index l.kid-items)) ≡ are_unmarked l.deeper (trees_at (trees_of l.nodes) l.kid-items)
+invariant-loop-kid l = are_unmarked l.deeper (trees_at (trees_of l.nodes) (drop l.kid-index l.kid-items))
+    ≡ are_unmarked l.deeper (trees_at (trees_of l.nodes) l.kid-items)

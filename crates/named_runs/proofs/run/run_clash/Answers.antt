@@ -10,7 +10,8 @@ use Rattle.named_runs.proofs.run.run_clash.Goals as goal
 
 pub returns : goal.returns
 returns c =
-    named_result Clashing c.args.bound (λ g b. (g.0 ≡ b) × IsBelow b) (image_view c.args.image.now) (policy_of c.args.policy) c.args.bound c.args.input.items _ _ c.run_under.result c.run_under.ensures.run
+    named_result Clashing c.args.bound (λ g b. (g.0 ≡ b) × IsBelow b) (image_view c.args.image.now)
+    (policy_of c.args.policy) c.args.bound c.args.input.items _ _ c.run_under.result c.run_under.ensures.run
     (λ g h s t b few here st.
     let picks : IsBelow g.0 → IsOneToLimit st.0.now.started → pick Clashing st.0.now.turn st.0.now g.0 ≡ Some t = search rules in
     let below : t < 64 = search rules in

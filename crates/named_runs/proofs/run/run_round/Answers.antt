@@ -7,5 +7,6 @@ use Rattle.named_runs.proofs.run.run_round.Goals as goal
 
 pub returns : goal.returns
 returns c =
-    named_result (Round c.args.slot) c.args.bound (λ g b. g.0 ≡ c.args.slot) (image_view c.args.image.now) (policy_of c.args.policy) c.args.bound c.args.input.items _ _ c.run_under.result c.run_under.ensures.run
+    named_result (Round c.args.slot) c.args.bound (λ g b. g.0 ≡ c.args.slot) (image_view c.args.image.now)
+    (policy_of c.args.policy) c.args.bound c.args.input.items _ _ c.run_under.result c.run_under.ensures.run
     (λ g h s t b few here st. (search rules, search rules)) refl (search rules)

@@ -7,5 +7,6 @@ use Rattle.named_traces.proofs.run.trace_round.Goals as goal
 
 pub returns-clause-run : goal.returns-clause-run
 returns-clause-run c =
-    named_pair (Round c.args.slot) c.args.bound (λ g b. g.0 ≡ c.args.slot) (image_view c.args.image.now) (policy_of c.args.policy) c.args.bound c.args.input.items _ _ c.trace_under.result c.trace_under.ensures.run
+    named_pair (Round c.args.slot) c.args.bound (λ g b. g.0 ≡ c.args.slot) (image_view c.args.image.now)
+    (policy_of c.args.policy) c.args.bound c.args.input.items _ _ c.trace_under.result c.trace_under.ensures.run
     (λ g h s t b few here st. (search rules, search rules)) refl (search rules)

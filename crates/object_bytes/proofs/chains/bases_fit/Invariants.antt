@@ -6,4 +6,5 @@ use Rattle.object_bytes.proofs.WholeLaws.{base_is_right}
 use Rattle.object_bytes.proofs.chains.bases_fit.Given as goal
 
 abbrev pub invariant-loop-class : goal.invariant-loop-class
-invariant-loop-class l = (list_all (base_is_right (map class_view l.classes)) (map class_view (drop l.class-index l.classes)) ≡ list_all (base_is_right (map class_view l.classes)) (map class_view l.classes)) × AreSteps (map class_view l.classes) l.known.items
+invariant-loop-class l = (list_all (base_is_right (map class_view l.classes)) (map class_view (drop l.class-index l.classes)) ≡ list_all
+    (base_is_right (map class_view l.classes)) (map class_view l.classes)) × AreSteps (map class_view l.classes) l.known.items

@@ -5,4 +5,9 @@ use Rattle.object_bytes.proofs.ByName.{class_there}
 use Rattle.object_bytes.proofs.chains.class_name.Goals as goal
 
 pub returns : goal.returns
-returns c = record { class = class_view c.index-classes-i.result; at = class_there _ _ _ c.requires c.index-classes-i.is; name_is = ap (λ (z : ObjClass). z.name) c.index-classes-i.is }
+returns c = record {
+  class = class_view c.index-classes-i.result;
+  at = class_there _ _ _ c.requires c.index-classes-i.is;
+  name_is = ap
+      (λ (z : ObjClass). z.name) c.index-classes-i.is;
+}

@@ -12,11 +12,15 @@ is_used-requires c = rw c.deref.ensures.value (omega (arith, c.in_ok-marks.ensur
 
 pub loop-i-preserved : goal.loop-i-preserved
 loop-i-preserved c =
-    let mark : get_or c.deref.result.now c.loop-i.i false ≡ list_any (nat_eq c.loop-i.i) c.args.used.now = rw c.deref.ensures.value (c.in_ok-marks.ensures.each c.loop-i.i c.loop-i-test.true) in
-    let found : (get_or c.deref.result.now c.loop-i.i false || is_source (option_map bytes_of c.args.source.now) c.deref-in-loop-i.result.now) ≡ true = sym c.if-not-is_used.ensures in
-    let used : (list_any (nat_eq c.loop-i.i) c.args.used.now || is_source (option_map bytes_of c.args.source.now) c.index-names-i.result.items) ≡ true = rw (mark, c.deref-in-loop-i.ensures.value) at found in
+    let mark : get_or c.deref.result.now c.loop-i.i false ≡ list_any (nat_eq c.loop-i.i) c.args.used.now =
+    rw c.deref.ensures.value (c.in_ok-marks.ensures.each c.loop-i.i c.loop-i-test.true) in
+    let found : (get_or c.deref.result.now c.loop-i.i false || is_source (option_map bytes_of c.args.source.now) c.deref-in-loop-i.result.now) ≡ true =
+    sym c.if-not-is_used.ensures in
+    let used : (list_any (nat_eq c.loop-i.i) c.args.used.now || is_source (option_map bytes_of c.args.source.now) c.index-names-i.result.items) ≡ true =
+    rw (mark, c.deref-in-loop-i.ensures.value) at found in
     let d = dropped bytes_of _ _ _ c.loop-i-test.true c.index-names-i.is in
-    let size : c.name_size-at.result ≡ length (name_bytes c.index-names-i.result.items) = c.name_size-at.ensures ∙ ap (λ x. length (name_bytes x)) c.deref-in-loop-i-2.ensures.value in (
+    let size : c.name_size-at.result ≡ length (name_bytes c.index-names-i.result.items) = c.name_size-at.ensures
+    ∙ ap (λ x. length (name_bytes x)) c.deref-in-loop-i-2.ensures.value in (
       rw size (unused_more _ _ _ _ _ _ (bytes_of c.index-names-i.result) _ d used c.loop-i.invariant.0),
       rw size (size_more name_bytes _ _ (bytes_of c.index-names-i.result) _ _ d c.loop-i.invariant.1),
     )

@@ -8,4 +8,5 @@ pub record Counts (number index : ℕ) (here all : ℕ) : Type 0 where
   pub same : here ≡ all
 
 abbrev pub invariant-loop-other : goal.invariant-loop-other
-invariant-loop-other l = Counts l.number l.other-index (number_of l.number (map bytes_of (drop l.other-index l.names)) l.name) (number_of 1 (map bytes_of l.names) l.name)
+invariant-loop-other l = Counts l.number l.other-index (number_of l.number (map bytes_of (drop l.other-index l.names)) l.name)
+    (number_of 1 (map bytes_of l.names) l.name)

@@ -5,7 +5,9 @@ use Rattle.object_bytes.proofs.Puts.{fits_at, counts_if_some}
 use Rattle.object_bytes.proofs.writing.put_funcs.Goals as goal
 
 pub put_func-requires-clause-plain : goal.put_func-requires-clause-plain
-put_func-requires-clause-plain c = counts_if_some _ (and_parts _ _ (fits_at func_has_counts func_view _ _ c.func-item.result c.requires.each c.loop-func-test.true c.func-item.is)).0
+put_func-requires-clause-plain c = counts_if_some _ (and_parts _ _
+    (fits_at func_has_counts func_view _ _ c.func-item.result c.requires.each c.loop-func-test.true c.func-item.is)).0
 
 pub put_func-requires-clause-safe : goal.put_func-requires-clause-safe
-put_func-requires-clause-safe c = counts_if_some _ (and_parts _ _ (fits_at func_has_counts func_view _ _ c.func-item.result c.requires.each c.loop-func-test.true c.func-item.is)).1
+put_func-requires-clause-safe c = counts_if_some _ (and_parts _ _
+    (fits_at func_has_counts func_view _ _ c.func-item.result c.requires.each c.loop-func-test.true c.func-item.is)).1

@@ -5,4 +5,5 @@ use Rattle.object_bytes.specs.Spelling.{global_bytes, u32_bytes}
 use Rattle.object_bytes.proofs.writing.put_globals.Given as goal
 
 abbrev pub invariant-loop-global : goal.invariant-loop-global
-invariant-loop-global l = l.out.items ≡ (l.fn.out.items ++ u32_bytes (length l.globals)) ++ flat_map global_bytes (map global_view (take l.global-index l.globals))
+invariant-loop-global l = l.out.items ≡ (l.fn.out.items ++ u32_bytes (length l.globals))
+    ++ flat_map global_bytes (map global_view (take l.global-index l.globals))

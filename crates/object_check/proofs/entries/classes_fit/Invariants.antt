@@ -5,4 +5,5 @@ use Rattle.tx_code.specs.Objects.{class_view}
 use Rattle.object_check.proofs.entries.classes_fit.Given as goal
 
 abbrev pub invariant-loop-class : goal.invariant-loop-class
-invariant-loop-class l = list_all (class_fits l.names) (map class_view l.classes) ≡ list_all (class_fits l.names) (map class_view (drop l.class-index l.classes))
+invariant-loop-class l = list_all (class_fits l.names) (map class_view l.classes)
+    ≡ list_all (class_fits l.names) (map class_view (drop l.class-index l.classes))

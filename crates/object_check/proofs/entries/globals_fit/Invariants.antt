@@ -5,4 +5,5 @@ use Rattle.tx_code.specs.Objects.{global_view}
 use Rattle.object_check.proofs.entries.globals_fit.Given as goal
 
 abbrev pub invariant-loop-global : goal.invariant-loop-global
-invariant-loop-global l = list_all (global_fits l.names) (map global_view l.globals) ≡ list_all (global_fits l.names) (map global_view (drop l.global-index l.globals))
+invariant-loop-global l = list_all (global_fits l.names) (map global_view l.globals)
+    ≡ list_all (global_fits l.names) (map global_view (drop l.global-index l.globals))

@@ -5,4 +5,5 @@ use Rattle.object_check.specs.Order.{ascends_behind}
 use Rattle.object_check.proofs.order.func_symbols_ascend.Given as goal
 
 abbrev pub invariant-loop-func : goal.invariant-loop-func
-invariant-loop-func l = ascends nat_lt (map (λ (f : ObjFunc). f.symbol) l.funcs) ≡ ascends_behind nat_lt l.before (map (λ (f : ObjFunc). f.symbol) (drop l.func-index l.funcs))
+invariant-loop-func l = ascends nat_lt (map (λ (f : ObjFunc). f.symbol) l.funcs)
+    ≡ ascends_behind nat_lt l.before (map (λ (f : ObjFunc). f.symbol) (drop l.func-index l.funcs))

@@ -5,4 +5,5 @@ use Rattle.object_file.proofs.Loop.{with_front}
 use Rattle.object_file.proofs.bodies.lines_at.Given as goal
 
 abbrev pub invariant-loop : goal.invariant-loop
-invariant-loop l = with_front l.lines.items (items (λ x. x) (line_row l.instrs) l.before (l.count - l.counter) l.rest) ≡ list (λ x. x) (line_row l.instrs) l.bytes
+invariant-loop l = with_front l.lines.items (items (λ x. x) (line_row l.instrs) l.before (l.count - l.counter) l.rest)
+    ≡ list (λ x. x) (line_row l.instrs) l.bytes

@@ -7,4 +7,5 @@ use Rattle.object_file.proofs.Loop.{with_front}
 use Rattle.object_file.proofs.globals.globals_at.Given as goal
 
 abbrev pub invariant-loop : goal.invariant-loop
-invariant-loop l = with_front (map global_view l.globals.items) (items (λ (x : GlobalView). x.symbol) (global l.names) l.before (l.count - l.counter) l.rest) ≡ list (λ (x : GlobalView). x.symbol) (global l.names) l.bytes
+invariant-loop l = with_front (map global_view l.globals.items) (items (λ (x : GlobalView). x.symbol) (global l.names) l.before (l.count - l.counter) l.rest)
+    ≡ list (λ (x : GlobalView). x.symbol) (global l.names) l.bytes

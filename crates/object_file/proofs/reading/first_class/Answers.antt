@@ -14,7 +14,8 @@ unfolding first_class
 overflow_add-result c =
     let o = object_view c.args.object.now in
     let parts = parts_of o in
-    let names : c.names_size.result ≡ length (flat_map name_bytes o.names) = c.names_size.ensures ∙ ap (λ x. length (flat_map name_bytes (map bytes_of x))) c.deref.ensures.value in
+    let names : c.names_size.result ≡ length (flat_map name_bytes o.names) = c.names_size.ensures
+    ∙ ap (λ x. length (flat_map name_bytes (map bytes_of x))) c.deref.ensures.value in
     omega (arith, parts.names, parts.classes, c.requires.few)
 
 pub overflow_add-result-2 : goal.overflow_add-result-2
@@ -22,8 +23,10 @@ unfolding first_class
 overflow_add-result-2 c =
     let o = object_view c.args.object.now in
     let parts = parts_of o in
-    let names : c.names_size.result ≡ length (flat_map name_bytes o.names) = c.names_size.ensures ∙ ap (λ x. length (flat_map name_bytes (map bytes_of x))) c.deref.ensures.value in
-    let source : c.source_size.result ≡ length (source_bytes o.version o.names o.source) = c.source_size.ensures ∙ sym (source_size o.version o.names o.source) in
+    let names : c.names_size.result ≡ length (flat_map name_bytes o.names) = c.names_size.ensures
+    ∙ ap (λ x. length (flat_map name_bytes (map bytes_of x))) c.deref.ensures.value in
+    let source : c.source_size.result ≡ length (source_bytes o.version o.names o.source) = c.source_size.ensures
+    ∙ sym (source_size o.version o.names o.source) in
     omega (arith, parts.names, parts.classes, c.requires.few)
 
 pub overflow_add-result-3 : goal.overflow_add-result-3
@@ -31,8 +34,10 @@ unfolding first_class
 overflow_add-result-3 c =
     let o = object_view c.args.object.now in
     let parts = parts_of o in
-    let names : c.names_size.result ≡ length (flat_map name_bytes o.names) = c.names_size.ensures ∙ ap (λ x. length (flat_map name_bytes (map bytes_of x))) c.deref.ensures.value in
-    let source : c.source_size.result ≡ length (source_bytes o.version o.names o.source) = c.source_size.ensures ∙ sym (source_size o.version o.names o.source) in
+    let names : c.names_size.result ≡ length (flat_map name_bytes o.names) = c.names_size.ensures
+    ∙ ap (λ x. length (flat_map name_bytes (map bytes_of x))) c.deref.ensures.value in
+    let source : c.source_size.result ≡ length (source_bytes o.version o.names o.source) = c.source_size.ensures
+    ∙ sym (source_size o.version o.names o.source) in
     omega (arith, parts.names, parts.classes, c.requires.few)
 
 pub returns : goal.returns
@@ -40,6 +45,8 @@ unfolding first_class
 returns c =
     let o = object_view c.args.object.now in
     let parts = parts_of o in
-    let names : c.names_size.result ≡ length (flat_map name_bytes o.names) = c.names_size.ensures ∙ ap (λ x. length (flat_map name_bytes (map bytes_of x))) c.deref.ensures.value in
-    let source : c.source_size.result ≡ length (source_bytes o.version o.names o.source) = c.source_size.ensures ∙ sym (source_size o.version o.names o.source) in
+    let names : c.names_size.result ≡ length (flat_map name_bytes o.names) = c.names_size.ensures
+    ∙ ap (λ x. length (flat_map name_bytes (map bytes_of x))) c.deref.ensures.value in
+    let source : c.source_size.result ≡ length (source_bytes o.version o.names o.source) = c.source_size.ensures
+    ∙ sym (source_size o.version o.names o.source) in
     omega (arith, parts.names, parts.classes, c.requires.few)

@@ -7,4 +7,5 @@ pub first_unused-requires : goal.first_unused-requires
 first_unused-requires c = rw c.deref-2.ensures.value (omega (arith, (parts_of (object_view c.args.object.now)).names, c.requires.few))
 
 pub first_wrong_base-requires-clause-few : goal.first_wrong_base-requires-clause-few
-first_wrong_base-requires-clause-few c = rw (c.deref-3.ensures.value, c.first_class.ensures) (omega (arith, (parts_of (object_view c.args.object.now)).classes, c.requires.few))
+first_wrong_base-requires-clause-few c = rw (c.deref-3.ensures.value, c.first_class.ensures)
+    (omega (arith, (parts_of (object_view c.args.object.now)).classes, c.requires.few))

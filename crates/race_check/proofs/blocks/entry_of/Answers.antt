@@ -12,7 +12,8 @@ back-preserved-then-item-t c =
     let next : c.back.k ≡ c.back.k - 1 + 1 = omega (arith, c.back-test.true) in
     let lt : c.back.k - 1 < c.args.l = (let le = c.back.invariant.within in omega (arith, c.back-test.true, le)) in
     let h = subst (λ z. Back c.args.items.now c.args.t c.args.l z c.back.found) next c.back.invariant in
-    back_further c.args.items.now c.args.t c.args.l k c.item_at-item.result c.item_at-item.ensures lt c.back.found h (λ e q. c.if-item-t.true e) (λ e q. c.if-item-t.true e)
+    back_further c.args.items.now c.args.t c.args.l k c.item_at-item.result c.item_at-item.ensures lt c.back.found h (λ e q. c.if-item-t.true e)
+    (λ e q. c.if-item-t.true e)
 
 pub returns-then-is_leave : goal.returns-then-is_leave
 returns-then-is_leave c =
@@ -20,7 +21,8 @@ returns-then-is_leave c =
     let next : c.back.k ≡ c.back.k - 1 + 1 = omega (arith, c.back-test.true) in
     let lt : c.back.k - 1 < c.args.l = (let le = c.back.invariant.within in omega (arith, c.back-test.true, le)) in
     let h = subst (λ z. Back c.args.items.now c.args.t c.args.l z c.back.found) next c.back.invariant in
-    back_left c.args.items.now c.args.t c.args.l k c.item_at-item.result c.item_at-item.ensures lt c.back.found h c.if-item-t.false (c.is_leave.ensures.yes c.if-is_leave.true)
+    back_left c.args.items.now c.args.t c.args.l k c.item_at-item.result c.item_at-item.ensures lt c.back.found h c.if-item-t.false
+    (c.is_leave.ensures.yes c.if-is_leave.true)
 
 pub back-preserved-then-is_enter : goal.back-preserved-then-is_enter
 back-preserved-then-is_enter c =
@@ -28,7 +30,8 @@ back-preserved-then-is_enter c =
     let next : c.back.k ≡ c.back.k - 1 + 1 = omega (arith, c.back-test.true) in
     let lt : c.back.k - 1 < c.args.l = (let le = c.back.invariant.within in omega (arith, c.back-test.true, le)) in
     let h = subst (λ z. Back c.args.items.now c.args.t c.args.l z c.back.found) next c.back.invariant in
-    back_entered c.args.items.now c.args.t c.args.l k c.item_at-item.result c.item_at-item.ensures lt c.back.found h c.if-item-t.false (c.is_enter.ensures.yes c.if-is_enter.true)
+    back_entered c.args.items.now c.args.t c.args.l k c.item_at-item.result c.item_at-item.ensures lt c.back.found h c.if-item-t.false
+    (c.is_enter.ensures.yes c.if-is_enter.true)
 
 pub back-preserved : goal.back-preserved
 back-preserved c =

@@ -20,7 +20,8 @@ items-preserved c = record {
   blocked = c.in_ok-put-2.ensures;
   marked = c.in_ok-put.ensures;
   listed = more_listed c.args.items.now c.requires c.items.words.items c.add_races.new.words.items c.row.result.now.latest c.items.seen c.items.j
-      c.item_at-item.result c.item_at-item.ensures (subst (λ row. Right c.args.items.now row c.items.j) (sym c.row.ensures) c.reach.ensures.right) c.items.invariant.marked c.in_ok-add_races.ensures c.items.invariant.listed;
+      c.item_at-item.result c.item_at-item.ensures (subst (λ row. Right c.args.items.now row c.items.j)
+      (sym c.row.ensures) c.reach.ensures.right) c.items.invariant.marked c.in_ok-add_races.ensures c.items.invariant.listed;
 }
 
 pub returns : goal.returns

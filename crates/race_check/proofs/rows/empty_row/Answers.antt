@@ -9,7 +9,8 @@ zeros n s = by (cases_lt s n)
   where
     by : (s < n) ⊎ (n ≤ s) → slice_index (replicate {A = ℕ} n 0) s ≡ 0
     by (inl lt) = get_or-replicate n s 0 0 lt
-    by (inr le) = let size : length (replicate {A = ℕ} n 0) ≡ n = length-replicate n 0 in let past : length (replicate {A = ℕ} n 0) ≤ s = omega (arith, size, le) in get_or_past (replicate {A = ℕ} n 0) s 0 past
+    by (inr le) = let size : length (replicate {A = ℕ} n 0) ≡ n = length-replicate n 0 in let past : length (replicate {A = ℕ} n 0) ≤ s =
+        omega (arith, size, le) in get_or_past (replicate {A = ℕ} n 0) s 0 past
 
 pub returns : goal.returns
 returns c s = zeros 64 s

@@ -19,11 +19,19 @@ returns c =
       units = record {
         objects = objects;
         are_objects = c.in_ok-objects.ensures.units;
-        decides = subst (λ (os : List ObjectView). DecidesObjects c.args.options.now c.args.file.now os c.args.input.items c.args.entries.now d.answer (map written_of d.writes.items)) views
-            (subst (λ (input : List ℕ). DecidesObjects c.args.options.now c.args.file.now (map object_view c.as_slice-2.result.now) input c.args.entries.now d.answer (map written_of d.writes.items)) bytes
-            (subst (λ (x : Decision). DecidesObjects c.args.options.now c.args.file.now (map object_view c.as_slice-2.result.now) c.in_ok-given.given.items c.args.entries.now x.answer (map written_of x.writes.items)) (sym h.same) c.in_ok-decision.ensures));
+        decides = subst (λ (os : List ObjectView). DecidesObjects c.args.options.now c.args.file.now os c.args.input.items c.args.entries.now d.answer
+            (map written_of d.writes.items)) views
+            (subst (λ (input : List ℕ). DecidesObjects c.args.options.now c.args.file.now
+            (map object_view c.as_slice-2.result.now) input c.args.entries.now d.answer (map written_of d.writes.items)) bytes
+            (subst (λ (x : Decision). DecidesObjects c.args.options.now c.args.file.now
+            (map object_view c.as_slice-2.result.now) c.in_ok-given.given.items c.args.entries.now x.answer (map written_of x.writes.items))
+            (sym h.same) c.in_ok-decision.ensures));
       };
       source = subst (λ (p : Program). IsOfLinked (record { program = p; choices = c.args.choices.now }) c.args.input.items d.answer) c.program.ensures.program
-          (subst (λ (input : List ℕ). IsOfLinked (record { program = c.program.result.now; choices = c.args.choices.now }) input d.answer) c.as_slice-3.ensures.value h.source);
+          (subst (λ (input : List ℕ). IsOfLinked (record {
+            program = c.program.result.now;
+            choices =
+                c.args.choices.now;
+          }) input d.answer) c.as_slice-3.ensures.value h.source);
     })
     c.held_against_source.ensures

@@ -22,5 +22,6 @@ returns c =
     IfOk-weaker c.with_objects.result _ _ (λ d h. record {
       objects = objects;
       are_objects = subst (λ (ns : List (List ℕ)). AreUnitObjects (program_of p) ns objects) names c.in_ok-objects.ensures.units;
-      decides = subst (λ (os : List ObjectView). DecidesObjects c.args.words.now p os c.args.input.now c.args.order.now d.answer (map written_of d.writes.items)) views h;
+      decides = subst (λ (os : List ObjectView). DecidesObjects c.args.words.now p os c.args.input.now c.args.order.now d.answer
+          (map written_of d.writes.items)) views h;
     }) c.with_objects.ensures

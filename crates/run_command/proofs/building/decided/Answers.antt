@@ -11,14 +11,17 @@ built-requires c = let k = rw c.in-Accepted.is at c.in_ok-safe.ensures in record
 
 pub returns-in-Accepted : goal.returns-in-Accepted
 returns-in-Accepted c =
-    let texts : map (λ t. t.items) c.as_slice-2.result.now ≡ c.args.text.now ∷ [] = ap (λ l. map (λ t. t.items) l) c.as_slice-2.ensures.value ∙ c.in_ok-texts.ensures in
+    let texts : map (λ t. t.items) c.as_slice-2.result.now ≡ c.args.text.now ∷ [] = ap (λ l. map (λ t. t.items) l) c.as_slice-2.ensures.value
+    ∙ c.in_ok-texts.ensures in
     IfOk-weaker c.built.result _ _
-    (λ d h. builds (checked_in c.in-Accepted.safe) (subst (λ l. Accepts l (checked_in c.in-Accepted.safe)) texts (rw c.in-Accepted.is at c.in_ok-safe.ensures)) h) c.built.ensures
+    (λ d h. builds (checked_in c.in-Accepted.safe) (subst (λ l. Accepts l (checked_in c.in-Accepted.safe)) texts
+    (rw c.in-Accepted.is at c.in_ok-safe.ensures)) h) c.built.ensures
 
 pub returns : goal.returns
 returns c =
     let names : map string_bytes c.as_slice.result.now ≡ c.args.name.now ∷ [] = ap (λ l. map string_bytes l) c.as_slice.ensures.value ∙ c.in_ok-names.ensures in
-    let texts : map (λ t. t.items) c.as_slice-2.result.now ≡ c.args.text.now ∷ [] = ap (λ l. map (λ t. t.items) l) c.as_slice-2.ensures.value ∙ c.in_ok-texts.ensures in
+    let texts : map (λ t. t.items) c.as_slice-2.result.now ≡ c.args.text.now ∷ [] = ap (λ l. map (λ t. t.items) l) c.as_slice-2.ensures.value
+    ∙ c.in_ok-texts.ensures in
     let writes = map written_of c.in-Refused.decision.writes.items in
     refuses (subst (λ l. RefusesTexts l (c.args.text.now ∷ []) c.in-Refused.decision.answer writes) names
     (subst (λ l. RefusesTexts (map string_bytes c.as_slice.result.now) l c.in-Refused.decision.answer writes) texts

@@ -10,6 +10,7 @@ pub returns : goal.returns
 returns c = IfOk-weaker c.put.result _ _ (λ d h. record {
   object = object_view c.in_ok-object.object;
   is_object = c.in_ok-object.ensures.object;
-  of = subst (λ (name : List ℕ). IsUnitObject (program_of (checked_in c.args.safe.now)) name 0 (object_view c.in_ok-object.object)) c.as_bytes.ensures.value c.in_ok-object.ensures.unit;
+  of = subst (λ (name : List ℕ). IsUnitObject (program_of (checked_in c.args.safe.now)) name 0
+      (object_view c.in_ok-object.object)) c.as_bytes.ensures.value c.in_ok-object.ensures.unit;
   puts = h;
 }) c.put.ensures

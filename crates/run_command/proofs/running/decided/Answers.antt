@@ -11,19 +11,25 @@ use Rattle.exec_command.proofs.Texts.{kept_below}
 use Rattle.run_command.proofs.running.decided.Goals as goal
 
 pub with_texts-requires-clause-threads : goal.with_texts-requires-clause-threads
-with_texts-requires-clause-threads c = kept_below c.args.schedule.now c.in-Ok.ensures.entries c.as_slice-in-Ok.result.now most_entries c.in-Ok.ensures.spelled (c.as_slice-in-Ok.ensures.value ∙ c.in-Ok.ensures.kept.0)
+with_texts-requires-clause-threads c = kept_below c.args.schedule.now c.in-Ok.ensures.entries c.as_slice-in-Ok.result.now most_entries c.in-Ok.ensures.spelled
+    (c.as_slice-in-Ok.ensures.value ∙ c.in-Ok.ensures.kept.0)
 
 pub returns-in-Ok : goal.returns-in-Ok
 returns-in-Ok c =
     IfOk-weaker c.with_texts.result _ _ (λ d h.
     scheduled c.in-Ok.ensures.entries c.in-Ok.ensures.spelled
-    (subst (λ l. DecidesTexts c.args.run.now.options c.args.run.now.fold (map string_bytes c.args.run.now.sources.items) (map (λ text. text.items) c.args.texts.now) c.args.input.items l d.answer (map written_of d.writes.items)) (c.as_slice-in-Ok.ensures.value ∙ c.in-Ok.ensures.kept.0)
-    (subst (λ s. DecidesTexts c.args.run.now.options c.args.run.now.fold (map string_bytes s) (map (λ text. text.items) c.args.texts.now) c.args.input.items c.as_slice-in-Ok.result.now d.answer (map written_of d.writes.items)) c.as_slice.ensures.value h)))
+    (subst (λ l. DecidesTexts c.args.run.now.options c.args.run.now.fold (map string_bytes c.args.run.now.sources.items)
+    (map (λ text. text.items) c.args.texts.now) c.args.input.items l d.answer (map written_of d.writes.items))
+    (c.as_slice-in-Ok.ensures.value ∙ c.in-Ok.ensures.kept.0)
+    (subst (λ s. DecidesTexts c.args.run.now.options c.args.run.now.fold (map string_bytes s)
+    (map (λ text. text.items) c.args.texts.now) c.args.input.items c.as_slice-in-Ok.result.now d.answer
+    (map written_of d.writes.items)) c.as_slice.ensures.value h)))
     c.with_texts.ensures
 
 pub returns-in-Err-BadSchedule : goal.returns-in-Err-BadSchedule
 returns-in-Err-BadSchedule c =
     IfOk-weaker c.bad_schedule.result _ _ (λ d h.
     bad_schedule c.in-Err-BadSchedule.line (rw c.in-Err-BadSchedule.field-0-is at c.in-Err-BadSchedule.ensures)
-    (subst (λ n. Refuses 10 (bad_schedule_line n c.in-Err-BadSchedule.line) status.BadSchedule d.answer (map written_of d.writes.items)) c.schedule_name.ensures h))
+    (subst (λ n. Refuses 10 (bad_schedule_line n c.in-Err-BadSchedule.line) status.BadSchedule d.answer
+    (map written_of d.writes.items)) c.schedule_name.ensures h))
     c.bad_schedule.ensures

@@ -31,5 +31,6 @@ returns-in-Some c =
     let behind : c.split_at.result.1.now ≡ back c.args.text.now = c.split_at.ensures.back ∙ ap (λ k. drop k c.args.text.now) c.digits_at.ensures in
     subst (BeginsWith c.args.text.now c.args.most c.in-Some.value) (sym behind)
     (is_written c.args.text.now c.args.most c.in-Some.value (omega arith)
-    (λ p. true≢false (sym (c.is_padded.ensures.1 (subst (λ ds. (length ds ≡ 0) ⊎ ((1 < length ds) × (get_or ds 0 0 ≡ 48))) (sym digits) p)) ∙ c.if-is_padded.false))
+    (λ p. true≢false (sym (c.is_padded.ensures.1 (subst (λ ds. (length ds ≡ 0) ⊎ ((1 < length ds) × (get_or ds 0 0 ≡ 48))) (sym digits) p))
+    ∙ c.if-is_padded.false))
     (c.in-Some.ensures.0 ∙ ap (read_on 0) digits) c.in-Some.ensures.1 (c.split_at.ensures.by_index.0 ∙ ap₂ (λ x y. x ++ y) digits behind))

@@ -6,16 +6,19 @@ use Rattle.source_verdict.proofs.front.read_units.Goals as goal
 
 pub returns-in_default-clause-unread : goal.returns-in_default-clause-unread
 returns-in_default-clause-unread c =
-    first_unread c.args.texts.now c.texts.index c.index-texts-index.result c.index-texts-index.result.items c.texts.units.items Memory c.texts-test.true (ap (λ text. text.items) c.index-texts-index.is) c.texts.invariant tt
+    first_unread c.args.texts.now c.texts.index c.index-texts-index.result c.index-texts-index.result.items c.texts.units.items Memory c.texts-test.true
+    (ap (λ text. text.items) c.index-texts-index.is) c.texts.invariant tt
 
 pub returns-in-Err-clause-unread : goal.returns-in-Err-clause-unread
 returns-in-Err-clause-unread c =
-    first_unread c.args.texts.now c.texts.index c.index-texts-index.result c.as_slice.result.now c.texts.units.items c.in-Err.fault c.texts-test.true (c.as_slice.ensures.value ∙ ap (λ text. text.items) c.index-texts-index.is) c.texts.invariant
+    first_unread c.args.texts.now c.texts.index c.index-texts-index.result c.as_slice.result.now c.texts.units.items c.in-Err.fault c.texts-test.true
+    (c.as_slice.ensures.value ∙ ap (λ text. text.items) c.index-texts-index.is) c.texts.invariant
     (subst (λ n. IsNotRead n c.as_slice.result.now c.in-Err.fault) c.in-Some.ensures c.in-Err.ensures.unread)
 
 pub returns-then-is_err-clause-unread : goal.returns-then-is_err-clause-unread
 returns-then-is_err-clause-unread c =
-    first_unread c.args.texts.now c.texts.index c.index-texts-index.result c.index-texts-index.result.items c.texts.units.items Memory c.texts-test.true (ap (λ text. text.items) c.index-texts-index.is) c.texts.invariant tt
+    first_unread c.args.texts.now c.texts.index c.index-texts-index.result c.index-texts-index.result.items c.texts.units.items Memory c.texts-test.true
+    (ap (λ text. text.items) c.index-texts-index.is) c.texts.invariant tt
 
 pub texts-preserved : goal.texts-preserved
 texts-preserved c =

@@ -12,11 +12,18 @@ pub info-requires-clause-there : goal.info-requires-clause-there
 info-requires-clause-there c = def_at (has_body (program_of c.args.program.now)) c.args.kept.now c.loop-def.def-index _ c.requires.there c.loop-def-test.true
 
 pub info-requires-clause-frame : goal.info-requires-clause-frame
-info-requires-clause-frame c = c.requires.can.frames _ (def_at (has_body (program_of c.args.program.now)) c.args.kept.now c.loop-def.def-index _ c.requires.there c.loop-def-test.true)
+info-requires-clause-frame c = c.requires.can.frames _
+    (def_at (has_body (program_of c.args.program.now)) c.args.kept.now c.loop-def.def-index _ c.requires.there c.loop-def-test.true)
 
 pub loop-def-preserved : goal.loop-def-preserved
 loop-def-preserved c = (
   infos_more (record { program = c.args.program.now; choices = c.args.choices.now }) c.deref.result.now c.loop-def.infos.items c.push.new.self.items c.in_ok-info.field-0 c.args.kept.now c.loop-def.def-index _ _ (drop_more c.args.kept.now c.loop-def.def-index _ c.loop-def-test.true) c.deref.ensures.value c.in_ok-info.ensures.shown c.in_ok-push.ensures.items c.loop-def.invariant.0,
-  image_more (λ (i : FuncInfo). Some i.body) (body_found c.args.program.now) c.loop-def.infos.items c.push.new.self.items c.in_ok-info.field-0 c.args.kept.now c.loop-def.def-index _ _ (drop_more c.args.kept.now c.loop-def.def-index _ c.loop-def-test.true) c.in_ok-info.ensures.body c.in_ok-push.ensures.items c.loop-def.invariant.1,
-  λ sig. image_more (is_of_type (classes_of c.args.program.now.classes.items) sig) (type_found (program_of c.args.program.now) sig) c.loop-def.infos.items c.push.new.self.items c.in_ok-info.field-0 c.args.kept.now c.loop-def.def-index _ _ (drop_more c.args.kept.now c.loop-def.def-index _ c.loop-def-test.true) (c.in_ok-info.ensures.types sig) c.in_ok-push.ensures.items (c.loop-def.invariant.2 sig),
+  image_more (λ (i : FuncInfo). Some i.body)
+      (body_found c.args.program.now) c.loop-def.infos.items c.push.new.self.items c.in_ok-info.field-0 c.args.kept.now c.loop-def.def-index _ _
+      (drop_more c.args.kept.now c.loop-def.def-index _ c.loop-def-test.true) c.in_ok-info.ensures.body c.in_ok-push.ensures.items c.loop-def.invariant.1,
+  λ sig. image_more (is_of_type (classes_of c.args.program.now.classes.items) sig)
+      (type_found
+      (program_of c.args.program.now) sig) c.loop-def.infos.items c.push.new.self.items c.in_ok-info.field-0 c.args.kept.now c.loop-def.def-index _ _
+      (drop_more c.args.kept.now c.loop-def.def-index _ c.loop-def-test.true) (c.in_ok-info.ensures.types sig) c.in_ok-push.ensures.items
+      (c.loop-def.invariant.2 sig),
 )

@@ -14,12 +14,14 @@ pub returns-then-is_name : goal.returns-then-is_name
 returns-then-is_name c =
     let j : ℕ = c.args.most - (c.loop-passed._passed + 1) in
     let h : c.loop-passed._passed + suc j ≡ c.args.most = omega arith in
-    sym (c.loop-passed.invariant (suc j) h ∙ left_found (classes_of c.args.classes.now) c.args.name.now j c.loop-passed.below c.in-Some.base (sym c.in-Some.ensures) (sym (ap (λ z. name_eq z c.args.name.now) c.class_name.ensures) ∙ sym c.if-is_name.ensures))
+    sym (c.loop-passed.invariant (suc j) h ∙ left_found (classes_of c.args.classes.now) c.args.name.now j c.loop-passed.below c.in-Some.base
+    (sym c.in-Some.ensures) (sym (ap (λ z. name_eq z c.args.name.now) c.class_name.ensures) ∙ sym c.if-is_name.ensures))
 
 pub loop-passed-preserved : goal.loop-passed-preserved
 loop-passed-preserved c k e =
     let h : c.loop-passed._passed + suc k ≡ c.args.most = omega arith in
-    c.loop-passed.invariant (suc k) h ∙ left_next (classes_of c.args.classes.now) c.args.name.now k c.loop-passed.below c.in-Some.base (sym c.in-Some.ensures) (sym (ap (λ z. name_eq z c.args.name.now) c.class_name.ensures) ∙ sym c.if-is_name.ensures)
+    c.loop-passed.invariant (suc k) h ∙ left_next (classes_of c.args.classes.now) c.args.name.now k c.loop-passed.below c.in-Some.base (sym c.in-Some.ensures)
+    (sym (ap (λ z. name_eq z c.args.name.now) c.class_name.ensures) ∙ sym c.if-is_name.ensures)
 
 pub returns : goal.returns
 returns c =

@@ -5,5 +5,6 @@ use Rattle.src_bind.specs.Defs.{defs_of}
 use Rattle.src_bind.proofs.globals.offsets.Given as goal
 
 abbrev pub invariant-loop-def : goal.invariant-loop-def
-invariant-loop-def l = (l.offsets.items ++ global_offsets l.end (map (global_size (program_of l.program)) (defs_of (drop l.def-index l.kept))) ≡ global_offsets 0 (map (global_size (program_of l.program)) (defs_of l.kept)))
+invariant-loop-def l = (l.offsets.items ++ global_offsets l.end (map (global_size (program_of l.program)) (defs_of (drop l.def-index l.kept)))
+    ≡ global_offsets 0 (map (global_size (program_of l.program)) (defs_of l.kept)))
     × (globals_end l.end (map (global_size (program_of l.program)) (defs_of (drop l.def-index l.kept))) ≤ 1048576)

@@ -5,4 +5,5 @@ use Rattle.src_bind.proofs.CallWords.{bared}
 use Rattle.src_bind.proofs.infos.bare.Goals as goal
 
 pub returns : goal.returns
-returns c = bared (out-FnTy c.in_ok-params.field-0).params (out-FnTy c.in_ok-params.field-0).ret c.in_ok-params.field-0 refl refl ∙ ap unsafe c.in_ok-params.ensures
+returns c = bared (out-FnTy c.in_ok-params.field-0).params (out-FnTy c.in_ok-params.field-0).ret c.in_ok-params.field-0 refl refl
+    ∙ ap unsafe c.in_ok-params.ensures

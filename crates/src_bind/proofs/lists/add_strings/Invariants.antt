@@ -5,4 +5,5 @@ use Rattle.src_bind.specs.Defs.{defs_of}
 use Rattle.src_bind.proofs.lists.add_strings.Given as goal
 
 abbrev pub invariant-loop-def : goal.invariant-loop-def
-invariant-loop-def l = defs_of l.out.items ++ filter (λ (d : Def). flag_eq l.strings (is_string d)) (defs_of (drop l.def-index l.defs)) ≡ defs_of l.initial.out.items ++ filter (λ (d : Def). flag_eq l.strings (is_string d)) (defs_of l.defs)
+invariant-loop-def l = defs_of l.out.items ++ filter (λ (d : Def). flag_eq l.strings (is_string d)) (defs_of (drop l.def-index l.defs))
+    ≡ defs_of l.initial.out.items ++ filter (λ (d : Def). flag_eq l.strings (is_string d)) (defs_of l.defs)

@@ -6,4 +6,5 @@ use Rattle.src_bind.specs.Defs.{defs_of}
 use Rattle.src_bind.proofs.lists.classes_in.Given as goal
 
 abbrev pub invariant-loop-class : goal.invariant-loop-class
-invariant-loop-class l = defs_of l.out.items ++ classes_defined (classes_of l.classes) l.unit l.class-index (map definition_of (drop l.class-index l.tree.classes.items)) ≡ classes_defined (classes_of l.classes) l.unit 0 (unit_of l.tree).classes
+invariant-loop-class l = defs_of l.out.items ++ classes_defined (classes_of l.classes) l.unit l.class-index
+    (map definition_of (drop l.class-index l.tree.classes.items)) ≡ classes_defined (classes_of l.classes) l.unit 0 (unit_of l.tree).classes

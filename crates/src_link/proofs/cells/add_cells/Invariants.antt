@@ -6,4 +6,6 @@ use Rattle.src_bind.specs.Tables.{typed, linked_of}
 use Rattle.src_link.proofs.cells.add_cells.Given as goal
 
 abbrev pub invariant-loop-cell : goal.invariant-loop-cell
-invariant-loop-cell l = l.cells.items ++ cells_at (typed (given l.bound)) (linked_of (given l.bound)) l.unit l.offset (map cell_of (drop l.cell-index l.global.init.items)) ≡ l.initial.cells.items ++ cells_at (typed (given l.bound)) (linked_of (given l.bound)) l.unit l.offset (global_of l.global).init
+invariant-loop-cell l = l.cells.items ++ cells_at (typed (given l.bound)) (linked_of (given l.bound)) l.unit l.offset
+    (map cell_of (drop l.cell-index l.global.init.items)) ≡ l.initial.cells.items
+    ++ cells_at (typed (given l.bound)) (linked_of (given l.bound)) l.unit l.offset (global_of l.global).init

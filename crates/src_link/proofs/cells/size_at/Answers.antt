@@ -6,10 +6,13 @@ use Rattle.src_bind.proofs.Stay.{holds_by, too_large, sized_by}
 use Rattle.src_link.proofs.cells.size_at.Goals as goal
 
 pub size_align-requires-clause-complete : goal.size_align-requires-clause-complete
-size_align-requires-clause-complete c = holds_by (program_of c.args.program.now) (def_of c.args.def.now) (global_of c.in-Some.global.now) _ c.requires.sized c.in-Some.ensures (ap classes_of c.deref.ensures.value)
+size_align-requires-clause-complete c = holds_by (program_of c.args.program.now) (def_of c.args.def.now)
+    (global_of c.in-Some.global.now) _ c.requires.sized c.in-Some.ensures (ap classes_of c.deref.ensures.value)
 
 pub unreachable-requires : goal.unreachable-requires
-unreachable-requires c = too_large (program_of c.args.program.now) (def_of c.args.def.now) (global_of c.in-Some.global.now) _ c.requires.sized c.in-Some.ensures (ap classes_of c.deref.ensures.value) c.in_default-size_align.ensures
+unreachable-requires c = too_large (program_of c.args.program.now) (def_of c.args.def.now) (global_of c.in-Some.global.now) _ c.requires.sized c.in-Some.ensures
+    (ap classes_of c.deref.ensures.value) c.in_default-size_align.ensures
 
 pub returns : goal.returns
-returns c = sized_by (program_of c.args.program.now) (def_of c.args.def.now) (global_of c.in-Some.global.now) _ c.in-Ok.found c.in-Some.ensures (ap classes_of c.deref.ensures.value) c.in-Ok.ensures
+returns c = sized_by (program_of c.args.program.now) (def_of c.args.def.now) (global_of c.in-Some.global.now) _ c.in-Ok.found c.in-Some.ensures
+    (ap classes_of c.deref.ensures.value) c.in-Ok.ensures

@@ -7,4 +7,5 @@ use Rattle.src_link.proofs.fits.frames_fit.Given as goal
 
 -- all frames fit where those that are left do
 abbrev pub invariant-loop-func : goal.invariant-loop-func
-invariant-loop-func l = FramesFit (classes_of l.classes) (map (func_of (trees_of l.unit.nodes.items)) (drop l.func-index l.unit.funcs.items)) → FramesFit (classes_of l.classes) (unit_of l.unit).funcs
+invariant-loop-func l = FramesFit (classes_of l.classes) (map (func_of (trees_of l.unit.nodes.items)) (drop l.func-index l.unit.funcs.items))
+    → FramesFit (classes_of l.classes) (unit_of l.unit).funcs

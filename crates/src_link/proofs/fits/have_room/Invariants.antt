@@ -5,5 +5,6 @@ use Rattle.src_bind.specs.Defs.{defs_of}
 use Rattle.src_link.proofs.fits.have_room.Given as goal
 
 abbrev pub invariant-loop-def : goal.invariant-loop-def
-invariant-loop-def l = (globals_end l.end (map (global_size (program_of l.program)) (defs_of (drop l.def-index l.kept))) ≡ globals_end 0 (map (global_size (program_of l.program)) (defs_of l.kept)))
+invariant-loop-def l = (globals_end l.end (map (global_size (program_of l.program)) (defs_of (drop l.def-index l.kept))) ≡ globals_end 0
+    (map (global_size (program_of l.program)) (defs_of l.kept)))
     × (l.end ≤ 1048576)

@@ -6,4 +6,5 @@ use Rattle.src_bind.proofs.Stay.{sized_by}
 use Rattle.src_link.proofs.fits.size_found.Goals as goal
 
 pub returns-in-Ok-clause-size : goal.returns-in-Ok-clause-size
-returns-in-Ok-clause-size c = sized_by (program_of c.args.program.now) (def_of c.args.def.now) (global_of c.in-Some.global.now) _ c.in-Ok.found c.in-Some.ensures (ap classes_of c.deref-2.ensures.value) c.in-Ok.ensures
+returns-in-Ok-clause-size c = sized_by (program_of c.args.program.now) (def_of c.args.def.now)
+    (global_of c.in-Some.global.now) _ c.in-Ok.found c.in-Some.ensures (ap classes_of c.deref-2.ensures.value) c.in-Ok.ensures

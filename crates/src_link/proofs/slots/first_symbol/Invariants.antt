@@ -5,4 +5,5 @@ use Rattle.src_link.specs.Slots.{first_symbol}
 use Rattle.src_link.proofs.slots.first_symbol.Given as goal
 
 abbrev pub invariant-loop-unit : goal.invariant-loop-unit
-invariant-loop-unit l = first_symbol l.class (function_of l.record) (map unit_of (drop l.unit-index l.program.units.items)) ≡ first_symbol l.class (function_of l.record) (program_of l.program).units
+invariant-loop-unit l = first_symbol l.class (function_of l.record) (map unit_of (drop l.unit-index l.program.units.items))
+    ≡ first_symbol l.class (function_of l.record) (program_of l.program).units

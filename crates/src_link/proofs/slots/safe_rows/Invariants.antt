@@ -6,4 +6,5 @@ use Rattle.src_link.specs.Slots.{safe_rows}
 use Rattle.src_link.proofs.slots.safe_rows.Given as goal
 
 abbrev pub invariant-loop-i : goal.invariant-loop-i
-invariant-loop-i l = rows l.all.items ++ safe_rows (program_of (checked_in l.safe)) l.i (map unit_of (drop l.i l.units)) ≡ safe_rows (program_of (checked_in l.safe)) 0 (map unit_of l.units)
+invariant-loop-i l = rows l.all.items ++ safe_rows (program_of (checked_in l.safe)) l.i (map unit_of (drop l.i l.units))
+    ≡ safe_rows (program_of (checked_in l.safe)) 0 (map unit_of l.units)

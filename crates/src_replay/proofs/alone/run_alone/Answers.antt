@@ -30,9 +30,11 @@ returns-in-Some c =
     let b = given c.args.bound.now in
     let r = c.told.result in
     let t = c.told.ensures in
-    let ran = subst (λ z. RanAlone b c.args.input.now z c.args.most c.entries.turn c.entries.world (steps_of c.entries.ahead) c.entries.events.items) (sym t.order) c.entries.invariant.ran in
+    let ran = subst (λ z. RanAlone b c.args.input.now z c.args.most c.entries.turn c.entries.world (steps_of c.entries.ahead) c.entries.events.items)
+    (sym t.order) c.entries.invariant.ran in
     subst (λ (z : AloneEnd). IsRunAlone (source (program_in b)) (layout_in b) (first_in b c.args.input.now) c.args.most r z) (sym t.stopped)
-    (alone_ended b c.args.input.now c.args.most c.entries.turn c.entries.world (steps_of c.entries.ahead) c.entries.events.items c.in-Some.end r ran c.in-Some.is t.out t.events t.cost)
+    (alone_ended b c.args.input.now c.args.most c.entries.turn c.entries.world
+    (steps_of c.entries.ahead) c.entries.events.items c.in-Some.end r ran c.in-Some.is t.out t.events t.cost)
 
 pub returns-in-Nobody : goal.returns-in-Nobody
 returns-in-Nobody c =
@@ -49,7 +51,8 @@ returns-in-Nobody c =
     let chosen = c.in_ok-next.ensures.chosen (program_in b) ran.world ran.stands g a in
     subst (λ (z : AloneEnd). IsRunAlone (source (program_in b)) (layout_in b) (first_in b input) c.args.most r z) (sym t.stopped)
     (alone_stuck b input c.args.most r c.entries.turn old ns c.entries.events.items ran none c.next.new.world t.out t.cost
-    (nobody_is (program_in b) (layout_of old.memory) c.entries.turn ran.world old.left c.next.new.world (steps_of c.next.new.ahead) c.in_ok-next.field-0 c.in-Nobody.is chosen) t.events)
+    (nobody_is (program_in b) (layout_of old.memory) c.entries.turn ran.world old.left c.next.new.world
+    (steps_of c.next.new.ahead) c.in_ok-next.field-0 c.in-Nobody.is chosen) t.events)
 
 pub returns-in-Spent : goal.returns-in-Spent
 returns-in-Spent c =
@@ -65,7 +68,8 @@ returns-in-Spent c =
     let a = ahead b input c.args.most r.order.items c.entries.turn old ns c.entries.events.items ran none in
     let k = c.in-Spent.field-0 in
     let u = c.in-Spent.field-1 in
-    let spent = spent_is (program_in b) (layout_of old.memory) c.entries.turn ran.world old.left c.next.new.world (steps_of c.next.new.ahead) c.in_ok-next.field-0 k u c.in-Spent.is (c.in_ok-next.ensures.chosen (program_in b) ran.world ran.stands g a) in
+    let spent = spent_is (program_in b) (layout_of old.memory) c.entries.turn ran.world old.left c.next.new.world
+    (steps_of c.next.new.ahead) c.in_ok-next.field-0 k u c.in-Spent.is (c.in_ok-next.ensures.chosen (program_in b) ran.world ran.stands g a) in
     subst (λ (z : AloneEnd). IsRunAlone (source (program_in b)) (layout_in b) (first_in b input) c.args.most r z) (sym t.stopped)
     (alone_silent b input c.args.most r c.entries.turn old ns c.entries.events.items ran none c.next.new.world t.out t.cost k u spent.0 t.events spent.1)
 
@@ -85,11 +89,13 @@ entries-preserved c =
     let a = ahead b input most c.entries.order.items from old ns told ran none in
     let k = c.in-Ready.at in
     let t = c.in-Ready.t in
-    let ready = ready_is (program_in b) p from ran.world old.left c.next.new.world (steps_of c.next.new.ahead) c.in_ok-next.field-0 k t c.in-Ready.is (c.in_ok-next.ensures.chosen (program_in b) ran.world ran.stands g a) in
+    let ready = ready_is (program_in b) p from ran.world old.left c.next.new.world (steps_of c.next.new.ahead) c.in_ok-next.field-0 k t c.in-Ready.is
+    (c.in_ok-next.ensures.chosen (program_in b) ran.world ran.stands g a) in
     let new = c.take.new.world in
     let ms = steps_of c.take.new.ahead in
     let after = c.take.new.events.items in
-    let entry = taken_is (program_in b) p t ran.world old.left new ms told after c.in_ok-take-in-Ready.field-0 c.in-Taken.is (c.in_ok-take-in-Ready.ensures.entered (program_in b) p ran.world old.left g ready.1) in
+    let entry = taken_is (program_in b) p t ran.world old.left new ms told after c.in_ok-take-in-Ready.field-0 c.in-Taken.is
+    (c.in_ok-take-in-Ready.ensures.entered (program_in b) p ran.world old.left g ready.1) in
     let near = near_turn (program_in b) p from k t ran.world old.left old ns a ran.stands ready.0 in
     record {
       left = omega (arith, c.entries.invariant.left, c.in_ok-next.ensures.less, c.in_ok-take-in-Ready.ensures.less);
@@ -113,7 +119,8 @@ overflow_add-turn c =
     let a = ahead b input most c.entries.order.items from old ns told ran none in
     let k = c.in-Ready.at in
     let t = c.in-Ready.t in
-    let ready = ready_is (program_in b) p from ran.world old.left c.next.new.world (steps_of c.next.new.ahead) c.in_ok-next.field-0 k t c.in-Ready.is (c.in_ok-next.ensures.chosen (program_in b) ran.world ran.stands g a) in
+    let ready = ready_is (program_in b) p from ran.world old.left c.next.new.world (steps_of c.next.new.ahead) c.in_ok-next.field-0 k t c.in-Ready.is
+    (c.in_ok-next.ensures.chosen (program_in b) ran.world ran.stands g a) in
     let near = near_turn (program_in b) p from k t ran.world old.left old ns a ran.stands ready.0 in
     omega (arith, near, c.entries.invariant.early)
 
@@ -135,11 +142,13 @@ returns-in-Refused c =
     let a = ahead b input most r.order.items from old ns told ran none in
     let k = c.in-Ready.at in
     let t = c.in-Ready.t in
-    let ready = ready_is (program_in b) p from ran.world old.left c.next.new.world (steps_of c.next.new.ahead) c.in_ok-next.field-0 k t c.in-Ready.is (c.in_ok-next.ensures.chosen (program_in b) ran.world ran.stands g a) in
+    let ready = ready_is (program_in b) p from ran.world old.left c.next.new.world (steps_of c.next.new.ahead) c.in_ok-next.field-0 k t c.in-Ready.is
+    (c.in_ok-next.ensures.chosen (program_in b) ran.world ran.stands g a) in
     let new = c.take.new.world in
     let ms = steps_of c.take.new.ahead in
     let after = c.take.new.events.items in
-    let entry = stays_is (program_in b) p t ran.world old.left new ms told after c.in_ok-take-in-Ready.field-0 c.in-Refused.is (c.in_ok-take-in-Ready.ensures.entered (program_in b) p ran.world old.left g ready.1) in
+    let entry = stays_is (program_in b) p t ran.world old.left new ms told after c.in_ok-take-in-Ready.field-0 c.in-Refused.is
+    (c.in_ok-take-in-Ready.ensures.entered (program_in b) p ran.world old.left g ready.1) in
     subst (λ (z : AloneEnd). IsRunAlone (source (program_in b)) (layout_in b) (first_in b input) most r z) (sym is.stopped)
     (alone_broken b input most r from old ns told ran none new is.out is.cost k t ready.0 after is.events entry)
 
@@ -161,10 +170,12 @@ returns-in-Spent-2 c =
     let a = ahead b input most r.order.items from old ns told ran none in
     let k = c.in-Ready.at in
     let t = c.in-Ready.t in
-    let ready = ready_is (program_in b) p from ran.world old.left c.next.new.world (steps_of c.next.new.ahead) c.in_ok-next.field-0 k t c.in-Ready.is (c.in_ok-next.ensures.chosen (program_in b) ran.world ran.stands g a) in
+    let ready = ready_is (program_in b) p from ran.world old.left c.next.new.world (steps_of c.next.new.ahead) c.in_ok-next.field-0 k t c.in-Ready.is
+    (c.in_ok-next.ensures.chosen (program_in b) ran.world ran.stands g a) in
     let new = c.take.new.world in
     let ms = steps_of c.take.new.ahead in
     let after = c.take.new.events.items in
-    let entry = cut_is (program_in b) p t ran.world old.left new ms told after c.in_ok-take-in-Ready.field-0 c.in-Spent-2.is (c.in_ok-take-in-Ready.ensures.entered (program_in b) p ran.world old.left g ready.1) in
+    let entry = cut_is (program_in b) p t ran.world old.left new ms told after c.in_ok-take-in-Ready.field-0 c.in-Spent-2.is
+    (c.in_ok-take-in-Ready.ensures.entered (program_in b) p ran.world old.left g ready.1) in
     subst (λ (z : AloneEnd). IsRunAlone (source (program_in b)) (layout_in b) (first_in b input) most r z) (sym is.stopped)
     (alone_cut b input most r from old ns told ran none new is.out is.cost k t ready.0 after is.events entry)

@@ -27,10 +27,13 @@ loop-taken-init c =
       left = omega arith;
       count = c.in_ok-go_on.ensures.count;
       layout = refl;
-      nested = first_block p nested first.marks.items (notes ∙ c.new-nested.ensures.notes) c.new-nested.ensures.marks (marks ∙ ap (λ ns. first.marks.items ++ length ns ∷ []) c.new-nested.ensures.notes);
+      nested = first_block p nested first.marks.items (notes ∙ c.new-nested.ensures.notes) c.new-nested.ensures.marks
+          (marks ∙ ap (λ ns. first.marks.items ++ length ns ∷ []) c.new-nested.ensures.notes);
       marked = some_mark nested.marks.items first.marks.items (length first.notes.items) marks c.new-nested.ensures.marks;
       run = λ program w s stand e. seen_start program p c.args.t w s c.args.event world.left c.args.events.now.items world now first nested c.push.new.self.items e
-          (c.in_ok-go_on.ensures.set program p s stand (stands_in c.args.t w s (world_of world) e)) refl c.new-nested.ensures.notes c.new-nested.ensures.marks notes marks refl c.in_ok-push.ensures.items;
+          (c.in_ok-go_on.ensures.set program p s stand
+          (stands_in c.args.t w s
+          (world_of world) e)) refl c.new-nested.ensures.notes c.new-nested.ensures.marks notes marks refl c.in_ok-push.ensures.items;
     }
 
 pub loop-taken-preserved : goal.loop-taken-preserved
@@ -45,7 +48,8 @@ loop-taken-preserved c =
     let inv = c.loop-taken.invariant in
     let kept = ap (λ (z : World). z.left) c.in_ok-step.ensures.same in
     let same = c.pay.ensures.same in
-    let less : paid.left + 1 ≡ mid.left = has_paid c.pay.result paid.left mid.left c.pay.ensures.paid c.pay.ensures.spent (omega (arith, inv.left, kept, c.loop-taken-test.true)) in
+    let less : paid.left + 1 ≡ mid.left = has_paid c.pay.result paid.left mid.left c.pay.ensures.paid c.pay.ensures.spent
+    (omega (arith, inv.left, kept, c.loop-taken-test.true)) in
     let layout = c.in_ok-step.ensures.layout ∙ inv.layout in
     record {
       left = omega (arith, inv.left, kept, less);
@@ -54,8 +58,10 @@ loop-taken-preserved c =
       nested = subst (λ z. IsNested z nested) (sym (ap (λ (z : World). layout_of z.memory) same ∙ c.in_ok-step.ensures.layout)) c.in_ok-step.ensures.nested;
       marked = c.is_open.ensures.«open» c.if-not-is_open.false;
       run = λ program w s stand e.
-          let h : SeenBlock program p c.args.t w s c.args.event world.left old before c.args.events.now.items c.loop-taken.events.items = inv.run program w s stand e in
-          let inner = inner_on program p (layout_of old.memory) c.args.t w h.block.last mid nested c.in_ok-step.step inv.layout (c.in_ok-step.ensures.steps program w h.block.last h.block.stands h.block.at) in
+          let h : SeenBlock program p c.args.t w s c.args.event world.left old before c.args.events.now.items c.loop-taken.events.items =
+          inv.run program w s stand e in
+          let inner = inner_on program p (layout_of old.memory) c.args.t w h.block.last mid nested c.in_ok-step.step inv.layout
+          (c.in_ok-step.ensures.steps program w h.block.last h.block.stands h.block.at) in
           let here = c.next-inner.ensures (record { state = h.block.last.state; ended = false }) (stands_at c.args.t w h.block.last old before h.block.at) in
           seen_more program p c.args.t w s c.args.event world.left c.args.events.now.items old mid paid before nested c.loop-taken.events.items c.note.new.events.items c.next-inner.result h
           (at_goes program p c.args.t w h.block.last mid nested c.in_ok-step.step c.in-Goes.is inner) inner.stands kept same less here c.in_ok-note.ensures;
@@ -68,9 +74,12 @@ returns-then-not-comes_inside-clause-seen c = λ program w s kind stand going e 
     let old = c.loop-taken.world in
     let before = c.loop-taken.nested in
     let inv = c.loop-taken.invariant in
-    let h : SeenBlock program p c.args.t w s c.args.event world.left old before c.args.events.now.items c.loop-taken.events.items = inv.run program w s stand e in
+    let h : SeenBlock program p c.args.t w s c.args.event world.left old before c.args.events.now.items c.loop-taken.events.items =
+    inv.run program w s stand e in
     let here = c.next-inner.ensures (record { state = h.block.last.state; ended = false }) (stands_at c.args.t w h.block.last old before h.block.at) in
-    seen_refused program p c.args.t w s c.args.event world.left c.args.events.now.items kind (begins ∙ is) is (ap (λ z. is_enabled c.args.t w z) (sym is) ∙ enabled) old before c.loop-taken.events.items c.next-inner.result c.comes_inside.result h here c.comes_inside.ensures c.if-not-comes_inside.true
+    seen_refused program p c.args.t w s c.args.event world.left c.args.events.now.items kind (begins ∙ is) is
+    (ap (λ z. is_enabled c.args.t w z) (sym is)
+    ∙ enabled) old before c.loop-taken.events.items c.next-inner.result c.comes_inside.result h here c.comes_inside.ensures c.if-not-comes_inside.true
 
 pub returns-then-not-is_open-clause-seen : goal.returns-then-not-is_open-clause-seen
 returns-then-not-is_open-clause-seen c = λ program w s kind stand going e begins is enabled.
@@ -81,9 +90,12 @@ returns-then-not-is_open-clause-seen c = λ program w s kind stand going e begin
     let mid = c.step_in_block.new.self in
     let nested = c.step_in_block.new.nested in
     let inv = c.loop-taken.invariant in
-    let h : SeenBlock program p c.args.t w s c.args.event world.left old before c.args.events.now.items c.loop-taken.events.items = inv.run program w s stand e in
-    let inner = inner_on program p (layout_of old.memory) c.args.t w h.block.last mid nested c.in_ok-step.step inv.layout (c.in_ok-step.ensures.steps program w h.block.last h.block.stands h.block.at) in
-    absurd (never_shut program p c.args.t w s world.left mid nested h.block.last old before h.block (at_goes program p c.args.t w h.block.last mid nested c.in_ok-step.step c.in-Goes.is inner) (c.is_open.ensures.shut c.if-not-is_open.true))
+    let h : SeenBlock program p c.args.t w s c.args.event world.left old before c.args.events.now.items c.loop-taken.events.items =
+    inv.run program w s stand e in
+    let inner = inner_on program p (layout_of old.memory) c.args.t w h.block.last mid nested c.in_ok-step.step inv.layout
+    (c.in_ok-step.ensures.steps program w h.block.last h.block.stands h.block.at) in
+    absurd (never_shut program p c.args.t w s world.left mid nested h.block.last old before h.block
+    (at_goes program p c.args.t w h.block.last mid nested c.in_ok-step.step c.in-Goes.is inner) (c.is_open.ensures.shut c.if-not-is_open.true))
 
 pub returns-in-Leaves-clause-seen : goal.returns-in-Leaves-clause-seen
 returns-in-Leaves-clause-seen c = λ program w s kind stand going e begins is enabled.
@@ -97,12 +109,16 @@ returns-in-Leaves-clause-seen c = λ program w s kind stand going e begins is en
     let inv = c.loop-taken.invariant in
     let kept = ap (λ (z : World). z.left) c.in_ok-step.ensures.same in
     let same = c.pay.ensures.same in
-    let less : paid.left + 1 ≡ mid.left = has_paid c.pay.result paid.left mid.left c.pay.ensures.paid c.pay.ensures.spent (omega (arith, inv.left, kept, c.loop-taken-test.true)) in
+    let less : paid.left + 1 ≡ mid.left = has_paid c.pay.result paid.left mid.left c.pay.ensures.paid c.pay.ensures.spent
+    (omega (arith, inv.left, kept, c.loop-taken-test.true)) in
     let layout = c.in_ok-step.ensures.layout ∙ inv.layout in
-    let h : SeenBlock program p c.args.t w s c.args.event world.left old before c.args.events.now.items c.loop-taken.events.items = inv.run program w s stand e in
-    let inner = inner_on program p (layout_of old.memory) c.args.t w h.block.last mid nested c.in_ok-step.step inv.layout (c.in_ok-step.ensures.steps program w h.block.last h.block.stands h.block.at) in
+    let h : SeenBlock program p c.args.t w s c.args.event world.left old before c.args.events.now.items c.loop-taken.events.items =
+    inv.run program w s stand e in
+    let inner = inner_on program p (layout_of old.memory) c.args.t w h.block.last mid nested c.in_ok-step.step inv.layout
+    (c.in_ok-step.ensures.steps program w h.block.last h.block.stands h.block.at) in
     let here = c.next-inner.ensures (record { state = h.block.last.state; ended = false }) (stands_at c.args.t w h.block.last old before h.block.at) in
-    seen_left program p c.args.t w s c.args.event world.left c.args.events.now.items kind (begins ∙ is) is (ap (λ z. is_enabled c.args.t w z) (sym is) ∙ enabled) old mid paid before c.loop-taken.events.items c.note.new.events.items c.next-inner.result h
+    seen_left program p c.args.t w s c.args.event world.left c.args.events.now.items kind (begins ∙ is) is
+    (ap (λ z. is_enabled c.args.t w z) (sym is) ∙ enabled) old mid paid before c.loop-taken.events.items c.note.new.events.items c.next-inner.result h
     (at_leaves program p c.args.t w h.block.last mid nested c.in_ok-step.step c.in-Leaves.is inner) inner.stands layout kept same less here c.in_ok-note.ensures
 
 pub returns-in-Halts-clause-seen : goal.returns-in-Halts-clause-seen
@@ -117,12 +133,16 @@ returns-in-Halts-clause-seen c = λ program w s kind stand going e begins is ena
     let inv = c.loop-taken.invariant in
     let kept = ap (λ (z : World). z.left) c.in_ok-step.ensures.same in
     let same = c.pay.ensures.same in
-    let less : paid.left + 1 ≡ mid.left = has_paid c.pay.result paid.left mid.left c.pay.ensures.paid c.pay.ensures.spent (omega (arith, inv.left, kept, c.loop-taken-test.true)) in
+    let less : paid.left + 1 ≡ mid.left = has_paid c.pay.result paid.left mid.left c.pay.ensures.paid c.pay.ensures.spent
+    (omega (arith, inv.left, kept, c.loop-taken-test.true)) in
     let layout = c.in_ok-step.ensures.layout ∙ inv.layout in
-    let h : SeenBlock program p c.args.t w s c.args.event world.left old before c.args.events.now.items c.loop-taken.events.items = inv.run program w s stand e in
-    let inner = inner_on program p (layout_of old.memory) c.args.t w h.block.last mid nested c.in_ok-step.step inv.layout (c.in_ok-step.ensures.steps program w h.block.last h.block.stands h.block.at) in
+    let h : SeenBlock program p c.args.t w s c.args.event world.left old before c.args.events.now.items c.loop-taken.events.items =
+    inv.run program w s stand e in
+    let inner = inner_on program p (layout_of old.memory) c.args.t w h.block.last mid nested c.in_ok-step.step inv.layout
+    (c.in_ok-step.ensures.steps program w h.block.last h.block.stands h.block.at) in
     let here = c.next-inner.ensures (record { state = h.block.last.state; ended = false }) (stands_at c.args.t w h.block.last old before h.block.at) in
-    IfOk-weaker c.halt.result _ _ (λ r n. seen_halted program p c.args.t w s c.args.event world.left c.args.events.now.items kind (begins ∙ is) is (ap (λ z. is_enabled c.args.t w z) (sym is) ∙ enabled) old mid paid c.halt.new.self before c.in-Halts.end r
+    IfOk-weaker c.halt.result _ _ (λ r n. seen_halted program p c.args.t w s c.args.event world.left c.args.events.now.items kind (begins ∙ is) is
+    (ap (λ z. is_enabled c.args.t w z) (sym is) ∙ enabled) old mid paid c.halt.new.self before c.in-Halts.end r
     c.loop-taken.events.items c.note.new.events.items c.next-inner.result h
     (at_halts program p c.args.t w h.block.last mid nested c.in_ok-step.step c.in-Halts.end c.in-Halts.is inner) inner.stands layout c.in_ok-step.ensures.same same less n here c.in_ok-note.ensures) c.halt.ensures.halted
 
@@ -135,10 +155,14 @@ returns-in-Never-clause-seen c = λ program w s kind stand going e begins is ena
     let mid = c.step_in_block.new.self in
     let nested = c.step_in_block.new.nested in
     let inv = c.loop-taken.invariant in
-    let h : SeenBlock program p c.args.t w s c.args.event world.left old before c.args.events.now.items c.loop-taken.events.items = inv.run program w s stand e in
-    let inner = inner_on program p (layout_of old.memory) c.args.t w h.block.last mid nested c.in_ok-step.step inv.layout (c.in_ok-step.ensures.steps program w h.block.last h.block.stands h.block.at) in
+    let h : SeenBlock program p c.args.t w s c.args.event world.left old before c.args.events.now.items c.loop-taken.events.items =
+    inv.run program w s stand e in
+    let inner = inner_on program p (layout_of old.memory) c.args.t w h.block.last mid nested c.in_ok-step.step inv.layout
+    (c.in_ok-step.ensures.steps program w h.block.last h.block.stands h.block.at) in
     let here = c.next-inner.ensures (record { state = h.block.last.state; ended = false }) (stands_at c.args.t w h.block.last old before h.block.at) in
-    absurd (never_comes program p c.args.t w s c.args.event world.left c.args.events.now.items kind (begins ∙ is) is (ap (λ z. is_enabled c.args.t w z) (sym is) ∙ enabled) old before h.block c.next-inner.result c.comes_inside.result here c.comes_inside.ensures c.if-not-comes_inside.false
+    absurd (never_comes program p c.args.t w s c.args.event world.left c.args.events.now.items kind (begins ∙ is) is
+    (ap (λ z. is_enabled c.args.t w z) (sym is)
+    ∙ enabled) old before h.block c.next-inner.result c.comes_inside.result here c.comes_inside.ensures c.if-not-comes_inside.false
     (at_never program p c.args.t w h.block.last mid nested c.in_ok-step.step c.in-Never.is inner))
 
 pub returns-then-comes_inside-clause-seen : goal.returns-then-comes_inside-clause-seen
@@ -148,9 +172,12 @@ returns-then-comes_inside-clause-seen c = λ program w s kind stand going e begi
     let old = c.loop-taken.world in
     let before = c.loop-taken.nested in
     let inv = c.loop-taken.invariant in
-    let h : SeenBlock program p c.args.t w s c.args.event world.left old before c.args.events.now.items c.loop-taken.events.items = inv.run program w s stand e in
+    let h : SeenBlock program p c.args.t w s c.args.event world.left old before c.args.events.now.items c.loop-taken.events.items =
+    inv.run program w s stand e in
     let here = c.next.ensures (record { state = h.block.last.state; ended = false }) (stands_at c.args.t w h.block.last old before h.block.at) in
-    seen_spent program p c.args.t w s c.args.event world.left c.args.events.now.items kind (begins ∙ is) is (ap (λ z. is_enabled c.args.t w z) (sym is) ∙ enabled) old before c.loop-taken.events.items c.next.result c.comes_inside-2.result h here c.comes_inside-2.ensures c.if-comes_inside.true
+    seen_spent program p c.args.t w s c.args.event world.left c.args.events.now.items kind (begins ∙ is) is
+    (ap (λ z. is_enabled c.args.t w z) (sym is)
+    ∙ enabled) old before c.loop-taken.events.items c.next.result c.comes_inside-2.result h here c.comes_inside-2.ensures c.if-comes_inside.true
     (omega (arith, inv.left, c.loop-taken-test.false))
 
 pub returns-clause-seen : goal.returns-clause-seen
@@ -160,6 +187,9 @@ returns-clause-seen c = λ program w s kind stand going e begins is enabled.
     let old = c.loop-taken.world in
     let before = c.loop-taken.nested in
     let inv = c.loop-taken.invariant in
-    let h : SeenBlock program p c.args.t w s c.args.event world.left old before c.args.events.now.items c.loop-taken.events.items = inv.run program w s stand e in
+    let h : SeenBlock program p c.args.t w s c.args.event world.left old before c.args.events.now.items c.loop-taken.events.items =
+    inv.run program w s stand e in
     let here = c.next.ensures (record { state = h.block.last.state; ended = false }) (stands_at c.args.t w h.block.last old before h.block.at) in
-    seen_refused program p c.args.t w s c.args.event world.left c.args.events.now.items kind (begins ∙ is) is (ap (λ z. is_enabled c.args.t w z) (sym is) ∙ enabled) old before c.loop-taken.events.items c.next.result c.comes_inside-2.result h here c.comes_inside-2.ensures c.if-comes_inside.false
+    seen_refused program p c.args.t w s c.args.event world.left c.args.events.now.items kind (begins ∙ is) is
+    (ap (λ z. is_enabled c.args.t w z) (sym is)
+    ∙ enabled) old before c.loop-taken.events.items c.next.result c.comes_inside-2.result h here c.comes_inside-2.ensures c.if-comes_inside.false

@@ -11,15 +11,18 @@ use Rattle.src_replay.proofs.alone.take.Goals as goal
 
 pub act-requires : goal.act-requires
 act-requires c =
-    let count : length c.pay.new.self.threads.alive.items ≡ length c.args.world.now.threads.alive.items = ap (λ (z : World). length z.threads.alive.items) c.pay.ensures.same in
+    let count : length c.pay.new.self.threads.alive.items ≡ length c.args.world.now.threads.alive.items =
+    ap (λ (z : World). length z.threads.alive.items) c.pay.ensures.same in
     omega (arith, c.requires, count)
 
 pub returns-then-not-pay-clause-entered : goal.returns-then-not-pay-clause-entered
 returns-then-not-pay-clause-entered c = λ program p w left going r.
-    spent_unpaid program p c.args.t w left c.args.world.now (steps_of c.args.ahead.now) r going c.pay.new.self c.args.events.now.items (c.pay.ensures.spent c.if-not-pay.true) c.pay.ensures.same c.pay.ensures.less
+    spent_unpaid program p c.args.t w left c.args.world.now (steps_of c.args.ahead.now) r going c.pay.new.self c.args.events.now.items
+    (c.pay.ensures.spent c.if-not-pay.true) c.pay.ensures.same c.pay.ensures.less
 
 pub returns-clause-paid : goal.returns-clause-paid
-returns-clause-paid c = paid_less c.act.result _ c.pay.new.self.left c.args.world.now.left c.act.ensures.less (omega (arith, c.pay.ensures.paid c.if-not-pay.false))
+returns-clause-paid c = paid_less c.act.result _ c.pay.new.self.left c.args.world.now.left c.act.ensures.less
+    (omega (arith, c.pay.ensures.paid c.if-not-pay.false))
 
 pub returns-clause-entered : goal.returns-clause-entered
 returns-clause-entered c = λ program p w left going r.
@@ -35,5 +38,7 @@ returns-clause-entered c = λ program p w left going r.
     let next_is = c.next-event.ensures (record { state = r.here; ended = false }) r.stands_there in
     let layout : layout_of paid.memory ≡ p = ap (λ (z : World). layout_of z.memory) same ∙ r.looked.layout in
     IfOk-weaker c.act.result _ _
-    (λ q acted. entered program p t w left world ns r going (steps_of c.put.new.self) c.put.ensures paid.left new before after q (c.pay.ensures.paid c.if-not-pay.false) (subst (λ z. SeenAct program z t u r.here paid.left new before after q) layout acted))
-    (c.act.ensures.seen program u r.here (subst (λ (z : World). Stands program z) (sym same) r.looked.stands) going (goes_from program p t w left world ns r going paid same) (sym next_is) (enabled_from program p t w left world ns r going c.next-event.result next_is))
+    (λ q acted. entered program p t w left world ns r going (steps_of c.put.new.self) c.put.ensures paid.left new before after q
+    (c.pay.ensures.paid c.if-not-pay.false) (subst (λ z. SeenAct program z t u r.here paid.left new before after q) layout acted))
+    (c.act.ensures.seen program u r.here (subst (λ (z : World). Stands program z) (sym same) r.looked.stands) going
+    (goes_from program p t w left world ns r going paid same) (sym next_is) (enabled_from program p t w left world ns r going c.next-event.result next_is))

@@ -10,7 +10,8 @@ pub returns-then-branch-clause-nested : goal.returns-then-branch-clause-nested
 returns-then-branch-clause-nested c =
     let p = layout_of c.args.memory.now in
     let can : can_access p c.args.addr c.args.size ≡ true = sym c.in_ok-store.ensures.done ∙ c.if-branch.true in
-    more_notes p c.args.nested.now.notes.items c.store.new.self.notes.items c.args.nested.now.marks.items c.store.new.self.marks.items (word_of c.args.addr) (words_of c.args.memory.now (word_of c.args.addr))
+    more_notes p c.args.nested.now.notes.items c.store.new.self.notes.items c.args.nested.now.marks.items c.store.new.self.marks.items (word_of c.args.addr)
+    (words_of c.args.memory.now (word_of c.args.addr))
     (word_access p c.args.addr c.args.size can) (c.in_ok-store.ensures.notes c.if-branch.true) c.in_ok-store.ensures.marks c.requires.nested
 
 pub returns-then-branch-clause-came : goal.returns-then-branch-clause-came
@@ -19,5 +20,7 @@ returns-then-branch-clause-came c volatile h =
     let m = words_of c.args.memory.now in
     let can : can_access p c.args.addr c.args.size ≡ true = sym c.in_ok-store.ensures.done ∙ c.if-branch.true in
     let words = c.in_ok-store.ensures.words c.if-branch.true in
-    store_comes p c.args.nested.now c.store.new.self m (words_of c.store.new.memory) c.args.addr c.args.size c.args.value volatile c.plain-then-branch.result.step c.plain-then-branch.ensures.step can words
-    (stored_copies p c.args.nested.now c.store.new.self m (words_of c.store.new.memory) c.args.addr c.args.size c.args.value (c.in_ok-store.ensures.notes c.if-branch.true) c.in_ok-store.ensures.marks words c.requires.nested)
+    store_comes p c.args.nested.now c.store.new.self m
+    (words_of c.store.new.memory) c.args.addr c.args.size c.args.value volatile c.plain-then-branch.result.step c.plain-then-branch.ensures.step can words
+    (stored_copies p c.args.nested.now c.store.new.self m (words_of c.store.new.memory) c.args.addr c.args.size c.args.value
+    (c.in_ok-store.ensures.notes c.if-branch.true) c.in_ok-store.ensures.marks words c.requires.nested)

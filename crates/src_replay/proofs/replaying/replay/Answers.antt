@@ -11,7 +11,9 @@ loop-i-preserved c =
     let s = c.in-Ok-step.ensures in
     record {
       left = omega (arith, inv.left, s.paid c.in-Taken.is);
-      ran = ran_taken b c.args.input.now c.args.order.now c.args.most c.loop-i.i (get_or c.args.order.now c.loop-i.i 0) c.loop-i.world c.step.new.self inv.ran c.loop-i-test.true refl c.in-Ok-step.entry c.in-Taken.is (s.stepped (program_in b) inv.ran.stands);
+      ran = ran_taken b c.args.input.now c.args.order.now c.args.most c.loop-i.i
+          (get_or c.args.order.now c.loop-i.i 0) c.loop-i.world c.step.new.self inv.ran c.loop-i-test.true refl c.in-Ok-step.entry c.in-Taken.is
+          (s.stepped (program_in b) inv.ran.stands);
     }
 
 pub returns-in-Refused : goal.returns-in-Refused
@@ -40,4 +42,5 @@ loop-i-init c =
 pub returns : goal.returns
 returns c =
     let inv = c.loop-i.invariant in
-    ran_all (given c.args.bound.now) c.args.input.now c.args.order.now c.args.most c.loop-i.i c.loop-i.world _ inv.ran c.loop-i-test.false refl refl (omega (arith, inv.left))
+    ran_all (given c.args.bound.now) c.args.input.now c.args.order.now c.args.most c.loop-i.i c.loop-i.world _ inv.ran c.loop-i-test.false refl refl
+    (omega (arith, inv.left))

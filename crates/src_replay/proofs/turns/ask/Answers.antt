@@ -10,7 +10,8 @@ use Rattle.src_replay.proofs.turns.ask.Goals as goal
 pub returns-else-is_going-clause-looked : goal.returns-else-is_going-clause-looked
 returns-else-is_going-clause-looked c = λ program w stand going ahead.
     let world = c.args.world.now in
-    waits_absent program (layout_of world.memory) c.args.t w world (steps_of c.args.ahead.now) world.left ahead stand refl refl (sym c.is_going.ensures ∙ c.if-is_going.false)
+    waits_absent program (layout_of world.memory) c.args.t w world (steps_of c.args.ahead.now) world.left ahead stand refl refl
+    (sym c.is_going.ensures ∙ c.if-is_going.false)
 
 pub returns-then-is_going-clause-looked : goal.returns-then-is_going-clause-looked
 returns-then-is_going-clause-looked c = λ program w stand going ahead.

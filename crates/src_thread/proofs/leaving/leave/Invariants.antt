@@ -6,7 +6,8 @@ use Rattle.src_frames.specs.Bounds.{here_of, frames_of}
 use Rattle.src_thread.proofs.leaving.leave.Given as goal
 
 abbrev pub invariant-loop-frame : goal.invariant-loop-frame
-invariant-loop-frame l = leave (here_of l.bound l.state) (exit_shown (given l.bound).program l.exit) (frames_of l.bound l.state) ≡ leave (here_of l.bound l.initial.state) (exit_shown (given l.bound).program l.exit) (frames_of l.bound l.initial.state)
+invariant-loop-frame l = leave (here_of l.bound l.state) (exit_shown (given l.bound).program l.exit) (frames_of l.bound l.state)
+    ≡ leave (here_of l.bound l.initial.state) (exit_shown (given l.bound).program l.exit) (frames_of l.bound l.initial.state)
 
 abbrev pub decreases-loop-frame : goal.decreases-loop-frame
 decreases-loop-frame l = length l.state.frames.list.items

@@ -10,11 +10,14 @@ use Rattle.text_commands.proofs.disassembling.dis.Goals as goal
 
 pub returns-in-Ok : goal.returns-in-Ok
 returns-in-Ok g c =
-    ends_settled (wanted Object c.args.file.now ∷ []) (on_one (Disassembles c.args.file.now)) (g.H.Host.state c.args.host.now) (g.H.Host.state c.read_file.new.host) (g.H.Host.state c.settle.new.host) (c.in-Ok.bytes.items ∷ [])
+    ends_settled (wanted Object c.args.file.now ∷ []) (on_one (Disassembles c.args.file.now)) (g.H.Host.state c.args.host.now)
+    (g.H.Host.state c.read_file.new.host) (g.H.Host.state c.settle.new.host) (c.in-Ok.bytes.items ∷ [])
     c.decided.result c.settle.result c.in-Ok.ensures.read
-    (subst (λ t. IfOk c.decided.result (λ d. Disassembles c.args.file.now t d.answer (map written_of d.writes.items))) c.as_slice.ensures.value c.decided.ensures) c.settle.ensures
+    (subst (λ t. IfOk c.decided.result (λ d. Disassembles c.args.file.now t d.answer
+    (map written_of d.writes.items))) c.as_slice.ensures.value c.decided.ensures) c.settle.ensures
 
 pub returns-in-Err : goal.returns-in-Err
 returns-in-Err g c =
-    one_halted (wanted Object c.args.file.now) (on_one (Disassembles c.args.file.now)) (g.H.Host.state c.args.host.now) (g.H.Host.state c.read_file.new.host) (g.H.Host.state c.halt.new.host) c.in-Err.unread c.halt.result
+    one_halted (wanted Object c.args.file.now) (on_one (Disassembles c.args.file.now)) (g.H.Host.state c.args.host.now) (g.H.Host.state c.read_file.new.host)
+    (g.H.Host.state c.halt.new.host) c.in-Err.unread c.halt.result
     c.in-Err.ensures.unread c.halt.ensures

@@ -12,4 +12,5 @@ abbrev pub decreases-kid_fits : goal.decreases-kid_fits
 decreases-kid_fits l = 2 * l.id.0 + 1
 
 abbrev pub invariant-fits-loop-i : goal.invariant-fits-loop-i
-invariant-fits-loop-i l = kids_fit (setting_shown l.setting) l.deeper (roles_shown l.roles) 0 (trees_at (trees_of l.setting.unit.now.nodes.items) l.kid-items) ≡ kids_fit (setting_shown l.setting) l.deeper (roles_shown l.roles) l.i (trees_at (trees_of l.setting.unit.now.nodes.items) (drop l.i l.kid-items))
+invariant-fits-loop-i l = kids_fit (setting_shown l.setting) l.deeper (roles_shown l.roles) 0 (trees_at (trees_of l.setting.unit.now.nodes.items) l.kid-items)
+    ≡ kids_fit (setting_shown l.setting) l.deeper (roles_shown l.roles) l.i (trees_at (trees_of l.setting.unit.now.nodes.items) (drop l.i l.kid-items))

@@ -14,5 +14,7 @@ abbrev pub decreases-zero_part : goal.decreases-zero_part
 decreases-zero_part l = 3 * l.id.0 + 2
 
 abbrev pub invariant-zero_parts-loop-i : goal.invariant-zero_parts-loop-i
-invariant-zero_parts-loop-i l = zero_parts (classes_of l.setting.program.now.classes.items) l.volatile l.class 0 (trees_at (trees_of l.setting.unit.now.nodes.items) l.kid-items)
-    ≡ zero_parts (classes_of l.setting.program.now.classes.items) l.volatile l.class l.i (trees_at (trees_of l.setting.unit.now.nodes.items) (drop l.i l.kid-items))
+invariant-zero_parts-loop-i l = zero_parts (classes_of l.setting.program.now.classes.items) l.volatile l.class 0
+    (trees_at (trees_of l.setting.unit.now.nodes.items) l.kid-items)
+    ≡ zero_parts (classes_of l.setting.program.now.classes.items) l.volatile l.class l.i
+    (trees_at (trees_of l.setting.unit.now.nodes.items) (drop l.i l.kid-items))

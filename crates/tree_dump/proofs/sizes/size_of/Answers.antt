@@ -8,4 +8,5 @@ pub size_align-requires-clause-in_order : goal.size_align-requires-clause-in_ord
 size_align-requires-clause-in_order c = in_order (classes_of c.args.classes.list.now) c.args.classes.in_order
 
 pub size_align-requires-clause-complete : goal.size_align-requires-clause-complete
-size_align-requires-clause-complete c = holds_complete (classes_of c.args.classes.list.now) (shape_form c.args.ty.now.shape) (sym c.is_whole.ensures ∙ c.if-not-is_whole.false)
+size_align-requires-clause-complete c = holds_complete (classes_of c.args.classes.list.now) (shape_form c.args.ty.now.shape)
+    (sym c.is_whole.ensures ∙ c.if-not-is_whole.false)

@@ -8,22 +8,28 @@ pub fold_tree-returns-in-Some : goal.fold_tree-returns-in-Some
 fold_tree-returns-in-Some t c = λ v s. word_copied v (trees_of c.args.from.now) _ _ c.args.sights.now (length c.args.from.now) c.args.id c.node_at-node.result.now _ _ s c.requires.many c.node_at-node.ensures.below c.node_at-node.ensures.tree c.in-Some.ensures c.add_literal.ensures
 
 pub fold_tree-returns-in-None : goal.fold_tree-returns-in-None
-fold_tree-returns-in-None t c = λ v s. rest_copied v (trees_of c.args.from.now) _ _ c.args.sights.now (length c.args.from.now) c.args.id c.node_at-node.result.now _ s c.requires.many c.node_at-node.ensures.below c.node_at-node.ensures.tree c.in-None.ensures (c.fold_rest.ensures v s)
+fold_tree-returns-in-None t c = λ v s. rest_copied v (trees_of c.args.from.now) _ _ c.args.sights.now
+    (length c.args.from.now) c.args.id c.node_at-node.result.now _ s c.requires.many c.node_at-node.ensures.below c.node_at-node.ensures.tree c.in-None.ensures
+    (c.fold_rest.ensures v s)
 
 pub fold_rest-returns-in-Some : goal.fold_rest-returns-in-Some
-fold_rest-returns-in-Some t c = λ v s. kid_copied v (trees_of c.args.from.now) _ _ c.args.sights.now (length c.args.from.now) _ c.args.node.now _ _ s c.requires.many c.requires.below c.in-Some.ensures.is (c.fold_tree.ensures v s)
+fold_rest-returns-in-Some t c = λ v s. kid_copied v (trees_of c.args.from.now) _ _ c.args.sights.now
+    (length c.args.from.now) _ c.args.node.now _ _ s c.requires.many c.requires.below c.in-Some.ensures.is (c.fold_tree.ensures v s)
 
 pub fold_rest-returns-in-None : goal.fold_rest-returns-in-None
-fold_rest-returns-in-None t c = λ v s. own_copied v (trees_of c.args.from.now) _ _ c.args.sights.now (length c.args.from.now) c.args.node.now _ _ s c.requires.many c.requires.below c.in-None.ensures.is (c.fold_node.ensures v s)
+fold_rest-returns-in-None t c = λ v s. own_copied v (trees_of c.args.from.now) _ _ c.args.sights.now
+    (length c.args.from.now) c.args.node.now _ _ s c.requires.many c.requires.below c.in-None.ensures.is (c.fold_node.ensures v s)
 
 pub fold_node-returns : goal.fold_node-returns
-fold_node-returns t c = λ v s. node_copied v (trees_of c.args.from.now) _ _ _ c.args.node.now c.as_slice-ids.result.now _ _ c.as_slice-ids.ensures.value (c.in_ok-kids.ensures v s) c.add_copy.ensures
+fold_node-returns t c = λ v s. node_copied v (trees_of c.args.from.now) _ _ _ c.args.node.now c.as_slice-ids.result.now _ _ c.as_slice-ids.ensures.value
+    (c.in_ok-kids.ensures v s) c.add_copy.ensures
 
 pub fold_all-loop-id-init : goal.fold_all-loop-id-init
 fold_all-loop-id-init t c = λ v s. adding_first _ _ _ c.new-list.ensures.items
 
 pub fold_all-loop-id-preserved : goal.fold_all-loop-id-preserved
-fold_all-loop-id-preserved t c = λ v s. kid_added v (trees_of c.args.from.now) c.args.ids.now c.loop-id.id-index (record { 0 = 0 }) _ _ _ _ _ _ (c.loop-id.invariant v s) c.loop-id-test.true (c.in_ok-kid.ensures v s) c.in_ok-keep.ensures
+fold_all-loop-id-preserved t c = λ v s. kid_added v (trees_of c.args.from.now) c.args.ids.now c.loop-id.id-index (record { 0 = 0 }) _ _ _ _ _ _
+    (c.loop-id.invariant v s) c.loop-id-test.true (c.in_ok-kid.ensures v s) c.in_ok-keep.ensures
 
 pub fold_all-returns : goal.fold_all-returns
 fold_all-returns t c = λ v s. kids_added v (trees_of c.args.from.now) c.args.ids.now c.loop-id.id-index _ _ _ (c.loop-id.invariant v s) c.loop-id-test.false

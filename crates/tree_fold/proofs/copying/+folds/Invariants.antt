@@ -18,4 +18,6 @@ decreases-fold_all l = l.parent.0 * 4
 
 -- the folded trees of the kids that are left are still to be added
 abbrev pub invariant-fold_all-loop-id : goal.invariant-fold_all-loop-id
-invariant-fold_all-loop-id l = (volatile : ℕ → Bool) → AreSights volatile (trees_of l.from) l.sights → Adding (trees_of l.fn.nodes.items) (trees_of l.nodes.items) l.list.items (all_folded volatile (trees_at (trees_of l.from) (drop l.id-index l.ids))) (all_folded volatile (trees_at (trees_of l.from) l.ids))
+invariant-fold_all-loop-id l = (volatile : ℕ → Bool) → AreSights volatile (trees_of l.from) l.sights
+    → Adding (trees_of l.fn.nodes.items) (trees_of l.nodes.items) l.list.items (all_folded volatile (trees_at (trees_of l.from) (drop l.id-index l.ids)))
+    (all_folded volatile (trees_at (trees_of l.from) l.ids))

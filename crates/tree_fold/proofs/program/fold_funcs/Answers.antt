@@ -15,7 +15,8 @@ fold_body-requires c =
     record {
       ordered = c.requires.ordered;
       many = c.requires.many;
-      within = body_is_within c.args.from.now c.loop-i.funcs.items c.loop-i.i f.0 c.body_at-old.result c.loop-i.invariant.roots f.1 (c.body_at-old.ensures f.0 (ap (λ (z : List TFunc). slice_get z c.loop-i.i) c.as_slice.ensures.value ∙ f.1));
+      within = body_is_within c.args.from.now c.loop-i.funcs.items c.loop-i.i f.0 c.body_at-old.result c.loop-i.invariant.roots f.1
+          (c.body_at-old.ensures f.0 (ap (λ (z : List TFunc). slice_get z c.loop-i.i) c.as_slice.ensures.value ∙ f.1));
     }
 
 pub loop-i-preserved : goal.loop-i-preserved
@@ -35,4 +36,5 @@ loop-i-preserved c =
 pub returns : goal.returns
 returns c =
     let n : c.len-i-end.result ≡ length c.args.funcs.now.items = c.len-i-end.ensures ∙ c.args.funcs.now.ok.0 in
-    λ v s. all_funcs v (trees_of c.args.from.now) (trees_of c.loop-i.nodes.items) c.loop-i.i c.args.funcs.now.items c.loop-i.funcs.items (c.loop-i.invariant.folded v s) (omega (arith, c.loop-i-test.false, n, c.loop-i.invariant.long))
+    λ v s. all_funcs v (trees_of c.args.from.now) (trees_of c.loop-i.nodes.items) c.loop-i.i c.args.funcs.now.items c.loop-i.funcs.items
+    (c.loop-i.invariant.folded v s) (omega (arith, c.loop-i-test.false, n, c.loop-i.invariant.long))

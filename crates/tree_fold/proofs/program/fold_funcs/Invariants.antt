@@ -8,5 +8,6 @@ abbrev pub invariant-loop-i : goal.invariant-loop-i
 invariant-loop-i l = record {
   long : length l.funcs.items ≡ length l.initial.funcs.items;
   roots : HaveRootsFrom l.i l.from l.funcs.items;
-  folded : (volatile : ℕ → Bool) → AreSights volatile (trees_of l.from) l.sights → FoldedUpTo volatile (trees_of l.from) (trees_of l.nodes.items) l.i l.initial.funcs.items l.funcs.items;
+  folded : (volatile : ℕ → Bool) → AreSights volatile (trees_of l.from) l.sights
+      → FoldedUpTo volatile (trees_of l.from) (trees_of l.nodes.items) l.i l.initial.funcs.items l.funcs.items;
 }

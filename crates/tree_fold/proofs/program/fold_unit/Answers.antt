@@ -13,4 +13,5 @@ returns c =
     let v = marked c.args.volatile.now in
     let shown = subst (λ (z : List Sight). AreSights v (trees_of c.as_slice-from.result.now) z) (sym c.as_slice.ensures.value) c.in_ok-sights.ensures.shown in
     ap (λ (z : List Func). record (unit_of c.args.unit.now) { funcs = z })
-    (c.in_ok-fold_funcs.ensures v shown ∙ ap (λ (z : List TNode). map (folded_func v) (map (func_of (trees_of z)) c.args.unit.now.funcs.items)) c.as_slice-from.ensures.value)
+    (c.in_ok-fold_funcs.ensures v shown ∙ ap (λ (z : List TNode). map (folded_func v)
+    (map (func_of (trees_of z)) c.args.unit.now.funcs.items)) c.as_slice-from.ensures.value)

@@ -11,5 +11,6 @@ pub returns : goal.returns
 returns c = λ u e. weaker c.fold_unit.result _ _ (λ p. record {
   unit = c.fold_unit.new.unit;
   are = refl;
-  is = p ∙ ap (λ (z : UnitTree). folded_unit (marked c.args.volatile.now) (unit_of z)) (c.index_mut-unit.ensures.value ∙ get_or_from_slice_get c.args.units.now.items c.args.i u c.index_mut-unit.result.now e);
+  is = p ∙ ap (λ (z : UnitTree). folded_unit (marked c.args.volatile.now) (unit_of z))
+      (c.index_mut-unit.ensures.value ∙ get_or_from_slice_get c.args.units.now.items c.args.i u c.index_mut-unit.result.now e);
 }) c.fold_unit.ensures

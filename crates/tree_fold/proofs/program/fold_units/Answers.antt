@@ -21,4 +21,5 @@ loop-i-preserved c =
 pub returns : goal.returns
 returns c =
     let n : c.len-i-end.result ≡ length c.args.units.now.items = c.len-i-end.ensures ∙ c.args.units.now.ok.0 in
-    all_units (marked c.args.volatile.now) c.loop-i.i c.loop-i.units.items _ c.loop-i.invariant.folded (omega (arith, c.loop-i-test.false, n, c.loop-i.invariant.long))
+    all_units (marked c.args.volatile.now) c.loop-i.i c.loop-i.units.items _ c.loop-i.invariant.folded
+    (omega (arith, c.loop-i-test.false, n, c.loop-i.invariant.long))

@@ -13,7 +13,10 @@ loop-node-init c = record {
 }
 
 pub folded_sight-next-requires : goal.folded_sight-next-requires
-folded_sight-next-requires c = record { below = next_below c.args.nodes.now c.as_slice-seen.result.now c.loop-node.node-index c.node-item.result c.requires (ap length c.as_slice-seen.ensures.value ∙ c.loop-node.invariant.many) c.loop-node-test.true c.node-item.is }
+folded_sight-next-requires c = record {
+  below = next_below c.args.nodes.now c.as_slice-seen.result.now c.loop-node.node-index c.node-item.result c.requires
+      (ap length c.as_slice-seen.ensures.value ∙ c.loop-node.invariant.many) c.loop-node-test.true c.node-item.is;
+}
 
 pub loop-node-preserved : goal.loop-node-preserved
 loop-node-preserved c = record {

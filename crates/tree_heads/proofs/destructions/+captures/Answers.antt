@@ -13,7 +13,8 @@ captured_within-returns-then-is_captured_in t c =
     let within : ℕ → ℕ → Bool = captured_within (c.args.depth - 1) classes o in
     let j : ℕ = c.count_of_parts-many.result - (c.loop-i.i + 1) in
     let h : c.loop-i.i + suc j ≡ c.count_of_parts-many.result = omega arith in
-    let e : passes (are_captured classes within o c.args.offset) (part_of classes c.args.class c.loop-i.i) ≡ true = ap (passes (are_captured classes within o c.args.offset)) (sym c.part_at.ensures) ∙ sym c.if-is_captured_in.ensures in
+    let e : passes (are_captured classes within o c.args.offset) (part_of classes c.args.class c.loop-i.i) ≡ true =
+    ap (passes (are_captured classes within o c.args.offset)) (sym c.part_at.ensures) ∙ sym c.if-is_captured_in.ensures in
     sym (c.loop-i.invariant (suc j) h ∙ one_captured classes within o c.args.class c.args.offset j c.loop-i.i e)
 
 pub captured_within-loop-i-preserved : goal.captured_within-loop-i-preserved
@@ -22,7 +23,8 @@ captured_within-loop-i-preserved t c k h =
     let o : Objects = objects_shown c.args.objects in
     let within : ℕ → ℕ → Bool = captured_within (c.args.depth - 1) classes o in
     let g : c.loop-i.i + suc k ≡ c.count_of_parts-many.result = omega (arith, h) in
-    let e : passes (are_captured classes within o c.args.offset) (part_of classes c.args.class c.loop-i.i) ≡ false = ap (passes (are_captured classes within o c.args.offset)) (sym c.part_at.ensures) ∙ sym c.if-is_captured_in.ensures in
+    let e : passes (are_captured classes within o c.args.offset) (part_of classes c.args.class c.loop-i.i) ≡ false =
+    ap (passes (are_captured classes within o c.args.offset)) (sym c.part_at.ensures) ∙ sym c.if-is_captured_in.ensures in
     c.loop-i.invariant (suc k) g ∙ more_captured classes within o c.args.class c.args.offset k c.loop-i.i e
 
 pub captured_within-returns : goal.captured_within-returns

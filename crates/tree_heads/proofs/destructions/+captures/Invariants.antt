@@ -18,4 +18,7 @@ decreases-is_captured_in l = 4 * l.depth + 3
 
 -- so many parts are left
 abbrev pub invariant-captured_within-loop-i : goal.invariant-captured_within-loop-i
-invariant-captured_within-loop-i l = (k : ℕ) → l.i + k ≡ l.many → captured_within l.depth (classes_of l.classes) (objects_shown l.objects) l.class l.offset ≡ any_captured (classes_of l.classes) (captured_within (l.depth - 1) (classes_of l.classes) (objects_shown l.objects)) (objects_shown l.objects) l.class l.offset k l.i
+invariant-captured_within-loop-i l = (k : ℕ) → l.i + k ≡ l.many
+    → captured_within l.depth (classes_of l.classes) (objects_shown l.objects) l.class l.offset
+    ≡ any_captured (classes_of l.classes) (captured_within (l.depth - 1) (classes_of l.classes) (objects_shown l.objects))
+    (objects_shown l.objects) l.class l.offset k l.i

@@ -6,4 +6,5 @@ use Rattle.tree_heads.specs.Shown.{objects_shown, part_typ}
 use Rattle.tree_heads.proofs.destructions.are_whole_part.Goals as goal
 
 pub returns-in-Base : goal.returns-in-Base
-returns-in-Base c = c.are_whole_base.ensures (classes_of c.args.classes.now) ∙ ap (λ (z : PartType). are_whole (classes_of c.args.classes.now) (objects_shown c.args.objects) c.args.offset (part_typ z)) (sym c.in-Base.is)
+returns-in-Base c = c.are_whole_base.ensures (classes_of c.args.classes.now)
+    ∙ ap (λ (z : PartType). are_whole (classes_of c.args.classes.now) (objects_shown c.args.objects) c.args.offset (part_typ z)) (sym c.in-Base.is)

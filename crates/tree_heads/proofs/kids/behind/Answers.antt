@@ -6,4 +6,5 @@ use Rattle.tree_heads.proofs.kids.behind.Goals as goal
 pub returns-then-first-heads : goal.returns-then-first-heads
 returns-then-first-heads c =
     let few : length (drop c.args.first c.args.heads.now) ≤ length c.args.heads.now - c.args.first = simp length-drop (omega arith) in
-    ap (map shown) (take_all (length c.args.heads.now - c.args.first) (drop c.args.first c.args.heads.now) few) ∙ sym (drop-map shown c.args.first c.args.heads.now)
+    ap (map shown) (take_all (length c.args.heads.now - c.args.first) (drop c.args.first c.args.heads.now) few)
+    ∙ sym (drop-map shown c.args.first c.args.heads.now)

@@ -22,8 +22,12 @@ decreases-behind_part l = 5 * l.depth + 4
 
 -- so many elements are left
 abbrev pub invariant-behind_elements-loop-passed : goal.invariant-behind_elements-loop-passed
-invariant-behind_elements-loop-passed l = (k : ℕ) → l._passed + k ≡ l.many → behind (element_scalars (one_element (scalars_within l.depth (classes_of l.classes)) (shape_form l.shape)) l.stride l.many l.at) (left l.heads l.from) ≡ behind (element_scalars (one_element (scalars_within l.depth (classes_of l.classes)) (shape_form l.shape)) l.stride k l.place) (left l.heads l.next)
+invariant-behind_elements-loop-passed l = (k : ℕ) → l._passed + k ≡ l.many
+    → behind (element_scalars (one_element (scalars_within l.depth (classes_of l.classes)) (shape_form l.shape)) l.stride l.many l.at) (left l.heads l.from)
+    ≡ behind (element_scalars (one_element (scalars_within l.depth (classes_of l.classes)) (shape_form l.shape)) l.stride k l.place) (left l.heads l.next)
 
 -- so many parts are left
 abbrev pub invariant-behind_class-loop-i : goal.invariant-behind_class-loop-i
-invariant-behind_class-loop-i l = (k : ℕ) → l.i + k ≡ l.many → behind (scalars_within l.depth (classes_of l.classes) l.class l.at) (left l.heads l.from) ≡ behind (scalars_from (classes_of l.classes) (scalars_within (l.depth - 1) (classes_of l.classes)) l.class l.at k l.i) (left l.heads l.next)
+invariant-behind_class-loop-i l = (k : ℕ) → l.i + k ≡ l.many
+    → behind (scalars_within l.depth (classes_of l.classes) l.class l.at) (left l.heads l.from)
+    ≡ behind (scalars_from (classes_of l.classes) (scalars_within (l.depth - 1) (classes_of l.classes)) l.class l.at k l.i) (left l.heads l.next)

@@ -13,10 +13,12 @@ pub returns-in-Some : goal.returns-in-Some
 returns-in-Some c =
     let classes : List Class = classes_of c.args.classes.now in
     let e : length c.args.classes.now ≡ length classes = sym (length-map c.args.classes.now class_of) in
-    fields_end (scalars_of classes (typ_of c.args.ty.now)) c.args.heads.now c.in-Some.next (c.in-Some.ensures ∙ ap (λ (z : ℕ). behind (object_scalars classes (scalars_within z classes) (typ_of c.args.ty.now) 0) (map shown c.args.heads.now)) e)
+    fields_end (scalars_of classes (typ_of c.args.ty.now)) c.args.heads.now c.in-Some.next
+    (c.in-Some.ensures ∙ ap (λ (z : ℕ). behind (object_scalars classes (scalars_within z classes) (typ_of c.args.ty.now) 0) (map shown c.args.heads.now)) e)
 
 pub returns-in-None : goal.returns-in-None
 returns-in-None c =
     let classes : List Class = classes_of c.args.classes.now in
     let e : length c.args.classes.now ≡ length classes = sym (length-map c.args.classes.now class_of) in
-    no_fields (scalars_of classes (typ_of c.args.ty.now)) (map shown c.args.heads.now) (c.in-None.ensures ∙ ap (λ (z : ℕ). behind (object_scalars classes (scalars_within z classes) (typ_of c.args.ty.now) 0) (map shown c.args.heads.now)) e)
+    no_fields (scalars_of classes (typ_of c.args.ty.now)) (map shown c.args.heads.now)
+    (c.in-None.ensures ∙ ap (λ (z : ℕ). behind (object_scalars classes (scalars_within z classes) (typ_of c.args.ty.now) 0) (map shown c.args.heads.now)) e)

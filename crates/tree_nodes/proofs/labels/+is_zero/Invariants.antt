@@ -7,4 +7,5 @@ abbrev pub decreases-is_zero : goal.decreases-is_zero
 decreases-is_zero l = l.id.0
 
 abbrev pub invariant-loop-kid : goal.invariant-loop-kid
-invariant-loop-kid l = are_zero (trees_at (trees_of l.unit.nodes.items) l.kid-items) ≡ are_zero (trees_at (trees_of l.unit.nodes.items) (drop l.kid-index l.kid-items))
+invariant-loop-kid l = are_zero (trees_at (trees_of l.unit.nodes.items) l.kid-items)
+    ≡ are_zero (trees_at (trees_of l.unit.nodes.items) (drop l.kid-index l.kid-items))

@@ -6,4 +6,5 @@ use Rattle.tree_heads.specs.Shown.{shown}
 use Rattle.tree_operands.proofs.words.are_params.Given as goal
 
 abbrev pub invariant-loop-i : goal.invariant-loop-i
-invariant-loop-i l = are_words (param_words (typs_of l.params)) (map shown l.heads) ≡ are_words (param_words (typs_of (drop l.i l.params))) (map shown (drop l.i l.heads))
+invariant-loop-i l = are_words (param_words (typs_of l.params)) (map shown l.heads)
+    ≡ are_words (param_words (typs_of (drop l.i l.params))) (map shown (drop l.i l.heads))

@@ -8,4 +8,5 @@ use Rattle.tree_rows.specs.Settings.{setting_shown}
 use Rattle.tree_rows.proofs.destroying.are_all_destructions.Given as goal
 
 abbrev pub invariant-loop-head : goal.invariant-loop-head
-invariant-loop-head l = list_all (λ (h : Head). is_destruction (setting_shown l.setting) (typ_of l.ty) h.kind) (map shown l.heads) ≡ list_all (λ (h : Head). is_destruction (setting_shown l.setting) (typ_of l.ty) h.kind) (map shown (drop l.head-index l.heads))
+invariant-loop-head l = list_all (λ (h : Head). is_destruction (setting_shown l.setting) (typ_of l.ty) h.kind) (map shown l.heads)
+    ≡ list_all (λ (h : Head). is_destruction (setting_shown l.setting) (typ_of l.ty) h.kind) (map shown (drop l.head-index l.heads))

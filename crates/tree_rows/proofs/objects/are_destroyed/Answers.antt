@@ -7,4 +7,5 @@ use Rattle.tree_heads.specs.Shown.{objects_shown}
 use Rattle.tree_rows.proofs.objects.are_destroyed.Goals as goal
 
 pub returns : goal.returns
-returns c = c.are_destroyed.ensures ∙ ap (λ (z : List ClassRec). are_destroyed (classes_of z) (objects_shown c.args.objects) c.args.offset (typ_of c.args.ty.now)) c.deref.ensures.value
+returns c = c.are_destroyed.ensures ∙ ap (λ (z : List ClassRec). are_destroyed (classes_of z) (objects_shown c.args.objects) c.args.offset
+    (typ_of c.args.ty.now)) c.deref.ensures.value

@@ -7,4 +7,5 @@ use Rattle.tree_heads.specs.Shown.{shown}
 use Rattle.tree_rows.proofs.objects.are_elements.Goals as goal
 
 pub returns : goal.returns
-returns c = c.are_elements.ensures ∙ ap (λ (z : List ClassRec). are_elements (classes_of z) c.args.count c.args.stride 1 (typ_of c.args.ty.now) (shown c.args.head)) c.deref.ensures.value
+returns c = c.are_elements.ensures ∙ ap (λ (z : List ClassRec). are_elements (classes_of z) c.args.count c.args.stride 1 (typ_of c.args.ty.now)
+    (shown c.args.head)) c.deref.ensures.value

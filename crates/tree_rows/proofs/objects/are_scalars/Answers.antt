@@ -7,4 +7,5 @@ use Rattle.tree_heads.specs.Shown.{shown}
 use Rattle.tree_rows.proofs.objects.are_scalars.Goals as goal
 
 pub returns : goal.returns
-returns c = c.are_scalars.ensures ∙ ap (λ (z : List ClassRec). are_scalars (classes_of z) (typ_of c.args.ty.now) (map shown c.args.heads.now)) c.deref.ensures.value
+returns c = c.are_scalars.ensures ∙ ap (λ (z : List ClassRec). are_scalars (classes_of z) (typ_of c.args.ty.now)
+    (map shown c.args.heads.now)) c.deref.ensures.value

@@ -6,4 +6,5 @@ use Rattle.cpp_tree.specs.WellFormed.{is_item}
 use Rattle.tree_standing.proofs.words.are_items.Given as goal
 
 abbrev pub invariant-loop-item : goal.invariant-loop-item
-invariant-loop-item l = list_all (is_item (classes_of l.classes)) (map typ_of l.items) ≡ list_all (is_item (classes_of l.classes)) (map typ_of (drop l.item-index l.items))
+invariant-loop-item l = list_all (is_item (classes_of l.classes)) (map typ_of l.items)
+    ≡ list_all (is_item (classes_of l.classes)) (map typ_of (drop l.item-index l.items))

@@ -9,4 +9,5 @@ returns-in-TooLong g c =
     let w = wanted c.args.kind c.args.name.now in
     let before = g.H.Host.state c.args.host.now in
     let after = g.H.Host.state c.settle.new.host in
-    subst (λ u. Halts w u before after c.settle.result) (sym c.in-TooLong.is) (at_limit w before after c.over_limit.result c.settle.result c.over_limit.ensures c.settle.ensures)
+    subst (λ u. Halts w u before after c.settle.result) (sym c.in-TooLong.is)
+    (at_limit w before after c.over_limit.result c.settle.result c.over_limit.ensures c.settle.ensures)

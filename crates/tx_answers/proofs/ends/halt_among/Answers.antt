@@ -15,4 +15,5 @@ returns-in-Some g c =
     subst (λ u. HaltsAmong (wanted_each c.args.kind (map string_bytes c.args.names.now)) u before after c.settle.result) (sym c.in-TooLong.is)
     (at_limit_among c.args.kind c.args.names.now c.in-TooLong.index c.in-Some.name.now before after c.over_limit.result c.settle.result
     (slice_get-get_or c.args.names.now c.in-TooLong.index c.in-Some.name.now found.3.0 ∙ ap Some (sym found.1))
-    (subst (λ n. IfOk c.over_limit.result (λ x. IsLimited (wanted c.args.kind n) x.answer (map written_of x.writes.items))) c.as_str.ensures.value c.over_limit.ensures) c.settle.ensures)
+    (subst (λ n. IfOk c.over_limit.result (λ x. IsLimited (wanted c.args.kind n) x.answer
+    (map written_of x.writes.items))) c.as_str.ensures.value c.over_limit.ensures) c.settle.ensures)

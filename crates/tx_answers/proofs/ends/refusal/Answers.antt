@@ -8,5 +8,6 @@ returns c = record {
   answer = refl;
   number_is = refl;
   line_is = refl;
-  writes_are = ap (map written_of) c.in_ok-writes.ensures.items ∙ ap (λ text. to_err text ∷ []) (c.in_ok-text.ensures ∙ ap (λ l. l ++ codes "\n") c.as_slice.ensures.value);
+  writes_are = ap (map written_of) c.in_ok-writes.ensures.items
+      ∙ ap (λ text. to_err text ∷ []) (c.in_ok-text.ensures ∙ ap (λ l. l ++ codes "\n") c.as_slice.ensures.value);
 }

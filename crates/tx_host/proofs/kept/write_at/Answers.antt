@@ -6,7 +6,8 @@ use Rattle.tx_host.specs.Kept.{files_of}
 
 pub returns-in-Some-clause-written : goal.returns-in-Some-clause-written
 returns-in-Some-clause-written c =
-    files_of-set c.args.files.now.items c.in-Some.at c.args.name.now (c.index_mut.result.now.0, c.in_ok-bytes.bytes) c.index_mut.result.now (search rules) (ap (λ file. file.0) c.index_mut.ensures.value)
+    files_of-set c.args.files.now.items c.in-Some.at c.args.name.now (c.index_mut.result.now.0, c.in_ok-bytes.bytes) c.index_mut.result.now (search rules)
+    (ap (λ file. file.0) c.index_mut.ensures.value)
     ∙ ap (set_file (files_of c.args.files.now.items) c.args.name.now) (search rules)
 
 pub returns-in_ok-push-in-None-clause-written : goal.returns-in_ok-push-in-None-clause-written

@@ -104,4 +104,5 @@ unfolding apply_of
 returns-in-Ne-clause-value c =
     let e : c.number-in-Ne.result ≡ truth (not (int_eq c.args.a c.args.b)) =
     c.number-in-Ne.ensures ∙ ap (λ (t : Bool). truth (not t)) (eq_is c.args.a c.args.b c.ranges.a c.ranges.b) in
-    truth_value c.args.kind (not (int_eq c.args.a c.args.b)) c.number-in-Ne.result e ∙ ap (λ (op : BinOp). apply_of op c.args.kind c.args.a c.args.b) (sym c.in-Ne.is)
+    truth_value c.args.kind (not (int_eq c.args.a c.args.b)) c.number-in-Ne.result e
+    ∙ ap (λ (op : BinOp). apply_of op c.args.kind c.args.a c.args.b) (sym c.in-Ne.is)

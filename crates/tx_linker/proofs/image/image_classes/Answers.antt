@@ -10,4 +10,5 @@ pub returns : goal.returns
 returns c = λ types t.
     let k = c.args.kept.now in
     let x = c.args.numbers.now in
-    if_ok c.classes_of.result _ _ (λ v e. e ∙ ap (λ cs. map (class_told x) (map class_row cs)) c.deref.ensures.value ∙ ap (map (class_told x)) c.requires.classes ∙ classes_are (names_in k) (objects_of k) types x c.requires.known t) c.classes_of.ensures
+    if_ok c.classes_of.result _ _ (λ v e. e ∙ ap (λ cs. map (class_told x) (map class_row cs)) c.deref.ensures.value ∙ ap
+    (map (class_told x)) c.requires.classes ∙ classes_are (names_in k) (objects_of k) types x c.requires.known t) c.classes_of.ensures

@@ -10,4 +10,5 @@ pub returns : goal.returns
 returns c = λ types t.
     let k = c.args.kept.now in
     let x = c.args.numbers.now in
-    if_ok c.funcs_of.result _ _ (λ v e. e ∙ ap (λ fs. map (func_told x) (map func_row fs)) c.deref.ensures.value ∙ ap (map (func_told x)) c.requires.funcs ∙ funcs_are (names_in k) (objects_of k) types x c.requires.known t) c.funcs_of.ensures
+    if_ok c.funcs_of.result _ _ (λ v e. e ∙ ap (λ fs. map (func_told x) (map func_row fs)) c.deref.ensures.value ∙ ap (map (func_told x)) c.requires.funcs
+    ∙ funcs_are (names_in k) (objects_of k) types x c.requires.known t) c.funcs_of.ensures

@@ -17,4 +17,5 @@ pub returns : goal.returns
 returns c = λ types t.
     let k = c.args.kept.now in
     let x = c.args.numbers.now in
-    if_ok c.cells_of.result _ _ (λ v e. e ∙ ap (λ gs. cells_told x 0 (map global_row gs)) c.deref.ensures.value ∙ ap (cells_told x 0) c.requires.kept.globals ∙ cells_are (names_in k) (objects_of k) types x c.requires.kept.known t) c.cells_of.ensures
+    if_ok c.cells_of.result _ _ (λ v e. e ∙ ap (λ gs. cells_told x 0 (map global_row gs)) c.deref.ensures.value ∙ ap (cells_told x 0) c.requires.kept.globals
+    ∙ cells_are (names_in k) (objects_of k) types x c.requires.kept.known t) c.cells_of.ensures

@@ -9,7 +9,9 @@ pub main_of-requires : goal.main_of-requires
 main_of-requires c = rw c.deref.ensures.value (funcs_few c.args.kept.now c.requires.kept)
 
 pub unreachable-requires : goal.unreachable-requires
-unreachable-requires c = main_defined c.args.kept.now c.requires.kept c.requires.links (sym (ap (λ fs. position_from is_main_row 0 (map func_row fs)) c.deref.ensures.value) ∙ sym c.main_of.ensures ∙ c.in-None.is)
+unreachable-requires c = main_defined c.args.kept.now c.requires.kept c.requires.links
+    (sym (ap (λ fs. position_from is_main_row 0 (map func_row fs)) c.deref.ensures.value) ∙ sym c.main_of.ensures ∙ c.in-None.is)
 
 pub returns : goal.returns
-returns c = sym (main_number c.args.kept.now c.requires.kept) ∙ sym (ap (λ fs. position_from is_main_row 0 (map func_row fs)) c.deref.ensures.value) ∙ sym c.main_of.ensures ∙ c.in-Some.is
+returns c = sym (main_number c.args.kept.now c.requires.kept) ∙ sym (ap (λ fs. position_from is_main_row 0 (map func_row fs)) c.deref.ensures.value)
+    ∙ sym c.main_of.ensures ∙ c.in-Some.is

@@ -13,7 +13,8 @@ returns-then-len-room c =
     let s = names_step c.args.objects.now c.loop-object.object-index c.object-item.result c.loop-object-test.true c.object-item.is in
     let f = names_front c.args.objects.now (c.loop-object.object-index + 1) in
     let n : c.len.result ≡ length c.object-item.result.names.items = c.len.ensures ∙ c.object-item.result.names.ok.0 in
-    sym (not_less (length (flat_map names_of (map object_view c.args.objects.now))) 4294967295 (omega (arith, s, f, n, c.if-len-room.true, c.loop-object.invariant)))
+    sym (not_less (length (flat_map names_of (map object_view c.args.objects.now))) 4294967295
+    (omega (arith, s, f, n, c.if-len-room.true, c.loop-object.invariant)))
 
 pub loop-object-preserved : goal.loop-object-preserved
 loop-object-preserved c =

@@ -9,7 +9,13 @@ check_units-requires c = subst AreReadable (sym c.deref-2.ensures.value) c.requi
 pub invariant_of-result : goal.invariant_of-result
 invariant_of-result c =
     let l : Lists c.args.program c.in_ok-volatile.volatile.items c.deref-3.result.now c.deref.result.now c.deref-2.result.now =
-    record { classes_are = c.deref.ensures.value; units_are = c.deref-2.ensures.value; marks_are = c.deref-3.ensures.value; tells = c.in_ok-volatile.ensures } in
+    record {
+      classes_are = c.deref.ensures.value;
+      units_are = c.deref-2.ensures.value;
+      marks_are = c.deref-3.ensures.value;
+      tells =
+          c.in_ok-volatile.ensures;
+    } in
     record {
       known = checked c.args.program c.in_ok-volatile.volatile.items c.deref-3.result.now c.deref.result.now c.deref-2.result.now c.in_ok-checked.checked.found c.in_ok-checked.checked.marks.items l
           c.in_ok-checked.ensures.found c.in-None.is c.in_ok-checked.ensures.long c.in_ok-checked.ensures.marks;
@@ -18,5 +24,11 @@ invariant_of-result c =
 pub returns-in-Some : goal.returns-in-Some
 returns-in-Some c =
     let l : Lists c.args.program c.in_ok-volatile.volatile.items c.deref-3.result.now c.deref.result.now c.deref-2.result.now =
-    record { classes_are = c.deref.ensures.value; units_are = c.deref-2.ensures.value; marks_are = c.deref-3.ensures.value; tells = c.in_ok-volatile.ensures } in
+    record {
+      classes_are = c.deref.ensures.value;
+      units_are = c.deref-2.ensures.value;
+      marks_are = c.deref-3.ensures.value;
+      tells =
+          c.in_ok-volatile.ensures;
+    } in
     first_is c.args.program c.in_ok-checked.checked.found c.in-Some.first (found_is c.args.program c.in_ok-volatile.volatile.items c.deref-3.result.now c.deref.result.now c.deref-2.result.now c.in_ok-checked.checked.found l c.in_ok-checked.ensures.found) c.in-Some.is

@@ -28,6 +28,7 @@ returns c =
     let not : kind_of c.in-Err.error ≡ OutOfMemory → ⊥ = search rules in
     record {
       none = λ e. not_true _ (λ t. not (c.in-Err.ensures.passes (ap (λ (a : App). takes a (map string_bytes c.args.words.now)) app ∙ t)));
-      fault = λ e f. no_kind _ c.in-Err.error (c.in-Err.ensures.kinds (ap is_simple_and_free app ∙ simple_and_free)) not (ap (λ (a : App). fault_of a (map string_bytes c.args.words.now)) app ∙ f);
+      fault = λ e f. no_kind _ c.in-Err.error (c.in-Err.ensures.kinds (ap is_simple_and_free app ∙ simple_and_free)) not
+          (ap (λ (a : App). fault_of a (map string_bytes c.args.words.now)) app ∙ f);
       some = tt;
     }

@@ -20,4 +20,5 @@ returns c =
     (ap (λ (a : App). a.top) c.in_ok-check.ensures.app)) (ap (λ (a : App). a.top) c.in_ok-selftest.ensures.app))
     (ap (λ (a : App). a.top) c.in_ok-build.ensures.app)) (ap (λ (a : App). a.top) c.in_ok-exec.ensures.app))
     (ap (λ (a : App). a.top) c.in_ok-replay.ensures.app)) (ap (λ (a : App). a.top) c.in_ok-dis.ensures.app))
-    (ap (λ (a : App). a.top) c.in_ok-asm.ensures.app)) (ap (λ (a : App). a.top) c.in_ok-races.ensures.app)) (ap (λ (a : App). a.top) c.in_ok-explain.ensures.app)) c.subcommand-10.ensures
+    (ap (λ (a : App). a.top) c.in_ok-asm.ensures.app)) (ap (λ (a : App). a.top) c.in_ok-races.ensures.app))
+    (ap (λ (a : App). a.top) c.in_ok-explain.ensures.app)) c.subcommand-10.ensures

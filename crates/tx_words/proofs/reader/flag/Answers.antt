@@ -14,5 +14,7 @@ flagged (Some t) b none on off (inr h) = off (ap Some h) ∙ sym (ap (λ s. byte
 pub returns : goal.returns
 returns c =
     let same = one_text-rows (found_of c.args.matches.now) c.args.id.now in
-    rw (← same) (flagged (one_text (found_of c.args.matches.now) c.args.id.now) c.get_flag.result c.get_flag.ensures.none c.get_flag.ensures.value c.get_flag.ensures.other
+    rw (← same)
+    (flagged
+    (one_text (found_of c.args.matches.now) c.args.id.now) c.get_flag.result c.get_flag.ensures.none c.get_flag.ensures.value c.get_flag.ensures.other
     (subst (λ (o : Option (List ℕ)). IfSome o (λ t. (t ≡ codes "true") ⊎ (t ≡ codes "false"))) (sym same) c.requires))

@@ -12,9 +12,11 @@ pair (Some p) n rows e f = sym (ap₂ (λ a b. Some (a, b)) (ap (λ o. unwrap_or
 
 pub command_of-requires : goal.command_of-requires
 command_of-requires c =
-    let facts : (fault_of txcc_app (map string_bytes c.args.words.now) ≡ []) × (subcommand_rows_of c.in-Some.matches ≡ subcommand_of txcc_app (map string_bytes c.args.words.now)) = search rules in
+    let facts : (fault_of txcc_app (map string_bytes c.args.words.now) ≡ [])
+    × (subcommand_rows_of c.in-Some.matches ≡ subcommand_of txcc_app (map string_bytes c.args.words.now)) = search rules in
     let name : Some c.in-Some-subcommand.name.now ≡ option_map (λ p. p.0) (subcommand_rows_of c.in-Some.matches) = search rules in
-    let rows : Some (rows_of (found_of c.in-Some-subcommand.inner.now)) ≡ option_map (λ p. p.1) (subcommand_rows_of c.in-Some.matches) = c.in-Some-subcommand.ensures.rows in
+    let rows : Some (rows_of (found_of c.in-Some-subcommand.inner.now)) ≡ option_map (λ p. p.1) (subcommand_rows_of c.in-Some.matches) =
+    c.in-Some-subcommand.ensures.rows in
     subst (λ o. IfSome o (λ p. Fits p.0 p.1)) (sym facts.1 ∙ pair _ _ _ name rows) (entered_fits _ facts.0)
 
 gone : (o : Option (Text × List Row)) → None ≡ option_map (λ p. p.1) o → is_some o ≡ true → ⊥
@@ -23,6 +25,7 @@ gone (Some p) e f = true≢false (sym (ap is_some e))
 
 pub unreachable-requires : goal.unreachable-requires
 unreachable-requires c =
-    let facts : (fault_of txcc_app (map string_bytes c.args.words.now) ≡ []) × (subcommand_rows_of c.in-Some.matches ≡ subcommand_of txcc_app (map string_bytes c.args.words.now)) = search rules in
+    let facts : (fault_of txcc_app (map string_bytes c.args.words.now) ≡ [])
+    × (subcommand_rows_of c.in-Some.matches ≡ subcommand_of txcc_app (map string_bytes c.args.words.now)) = search rules in
     let rows : None ≡ option_map (λ p. p.1) (subcommand_rows_of c.in-Some.matches) = c.in-None.ensures.rows in
     gone (subcommand_rows_of c.in-Some.matches) rows (ap is_some facts.1 ∙ is_there _ facts.0)

@@ -12,4 +12,5 @@ returns g c =
     let fold = c.args.options.now.fold in
     let object = string_bytes c.args.options.now.object_file in
     subst (λ (n : List ℕ). Ends (wanted Source n ∷ []) (on_one (DecidesBuild fold n object)) before after c.build.result) c.as_str.ensures.value
-    (subst (λ (t : List ℕ). Ends (wanted Source c.as_str.result.now ∷ []) (on_one (DecidesBuild fold c.as_str.result.now t)) before after c.build.result) c.as_str-2.ensures.value c.build.ensures)
+    (subst (λ (t : List ℕ). Ends (wanted Source c.as_str.result.now ∷ [])
+    (on_one (DecidesBuild fold c.as_str.result.now t)) before after c.build.result) c.as_str-2.ensures.value c.build.ensures)

@@ -14,13 +14,15 @@ pub run-requires : goal.run-requires
 run-requires g c = record { options = subst CanDo c.in-Run.is c.requires }
 
 pub returns-in-Build : goal.returns-in-Build
-returns-in-Build g c = subst (λ k. Does k (g.H.Host.state c.args.host.now) (g.H.Host.state c.build_object.new.host) c.build_object.result) (sym c.in-Build.is) c.build_object.ensures
+returns-in-Build g c = subst (λ k. Does k (g.H.Host.state c.args.host.now) (g.H.Host.state c.build_object.new.host) c.build_object.result)
+    (sym c.in-Build.is) c.build_object.ensures
 
 pub selftest-requires : goal.selftest-requires
 selftest-requires g c = let h = subst CanDo c.in-Selftest.is c.requires in record { least = h.0; most = h.1 }
 
 pub returns-in-Selftest : goal.returns-in-Selftest
-returns-in-Selftest g c = subst (λ k. Does k (g.H.Host.state c.args.host.now) (g.H.Host.state c.selftest.new.host) c.selftest.result) (sym c.in-Selftest.is) c.selftest.ensures
+returns-in-Selftest g c = subst (λ k. Does k (g.H.Host.state c.args.host.now) (g.H.Host.state c.selftest.new.host) c.selftest.result)
+    (sym c.in-Selftest.is) c.selftest.ensures
 
 pub returns-in-Dis : goal.returns-in-Dis
 returns-in-Dis g c =
@@ -34,8 +36,10 @@ returns-in-Asm g c =
     let before = g.H.Host.state c.args.host.now in
     let after = g.H.Host.state c.asm.new.host in
     subst (λ k. Does k before after c.asm.result) (sym c.in-Asm.is)
-    (subst (λ (n : List ℕ). Ends (wanted Text n ∷ []) (on_one (Assembles n (string_bytes c.in-Asm.options.object_file))) before after c.asm.result) c.as_str-in-Asm.ensures.value
-    (subst (λ (t : List ℕ). Ends (wanted Text c.as_str-in-Asm.result.now ∷ []) (on_one (Assembles c.as_str-in-Asm.result.now t)) before after c.asm.result) c.as_str-in-Asm-2.ensures.value c.asm.ensures))
+    (subst (λ (n : List ℕ). Ends (wanted Text n ∷ [])
+    (on_one (Assembles n (string_bytes c.in-Asm.options.object_file))) before after c.asm.result) c.as_str-in-Asm.ensures.value
+    (subst (λ (t : List ℕ). Ends (wanted Text c.as_str-in-Asm.result.now ∷ [])
+    (on_one (Assembles c.as_str-in-Asm.result.now t)) before after c.asm.result) c.as_str-in-Asm-2.ensures.value c.asm.ensures))
 
 pub exec-requires : goal.exec-requires
 exec-requires g c = record { options = subst CanDo c.in-Exec.is c.requires }
@@ -60,4 +64,5 @@ pub returns-in-Races : goal.returns-in-Races
 returns-in-Races g c = subst (λ k. Does k (g.H.Host.state c.args.host.now) (g.H.Host.state c.races.new.host) c.races.result) (sym c.in-Races.is) c.races.ensures
 
 pub returns-in-Replay : goal.returns-in-Replay
-returns-in-Replay g c = subst (λ k. Does k (g.H.Host.state c.args.host.now) (g.H.Host.state c.replay.new.host) c.replay.result) (sym c.in-Replay.is) c.replay.ensures
+returns-in-Replay g c = subst (λ k. Does k (g.H.Host.state c.args.host.now) (g.H.Host.state c.replay.new.host) c.replay.result)
+    (sym c.in-Replay.is) c.replay.ensures

@@ -6,4 +6,5 @@ use Rattle.txcc_core.proofs.top.usage.Goals as goal
 pub returns : goal.returns
 returns g c =
     let before = g.H.Host.state c.args.host.now in
-    ends_settled no_files DecidesUsage before before (g.H.Host.state c.settle.new.host) [] c.usage_lines.result c.settle.result refl c.usage_lines.ensures c.settle.ensures
+    ends_settled no_files DecidesUsage before before
+    (g.H.Host.state c.settle.new.host) [] c.usage_lines.result c.settle.result refl c.usage_lines.ensures c.settle.ensures

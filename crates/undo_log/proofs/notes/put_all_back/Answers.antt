@@ -8,7 +8,8 @@ pub loop-left-preserved : goal.loop-left-preserved
 loop-left-preserved c = (
   omega (arith, c.loop-left.invariant.0),
   c.put_word.ensures.layout ∙ c.loop-left.invariant.1,
-  put_back_step c.args.notes.now c.loop-left.left _ _ (words_of c.loop-left.memory) (words_of c.put_word.new.memory) c.loop-left-test.true c.loop-left.invariant.0 refl c.put_word.ensures.words ∙ c.loop-left.invariant.2,
+  put_back_step c.args.notes.now c.loop-left.left _ _ (words_of c.loop-left.memory)
+      (words_of c.put_word.new.memory) c.loop-left-test.true c.loop-left.invariant.0 refl c.put_word.ensures.words ∙ c.loop-left.invariant.2,
 )
 
 pub returns-clause-words : goal.returns-clause-words

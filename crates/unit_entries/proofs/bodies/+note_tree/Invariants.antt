@@ -8,4 +8,5 @@ abbrev pub decreases-note_tree : goal.decreases-note_tree
 decreases-note_tree l = l.id.0
 
 abbrev pub invariant-loop-kid : goal.invariant-loop-kid
-invariant-loop-kid l = noted_all l.deeper (trees_at (trees_of l.unit.nodes.items) (drop l.kid-index l.kid-items)) (marks_in l.uses) ≡ noted_all l.deeper (trees_at (trees_of l.unit.nodes.items) l.kid-items) (marks_in l.initial.uses)
+invariant-loop-kid l = noted_all l.deeper (trees_at (trees_of l.unit.nodes.items) (drop l.kid-index l.kid-items)) (marks_in l.uses)
+    ≡ noted_all l.deeper (trees_at (trees_of l.unit.nodes.items) l.kid-items) (marks_in l.initial.uses)

@@ -9,4 +9,8 @@ use Rattle.unit_entries.specs.Entries.{funcs_from}
 use Rattle.unit_entries.proofs.functions.func_entries.Given as goal
 
 abbrev pub invariant-loop-i : goal.invariant-loop-i
-invariant-loop-i l = map (func_record (naming (map bytes_of l.setting.names.now))) (map func_view l.funcs.items) ++ funcs_from (classes_of l.setting.program.now.classes.items) (map definition_of l.setting.unit.now.classes.items) (marks_in l.setting.uses.now) l.setting.safe.now l.i (map (func_of (trees_of l.setting.unit.now.nodes.items)) (drop l.i l.setting.unit.now.funcs.items)) ≡ funcs_from (classes_of l.setting.program.now.classes.items) (map definition_of l.setting.unit.now.classes.items) (marks_in l.setting.uses.now) l.setting.safe.now 0 (unit_of l.setting.unit.now).funcs
+invariant-loop-i l = map (func_record (naming (map bytes_of l.setting.names.now))) (map func_view l.funcs.items)
+    ++ funcs_from (classes_of l.setting.program.now.classes.items) (map definition_of l.setting.unit.now.classes.items)
+    (marks_in l.setting.uses.now) l.setting.safe.now l.i (map (func_of (trees_of l.setting.unit.now.nodes.items)) (drop l.i l.setting.unit.now.funcs.items))
+    ≡ funcs_from (classes_of l.setting.program.now.classes.items) (map definition_of l.setting.unit.now.classes.items)
+    (marks_in l.setting.uses.now) l.setting.safe.now 0 (unit_of l.setting.unit.now).funcs

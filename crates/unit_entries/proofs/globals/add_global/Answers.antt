@@ -9,5 +9,9 @@ use Rattle.unit_entries.proofs.Steps.{one_more}
 use Rattle.unit_entries.proofs.globals.add_global.Goals as goal
 
 pub returns-in_ok-push : goal.returns-in_ok-push
-returns-in_ok-push c = one_more global_view (global_record (naming (map bytes_of c.args.setting.names.now))) c.args.globals.now.items c.push.new.self.items c.in_ok-global_entry.field-0 (global_entry_of (classes_of c.args.setting.program.now.classes.items) (global_of c.args.global.now)) _
-    c.in_ok-push.ensures.items (c.in_ok-global_entry.ensures ∙ ap (λ (z : List ClassRec). global_entry_of (classes_of z) (global_of c.args.global.now)) c.as_slice-classes.ensures.value) (sym c.if-has_entry.true ∙ c.has_entry.ensures)
+returns-in_ok-push c = one_more global_view (global_record
+    (naming (map bytes_of c.args.setting.names.now))) c.args.globals.now.items c.push.new.self.items c.in_ok-global_entry.field-0
+    (global_entry_of (classes_of c.args.setting.program.now.classes.items) (global_of c.args.global.now)) _
+    c.in_ok-push.ensures.items (c.in_ok-global_entry.ensures ∙ ap
+    (λ (z : List ClassRec). global_entry_of (classes_of z) (global_of c.args.global.now)) c.as_slice-classes.ensures.value)
+    (sym c.if-has_entry.true ∙ c.has_entry.ensures)

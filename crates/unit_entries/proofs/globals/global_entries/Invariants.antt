@@ -8,4 +8,7 @@ use Rattle.unit_entries.specs.Entries.{globals_from}
 use Rattle.unit_entries.proofs.globals.global_entries.Given as goal
 
 abbrev pub invariant-loop-i : goal.invariant-loop-i
-invariant-loop-i l = map (global_record (naming (map bytes_of l.setting.names.now))) (map global_view l.globals.items) ++ globals_from (classes_of l.setting.program.now.classes.items) (marks_in l.setting.uses.now) l.i (map global_of (drop l.i l.setting.unit.now.globals.items)) ≡ globals_from (classes_of l.setting.program.now.classes.items) (marks_in l.setting.uses.now) 0 (unit_of l.setting.unit.now).globals
+invariant-loop-i l = map (global_record (naming (map bytes_of l.setting.names.now))) (map global_view l.globals.items)
+    ++ globals_from (classes_of l.setting.program.now.classes.items) (marks_in l.setting.uses.now) l.i
+    (map global_of (drop l.i l.setting.unit.now.globals.items))
+    ≡ globals_from (classes_of l.setting.program.now.classes.items) (marks_in l.setting.uses.now) 0 (unit_of l.setting.unit.now).globals

@@ -5,4 +5,5 @@ use Rattle.cpp_tree.specs.cpp_types.Spelling.{listed}
 use Rattle.unit_entries.proofs.texts.add_list.Given as goal
 
 abbrev pub invariant-loop-ty : goal.invariant-loop-ty
-invariant-loop-ty l = l.text.items ++ listed (classes_of l.classes) l.comma (typs_of (drop l.ty-index l.types)) ≡ l.initial.text.items ++ listed (classes_of l.classes) l.initial.comma (typs_of l.types)
+invariant-loop-ty l = l.text.items ++ listed (classes_of l.classes) l.comma (typs_of (drop l.ty-index l.types)) ≡ l.initial.text.items
+    ++ listed (classes_of l.classes) l.initial.comma (typs_of l.types)

@@ -12,7 +12,8 @@ pub returns-clause-unit : goal.returns-clause-unit
 returns-clause-unit c =
     let same : c.program.result.now ≡ checked_in c.args.safe.now = c.program.ensures.program in
     IfOk-weaker c.generate.result _ _ (λ o h u at.
-    let marks : c.as_slice.result.now ≡ safe_first (program_of (checked_in c.args.safe.now)) c.args.unit (length u.funcs) = c.as_slice.ensures.value ∙ c.in_ok-marks.ensures u at in
+    let marks : c.as_slice.result.now ≡ safe_first (program_of (checked_in c.args.safe.now)) c.args.unit (length u.funcs) = c.as_slice.ensures.value
+    ∙ c.in_ok-marks.ensures u at in
     subst (λ (ms : List Bool). IsObjectOf (program_of (checked_in c.args.safe.now)) u ms c.args.name.now (object_view o)) marks
     (subst (λ (q : Program). IsObjectOf (program_of q) u c.as_slice.result.now c.args.name.now (object_view o)) same
     (h u (subst (λ (q : Program). slice_get (program_of q).units c.args.unit ≡ Some u) (sym same) at))))

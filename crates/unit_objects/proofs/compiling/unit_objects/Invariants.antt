@@ -12,5 +12,6 @@ abbrev pub invariant-texts : goal.invariant-texts
 invariant-texts l = record {
   objects : All (λ o. IsObject (object_view o)) l.objects.items;
   many : length (map object_view l.objects.items) ≡ l.index;
-  each : (unit : ℕ) (o : ObjectView) → slice_get (map object_view l.objects.items) unit ≡ Some o → IsNamedObject (program_of (checked_in l.safe)) (map string_bytes l.names) unit o;
+  each : (unit : ℕ) (o : ObjectView) → slice_get (map object_view l.objects.items) unit ≡ Some o
+      → IsNamedObject (program_of (checked_in l.safe)) (map string_bytes l.names) unit o;
 }

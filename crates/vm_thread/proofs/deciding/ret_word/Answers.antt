@@ -7,5 +7,9 @@ use Rattle.vm_thread.proofs.deciding.ret_word.Goals as goal
 
 pub returns-else-is_outermost : goal.returns-else-is_outermost
 returns-else-is_outermost c =
-    let m = returns_word (top_of c.args.frames.now) (rest_of c.args.frames.now) (top_of c.args.frames.now).home c.in-Some.word (sym c.if-is_outermost.ensures) in
-    record { is = m.is ∙ sym (one_is _ _ (λ w ws. meaning.back_act (top_of c.args.frames.now).home (w ∷ []) (rest_of c.args.frames.now)) c.in-Some.ensures); fits = m.fits }
+    let m = returns_word (top_of c.args.frames.now) (rest_of c.args.frames.now) (top_of c.args.frames.now).home c.in-Some.word
+    (sym c.if-is_outermost.ensures) in
+    record {
+      is = m.is ∙ sym (one_is _ _ (λ w ws. meaning.back_act (top_of c.args.frames.now).home (w ∷ []) (rest_of c.args.frames.now)) c.in-Some.ensures);
+      fits = m.fits;
+    }

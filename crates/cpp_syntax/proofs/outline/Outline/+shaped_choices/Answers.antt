@@ -5,7 +5,8 @@ use Rattle.cpp_syntax.proofs.SingleTerminals.{passed, refused}
 use Rattle.cpp_syntax.proofs.IndependentDerivations.{free_none}
 use Rattle.cpp_syntax.proofs.Recognisers.{behind_any, many_starts, many_goes, many_stops}
 use Rattle.cpp_syntax.proofs.DeclaratorShapes.{partner_inside}
-use Rattle.cpp_syntax.proofs.DeclarationShapes.{chosen_token, chosen_starts, token_brackets, token_none, token_choice, choice_missing, choice_found, choice_open}
+use Rattle.cpp_syntax.proofs.DeclarationShapes.{chosen_token, chosen_starts, token_brackets, token_none, token_choice, choice_missing, choice_found}
+use Rattle.cpp_syntax.proofs.DeclarationShapes.{choice_open}
 use Rattle.cpp_syntax.proofs.outline.Outline.+shaped_choices.Goals as goal
 
 pub shaped_choice-returns-then-not-is_at : goal.shaped_choice-returns-then-not-is_at

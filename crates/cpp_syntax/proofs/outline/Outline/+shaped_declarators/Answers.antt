@@ -4,7 +4,8 @@ use Rattle.cpp_syntax.specs.Terminals.{star, amp, open_paren, close_paren}
 use Rattle.cpp_syntax.specs.Names.{naming_of}
 use Rattle.cpp_syntax.proofs.SingleTerminals.{passed, refused, exactly}
 use Rattle.cpp_syntax.proofs.Recognisers.{known_later, span_ahead}
-use Rattle.cpp_syntax.proofs.DeclaratorShapes.{pointer_found, reference_found, declarator_found, head_named, head_group, head_missing, head_left_out, head_ahead, direct_found, direct_missing, no_group_there, group_empty, group_of_none, group_open, group_found}
+use Rattle.cpp_syntax.proofs.DeclaratorShapes.{pointer_found, reference_found, declarator_found, head_named, head_group, head_missing, head_left_out}
+use Rattle.cpp_syntax.proofs.DeclaratorShapes.{head_ahead, direct_found, direct_missing, no_group_there, group_empty, group_of_none, group_open, group_found}
 use Rattle.cpp_syntax.proofs.outline.Outline.+shaped_declarators.Goals as goal
 
 pub shaped_declarator-shaped_declarator-requires : goal.shaped_declarator-shaped_declarator-requires

@@ -4,7 +4,8 @@ use Rattle.cpp_syntax.specs.Terminals.{is_type_name, greater}
 use Rattle.cpp_syntax.proofs.SingleTerminals.{passed, refused}
 use Rattle.cpp_syntax.proofs.LongestMatches.{node_none}
 use Rattle.cpp_syntax.proofs.Recognisers.{known_later, span_ahead}
-use Rattle.cpp_syntax.proofs.TypeShapes.{specifier_words, specifier_name, specifier_found, thrown_none, thrown_found, thrown_unclosed, thrown_no_type, seq_found, seq_missing, type_found, type_missing}
+use Rattle.cpp_syntax.proofs.TypeShapes.{specifier_words, specifier_name, specifier_found, thrown_none, thrown_found, thrown_unclosed, thrown_no_type}
+use Rattle.cpp_syntax.proofs.TypeShapes.{seq_found, seq_missing, type_found, type_missing}
 use Rattle.cpp_syntax.proofs.outline.Outline.+shaped_types.Goals as goal
 
 pub shaped_tx_exception-returns-in_default : goal.shaped_tx_exception-returns-in_default

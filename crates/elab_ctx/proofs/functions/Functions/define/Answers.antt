@@ -9,6 +9,8 @@ invariant_of-self c =
     let change : FuncDecl → FuncDecl = λ f. record f { is_defined = true; params = c.args.params; text = c.args.text; closed_at = c.args.closed_at } in
     let before = c.self.inside.list.items in
     record {
-      members = λ n. c.self.invariant.members n ∙ sym (ap (places_where (is_member_of n) 0) c.define_at.ensures ∙ places_changed (is_member_of n) change (λ f. refl) 0 c.args.place before);
-      named = λ name. c.self.invariant.named name ∙ sym (ap (places_where (is_free_of name) 0) c.define_at.ensures ∙ places_changed (is_free_of name) change (λ f. refl) 0 c.args.place before);
+      members = λ n. c.self.invariant.members n ∙ sym
+          (ap (places_where (is_member_of n) 0) c.define_at.ensures ∙ places_changed (is_member_of n) change (λ f. refl) 0 c.args.place before);
+      named = λ name. c.self.invariant.named name ∙ sym
+          (ap (places_where (is_free_of name) 0) c.define_at.ensures ∙ places_changed (is_free_of name) change (λ f. refl) 0 c.args.place before);
     }

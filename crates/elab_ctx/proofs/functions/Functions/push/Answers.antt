@@ -11,6 +11,8 @@ invariant_of-self-2 c =
     let at : c.in-Ok.place ≡ length before = search (rules, arith) in
     let ok : is_ok c.add_place.result ≡ true = search rules in
     record {
-      members = λ n. pushed (is_member_of n) before c.push.new.self.items f c.in-Ok.place _ _ _ grown at ok (c.self.invariant.members n) (c.add_place.ensures.members n);
-      named = λ name. pushed (is_free_of name) before c.push.new.self.items f c.in-Ok.place _ _ _ grown at ok (c.self.invariant.named name) (c.add_place.ensures.named name);
+      members = λ n. pushed (is_member_of n) before c.push.new.self.items f c.in-Ok.place _ _ _ grown at ok (c.self.invariant.members n)
+          (c.add_place.ensures.members n);
+      named = λ name. pushed (is_free_of name) before c.push.new.self.items f c.in-Ok.place _ _ _ grown at ok (c.self.invariant.named name)
+          (c.add_place.ensures.named name);
     }

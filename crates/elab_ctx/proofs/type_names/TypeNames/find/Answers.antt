@@ -6,4 +6,6 @@ use Rattle.elab_ctx.proofs.TypeEntries.{called_is, found_is}
 use Rattle.elab_ctx.proofs.type_names.TypeNames.find.Goals as goal
 
 pub returns : goal.returns
-returns c = found_is c.get.result (type_called c.args.name.now (map named_of c.args.self.now)) (ap (λ names. type_called c.args.name.now (map named_of names)) (sym c.self.view_is) ∙ called_is c.args.name.now c.self.inside.names.entries ∙ ap (option_map typ_of) (sym c.get.ensures.value))
+returns c = found_is c.get.result (type_called c.args.name.now (map named_of c.args.self.now))
+    (ap (λ names. type_called c.args.name.now (map named_of names)) (sym c.self.view_is) ∙ called_is c.args.name.now c.self.inside.names.entries
+    ∙ ap (option_map typ_of) (sym c.get.ensures.value))

@@ -15,11 +15,15 @@ invariant_of-self c =
         stripes_len = c.take_record-is_new.ensures.len;
         threads = omega (arith, length-set self.held.items c.args.t c.add.new.self, self.table.threads);
         placed = c.take_record-is_new.ensures.placed;
-        kept = counts_new self.held.items c.index_mut-words.result.now c.add.new.self c.args.t c.args.word c.args.mode old new (omega arith) c.index_mut-words.ensures.value self.table.kept c.take_record-is_new.ensures.taken (sym c.take_record-is_new.ensures.is_new ∙ c.if-is_new.true) c.add.ensures.added;
+        kept = counts_new self.held.items c.index_mut-words.result.now c.add.new.self c.args.t c.args.word c.args.mode old new
+            (omega arith) c.index_mut-words.ensures.value self.table.kept c.take_record-is_new.ensures.taken
+            (sym c.take_record-is_new.ensures.is_new ∙ c.if-is_new.true) c.add.ensures.added;
         spare =
-            let before = slice_get_read self.held.items (length self.held.items) c.args.t c.index_mut-words.result.now refl (omega arith) c.index_mut-words.ensures.value in
+            let before = slice_get_read self.held.items (length self.held.items) c.args.t c.index_mut-words.result.now refl
+            (omega arith) c.index_mut-words.ensures.value in
             let room = self.table.spare c.args.t c.index_mut-words.result.now before in
-            spare_set self.held.items c.args.t c.add.new.self self.spare (self.spare - 1) (omega arith) (omega arith) self.table.spare (omega (arith, room, c.add.ensures.len, c.add.ensures.kept, c.requires.capacity.words));
+            spare_set self.held.items c.args.t c.add.new.self self.spare (self.spare - 1) (omega arith) (omega arith) self.table.spare
+            (omega (arith, room, c.add.ensures.len, c.add.ensures.kept, c.requires.capacity.words));
       };
     }
 
@@ -33,7 +37,8 @@ invariant_of-self-else-is_new c =
         stripes_len = c.take_record-is_new.ensures.len;
         threads = self.table.threads;
         placed = c.take_record-is_new.ensures.placed;
-        kept = counts_raised self.held.items c.args.t c.args.word c.args.mode old new self.table.kept c.take_record-is_new.ensures.taken (sym c.take_record-is_new.ensures.is_new ∙ c.if-is_new.false);
+        kept = counts_raised self.held.items c.args.t c.args.word c.args.mode old new self.table.kept c.take_record-is_new.ensures.taken
+            (sym c.take_record-is_new.ensures.is_new ∙ c.if-is_new.false);
         spare = self.table.spare;
       };
     }

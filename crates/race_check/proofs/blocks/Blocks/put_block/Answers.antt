@@ -15,7 +15,8 @@ pub inside-preserved : goal.inside-preserved
 inside-preserved c =
     let low : c.args.from + 1 ≤ c.inside.k = c.inside.auto.k in
     putting_more c.args.items.now c.args.t c.args.l c.args.from c.inside.k c.item_at-item.result c.item_at-item.ensures c.inside.self c.put_access.new.self
-    (slice_index c.args.whole.now.latest) c.if-item-t.false (omega (arith, low)) c.requires.whole c.in_ok-put_access.ensures.writers c.in_ok-put_access.ensures.users c.inside.invariant
+    (slice_index c.args.whole.now.latest) c.if-item-t.false
+    (omega (arith, low)) c.requires.whole c.in_ok-put_access.ensures.writers c.in_ok-put_access.ensures.users c.inside.invariant
 
 pub returns : goal.returns
 returns c =

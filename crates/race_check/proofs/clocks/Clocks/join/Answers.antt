@@ -15,7 +15,9 @@ returns-then-not-is_begun c =
 
 pub returns : goal.returns
 returns c =
-    reached_joined c.args.items.now c.args.j c.args.item c.requires.there c.requires.regular c.args.self.now (record { rows = c.add_at.new.rows; begun = c.args.self.now.begun })
+    reached_joined c.args.items.now c.args.j c.args.item c.requires.there c.requires.regular c.args.self.now
+    (record { rows = c.add_at.new.rows; begun = c.args.self.now.begun })
     c.args.child c.requires.so_far c.requires.joins (omega (arith, c.if-t-ge-THREADS.false, c.from-t.ensures))
-    (c.requires.so_far.begun.marked c.args.child (sym c.is_begun.ensures ∙ c.if-not-is_begun.false)) (c.add_at.ensures.size ∙ c.requires.so_far.size) refl c.add_at.ensures.there
+    (c.requires.so_far.begun.marked c.args.child (sym c.is_begun.ensures ∙ c.if-not-is_begun.false))
+    (c.add_at.ensures.size ∙ c.requires.so_far.size) refl c.add_at.ensures.there
     c.add_at.ensures.others

@@ -7,7 +7,8 @@ returns-clause-clocked c =
     let a = c.count_at.ensures in
     let b = c.put_start.ensures in
     let g = c.begin.ensures in
-    clocked_more c.args.items.now c.args.j c.args.item c.requires.there c.args.self.now (record { rows = c.put_start.new.rows; begun = c.begin.new.begun }) c.count_at.new.rows.items
+    clocked_more c.args.items.now c.args.j c.args.item c.requires.there c.args.self.now
+    (record { rows = c.put_start.new.rows; begun = c.begin.new.begun }) c.count_at.new.rows.items
     c.requires.regular c.requires.reached
     (counted c.args.items.now c.args.j c.args.item c.requires.there c.args.self.now c.count_at.new.rows.items c.requires.reached a.kept a.gained a.only) a.others b.size
     (g.size ∙ c.requires.reached.begun_size) b.there b.others g.there g.others

@@ -14,8 +14,10 @@ pieces-preserved c =
       low = omega (arith, low, up);
       high = λ le. within;
       none = λ le. absurd (omega (arith, le, low, up, within));
-      there = added_there (mark c.args.self.now) (mark c.pieces.self) (mark c.add_piece.new.self) (slice_index c.args.row.now.latest) c.args.from c.pieces.at c.piece_end-end.result i.there i.others
+      there = added_there (mark c.args.self.now) (mark c.pieces.self) (mark c.add_piece.new.self)
+          (slice_index c.args.row.now.latest) c.args.from c.pieces.at c.piece_end-end.result i.there i.others
           c.in_ok-add_piece.ensures.there c.in_ok-add_piece.ensures.others;
-      others = added_others (mark c.args.self.now) (mark c.pieces.self) (mark c.add_piece.new.self) c.args.from c.pieces.at c.piece_end-end.result low (omega (arith, up)) i.others
+      others = added_others (mark c.args.self.now) (mark c.pieces.self) (mark c.add_piece.new.self) c.args.from c.pieces.at c.piece_end-end.result low
+          (omega (arith, up)) i.others
           c.in_ok-add_piece.ensures.others;
     }

@@ -15,7 +15,8 @@ returns-then-is_write c =
           c.requires.so_far.reads;
       writes = latest_more c.args.items.now true c.args.item c.args.index c.bytes_of-bytes.result.from c.bytes_of-bytes.result.to
           (mark c.args.self.now.writes) (mark c.raise_all.new.self) c.requires.there w c.bytes_of-bytes.ensures.inside c.bytes_of-bytes.ensures.all
-          (λ x le lt. subst (λ z. Greater (mark c.args.self.now.writes x) (lone z (c.args.index + 1)) (mark c.raise_all.new.self x)) same (c.in_ok-raise_all.ensures.there x le lt))
+          (λ x le lt. subst (λ z. Greater (mark c.args.self.now.writes x) (lone z (c.args.index + 1)) (mark c.raise_all.new.self x)) same
+          (c.in_ok-raise_all.ensures.there x le lt))
           c.in_ok-raise_all.ensures.others c.requires.so_far.writes;
     }
 
@@ -28,6 +29,7 @@ returns c =
           c.requires.so_far.writes;
       reads = latest_more c.args.items.now false c.args.item c.args.index c.bytes_of-bytes.result.from c.bytes_of-bytes.result.to
           (mark c.args.self.now.reads) (mark c.raise_all-2.new.self) c.requires.there w c.bytes_of-bytes.ensures.inside c.bytes_of-bytes.ensures.all
-          (λ x le lt. subst (λ z. Greater (mark c.args.self.now.reads x) (lone z (c.args.index + 1)) (mark c.raise_all-2.new.self x)) same (c.in_ok-raise_all-2.ensures.there x le lt))
+          (λ x le lt. subst (λ z. Greater (mark c.args.self.now.reads x) (lone z (c.args.index + 1)) (mark c.raise_all-2.new.self x)) same
+          (c.in_ok-raise_all-2.ensures.there x le lt))
           c.in_ok-raise_all-2.ensures.others c.requires.so_far.reads;
     }

@@ -5,4 +5,5 @@ use Rattle.src_bind.proofs.Looked.{info_is}
 use Rattle.src_bind.proofs.bound_program.Bound.info.Goals as goal
 
 pub returns : goal.returns
-returns c = ap (option_map (info_of (given c.args.self.now).program)) c.info_at.ensures ∙ info_is (given c.args.self.now) _ c.args.self.now.tables c.deref.result.now c.args.number c.deref.ensures.value
+returns c = ap (option_map (info_of (given c.args.self.now).program)) c.info_at.ensures
+    ∙ info_is (given c.args.self.now) _ c.args.self.now.tables c.deref.result.now c.args.number c.deref.ensures.value

@@ -4,7 +4,8 @@ use Rattle.src_bind.proofs.Looked.{pointed_nowhere, pointed_past, pointed_by, fe
 use Rattle.src_bind.proofs.bound_program.Bound.pointed.Goals as goal
 
 pub returns-in_err-number : goal.returns-in_err-number
-returns-in_err-number c sig e = c.from_residual.ensures ∙ pointed_nowhere (given c.args.self.now) _ c.args.self.now.tables c.args.address sig c.in_err-number.ensures
+returns-in_err-number c sig e = c.from_residual.ensures
+    ∙ pointed_nowhere (given c.args.self.now) _ c.args.self.now.tables c.args.address sig c.in_err-number.ensures
 
 pub returns-in_err-info : goal.returns-in_err-info
 returns-in_err-info c sig e = c.from_residual-in_err-info.ensures ∙ pointed_past (given c.args.self.now) _ c.args.self.now.tables c.deref.result.now c.args.address c.in_ok-number.number sig c.deref.ensures.value c.in_ok-number.ensures c.in_err-info.ensures

@@ -5,10 +5,13 @@ use Rattle.src_bind.proofs.Looked.{slot_nowhere, slot_past, slot_is}
 use Rattle.src_bind.proofs.bound_program.Bound.slot.Goals as goal
 
 pub returns-in_err-number : goal.returns-in_err-number
-returns-in_err-number c = c.from_residual.ensures ∙ slot_nowhere (given c.args.self.now) _ c.args.self.now.tables c.args.class c.args.slot c.args.address c.in_err-number.ensures
+returns-in_err-number c = c.from_residual.ensures ∙ slot_nowhere
+    (given c.args.self.now) _ c.args.self.now.tables c.args.class c.args.slot c.args.address c.in_err-number.ensures
 
 pub returns-in_err-place : goal.returns-in_err-place
-returns-in_err-place c = c.from_residual-in_err-place.ensures ∙ slot_past (given c.args.self.now) _ c.args.self.now.tables c.args.class c.args.slot c.args.address c.in_ok-number.number c.in_ok-number.ensures (sym (c.in_err-place.ensures ∙ ap (λ z. slice_get z c.in_ok-number.number) c.deref.ensures.value))
+returns-in_err-place c = c.from_residual-in_err-place.ensures
+    ∙ slot_past (given c.args.self.now) _ c.args.self.now.tables c.args.class c.args.slot c.args.address c.in_ok-number.number c.in_ok-number.ensures
+    (sym (c.in_err-place.ensures ∙ ap (λ z. slice_get z c.in_ok-number.number) c.deref.ensures.value))
 
 pub returns-then-leads_to : goal.returns-then-leads_to
 returns-then-leads_to c = slot_is (given c.args.self.now) _ c.args.self.now.tables c.args.class c.args.slot c.args.address c.in_ok-number.number c.in_ok-place.place _ _ c.in_ok-number.ensures (sym (c.in_ok-place.ensures ∙ ap (λ z. slice_get z c.in_ok-number.number) c.deref.ensures.value)) c.if-leads_to.ensures

@@ -15,8 +15,11 @@ returns-in_ok-add_waiting c g =
     let one_more : count ≡ suc (count - 1) = omega arith in
     let plus_one : count ≡ (count - 1) + 1 = omega arith in
     let within : count - 1 < length fs = omega (arith, c.scope_of-count.ensures.within) in
-    let there : slice_get fs (count - 1) ≡ Some c.in-Some.frame.now = slice_get_read fs (length fs) (count - 1) c.in-Some.frame.now refl within c.in-Some.ensures.value in
-    put_there g fs (count - 1) count c.in-Some.frame.now one_more within c.in-Some.ensures.value c.args.owner w c.add_waiting.new.frame (c.scope_of-count.ensures.found (count - 1) c.in-Some.frame.now plus_one there) (c.in_ok-add_waiting.ensures.added g) (c.scope_of-count.ensures.passed g w)
+    let there : slice_get fs (count - 1) ≡ Some c.in-Some.frame.now =
+    slice_get_read fs (length fs) (count - 1) c.in-Some.frame.now refl within c.in-Some.ensures.value in
+    put_there g fs (count - 1) count c.in-Some.frame.now one_more within c.in-Some.ensures.value c.args.owner w c.add_waiting.new.frame
+    (c.scope_of-count.ensures.found (count - 1) c.in-Some.frame.now plus_one there) (c.in_ok-add_waiting.ensures.added g)
+    (c.scope_of-count.ensures.passed g w)
 
 pub invariant_of-self : goal.invariant_of-self
 invariant_of-self c =

@@ -9,7 +9,8 @@ loop-left-init c =
     record { within = omega arith; passed = λ g w. scope_first g c.args.owner w fs c.len-left.result all }
 
 pub returns-then-is_scope-clause-found : goal.returns-then-is_scope-clause-found
-returns-then-is_scope-clause-found c k f e s = scope_found c.args.owner c.args.self.now.list.items (c.loop-left.left - 1) k f c.index.result.now c.index.ensures (omega (arith, e)) s c.if-is_scope.ensures
+returns-then-is_scope-clause-found c k f e s = scope_found c.args.owner c.args.self.now.list.items (c.loop-left.left - 1) k f c.index.result.now c.index.ensures
+    (omega (arith, e)) s c.if-is_scope.ensures
 
 pub loop-left-preserved : goal.loop-left-preserved
 loop-left-preserved c =
@@ -18,5 +19,6 @@ loop-left-preserved c =
     let below : c.loop-left.left - 1 < length fs = omega arith in
     record {
       within = omega arith;
-      passed = λ g w. c.loop-left.invariant.passed g w ∙ scope_below g fs (c.loop-left.left - 1) c.loop-left.left c.index.result.now one_more below c.index.ensures c.args.owner w c.if-is_scope.ensures;
+      passed = λ g w. c.loop-left.invariant.passed g w
+          ∙ scope_below g fs (c.loop-left.left - 1) c.loop-left.left c.index.result.now one_more below c.index.ensures c.args.owner w c.if-is_scope.ensures;
     }

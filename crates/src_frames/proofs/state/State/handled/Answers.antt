@@ -6,4 +6,5 @@ use Rattle.src_frames.proofs.Handlers.{newest_shown}
 use Rattle.src_frames.proofs.state.State.handled.Goals as goal
 
 pub returns : goal.returns
-returns c = ap (option_map (exception_shown (given c.args.bound.now).program)) c.handled.ensures ∙ newest_shown (given c.args.bound.now) c.args.self.now.frames.list.items
+returns c = ap (option_map (exception_shown (given c.args.bound.now).program)) c.handled.ensures
+    ∙ newest_shown (given c.args.bound.now) c.args.self.now.frames.list.items

@@ -11,7 +11,8 @@ returns-clause-went c = λ program s stand at.
     let set = c.in_ok-go_on.ensures.set program (layout_of self.memory) s stand at in
     record {
       taken = refl;
-      world = set_world (world_of self) program (layout_of self.memory) c.args.t (record { state = (source program).after s c.args.reply; ended = _ }) self.threads.alive.items c.go_on.new.self.alive.items set;
+      world = set_world (world_of self) program (layout_of self.memory) c.args.t
+          (record { state = (source program).after s c.args.reply; ended = _ }) self.threads.alive.items c.go_on.new.self.alive.items set;
       stays = record { stands = set.stand; layout = refl };
       left = refl;
     }

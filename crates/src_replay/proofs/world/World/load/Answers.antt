@@ -18,7 +18,8 @@ returns-in-Some-clause-took c = λ program w s volatile stand going e event.
     let t = c.args.t in
     IfOk-weaker c.goes.result _ _
     (λ r g. took_moved t w s program (Load c.args.addr c.args.size volatile) (Loaded c.in-Some.value) (λ z. z) self self c.goes.new.self r e refl (λ f. refl)
-    (load_does program (layout_of self.memory) t w s (world_of self) c.args.addr c.args.size c.in-Some.value c.load.result e c.load.ensures.value c.in-Some.is) refl refl g)
+    (load_does program (layout_of self.memory) t w s
+    (world_of self) c.args.addr c.args.size c.in-Some.value c.load.result e c.load.ensures.value c.in-Some.is) refl refl g)
     (c.goes.ensures.went program s stand (stands_in t w s (world_of self) e))
 
 pub returns-in-None-clause-took : goal.returns-in-None-clause-took
@@ -26,8 +27,10 @@ returns-in-None-clause-took c = λ program w s volatile stand going e event.
     let self = c.args.self.now in
     let t = c.args.t in
     let p = layout_of self.memory in
-    IfOk-weaker c.halt.result _ _ (λ r h. took_halted t w s program (Load c.args.addr c.args.size volatile) (Trapped BadAddress) self self c.halt.new.self r e refl refl refl stand
-    (cond_false (can_access p c.args.addr c.args.size) _ (ends w (Trapped BadAddress)) (read_none (can_access p c.args.addr c.args.size) _ c.load.result c.load.ensures.value c.in-None.is)) h) c.halt.ensures.halted
+    IfOk-weaker c.halt.result _ _ (λ r h. took_halted t w s program (Load c.args.addr c.args.size volatile)
+    (Trapped BadAddress) self self c.halt.new.self r e refl refl refl stand
+    (cond_false (can_access p c.args.addr c.args.size) _ (ends w (Trapped BadAddress))
+    (read_none (can_access p c.args.addr c.args.size) _ c.load.result c.load.ensures.value c.in-None.is)) h) c.halt.ensures.halted
 
 pub returns-then-not-is_size-clause-took : goal.returns-then-not-is_size-clause-took
 returns-then-not-is_size-clause-took c = λ program w s volatile stand going e event.

@@ -10,11 +10,14 @@ use Rattle.src_replay.proofs.world.World.new.Goals as goal
 
 pub returns-clause-world : goal.returns-clause-world
 returns-clause-world c =
-    first_shown _ _ c.in_ok-threads.threads.alive.items (record { thread = c.in_ok-main.main; ended = false }) (main_state (program_in (given c.args.bound.now))) _ c.args.input.now c.in_ok-memory.ensures.words c.in_ok-threads.ensures
+    first_shown _ _ c.in_ok-threads.threads.alive.items (record { thread = c.in_ok-main.main; ended = false })
+    (main_state (program_in (given c.args.bound.now))) _ c.args.input.now c.in_ok-memory.ensures.words c.in_ok-threads.ensures
     (ap (λ z. Some (record { state = z; ended = false })) c.in_ok-main.ensures.state) c.new-2.ensures.items
 
 pub returns-clause-stands : goal.returns-clause-stands
 returns-clause-stands c =
     let program = program_in (given c.args.bound.now) in
-    first_stands program (layout_of c.in_ok-memory.memory) c.in_ok-threads.threads.alive.items (record { thread = c.in_ok-main.main; ended = false }) c.in_ok-threads.ensures
-    (record { runs = c.in_ok-main.ensures.program; settled = subst IsSettled (sym c.in_ok-main.ensures.state) (main_begins program).settled }) (ap (λ p. p.limit) c.in_ok-memory.ensures.layout)
+    first_stands program (layout_of c.in_ok-memory.memory) c.in_ok-threads.threads.alive.items
+    (record { thread = c.in_ok-main.main; ended = false }) c.in_ok-threads.ensures
+    (record { runs = c.in_ok-main.ensures.program; settled = subst IsSettled (sym c.in_ok-main.ensures.state) (main_begins program).settled })
+    (ap (λ p. p.limit) c.in_ok-memory.ensures.layout)

@@ -24,9 +24,12 @@ loop-taken-init c =
       left = omega arith;
       count = c.in_ok-go_on.ensures.count;
       layout = refl;
-      nested = first_block p nested first.marks.items (notes ∙ c.new-nested.ensures.notes) c.new-nested.ensures.marks (marks ∙ ap (λ ns. first.marks.items ++ length ns ∷ []) c.new-nested.ensures.notes);
+      nested = first_block p nested first.marks.items (notes ∙ c.new-nested.ensures.notes) c.new-nested.ensures.marks
+          (marks ∙ ap (λ ns. first.marks.items ++ length ns ∷ []) c.new-nested.ensures.notes);
       marked = some_mark nested.marks.items first.marks.items (length first.notes.items) marks c.new-nested.ensures.marks;
-      run = λ program w s stand e. block_start program p c.args.t w s self.left self now first nested e (c.in_ok-go_on.ensures.set program p s stand (stands_in c.args.t w s (world_of self) e)) refl c.new-nested.ensures.notes c.new-nested.ensures.marks notes marks refl;
+      run = λ program w s stand e. block_start program p c.args.t w s self.left self now first nested e
+          (c.in_ok-go_on.ensures.set program p s stand
+          (stands_in c.args.t w s (world_of self) e)) refl c.new-nested.ensures.notes c.new-nested.ensures.marks notes marks refl;
     }
 
 pub loop-taken-preserved : goal.loop-taken-preserved
@@ -42,7 +45,8 @@ loop-taken-preserved c =
     let inv = c.loop-taken.invariant in
     let kept = ap (λ (z : World). z.left) c.in_ok-step.ensures.same in
     let same = c.pay.ensures.same in
-    let less : paid.left + 1 ≡ mid.left = has_paid c.pay.result paid.left mid.left c.pay.ensures.paid c.pay.ensures.spent (omega (arith, inv.left, kept, c.loop-taken-test.true)) in
+    let less : paid.left + 1 ≡ mid.left = has_paid c.pay.result paid.left mid.left c.pay.ensures.paid c.pay.ensures.spent
+    (omega (arith, inv.left, kept, c.loop-taken-test.true)) in
     let layout = c.in_ok-step.ensures.layout ∙ inv.layout in
     record {
       left = omega (arith, inv.left, kept, less);
@@ -52,8 +56,10 @@ loop-taken-preserved c =
       marked = c.is_open.ensures.«open» c.if-not-is_open.false;
       run = λ program w s stand e.
           let h : BlockRun program p t w s self.left old before = inv.run program w s stand e in
-          let inner = inner_on program p (layout_of old.memory) t w h.last mid nested c.in_ok-step.step inv.layout (c.in_ok-step.ensures.steps program w h.last h.stands h.at) in
-          block_more program p t w s self.left old mid paid before nested h (at_goes program p t w h.last mid nested c.in_ok-step.step c.in-Goes.is inner) inner.stands kept same less;
+          let inner = inner_on program p (layout_of old.memory) t w h.last mid nested c.in_ok-step.step inv.layout
+          (c.in_ok-step.ensures.steps program w h.last h.stands h.at) in
+          block_more program p t w s self.left old mid paid before nested h
+          (at_goes program p t w h.last mid nested c.in_ok-step.step c.in-Goes.is inner) inner.stands kept same less;
     }
 
 pub returns-then-not-is_open-clause-acted : goal.returns-then-not-is_open-clause-acted
@@ -69,11 +75,14 @@ returns-then-not-is_open-clause-acted c = λ program w s kind stand going e begi
     let inv = c.loop-taken.invariant in
     let kept = ap (λ (z : World). z.left) c.in_ok-step.ensures.same in
     let same = c.pay.ensures.same in
-    let less : paid.left + 1 ≡ mid.left = has_paid c.pay.result paid.left mid.left c.pay.ensures.paid c.pay.ensures.spent (omega (arith, inv.left, kept, c.loop-taken-test.true)) in
+    let less : paid.left + 1 ≡ mid.left = has_paid c.pay.result paid.left mid.left c.pay.ensures.paid c.pay.ensures.spent
+    (omega (arith, inv.left, kept, c.loop-taken-test.true)) in
     let layout = c.in_ok-step.ensures.layout ∙ inv.layout in
     let h : BlockRun program p t w s self.left old before = inv.run program w s stand e in
-    let inner = inner_on program p (layout_of old.memory) t w h.last mid nested c.in_ok-step.step inv.layout (c.in_ok-step.ensures.steps program w h.last h.stands h.at) in
-    absurd (never_shut program p t w s self.left mid nested h.last old before h (at_goes program p t w h.last mid nested c.in_ok-step.step c.in-Goes.is inner) (c.is_open.ensures.shut c.if-not-is_open.true))
+    let inner = inner_on program p (layout_of old.memory) t w h.last mid nested c.in_ok-step.step inv.layout
+    (c.in_ok-step.ensures.steps program w h.last h.stands h.at) in
+    absurd (never_shut program p t w s self.left mid nested h.last old before h (at_goes program p t w h.last mid nested c.in_ok-step.step c.in-Goes.is inner)
+    (c.is_open.ensures.shut c.if-not-is_open.true))
 
 pub returns-in-Leaves-clause-acted : goal.returns-in-Leaves-clause-acted
 returns-in-Leaves-clause-acted c = λ program w s kind stand going e begins enabled.
@@ -88,11 +97,14 @@ returns-in-Leaves-clause-acted c = λ program w s kind stand going e begins enab
     let inv = c.loop-taken.invariant in
     let kept = ap (λ (z : World). z.left) c.in_ok-step.ensures.same in
     let same = c.pay.ensures.same in
-    let less : paid.left + 1 ≡ mid.left = has_paid c.pay.result paid.left mid.left c.pay.ensures.paid c.pay.ensures.spent (omega (arith, inv.left, kept, c.loop-taken-test.true)) in
+    let less : paid.left + 1 ≡ mid.left = has_paid c.pay.result paid.left mid.left c.pay.ensures.paid c.pay.ensures.spent
+    (omega (arith, inv.left, kept, c.loop-taken-test.true)) in
     let layout = c.in_ok-step.ensures.layout ∙ inv.layout in
     let h : BlockRun program p t w s self.left old before = inv.run program w s stand e in
-    let inner = inner_on program p (layout_of old.memory) t w h.last mid nested c.in_ok-step.step inv.layout (c.in_ok-step.ensures.steps program w h.last h.stands h.at) in
-    block_left program p t w s self.left kind begins enabled old mid paid before h (at_leaves program p t w h.last mid nested c.in_ok-step.step c.in-Leaves.is inner) inner.stands layout kept same less
+    let inner = inner_on program p (layout_of old.memory) t w h.last mid nested c.in_ok-step.step inv.layout
+    (c.in_ok-step.ensures.steps program w h.last h.stands h.at) in
+    block_left program p t w s self.left kind begins enabled old mid paid before h
+    (at_leaves program p t w h.last mid nested c.in_ok-step.step c.in-Leaves.is inner) inner.stands layout kept same less
 
 pub returns-in-Halts-clause-acted : goal.returns-in-Halts-clause-acted
 returns-in-Halts-clause-acted c = λ program w s kind stand going e begins enabled.
@@ -107,10 +119,12 @@ returns-in-Halts-clause-acted c = λ program w s kind stand going e begins enabl
     let inv = c.loop-taken.invariant in
     let kept = ap (λ (z : World). z.left) c.in_ok-step.ensures.same in
     let same = c.pay.ensures.same in
-    let less : paid.left + 1 ≡ mid.left = has_paid c.pay.result paid.left mid.left c.pay.ensures.paid c.pay.ensures.spent (omega (arith, inv.left, kept, c.loop-taken-test.true)) in
+    let less : paid.left + 1 ≡ mid.left = has_paid c.pay.result paid.left mid.left c.pay.ensures.paid c.pay.ensures.spent
+    (omega (arith, inv.left, kept, c.loop-taken-test.true)) in
     let layout = c.in_ok-step.ensures.layout ∙ inv.layout in
     let h : BlockRun program p t w s self.left old before = inv.run program w s stand e in
-    let inner = inner_on program p (layout_of old.memory) t w h.last mid nested c.in_ok-step.step inv.layout (c.in_ok-step.ensures.steps program w h.last h.stands h.at) in
+    let inner = inner_on program p (layout_of old.memory) t w h.last mid nested c.in_ok-step.step inv.layout
+    (c.in_ok-step.ensures.steps program w h.last h.stands h.at) in
     IfOk-weaker c.halt.result _ _ (λ r n. block_halted program p t w s self.left kind begins enabled old mid paid c.halt.new.self before c.in-Halts.end r h
     (at_halts program p t w h.last mid nested c.in_ok-step.step c.in-Halts.end c.in-Halts.is inner) inner.stands layout c.in_ok-step.ensures.same same less n) c.halt.ensures.halted
 
@@ -125,7 +139,8 @@ returns-in-Never-clause-acted c = λ program w s kind stand going e begins enabl
     let nested = c.step_in_block.new.nested in
     let inv = c.loop-taken.invariant in
     let h : BlockRun program p t w s self.left old before = inv.run program w s stand e in
-    let inner = inner_on program p (layout_of old.memory) t w h.last mid nested c.in_ok-step.step inv.layout (c.in_ok-step.ensures.steps program w h.last h.stands h.at) in
+    let inner = inner_on program p (layout_of old.memory) t w h.last mid nested c.in_ok-step.step inv.layout
+    (c.in_ok-step.ensures.steps program w h.last h.stands h.at) in
     block_never program p t w s self.left kind begins enabled old before h (at_never program p t w h.last mid nested c.in_ok-step.step c.in-Never.is inner)
 
 pub returns-then-comes_inside-clause-acted : goal.returns-then-comes_inside-clause-acted

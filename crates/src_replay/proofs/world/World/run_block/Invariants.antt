@@ -15,5 +15,6 @@ invariant-loop-taken l = record {
   layout : layout_of l.self.memory ≡ layout_of l.fn.self.memory;
   nested : IsNested (layout_of l.self.memory) l.nested;
   marked : l.nested.marks.items ≢ [];
-  run : (program : Program) (w : Worlds State) (s : State) → Stands program l.fn.self → world_of l.fn.self ≡ goes l.t w s → BlockRun program (layout_of l.fn.self.memory) l.t w s l.fn.self.left l.self l.nested;
+  run : (program : Program) (w : Worlds State) (s : State) → Stands program l.fn.self → world_of l.fn.self ≡ goes l.t w s
+      → BlockRun program (layout_of l.fn.self.memory) l.t w s l.fn.self.left l.self l.nested;
 }

@@ -11,5 +11,6 @@ abbrev pub invariant-loop-taken : goal.invariant-loop-taken
 invariant-loop-taken l = record {
   count : length l.self.threads.alive.items ≡ length l.initial.self.threads.alive.items;
   left : l.self.left + l._taken ≡ l.initial.self.left;
-  skips : (program : Program) (s : State) → Stands program l.initial.self → (world_of l.initial.self).threads l.t ≡ alive s → Skips program (layout_of l.initial.self.memory) l.t (world_of l.initial.self) s l.initial.self.left l.self;
+  skips : (program : Program) (s : State) → Stands program l.initial.self → (world_of l.initial.self).threads l.t ≡ alive s
+      → Skips program (layout_of l.initial.self.memory) l.t (world_of l.initial.self) s l.initial.self.left l.self;
 }

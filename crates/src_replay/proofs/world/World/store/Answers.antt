@@ -25,11 +25,15 @@ returns-then-store-clause-took c = λ program w s volatile stand going e event.
     let p = layout_of self.memory in
     let mid = record self { memory = c.store.new.self } in
     let can = sym c.store.ensures.done ∙ c.if-store.true in
-    let words = stored_if (can_access p c.args.addr c.args.size) (words_of self.memory) (words_of c.store.new.self) (store (words_of self.memory) c.args.addr c.args.size c.args.value) can c.store.ensures.words in
+    let words = stored_if (can_access p c.args.addr c.args.size) (words_of self.memory) (words_of c.store.new.self)
+    (store (words_of self.memory) c.args.addr c.args.size c.args.value) can c.store.ensures.words in
     IfOk-weaker c.goes.result _ _
-    (λ r g. took_moved t w s program (Store c.args.addr c.args.size c.args.value volatile) Nothing (λ z. record z { memory = store z.memory c.args.addr c.args.size c.args.value }) self mid c.goes.new.self r e
-    (ap (λ m. record (world_of self) { memory = m }) words) (λ f. refl) (store_does program p t w s c.args.addr c.args.size c.args.value can) c.store.ensures.layout refl g)
-    (c.goes.ensures.went program s (stand_on program (layout_of self.memory) (layout_of c.store.new.self) self.threads.alive.items c.store.ensures.layout stand) (stands_in t w s (world_of self) e))
+    (λ r g. took_moved t w s program (Store c.args.addr c.args.size c.args.value volatile) Nothing
+    (λ z. record z { memory = store z.memory c.args.addr c.args.size c.args.value }) self mid c.goes.new.self r e
+    (ap (λ m. record (world_of self) { memory = m }) words) (λ f. refl)
+    (store_does program p t w s c.args.addr c.args.size c.args.value can) c.store.ensures.layout refl g)
+    (c.goes.ensures.went program s (stand_on program (layout_of self.memory) (layout_of c.store.new.self) self.threads.alive.items c.store.ensures.layout stand)
+    (stands_in t w s (world_of self) e))
 
 pub returns-else-store-clause-took : goal.returns-else-store-clause-took
 returns-else-store-clause-took c = λ program w s volatile stand going e event.
@@ -38,6 +42,7 @@ returns-else-store-clause-took c = λ program w s volatile stand going e event.
     let p = layout_of self.memory in
     let mid = record self { memory = c.store.new.self } in
     let cannot = sym c.store.ensures.done ∙ c.if-store.false in
-    IfOk-weaker c.halt.result _ _ (λ r h. took_halted t w s program (Store c.args.addr c.args.size c.args.value volatile) (Trapped BadAddress) self mid c.halt.new.self r e refl c.store.ensures.layout refl
+    IfOk-weaker c.halt.result _ _ (λ r h. took_halted t w s program (Store c.args.addr c.args.size c.args.value volatile)
+    (Trapped BadAddress) self mid c.halt.new.self r e refl c.store.ensures.layout refl
     (stand_on program (layout_of self.memory) (layout_of c.store.new.self) self.threads.alive.items c.store.ensures.layout stand)
     (cond_false (can_access p c.args.addr c.args.size) _ (ends w (Trapped BadAddress)) cannot) h) c.halt.ensures.halted

@@ -7,7 +7,8 @@ pub write_file-tells : goal.write_file-tells
 write_file-tells c = record {
   written = search rules;
   memory = search rules;
-  failed = λ e. half_file_fails (shown c.args.self.now) (shown c.new.self.now) c.args.name.now c.args.bytes.now c.args.self.now.faults.small (c.ensures.failed e);
+  failed = λ e. half_file_fails (shown c.args.self.now) (shown c.new.self.now) c.args.name.now c.args.bytes.now c.args.self.now.faults.small
+      (c.ensures.failed e);
 }
 
 pub write_out-tells : goal.write_out-tells

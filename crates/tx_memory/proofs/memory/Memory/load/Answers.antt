@@ -24,11 +24,13 @@ returns-clause-value c =
     let words = c.args.self.now.words.items in
     let yes = accessed p c.args.addr c.args.size c.in_ok-slot.slot (sym c.in_ok-slot.was ∙ c.slot.ensures) in
     let below = slot_within p c.args.addr c.in_ok-slot.slot c.args.self.now.whole yes.1 in
-    let read = loaded p words c.args.addr c.args.size c.in_ok-slot.slot c.index.result.now c.shift_of.result c.bits_of.result c.part.result yes.1 (omega (arith, below, c.args.self.now.covers)) c.index.ensures c.shift_of.ensures c.bits_of.ensures c.part.ensures.value in
+    let read = loaded p words c.args.addr c.args.size c.in_ok-slot.slot c.index.result.now c.shift_of.result c.bits_of.result c.part.result yes.1
+    (omega (arith, below, c.args.self.now.covers)) c.index.ensures c.shift_of.ensures c.bits_of.ensures c.part.ensures.value in
     ap Some read ∙ sym (ap (λ b. cond {A = Option ℕ} b (Some (load (words_of c.args.self.now) c.args.addr c.args.size)) None) yes.0)
 
 pub returns-in_err-slot-clause-word : goal.returns-in_err-slot-clause-word
-returns-in_err-slot-clause-word c = λ e can. absurd (false≢true (sym (not_accessed (layout_of c.args.self.now) c.args.addr c.args.size (sym c.in_err-slot.was ∙ c.slot.ensures)) ∙ can))
+returns-in_err-slot-clause-word c = λ e can. absurd (false≢true
+    (sym (not_accessed (layout_of c.args.self.now) c.args.addr c.args.size (sym c.in_err-slot.was ∙ c.slot.ensures)) ∙ can))
 
 pub returns-clause-word : goal.returns-clause-word
 unfolding words_of

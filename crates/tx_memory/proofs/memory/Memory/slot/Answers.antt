@@ -8,8 +8,11 @@ use Rattle.tx_memory.proofs.memory.Memory.slot.Goals as goal
 
 pub returns-then-is_aligned : goal.returns-then-is_aligned
 unfolding is_aligned
-returns-then-is_aligned c = c.mapped_slot.ensures ∙ aligned_slot (layout_of c.args.self.now) c.args.addr c.args.size (eqb-true (c.args.addr % c.args.size) 0 (sym c.is_aligned.ensures ∙ c.if-is_aligned.true))
+returns-then-is_aligned c = c.mapped_slot.ensures ∙ aligned_slot (layout_of c.args.self.now) c.args.addr c.args.size
+    (eqb-true (c.args.addr % c.args.size) 0 (sym c.is_aligned.ensures ∙ c.if-is_aligned.true))
 
 pub returns-else-is_aligned : goal.returns-else-is_aligned
 unfolding is_aligned
-returns-else-is_aligned c = sym (ap (λ b. cond {A = Option ℕ} b (slot_of (layout_of c.args.self.now) c.args.addr) None) (misaligned (layout_of c.args.self.now) c.args.addr c.args.size (eqb-false (c.args.addr % c.args.size) 0 (sym c.is_aligned.ensures ∙ c.if-is_aligned.false))))
+returns-else-is_aligned c = sym (ap (λ b. cond {A = Option ℕ} b (slot_of (layout_of c.args.self.now) c.args.addr) None)
+    (misaligned (layout_of c.args.self.now) c.args.addr c.args.size
+    (eqb-false (c.args.addr % c.args.size) 0 (sym c.is_aligned.ensures ∙ c.if-is_aligned.false))))

@@ -12,7 +12,8 @@ pub returns-in_default-clause-done : goal.returns-in_default-clause-done
 returns-in_default-clause-done c = sym (not_accessed (layout_of c.args.self.now) c.args.addr c.args.size (sym c.in_default.is ∙ c.slot.ensures))
 
 pub returns-in_default-clause-words : goal.returns-in_default-clause-words
-returns-in_default-clause-words c = sym (ap (λ b. cond b (store (words_of c.args.self.now) c.args.addr c.args.size c.args.value) (words_of c.args.self.now)) (not_accessed (layout_of c.args.self.now) c.args.addr c.args.size (sym c.in_default.is ∙ c.slot.ensures)))
+returns-in_default-clause-words c = sym (ap (λ b. cond b (store (words_of c.args.self.now) c.args.addr c.args.size c.args.value) (words_of c.args.self.now))
+    (not_accessed (layout_of c.args.self.now) c.args.addr c.args.size (sym c.in_default.is ∙ c.slot.ensures)))
 
 pub with_part-requires-clause-within : goal.with_part-requires-clause-within
 with_part-requires-clause-within c =
@@ -30,7 +31,8 @@ returns-clause-words c =
     ∙ sym (ap (λ b. cond b (store (words_of c.args.self.now) c.args.addr c.args.size c.args.value) (words_of c.args.self.now)) yes.0)
 
 pub returns-in_default-clause-word : goal.returns-in_default-clause-word
-returns-in_default-clause-word c = λ e can. absurd (false≢true (sym (not_accessed (layout_of c.args.self.now) c.args.addr c.args.size (sym c.in_default.is ∙ c.slot.ensures)) ∙ can))
+returns-in_default-clause-word c = λ e can. absurd (false≢true
+    (sym (not_accessed (layout_of c.args.self.now) c.args.addr c.args.size (sym c.in_default.is ∙ c.slot.ensures)) ∙ can))
 
 pub returns-clause-word : goal.returns-clause-word
 unfolding words_of

@@ -16,7 +16,8 @@ returns g c =
 pub returns-in_default : goal.returns-in_default
 returns-in_default g c =
     let f = λ (v : ℕ). birth_of ((machine_in g.A.Actor.state g.A.Actor.saved_state c.args.self.now).threads v) in
-    skipped_to (has_bit c.args.threads) f c.threads.from (length c.args.self.now.threads.items) c.threads.found c.threads.invariant.within (λ v from to. c.in_default.ensures.none v from) c.threads.invariant.sums
+    skipped_to (has_bit c.args.threads) f c.threads.from (length c.args.self.now.threads.items) c.threads.found c.threads.invariant.within
+    (λ v from to. c.in_default.ensures.none v from) c.threads.invariant.sums
 
 pub returns-then-u-len : goal.returns-then-u-len
 returns-then-u-len g c =
@@ -28,7 +29,8 @@ pub and_blocker-requires-clause-few : goal.and_blocker-requires-clause-few
 and_blocker-requires-clause-few g c =
     let f = λ (v : ℕ). birth_of ((machine_in g.A.Actor.state g.A.Actor.saved_state c.args.self.now).threads v) in
     λ b is. few_of (has_bit c.args.threads) f c.in-Some.u c.threads.found b
-    (skipped_to (has_bit c.args.threads) f c.threads.from c.in-Some.u c.threads.found c.in-Some.ensures.from c.in-Some.ensures.least c.threads.invariant.sums) is
+    (skipped_to
+    (has_bit c.args.threads) f c.threads.from c.in-Some.u c.threads.found c.in-Some.ensures.from c.in-Some.ensures.least c.threads.invariant.sums) is
 
 pub threads-preserved : goal.threads-preserved
 threads-preserved g c =
@@ -36,5 +38,6 @@ threads-preserved g c =
     record {
       within = omega (arith, c.if-u-len.false, c.len-in-threads.ensures);
       sums = c.and_blocker.ensures (has_bit c.args.threads) c.in-Some.ensures.there
-          (skipped_to (has_bit c.args.threads) f c.threads.from c.in-Some.u c.threads.found c.in-Some.ensures.from c.in-Some.ensures.least c.threads.invariant.sums);
+          (skipped_to
+          (has_bit c.args.threads) f c.threads.from c.in-Some.u c.threads.found c.in-Some.ensures.from c.in-Some.ensures.least c.threads.invariant.sums);
     }

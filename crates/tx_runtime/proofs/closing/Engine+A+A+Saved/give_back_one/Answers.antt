@@ -31,7 +31,8 @@ undo_word-requires-clause-sound g c =
     let is = c.requires.here.at (local_of g.A.Actor.state g.A.Actor.saved_state self.holders t s) its in
     let p = layout_of self.memory in
     let sound = whole_sound p self.limit self.holders self.threads.items t s self.whole h c.index_mut-thread.ensures.value in
-    let whole = whole_hold p self.limit self.holders held self.threads.items t word None self.whole h one c.release_one.ensures.limit (λ e. absurd (false≢true e)) in
+    let whole = whole_hold p self.limit self.holders held self.threads.items t word None self.whole h one c.release_one.ensures.limit
+    (λ e. absurd (false≢true e)) in
     sound
 
 pub invariant_of-self-2 : goal.invariant_of-self-2
@@ -48,11 +49,16 @@ invariant_of-self-2 g c =
     let is = c.requires.here.at (local_of g.A.Actor.state g.A.Actor.saved_state self.holders t s) its in
     let p = layout_of self.memory in
     let sound = whole_sound p self.limit self.holders self.threads.items t s self.whole h c.index_mut-thread.ensures.value in
-    let whole = whole_hold p self.limit self.holders held self.threads.items t word None self.whole h one c.release_one.ensures.limit (λ e. absurd (false≢true e)) in
-    record { whole = subst (λ z. IsWhole z self.limit held (set self.threads.items t c.undo_word.new.self)) (sym c.undo_word.ensures.layout) (whole_set p self.limit held self.threads.items t c.undo_word.new.self whole c.undo_word.ensures.sound) }
+    let whole = whole_hold p self.limit self.holders held self.threads.items t word None self.whole h one c.release_one.ensures.limit
+    (λ e. absurd (false≢true e)) in
+    record {
+      whole = subst (λ z. IsWhole z self.limit held (set self.threads.items t c.undo_word.new.self)) (sym c.undo_word.ensures.layout)
+          (whole_set p self.limit held self.threads.items t c.undo_word.new.self whole c.undo_word.ensures.sound);
+    }
 
 pub returns-clause-turned : goal.returns-clause-turned
-returns-clause-turned g c = λ answer. giving_row g.A.Actor.state g.A.Actor.saved_state g.A.Actor.thread c.args.self.now answer c.args.t _ c.requires.here (λ l b k ss at tx.
+returns-clause-turned g c = λ answer. giving_row g.A.Actor.state g.A.Actor.saved_state g.A.Actor.thread c.args.self.now answer c.args.t _ c.requires.here
+    (λ l b k ss at tx.
     let self = c.args.self.now in
     let m = machine_in g.A.Actor.state g.A.Actor.saved_state self in
     let t = c.args.t in
@@ -65,21 +71,29 @@ returns-clause-turned g c = λ answer. giving_row g.A.Actor.state g.A.Actor.save
     let is = c.requires.here.at (local_of g.A.Actor.state g.A.Actor.saved_state self.holders t s) its in
     let p = layout_of self.memory in
     let sound = whole_sound p self.limit self.holders self.threads.items t s self.whole h c.index_mut-thread.ensures.value in
-    let whole = whole_hold p self.limit self.holders held self.threads.items t word None self.whole h one c.release_one.ensures.limit (λ e. absurd (false≢true e)) in
+    let whole = whole_hold p self.limit self.holders held self.threads.items t word None self.whole h one c.release_one.ensures.limit
+    (λ e. absurd (false≢true e)) in
     let same : local_of g.A.Actor.state g.A.Actor.saved_state self.holders t s ≡ l = same_Some _ l (sym its ∙ at) in
     let parts = giving_parts g.A.Actor.saved_state s.tx (saves_of s.log) ss b k (ap (λ (v : Local g.A.Actor.State). v.tx) same ∙ tx) in
     let bound = word_bound (layout_in self) in
     let memory = words_of c.undo_word.new.memory in
     let f = λ (v : Local g.A.Actor.State). record v { held = without v.held word; wrote = without v.wrote word; tx = GivingUp b k (forget_all ss word) } in
     let gone = released_held t word self.holders held one in
-    let mem : memory ≡ update m.memory word (kept_or (oldest ss word) (m.memory word)) = c.undo_word.ensures.words ∙ ap (λ z. update m.memory word (kept_or (oldest z word) (m.memory word))) parts.1 in
+    let mem : memory ≡ update m.memory word (kept_or (oldest ss word) (m.memory word)) = c.undo_word.ensures.words
+    ∙ ap (λ z. update m.memory word (kept_or (oldest z word) (m.memory word))) parts.1 in
     let more = left_over (held_in self.holders t) word c.requires.more.0 c.requires.more.1 c.requires.more.2.0 c.requires.more.2.1 c.requires.more.2.2 in
-    let rest = some_least (without (held_in self.holders t) word) bound more.0 (access_bound (layout_in self) more.0 (self.whole.words t more.0 more.1)) more.2 in
+    let rest = some_least (without (held_in self.holders t) word) bound more.0
+    (access_bound (layout_in self) more.0 (self.whole.words t more.0 more.1)) more.2 in
     let rest_l = ap (λ (v : Local g.A.Actor.State). least (without v.held word) bound) (sym same) ∙ rest.1 in
-    ap (kinded (Undone word)) (stepped g.A.Actor.state g.A.Actor.saved_state (record m { memory = memory }) self.holders held self.threads.items t s c.undo_word.new.self l f refl refl refl h c.index_mut-thread.ensures.value at (others_same t word None self.holders held one)
-    (hold_local g.A.Actor.state g.A.Actor.saved_state self.holders held t s c.undo_word.new.self _ _ _ _ (c.undo_word.ensures.local held t) gone (released_wrote t word self.holders held one)
+    ap (kinded (Undone word)) (stepped g.A.Actor.state g.A.Actor.saved_state
+    (record m { memory = memory }) self.holders held self.threads.items t s c.undo_word.new.self l f refl refl refl h c.index_mut-thread.ensures.value at
+    (others_same t word None self.holders held one)
+    (hold_local g.A.Actor.state g.A.Actor.saved_state self.holders held t s c.undo_word.new.self _ _ _ _ (c.undo_word.ensures.local held t) gone
+    (released_wrote t word self.holders held one)
     (giving_with g.A.Actor.saved_state s.tx b k parts.0 (forget_all (saves_of s.log) word) ∙ ap (λ z. GivingUp b k (forget_all z word)) parts.1))
     c.undo_word.ensures.waits)
     ∙ (ap (λ z. kinded (Undone word) (record (steps t m (f l)) { memory = z })) mem
-    ∙ gives_some (layout_in self) t m l b k ss word (f l) (ap (λ (v : Local g.A.Actor.State). least v.held bound) (sym same) ∙ least_word (layout_in self) self.holders t word (self.whole.words t word c.in-Some.ensures.held) c.in-Some.ensures.held c.in-Some.ensures.least)
+    ∙ gives_some (layout_in self) t m l b k ss word (f l)
+    (ap (λ (v : Local g.A.Actor.State). least v.held bound) (sym same)
+    ∙ least_word (layout_in self) self.holders t word (self.whole.words t word c.in-Some.ensures.held) c.in-Some.ensures.held c.in-Some.ensures.least)
     (ap (given_back l b k ss word) (sym rest_l))))

@@ -26,7 +26,10 @@ invariant_of-self g c =
     let p = layout_of self.memory in
     let sound = whole_sound p self.limit self.holders self.threads.items t s self.whole h c.index_mut-thread.ensures.value in
     let mine = open_parts g.A.Actor.saved_state s.tx (saves_of s.log) is.saves is.birth is.kept is.tx in
-    record { whole = whole_set p self.limit self.holders self.threads.items t c.give_up.new.self self.whole (c.give_up.ensures.sound p (open_live g.A.Actor.saved_state s.tx is.birth is.kept mine.0) sound) }
+    record {
+      whole = whole_set p self.limit self.holders self.threads.items t c.give_up.new.self self.whole
+          (c.give_up.ensures.sound p (open_live g.A.Actor.saved_state s.tx is.birth is.kept mine.0) sound);
+    }
 
 pub returns-clause-done : goal.returns-clause-done
 returns-clause-done g c = λ l b k ss at tx.
@@ -46,10 +49,14 @@ returns-clause-done g c = λ l b k ss at tx.
     let x = parts.0.tx in
     let f = λ (v : Local g.A.Actor.State). record v { tx = GivingUp b k ss } in
     let some = c.requires.held in
-    let least_is = some_least l.held bound some.0 (access_bound (layout_in self) some.0 (self.whole.words t some.0 some.1)) (ap (λ (z : ℕ → Bool). z some.0) (held_at g.A.Actor.state g.A.Actor.saved_state self.holders self.threads.items t l at) ∙ some.1) in
+    let least_is = some_least l.held bound some.0 (access_bound (layout_in self) some.0 (self.whole.words t some.0 some.1))
+    (ap (λ (z : ℕ → Bool). z some.0) (held_at g.A.Actor.state g.A.Actor.saved_state self.holders self.threads.items t l at) ∙ some.1) in
     ap (kinded (Rolled c.args.word c.args.holder)) (stepped g.A.Actor.state g.A.Actor.saved_state m self.holders self.holders self.threads.items t s c.give_up.new.self l f refl refl refl h c.index_mut-thread.ensures.value at (same_holds t self.holders)
     (c.give_up.ensures.local self.holders t x parts.0.is
-    ∙ (ap (λ z. record (local_of g.A.Actor.state g.A.Actor.saved_state self.holders t s) { tx = GivingUp z (g.A.Actor.saved_state x.kept) (saves_of s.log) }) parts.0.birth
+    ∙ (ap (λ z. record (local_of g.A.Actor.state g.A.Actor.saved_state self.holders t s) {
+      tx = GivingUp z (g.A.Actor.saved_state x.kept)
+          (saves_of s.log);
+    }) parts.0.birth
     ∙ (ap (λ z. record (local_of g.A.Actor.state g.A.Actor.saved_state self.holders t s) { tx = GivingUp b z (saves_of s.log) }) parts.0.kept
     ∙ ap (λ z. record (local_of g.A.Actor.state g.A.Actor.saved_state self.holders t s) { tx = GivingUp b k z }) parts.1)))
     c.give_up.ensures.waits)

@@ -14,7 +14,8 @@ invariant_of-self g c =
 pub returns-clause-capacity : goal.returns-clause-capacity
 returns-clause-capacity g c =
     let self = c.args.self.now in
-    on_ok c.ready_to_note.result (λ h. note_ready_set g.A.Actor.has_capacity self.threads.items c.args.t c.ready_to_note.new.self c.requires h.0 h.1) c.ready_to_note.ensures.capacity
+    on_ok c.ready_to_note.result
+    (λ h. note_ready_set g.A.Actor.has_capacity self.threads.items c.args.t c.ready_to_note.new.self c.requires h.0 h.1) c.ready_to_note.ensures.capacity
 
 pub returns-clause-same : goal.returns-clause-same
 returns-clause-same g c =

@@ -82,7 +82,8 @@ invariant_of-self g c =
     record { whole = whole_set p q.limit q.holders q.threads.items t c.enter.new.self q.whole (c.enter.ensures.sound p sound) }
 
 pub returns-clause-turned : goal.returns-clause-turned
-returns-clause-turned g c = λ answer. inside_row g.A.Actor.state g.A.Actor.saved_state g.A.Actor.is_reached g.A.Actor.thread c.args.self.now answer c.args.t (BeginAtomic c.requires.here.0) _ c.requires.here.1 (λ l at i.
+returns-clause-turned g c = λ answer. inside_row g.A.Actor.state g.A.Actor.saved_state g.A.Actor.is_reached g.A.Actor.thread c.args.self.now answer c.args.t
+    (BeginAtomic c.requires.here.0) _ c.requires.here.1 (λ l at i.
     let r = c.args.self.now in
     let q = c.ready_to_note.new.self in
     let m = machine_in g.A.Actor.state g.A.Actor.saved_state r in
@@ -102,6 +103,10 @@ returns-clause-turned g c = λ answer. inside_row g.A.Actor.state g.A.Actor.save
     let f = λ (v : Local g.A.Actor.State). record v { state = g.A.Actor.thread.after v.state Nothing; tx = OpenTx i.birth i.kept (no_save ∷ i.saves) } in
     alone_row t n m _ (f l) same
     (stepped g.A.Actor.state g.A.Actor.saved_state n q.holders q.holders q.threads.items t s c.enter.new.self l f refl refl refl h c.index_mut-thread.ensures.value (ap (λ z. z.threads t) same ∙ at) (same_holds t q.holders)
-    (c.enter.ensures.local q.holders t ∙ ap (λ z. record (local_of g.A.Actor.state g.A.Actor.saved_state q.holders t s) { state = g.A.Actor.thread.after (g.A.Actor.state s.actor) Nothing; tx = z })
+    (c.enter.ensures.local q.holders t ∙ ap (λ z. record (local_of g.A.Actor.state g.A.Actor.saved_state q.holders t s) {
+      state = g.A.Actor.thread.after
+          (g.A.Actor.state s.actor) Nothing;
+      tx = z;
+    })
     (open_with g.A.Actor.saved_state s.tx i.birth i.kept its_parts.0 (no_save ∷ saves_of s.log) ∙ ap (λ z. OpenTx i.birth i.kept (no_save ∷ z)) its_parts.1))
     c.enter.ensures.waits))

@@ -32,4 +32,5 @@ returns-then-marks-eq0-clause-done g c = λ l b k ss at tx.
     let its = thread_at g.A.Actor.state g.A.Actor.saved_state self.holders self.threads.items c.args.t s c.requires.here.here.started c.index.ensures in
     let long = saves_long g.A.Actor.state g.A.Actor.saved_state self.holders c.args.t s l b k ss (same_Some _ l (sym its ∙ at)) tx in
     let marks = ap length c.marks-marks.ensures in
-    commits_none (layout_in c.args.self.now) c.args.t (machine_in g.A.Actor.state g.A.Actor.saved_state c.args.self.now) l (g.A.Actor.thread.after l.state Nothing) b k ss (omega (arith, long, marks, c.if-marks-eq0.true))
+    commits_none (layout_in c.args.self.now) c.args.t (machine_in g.A.Actor.state g.A.Actor.saved_state c.args.self.now) l
+    (g.A.Actor.thread.after l.state Nothing) b k ss (omega (arith, long, marks, c.if-marks-eq0.true))

@@ -88,8 +88,16 @@ returns-clause-done g c = λ l b k ss at tx.
     let f = λ (v : Local g.A.Actor.State). record v { state = g.A.Actor.thread.after v.state Nothing; tx = closes b (least v.held bound) } in
     order_gains_row t n m _ (f l) order same
     (c.push_reserved.ensures.items ∙ ap (λ xs. xs ++ t ∷ []) c.reserve.ensures.items)
-    (stepped g.A.Actor.state g.A.Actor.saved_state (record n { order = order }) q.holders q.holders q.threads.items t s c.leave.new.self l f refl refl refl h c.index_mut-thread.ensures.value (ap (λ z. z.threads t) same ∙ at) (same_holds t q.holders)
-    (c.leave.ensures.local q.holders t ∙ ap (λ z. record (local_of g.A.Actor.state g.A.Actor.saved_state q.holders t s) { state = g.A.Actor.thread.after (g.A.Actor.state s.actor) Nothing; tx = z })
+    (stepped g.A.Actor.state g.A.Actor.saved_state (record n {
+      order =
+          order;
+    }) q.holders q.holders q.threads.items t s c.leave.new.self l f refl refl refl h c.index_mut-thread.ensures.value
+    (ap (λ z. z.threads t) same ∙ at) (same_holds t q.holders)
+    (c.leave.ensures.local q.holders t ∙ ap (λ z. record (local_of g.A.Actor.state g.A.Actor.saved_state q.holders t s) {
+      state = g.A.Actor.thread.after
+          (g.A.Actor.state s.actor) Nothing;
+      tx = z;
+    })
     (ap (closed_by c.holds_words-holds.result) (part_birth g.A.Actor.saved_state s.tx b k its_parts.0)
     ∙ (c.holds_words-holds.ensures b ∙ ap (λ z. closes b (least (held_in q.holders t) (word_bound z))) c.in_ok-ready.ensures.layout)))
     c.leave.ensures.waits)

@@ -25,7 +25,8 @@ returns-in_default-clause-chosen g c = if_ok c.halt.result (λ kind done.
     let there = started_thread g.A.Actor.state g.A.Actor.saved_state self c.args.t c.requires.here.1.started in
     let is = c.requires.here.1.at there.0 there.1 in
     let none = loaded_none _ _ _ c.load.ensures.value c.in_default.is in
-    unasked g.A.Actor.thread (layout_in self) c.args.t m _ _ kind _ (load_free g.A.Actor.thread (layout_in self) c.args.t m there.0 c.args.addr c.args.size c.requires.here.0 there.1 is.next (inl none))
+    unasked g.A.Actor.thread (layout_in self) c.args.t m _ _ kind _
+    (load_free g.A.Actor.thread (layout_in self) c.args.t m there.0 c.args.addr c.args.size c.requires.here.0 there.1 is.next (inl none))
     (λ answer. inside_row g.A.Actor.state g.A.Actor.saved_state g.A.Actor.is_reached g.A.Actor.thread c.args.self.now answer c.args.t (Load c.args.addr c.args.size c.requires.here.0) _ c.requires.here.1 (λ l at i. done ∙ load_traps_in g.A.Actor.thread (layout_in c.args.self.now) answer c.args.t (machine_in g.A.Actor.state g.A.Actor.saved_state c.args.self.now) l i.birth i.kept i.saves c.args.addr c.args.size c.requires.here.0 none))) c.halt.ensures.done
 
 pub returns-in-None-clause-chosen : goal.returns-in-None-clause-chosen
@@ -35,7 +36,9 @@ returns-in-None-clause-chosen g c = if_ok c.read_inside.result (λ kind turned.
     let there = started_thread g.A.Actor.state g.A.Actor.saved_state self c.args.t c.requires.here.1.started in
     let is = c.requires.here.1.at there.0 there.1 in
     let free = ap (λ x. blocker c.args.t false x m) (sym c.word_of-word.ensures) ∙ c.in-None.ensures.eldest in
-    unasked g.A.Actor.thread (layout_in self) c.args.t m _ _ kind _ (load_free g.A.Actor.thread (layout_in self) c.args.t m there.0 c.args.addr c.args.size c.requires.here.0 there.1 is.next (inr free)) turned) c.read_inside.ensures.turned
+    unasked g.A.Actor.thread (layout_in self) c.args.t m _ _ kind _
+    (load_free g.A.Actor.thread (layout_in self) c.args.t m there.0 c.args.addr c.args.size c.requires.here.0 there.1 is.next
+    (inr free)) turned) c.read_inside.ensures.turned
 
 pub read_inside-requires-clause-here : goal.read_inside-requires-clause-here
 read_inside-requires-clause-here g c =
@@ -43,7 +46,8 @@ read_inside-requires-clause-here g c =
     (c.args.size, c.requires.here.0, got.1, got.0, c.requires.here.1)
 
 pub read_inside-requires-clause-free : goal.read_inside-requires-clause-free
-read_inside-requires-clause-free g c = ap (λ x. blocker c.args.t false x (machine_in g.A.Actor.state g.A.Actor.saved_state c.args.self.now)) (sym c.word_of-word.ensures) ∙ c.in-None.ensures.eldest
+read_inside-requires-clause-free g c = ap (λ x. blocker c.args.t false x (machine_in g.A.Actor.state g.A.Actor.saved_state c.args.self.now))
+    (sym c.word_of-word.ensures) ∙ c.in-None.ensures.eldest
 
 pub clash-requires-clause-here : goal.clash-requires-clause-here
 clash-requires-clause-here g c =

@@ -25,7 +25,8 @@ returns-in_default-clause-chosen g c = if_ok c.halt.result (λ kind done.
     let there = started_thread g.A.Actor.state g.A.Actor.saved_state self c.args.t c.requires.here.1.started in
     let is = c.requires.here.1.at there.0 there.1 in
     let none = loaded_none _ _ _ c.load.ensures.value c.in_default.is in
-    unasked g.A.Actor.thread (layout_in self) c.args.t m _ _ kind _ (store_free g.A.Actor.thread (layout_in self) c.args.t m there.0 c.args.addr c.args.size c.args.value c.requires.here.0 there.1 is.next (inl none))
+    unasked g.A.Actor.thread (layout_in self) c.args.t m _ _ kind _
+    (store_free g.A.Actor.thread (layout_in self) c.args.t m there.0 c.args.addr c.args.size c.args.value c.requires.here.0 there.1 is.next (inl none))
     (λ answer. inside_row g.A.Actor.state g.A.Actor.saved_state g.A.Actor.is_reached g.A.Actor.thread c.args.self.now answer c.args.t (Store c.args.addr c.args.size c.args.value c.requires.here.0) _ c.requires.here.1 (λ l at i. done ∙ store_traps_in g.A.Actor.thread (layout_in c.args.self.now) answer c.args.t (machine_in g.A.Actor.state g.A.Actor.saved_state c.args.self.now) l i.birth i.kept i.saves c.args.addr c.args.size c.args.value c.requires.here.0 none))) c.halt.ensures.done
 
 pub returns-in-None-clause-chosen : goal.returns-in-None-clause-chosen
@@ -35,13 +36,16 @@ returns-in-None-clause-chosen g c = if_ok c.write_inside.result (λ kind turned.
     let there = started_thread g.A.Actor.state g.A.Actor.saved_state self c.args.t c.requires.here.1.started in
     let is = c.requires.here.1.at there.0 there.1 in
     let free = ap (λ x. blocker c.args.t true x m) (sym c.word_of-word.ensures) ∙ c.in-None.ensures.eldest in
-    unasked g.A.Actor.thread (layout_in self) c.args.t m _ _ kind _ (store_free g.A.Actor.thread (layout_in self) c.args.t m there.0 c.args.addr c.args.size c.args.value c.requires.here.0 there.1 is.next (inr free)) turned) c.write_inside.ensures.turned
+    unasked g.A.Actor.thread (layout_in self) c.args.t m _ _ kind _
+    (store_free g.A.Actor.thread (layout_in self) c.args.t m there.0 c.args.addr c.args.size c.args.value c.requires.here.0 there.1 is.next
+    (inr free)) turned) c.write_inside.ensures.turned
 
 pub write_inside-requires-clause-access : goal.write_inside-requires-clause-access
 write_inside-requires-clause-access g c = (loaded_some _ _ _ _ c.load.ensures.value c.in-Some.is).0
 
 pub write_inside-requires-clause-free : goal.write_inside-requires-clause-free
-write_inside-requires-clause-free g c = ap (λ x. blocker c.args.t true x (machine_in g.A.Actor.state g.A.Actor.saved_state c.args.self.now)) (sym c.word_of-word.ensures) ∙ c.in-None.ensures.eldest
+write_inside-requires-clause-free g c = ap (λ x. blocker c.args.t true x (machine_in g.A.Actor.state g.A.Actor.saved_state c.args.self.now))
+    (sym c.word_of-word.ensures) ∙ c.in-None.ensures.eldest
 
 pub clash-requires-clause-here : goal.clash-requires-clause-here
 clash-requires-clause-here g c =

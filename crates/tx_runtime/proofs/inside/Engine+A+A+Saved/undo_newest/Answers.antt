@@ -28,7 +28,8 @@ undo_newest-requires-clause-mark g c =
     let p = layout_of self.memory in
     let sound = whole_sound p self.limit self.holders self.threads.items t s self.whole h c.index_mut-thread.ensures.value in
     let some : 0 < length is.saves = c.requires.some (local_of g.A.Actor.state g.A.Actor.saved_state self.holders t s) is.birth is.kept is.saves its is.tx in
-    let long = saves_long g.A.Actor.state g.A.Actor.saved_state self.holders t s (local_of g.A.Actor.state g.A.Actor.saved_state self.holders t s) is.birth is.kept is.saves refl is.tx in
+    let long = saves_long g.A.Actor.state g.A.Actor.saved_state self.holders t s
+    (local_of g.A.Actor.state g.A.Actor.saved_state self.holders t s) is.birth is.kept is.saves refl is.tx in
     omega (arith, some, long)
 
 pub invariant_of-self : goal.invariant_of-self
@@ -42,7 +43,10 @@ invariant_of-self g c =
     let is = c.requires.open (local_of g.A.Actor.state g.A.Actor.saved_state self.holders t s) its in
     let p = layout_of self.memory in
     let sound = whole_sound p self.limit self.holders self.threads.items t s self.whole h c.index_mut-thread.ensures.value in
-    record { whole = subst (λ z. IsWhole z self.limit self.holders (set self.threads.items t c.undo_newest.new.self)) (sym c.undo_newest.ensures.layout) (whole_set p self.limit self.holders self.threads.items t c.undo_newest.new.self self.whole c.undo_newest.ensures.sound) }
+    record {
+      whole = subst (λ z. IsWhole z self.limit self.holders (set self.threads.items t c.undo_newest.new.self)) (sym c.undo_newest.ensures.layout)
+          (whole_set p self.limit self.holders self.threads.items t c.undo_newest.new.self self.whole c.undo_newest.ensures.sound);
+    }
 
 pub returns-in_default-clause-none : goal.returns-in_default-clause-none
 returns-in_default-clause-none g c = λ l b k ss x at tx.
@@ -70,9 +74,17 @@ returns-in_default-clause-same g c =
     let is = c.requires.open (local_of g.A.Actor.state g.A.Actor.saved_state self.holders t s) its in
     let p = layout_of self.memory in
     let sound = whole_sound p self.limit self.holders self.threads.items t s self.whole h c.index_mut-thread.ensures.value in
-    ap (λ z. record m { memory = z; threads = threads_of g.A.Actor.state g.A.Actor.saved_state self.holders (set self.threads.items t c.undo_newest.new.self); waits = waits_by (set self.threads.items t c.undo_newest.new.self); started = length (set self.threads.items t c.undo_newest.new.self) }) c.in_default.ensures.same_words
-    ∙ changed m (threads_of g.A.Actor.state g.A.Actor.saved_state self.holders (set self.threads.items t c.undo_newest.new.self)) m.threads (waits_by (set self.threads.items t c.undo_newest.new.self)) m.waits (length (set self.threads.items t c.undo_newest.new.self))
-    (same_thread g.A.Actor.state g.A.Actor.saved_state self.holders self.threads.items t s c.undo_newest.new.self h c.index_mut-thread.ensures.value (c.in_default.ensures.same self.holders t))
+    ap (λ z. record m {
+      memory = z;
+      threads = threads_of g.A.Actor.state g.A.Actor.saved_state self.holders (set self.threads.items t c.undo_newest.new.self);
+      waits = waits_by (set self.threads.items t c.undo_newest.new.self);
+      started =
+          length (set self.threads.items t c.undo_newest.new.self);
+    }) c.in_default.ensures.same_words
+    ∙ changed m (threads_of g.A.Actor.state g.A.Actor.saved_state self.holders (set self.threads.items t c.undo_newest.new.self)) m.threads
+    (waits_by (set self.threads.items t c.undo_newest.new.self)) m.waits (length (set self.threads.items t c.undo_newest.new.self))
+    (same_thread g.A.Actor.state g.A.Actor.saved_state self.holders self.threads.items t s c.undo_newest.new.self h c.index_mut-thread.ensures.value
+    (c.in_default.ensures.same self.holders t))
     (same_waits self.threads.items t s c.undo_newest.new.self h c.index_mut-thread.ensures.value c.in_default.ensures.same_waits)
     (length-set self.threads.items t c.undo_newest.new.self)
 
@@ -93,11 +105,20 @@ returns-clause-done g c = λ l b k st ss at tx.
     let bound = word_bound (layout_in self) in
     let memory = words_of c.undo_newest.new.memory in
     let f = λ (v : Local g.A.Actor.State). record v { tx = OpenTx b k (newest_without word ss) } in
-    let mem : memory ≡ update m.memory word (kept_or (newest ss word) (m.memory word)) = c.in-Some.ensures.words ∙ ap (λ z. update m.memory word (kept_or (newest z word) (m.memory word))) mine.1 in
-    let least_is : least (is_noted (newest ss)) bound ≡ Some word = ap (λ z. least (is_noted (newest z)) bound) (sym mine.1) ∙ first_least (is_noted (newest (saves_of s.log))) bound word (access_bound (layout_in self) word c.in-Some.ensures.access) c.in-Some.ensures.noted c.in-Some.ensures.least in
-    ap (kinded (Undone word)) (stepped g.A.Actor.state g.A.Actor.saved_state (record m { memory = memory }) self.holders self.holders self.threads.items t s c.undo_newest.new.self l f refl refl refl h c.index_mut-thread.ensures.value at (same_holds t self.holders)
+    let mem : memory ≡ update m.memory word (kept_or (newest ss word) (m.memory word)) = c.in-Some.ensures.words
+    ∙ ap (λ z. update m.memory word (kept_or (newest z word) (m.memory word))) mine.1 in
+    let least_is : least (is_noted (newest ss)) bound ≡ Some word = ap (λ z. least (is_noted (newest z)) bound) (sym mine.1)
+    ∙ first_least (is_noted (newest (saves_of s.log))) bound word
+    (access_bound (layout_in self) word c.in-Some.ensures.access) c.in-Some.ensures.noted c.in-Some.ensures.least in
+    ap (kinded (Undone word)) (stepped g.A.Actor.state g.A.Actor.saved_state
+    (record m {
+      memory =
+          memory;
+    }) self.holders self.holders self.threads.items t s c.undo_newest.new.self l f refl refl refl h c.index_mut-thread.ensures.value at
+    (same_holds t self.holders)
     (c.in-Some.ensures.local self.holders t
-    ∙ ap (λ z. record (local_of g.A.Actor.state g.A.Actor.saved_state self.holders t s) { tx = z }) (open_with g.A.Actor.saved_state s.tx b k mine.0 (newest_without word (saves_of s.log)) ∙ ap (λ z. OpenTx b k (newest_without word z)) mine.1))
+    ∙ ap (λ z. record (local_of g.A.Actor.state g.A.Actor.saved_state self.holders t s) { tx = z })
+    (open_with g.A.Actor.saved_state s.tx b k mine.0 (newest_without word (saves_of s.log)) ∙ ap (λ z. OpenTx b k (newest_without word z)) mine.1))
     c.in-Some.ensures.waits)
     ∙ (ap (λ z. kinded (Undone word) (record (steps t m (f l)) { memory = z })) mem
     ∙ cancels_some (layout_in self) t m l st b k ss word (c.requires.some l b k ss at tx) least_is)

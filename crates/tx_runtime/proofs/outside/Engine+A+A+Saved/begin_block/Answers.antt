@@ -19,7 +19,8 @@ begin-requires-clause-answers g c =
     let s = c.index_mut-thread.result.now in
     let same = c.in_ok-ready_to_note.ensures.same in
     let h : c.args.t < length q.threads.items = started_in g.A.Actor.state g.A.Actor.saved_state q m c.args.t same c.requires.here.1.started in
-    let is = c.requires.here.1.at (local_of g.A.Actor.state g.A.Actor.saved_state q.holders c.args.t s) (at_in g.A.Actor.state g.A.Actor.saved_state q m c.args.t s same h c.index_mut-thread.ensures.value) in
+    let is = c.requires.here.1.at (local_of g.A.Actor.state g.A.Actor.saved_state q.holders c.args.t s)
+    (at_in g.A.Actor.state g.A.Actor.saved_state q m c.args.t s same h c.index_mut-thread.ensures.value) in
     let p = layout_of q.memory in
     let sound = whole_sound p q.limit q.holders q.threads.items c.args.t s q.whole h c.index_mut-thread.ensures.value in
     answers_at g.A.Actor.thread (g.A.Actor.state s.actor) (BeginAtomic c.requires.here.0) Nothing is.next refl
@@ -31,7 +32,8 @@ begin-requires-clause-notes g c =
     let s = c.index_mut-thread.result.now in
     let same = c.in_ok-ready_to_note.ensures.same in
     let h : c.args.t < length q.threads.items = started_in g.A.Actor.state g.A.Actor.saved_state q m c.args.t same c.requires.here.1.started in
-    let is = c.requires.here.1.at (local_of g.A.Actor.state g.A.Actor.saved_state q.holders c.args.t s) (at_in g.A.Actor.state g.A.Actor.saved_state q m c.args.t s same h c.index_mut-thread.ensures.value) in
+    let is = c.requires.here.1.at (local_of g.A.Actor.state g.A.Actor.saved_state q.holders c.args.t s)
+    (at_in g.A.Actor.state g.A.Actor.saved_state q m c.args.t s same h c.index_mut-thread.ensures.value) in
     let p = layout_of q.memory in
     let sound = whole_sound p q.limit q.holders q.threads.items c.args.t s q.whole h c.index_mut-thread.ensures.value in
     (idle_log g.A.Actor.saved_state p s sound is.tx).0
@@ -43,7 +45,8 @@ begin-requires-clause-marks g c =
     let s = c.index_mut-thread.result.now in
     let same = c.in_ok-ready_to_note.ensures.same in
     let h : c.args.t < length q.threads.items = started_in g.A.Actor.state g.A.Actor.saved_state q m c.args.t same c.requires.here.1.started in
-    let is = c.requires.here.1.at (local_of g.A.Actor.state g.A.Actor.saved_state q.holders c.args.t s) (at_in g.A.Actor.state g.A.Actor.saved_state q m c.args.t s same h c.index_mut-thread.ensures.value) in
+    let is = c.requires.here.1.at (local_of g.A.Actor.state g.A.Actor.saved_state q.holders c.args.t s)
+    (at_in g.A.Actor.state g.A.Actor.saved_state q m c.args.t s same h c.index_mut-thread.ensures.value) in
     let p = layout_of q.memory in
     let sound = whole_sound p q.limit q.holders q.threads.items c.args.t s q.whole h c.index_mut-thread.ensures.value in
     (idle_log g.A.Actor.saved_state p s sound is.tx).1
@@ -55,7 +58,8 @@ invariant_of-self g c =
     let s = c.index_mut-thread.result.now in
     let same = c.in_ok-ready_to_note.ensures.same in
     let h : c.args.t < length q.threads.items = started_in g.A.Actor.state g.A.Actor.saved_state q m c.args.t same c.requires.here.1.started in
-    let is = c.requires.here.1.at (local_of g.A.Actor.state g.A.Actor.saved_state q.holders c.args.t s) (at_in g.A.Actor.state g.A.Actor.saved_state q m c.args.t s same h c.index_mut-thread.ensures.value) in
+    let is = c.requires.here.1.at (local_of g.A.Actor.state g.A.Actor.saved_state q.holders c.args.t s)
+    (at_in g.A.Actor.state g.A.Actor.saved_state q m c.args.t s same h c.index_mut-thread.ensures.value) in
     let p = layout_of q.memory in
     let sound = whole_sound p q.limit q.holders q.threads.items c.args.t s q.whole h c.index_mut-thread.ensures.value in
     record { whole = whole_set p q.limit q.holders q.threads.items c.args.t c.begin.new.self q.whole (c.begin.ensures.sound p sound) }
@@ -67,7 +71,8 @@ invariant_of-self-2 g c =
     let s = c.index_mut-thread.result.now in
     let same = c.in_ok-ready_to_note.ensures.same in
     let h : c.args.t < length q.threads.items = started_in g.A.Actor.state g.A.Actor.saved_state q m c.args.t same c.requires.here.1.started in
-    let is = c.requires.here.1.at (local_of g.A.Actor.state g.A.Actor.saved_state q.holders c.args.t s) (at_in g.A.Actor.state g.A.Actor.saved_state q m c.args.t s same h c.index_mut-thread.ensures.value) in
+    let is = c.requires.here.1.at (local_of g.A.Actor.state g.A.Actor.saved_state q.holders c.args.t s)
+    (at_in g.A.Actor.state g.A.Actor.saved_state q m c.args.t s same h c.index_mut-thread.ensures.value) in
     let p = layout_of q.memory in
     let sound = whole_sound p q.limit q.holders q.threads.items c.args.t s q.whole h c.index_mut-thread.ensures.value in
     record { whole = whole_set p q.limit q.holders q.threads.items c.args.t c.begin.new.self q.whole (c.begin.ensures.sound p sound) }
@@ -79,12 +84,16 @@ returns-in_err-begin-clause-same g c =
     let s = c.index_mut-thread.result.now in
     let same = c.in_ok-ready_to_note.ensures.same in
     let h : c.args.t < length q.threads.items = started_in g.A.Actor.state g.A.Actor.saved_state q m c.args.t same c.requires.here.1.started in
-    let is = c.requires.here.1.at (local_of g.A.Actor.state g.A.Actor.saved_state q.holders c.args.t s) (at_in g.A.Actor.state g.A.Actor.saved_state q m c.args.t s same h c.index_mut-thread.ensures.value) in
+    let is = c.requires.here.1.at (local_of g.A.Actor.state g.A.Actor.saved_state q.holders c.args.t s)
+    (at_in g.A.Actor.state g.A.Actor.saved_state q m c.args.t s same h c.index_mut-thread.ensures.value) in
     let p = layout_of q.memory in
     let sound = whole_sound p q.limit q.holders q.threads.items c.args.t s q.whole h c.index_mut-thread.ensures.value in
     let n = machine_in g.A.Actor.state g.A.Actor.saved_state q in
-    on_err c.from_residual-in_err-begin.result (changed n (threads_of g.A.Actor.state g.A.Actor.saved_state q.holders (set q.threads.items c.args.t c.begin.new.self)) n.threads (waits_by (set q.threads.items c.args.t c.begin.new.self)) n.waits (length (set q.threads.items c.args.t c.begin.new.self))
-    (same_thread g.A.Actor.state g.A.Actor.saved_state q.holders q.threads.items c.args.t s c.begin.new.self h c.index_mut-thread.ensures.value (c.in_err-begin.ensures.same q.holders c.args.t))
+    on_err c.from_residual-in_err-begin.result (changed n
+    (threads_of g.A.Actor.state g.A.Actor.saved_state q.holders (set q.threads.items c.args.t c.begin.new.self)) n.threads
+    (waits_by (set q.threads.items c.args.t c.begin.new.self)) n.waits (length (set q.threads.items c.args.t c.begin.new.self))
+    (same_thread g.A.Actor.state g.A.Actor.saved_state q.holders q.threads.items c.args.t s c.begin.new.self h c.index_mut-thread.ensures.value
+    (c.in_err-begin.ensures.same q.holders c.args.t))
     (same_waits q.threads.items c.args.t s c.begin.new.self h c.index_mut-thread.ensures.value c.in_err-begin.ensures.same_waits)
     (length-set q.threads.items c.args.t c.begin.new.self)
     ∙ same)
@@ -96,10 +105,16 @@ returns-clause-done g c = λ l at.
     let s = c.index_mut-thread.result.now in
     let same = c.in_ok-ready_to_note.ensures.same in
     let h : c.args.t < length q.threads.items = started_in g.A.Actor.state g.A.Actor.saved_state q m c.args.t same c.requires.here.1.started in
-    let is = c.requires.here.1.at (local_of g.A.Actor.state g.A.Actor.saved_state q.holders c.args.t s) (at_in g.A.Actor.state g.A.Actor.saved_state q m c.args.t s same h c.index_mut-thread.ensures.value) in
+    let is = c.requires.here.1.at (local_of g.A.Actor.state g.A.Actor.saved_state q.holders c.args.t s)
+    (at_in g.A.Actor.state g.A.Actor.saved_state q m c.args.t s same h c.index_mut-thread.ensures.value) in
     let p = layout_of q.memory in
     let sound = whole_sound p q.limit q.holders q.threads.items c.args.t s q.whole h c.index_mut-thread.ensures.value in
     let n = machine_in g.A.Actor.state g.A.Actor.saved_state q in
     begin_row c.args.t n m _ l (g.A.Actor.thread.after l.state Nothing) same
     (stepped g.A.Actor.state g.A.Actor.saved_state n q.holders q.holders q.threads.items c.args.t s c.begin.new.self l
-    (λ (v : Local g.A.Actor.State). record v { state = g.A.Actor.thread.after v.state Nothing; tx = OpenTx q.births (g.A.Actor.thread.after v.state Nothing) (no_save ∷ []) }) refl refl refl h c.index_mut-thread.ensures.value (ap (λ z. z.threads c.args.t) same ∙ at) (same_holds c.args.t q.holders) (c.in_ok-begin.ensures.local q.holders c.args.t) c.in_ok-begin.ensures.waits)
+    (λ (v : Local g.A.Actor.State). record v {
+      state = g.A.Actor.thread.after v.state Nothing;
+      tx = OpenTx q.births (g.A.Actor.thread.after v.state Nothing)
+          (no_save ∷ []);
+    }) refl refl refl h c.index_mut-thread.ensures.value (ap (λ z. z.threads c.args.t) same ∙ at) (same_holds c.args.t q.holders)
+    (c.in_ok-begin.ensures.local q.holders c.args.t) c.in_ok-begin.ensures.waits)

@@ -14,5 +14,7 @@ returns-in-Some-busy-clause-turned g c = λ answer. outside_row g.A.Actor.state 
 
 pub returns-clause-turned : goal.returns-clause-turned
 returns-clause-turned g c = λ answer. outside_row g.A.Actor.state g.A.Actor.saved_state g.A.Actor.is_reached g.A.Actor.thread c.args.self.now answer c.args.t BeginSync _ c.requires.here
-    (λ l at is. with_lock (machine_in g.A.Actor.state g.A.Actor.saved_state c.step_in_order.new.self) c.in_ok-kind.kind _ (lock_of c.enter-entered.result) _ (c.in_ok-kind.ensures.done l at) c.enter-entered.ensures
-    ∙ sync_done g.A.Actor.thread (layout_in c.args.self.now) c.args.t (machine_in g.A.Actor.state g.A.Actor.saved_state c.args.self.now) l c.in_default.ensures c.in_default-busy.ensures)
+    (λ l at is. with_lock (machine_in g.A.Actor.state g.A.Actor.saved_state c.step_in_order.new.self) c.in_ok-kind.kind _ (lock_of c.enter-entered.result) _
+    (c.in_ok-kind.ensures.done l at) c.enter-entered.ensures
+    ∙ sync_done g.A.Actor.thread (layout_in c.args.self.now) c.args.t
+    (machine_in g.A.Actor.state g.A.Actor.saved_state c.args.self.now) l c.in_default.ensures c.in_default-busy.ensures)

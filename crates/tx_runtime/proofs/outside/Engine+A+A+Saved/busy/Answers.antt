@@ -24,7 +24,9 @@ returns-then-is_live g c =
     let u = c.loop-u.u in
     let h : u < length self.threads.items = omega (arith, c.loop-u-test.true, c.len-u-end.ensures) in
     sym (first_least p (length self.threads.items) u h
-    (apart (u == c.args.t) (live_in ((machine_in g.A.Actor.state g.A.Actor.saved_state self).threads u)) (ne_eqb u c.args.t c.if-u-t.true) (live_at g.A.Actor.state g.A.Actor.saved_state self.holders self.threads.items u true c.index.result.now h c.index.ensures (sym c.if-is_live.true ∙ c.is_live.ensures)))
+    (apart (u == c.args.t) (live_in ((machine_in g.A.Actor.state g.A.Actor.saved_state self).threads u)) (ne_eqb u c.args.t c.if-u-t.true)
+    (live_at g.A.Actor.state g.A.Actor.saved_state self.holders self.threads.items u true c.index.result.now h c.index.ensures
+    (sym c.if-is_live.true ∙ c.is_live.ensures)))
     c.loop-u.invariant)
 
 pub loop-u-preserved : goal.loop-u-preserved
@@ -35,8 +37,11 @@ loop-u-preserved g c =
     let h : u < length self.threads.items = omega (arith, c.loop-u-test.true, c.len-u-end.ensures) in
     below_more (λ (v : ℕ). p v ≡ false) u c.loop-u.invariant
     (elim c.else-u-t.branch [
-      | else-u-t-via-then-u-t+else-is_live w ↦ still (not (u == c.args.t)) (live_in ((machine_in g.A.Actor.state g.A.Actor.saved_state self).threads u)) (live_at g.A.Actor.state g.A.Actor.saved_state self.holders self.threads.items u false w.index.result.now h w.index.ensures (sym w.if-is_live.false ∙ w.is_live.ensures))
-      | else-u-t-via-else-u-t w ↦ same (u == c.args.t) (live_in ((machine_in g.A.Actor.state g.A.Actor.saved_state self).threads u)) (eq-eqb u c.args.t w.if-u-t.false)
+      | else-u-t-via-then-u-t+else-is_live w ↦ still (not (u == c.args.t)) (live_in ((machine_in g.A.Actor.state g.A.Actor.saved_state self).threads u))
+          (live_at g.A.Actor.state g.A.Actor.saved_state self.holders self.threads.items u false w.index.result.now h w.index.ensures
+          (sym w.if-is_live.false ∙ w.is_live.ensures))
+      | else-u-t-via-else-u-t w ↦ same (u == c.args.t) (live_in ((machine_in g.A.Actor.state g.A.Actor.saved_state self).threads u))
+          (eq-eqb u c.args.t w.if-u-t.false)
     ])
 
 pub returns : goal.returns

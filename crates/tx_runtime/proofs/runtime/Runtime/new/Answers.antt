@@ -14,7 +14,8 @@ pub returns-clause-first : goal.returns-clause-first
 returns-clause-first g c =
     let items = c.in_ok-push.ensures.items ∙ ap (λ z. z ++ c.new-2.result ∷ []) c.new-slots.ensures.items in
     first_parts (words_of c.args.memory) _ _ _ _ _ c.args.input.items _ (g.A.Actor.state c.args.main)
-    (first_threads g.A.Actor.state g.A.Actor.saved_state c.in_ok-holders.holders c.push.new.self.items c.new-2.result (g.A.Actor.state c.args.main) items c.in_ok-holders.ensures.free c.new-2.ensures.state c.new-2.ensures.runs c.new-2.ensures.tx)
+    (first_threads g.A.Actor.state g.A.Actor.saved_state c.in_ok-holders.holders c.push.new.self.items c.new-2.result
+    (g.A.Actor.state c.args.main) items c.in_ok-holders.ensures.free c.new-2.ensures.state c.new-2.ensures.runs c.new-2.ensures.tx)
     (ap length items)
     (first_waits c.push.new.self.items c.new-2.result items c.new-2.ensures.waits)
     c.new-4.ensures.items c.new-5.ensures.items c.new-3.ensures

@@ -12,7 +12,8 @@ returns-clause-local g c = IfSome_then c.undo_least.result c.undo_least.ensures.
     let ordered = c.order.new.self in
     let l = local_of g.A.Actor.state g.A.Actor.saved_state holders t self in
     f holders t
-    ∙ (ap (λ (v : Local g.A.Actor.State). record v { tx = tx_of g.A.Actor.saved_state ordered.tx (newest_without w (saves_of ordered.log)) }) (c.order.ensures.local holders t)
+    ∙ (ap (λ (v : Local g.A.Actor.State). record v { tx = tx_of g.A.Actor.saved_state ordered.tx (newest_without w (saves_of ordered.log)) })
+    (c.order.ensures.local holders t)
     ∙ (ap (λ o. record l { tx = tx_of g.A.Actor.saved_state o (newest_without w (saves_of ordered.log)) }) c.order.ensures.tx
     ∙ ap (λ ss. record l { tx = tx_of g.A.Actor.saved_state self.tx (newest_without w ss) }) c.order.ensures.saves)))
 

@@ -18,7 +18,8 @@ invariant_of-self-clause-linked c = linked_pop c.pop.new.self.items c.in-Some.en
 pub invariant_of-self-in-None-clause-positions : goal.invariant_of-self-in-None-clause-positions
 invariant_of-self-in-None-clause-positions c word =
     let self = c.args.self.now in
-    position_popped c.pop.new.self.items _ c.in-Some.entry word _ _ _ c.in-Some.ensures.items self.linked c.in-None.is (self.positions word) (c.remove.ensures.updates.0 word)
+    position_popped c.pop.new.self.items _ c.in-Some.entry word _ _ _ c.in-Some.ensures.items self.linked c.in-None.is (self.positions word)
+    (c.remove.ensures.updates.0 word)
 
 pub invariant_of-self-in-None-clause-linked : goal.invariant_of-self-in-None-clause-linked
 invariant_of-self-in-None-clause-linked c = linked_pop c.pop.new.self.items c.in-Some.entry (subst IsLinked c.in-Some.ensures.items c.args.self.now.linked)

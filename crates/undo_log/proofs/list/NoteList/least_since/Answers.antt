@@ -8,11 +8,13 @@ pub returns-then-self-start-clause-noted : goal.returns-then-self-start-clause-n
 returns-then-self-start-clause-noted c =
     let ns = c.args.self.now.notes.items in
     let there = ap (λ xs. take (length xs - c.args.start) (drop c.args.start xs)) c.deref.ensures.value ∙ from_position ns c.args.start in
-    noted_by (drop c.args.start ns) _ c.last_word.result refl (c.last_word.ensures ∙ ap (λ xs. option_map (λ (n : Note). n.word) (slice_get xs (length xs - 1))) there)
+    noted_by (drop c.args.start ns) _ c.last_word.result refl
+    (c.last_word.ensures ∙ ap (λ xs. option_map (λ (n : Note). n.word) (slice_get xs (length xs - 1))) there)
 
 pub returns-then-self-start-clause-least : goal.returns-then-self-start-clause-least
 returns-then-self-start-clause-least c =
     let self = c.args.self.now in
     let ns = self.notes.items in
     let there = ap (λ xs. take (length xs - c.args.start) (drop c.args.start xs)) c.deref.ensures.value ∙ from_position ns c.args.start in
-    least_by (drop c.args.start ns) _ c.last_word.result (descends_later ns self.sorted c.args.start (omega arith) self.descending) refl (c.last_word.ensures ∙ ap (λ xs. option_map (λ (n : Note). n.word) (slice_get xs (length xs - 1))) there)
+    least_by (drop c.args.start ns) _ c.last_word.result (descends_later ns self.sorted c.args.start (omega arith) self.descending) refl
+    (c.last_word.ensures ∙ ap (λ xs. option_map (λ (n : Note). n.word) (slice_get xs (length xs - 1))) there)

@@ -11,7 +11,8 @@ invariant_of-self c =
     let items = pushed c.push.result _ _ _ (c.push.ensures.succeeds c.requires.capacity) c.push.ensures.items in
     rw items (record {
       once = once_again self.notes.items c.args.note self.distinct c.args.start self.once (sym c.requires.again ∙ c.if-is_again.true) c.requires.fresh;
-      descending = descends_past self.notes.items c.args.note c.len-self.result (omega (arith, c.len-self.ensures, ap length items, length-append self.notes.items (c.args.note ∷ [])));
+      descending = descends_past self.notes.items c.args.note c.len-self.result
+          (omega (arith, c.len-self.ensures, ap length items, length-append self.notes.items (c.args.note ∷ [])));
     })
 
 pub invariant_of-self-else-is_again : goal.invariant_of-self-else-is_again
@@ -20,5 +21,6 @@ invariant_of-self-else-is_again c =
     let items = pushed c.push.result _ _ _ (c.push.ensures.succeeds c.requires.capacity) c.push.ensures.items in
     rw items (record {
       once = once_new self.notes.items c.args.note self.distinct self.once (sym c.requires.again ∙ c.if-is_again.false);
-      descending = descends_past self.notes.items c.args.note c.len-self.result (omega (arith, c.len-self.ensures, ap length items, length-append self.notes.items (c.args.note ∷ [])));
+      descending = descends_past self.notes.items c.args.note c.len-self.result
+          (omega (arith, c.len-self.ensures, ap length items, length-append self.notes.items (c.args.note ∷ [])));
     })

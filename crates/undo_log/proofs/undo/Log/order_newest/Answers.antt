@@ -9,5 +9,6 @@ invariant_of-self c =
     record {
       within = λ i l. omega (arith, self.within i l, c.sort-moved.ensures.len);
       ascending = self.ascending;
-      indexed = rw c.truncate.ensures (begins_kept self.list.notes.items _ (words_listed self.index) c.start-start.result c.sort-moved.ensures.older self.indexed);
+      indexed = rw c.truncate.ensures (begins_kept self.list.notes.items _
+          (words_listed self.index) c.start-start.result c.sort-moved.ensures.older self.indexed);
     }

@@ -9,7 +9,8 @@ use Rattle.undo_log.proofs.PutBack.{first_none}
 use Rattle.undo_log.proofs.undo.Log.undo_word.Goals as goal
 
 pub returns-then-is_above-clause-words : goal.returns-then-is_above-clause-words
-returns-then-is_above-clause-words c = sym (ap (λ o. word_back o c.args.word (words_of c.args.memory.now)) (first_none c.args.self.now.list.notes.items c.args.word (c.is_above.ensures c.if-is_above.true)))
+returns-then-is_above-clause-words c = sym (ap (λ o. word_back o c.args.word (words_of c.args.memory.now))
+    (first_none c.args.self.now.list.notes.items c.args.word (c.is_above.ensures c.if-is_above.true)))
 
 pub returns-then-is_above-clause-notes : goal.returns-then-is_above-clause-notes
 returns-then-is_above-clause-notes c = sym (unnoted_stays c.args.self.now.list.notes.items c.args.word (c.is_above.ensures c.if-is_above.true))

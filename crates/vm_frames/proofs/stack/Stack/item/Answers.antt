@@ -13,5 +13,9 @@ index-requires g c = omega (arith, above_length c.args.self.now.base c.args.self
 
 pub returns : goal.returns
 returns g c =
-    let e : c.len.result - 1 - c.args.above ≡ length c.args.self.now.items.items - 1 - c.args.above = omega arith in
-    (item_is c.args.self.now.base c.args.above c.args.self.now.items.items c.index.result.now (omega (arith, above_length c.args.self.now.base c.args.self.now.items.items)) (c.index.ensures ∙ ap (λ z. slice_index_or c.args.self.now.items.items z c.index.result.now) e), omega (arith, above_length c.args.self.now.base c.args.self.now.items.items))
+    let e : c.len.result - 1 - c.args.above ≡ length c.args.self.now.items.items - 1 - c.args.above = omega arith in (
+      item_is c.args.self.now.base c.args.above c.args.self.now.items.items c.index.result.now
+          (omega (arith, above_length c.args.self.now.base c.args.self.now.items.items))
+          (c.index.ensures ∙ ap (λ z. slice_index_or c.args.self.now.items.items z c.index.result.now) e),
+      omega (arith, above_length c.args.self.now.base c.args.self.now.items.items),
+    )

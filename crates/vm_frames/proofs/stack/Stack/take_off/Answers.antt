@@ -9,4 +9,5 @@ returns-then-own-count-clause-own g c =
 
 pub returns-else-own-count-clause-own : goal.returns-else-own-count-clause-own
 returns-else-own-count-clause-own g c =
-    ap (above c.args.self.now.base) c.truncate-else-own-count.ensures.items ∙ taken_off c.args.self.now.base c.args.count _ c.args.self.now.items.items (omega arith) (omega arith)
+    ap (above c.args.self.now.base) c.truncate-else-own-count.ensures.items
+    ∙ taken_off c.args.self.now.base c.args.count _ c.args.self.now.items.items (omega arith) (omega arith)

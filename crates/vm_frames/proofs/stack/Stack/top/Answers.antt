@@ -8,4 +8,5 @@ returns-then-len-self g c = above_none c.args.self.now.base c.args.self.now.item
 pub returns : goal.returns
 returns g c =
     let e : c.len-2.result - 1 ≡ length c.args.self.now.items.items - 1 = omega arith in
-    top_is c.args.self.now.base c.args.self.now.items.items c.index.result.now (omega arith) (c.index.ensures ∙ ap (λ z. slice_index_or c.args.self.now.items.items z c.index.result.now) e)
+    top_is c.args.self.now.base c.args.self.now.items.items c.index.result.now (omega arith)
+    (c.index.ensures ∙ ap (λ z. slice_index_or c.args.self.now.items.items z c.index.result.now) e)

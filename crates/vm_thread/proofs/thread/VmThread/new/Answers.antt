@@ -10,5 +10,9 @@ use Rattle.vm_thread.proofs.thread.VmThread.new.Goals as goal
 
 pub invariant_of-result : goal.invariant_of-result
 invariant_of-result c =
-    let e : shown c.in_ok-frames.frames ≡ first_state (image_view c.args.image.now) = c.in_ok-frames.ensures ∙ ap (λ z. Runs (first_frame (record { thread = 0; func = c.args.image.now.main; safe = false; base = z }) []) []) c.stack_start.ensures in
-    record { reached = subst (λ z. IsReached (record { image = image_view c.args.image.now; state = z })) (sym e) (at_main_stands (image_view c.args.image.now) c.an_image_is_whole.ensures c.requires) }
+    let e : shown c.in_ok-frames.frames ≡ first_state (image_view c.args.image.now) = c.in_ok-frames.ensures
+    ∙ ap (λ z. Runs (first_frame (record { thread = 0; func = c.args.image.now.main; safe = false; base = z }) []) []) c.stack_start.ensures in
+    record {
+      reached = subst (λ z. IsReached (record { image = image_view c.args.image.now; state = z })) (sym e)
+          (at_main_stands (image_view c.args.image.now) c.an_image_is_whole.ensures c.requires);
+    }

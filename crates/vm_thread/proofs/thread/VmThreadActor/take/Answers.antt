@@ -12,10 +12,28 @@ next_step-requires c = modes (record { image = image_view c.args.self.now.image.
 
 pub invariant_of-self : goal.invariant_of-self
 invariant_of-self c =
-    let e : shown c.go_on.new.frames ≡ state_after (shown c.args.self.now.frames) (step_act (names_of (image_view c.args.self.now.image.now)) (shown c.args.self.now.frames)) c.args.reply = c.go_on.ensures ∙ ap (λ a. state_after (shown c.args.self.now.frames) a c.args.reply) c.in-Some.ensures.is in
-    record { reached = subst (λ z. IsReached (record { image = image_view c.args.self.now.image.now; state = z })) (sym e) (running_laws.goes_on (record { image = image_view c.args.self.now.image.now; state = shown c.args.self.now.frames }) c.args.reply c.args.self.now.reached c.requires.answers) }
+    let e : shown c.go_on.new.frames ≡ state_after (shown c.args.self.now.frames)
+    (step_act (names_of (image_view c.args.self.now.image.now)) (shown c.args.self.now.frames)) c.args.reply = c.go_on.ensures
+    ∙ ap (λ a. state_after (shown c.args.self.now.frames) a c.args.reply) c.in-Some.ensures.is in
+    record {
+      reached = subst (λ z. IsReached (record { image = image_view c.args.self.now.image.now; state = z })) (sym e)
+          (running_laws.goes_on (record {
+            image = image_view c.args.self.now.image.now;
+            state =
+                shown c.args.self.now.frames;
+          }) c.args.reply c.args.self.now.reached c.requires.answers);
+    }
 
 pub invariant_of-self-in-Does : goal.invariant_of-self-in-Does
 invariant_of-self-in-Does c =
-    let e : shown c.apply.new.frames ≡ state_after (shown c.args.self.now.frames) (step_act (names_of (image_view c.args.self.now.image.now)) (shown c.args.self.now.frames)) c.args.reply = c.apply.ensures ∙ ap (λ a. state_after (shown c.args.self.now.frames) a c.args.reply) c.in-Does.ensures.is in
-    record { reached = subst (λ z. IsReached (record { image = image_view c.args.self.now.image.now; state = z })) (sym e) (running_laws.goes_on (record { image = image_view c.args.self.now.image.now; state = shown c.args.self.now.frames }) c.args.reply c.args.self.now.reached c.requires.answers) }
+    let e : shown c.apply.new.frames ≡ state_after (shown c.args.self.now.frames)
+    (step_act (names_of (image_view c.args.self.now.image.now)) (shown c.args.self.now.frames)) c.args.reply = c.apply.ensures
+    ∙ ap (λ a. state_after (shown c.args.self.now.frames) a c.args.reply) c.in-Does.ensures.is in
+    record {
+      reached = subst (λ z. IsReached (record { image = image_view c.args.self.now.image.now; state = z })) (sym e)
+          (running_laws.goes_on (record {
+            image = image_view c.args.self.now.image.now;
+            state =
+                shown c.args.self.now.frames;
+          }) c.args.reply c.args.self.now.reached c.requires.answers);
+    }
