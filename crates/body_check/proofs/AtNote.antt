@@ -62,7 +62,8 @@ module _ (p : Program) (names : Names) (numbers : Typ → ℕ) (h : Held) (b : B
       let stepped = ap (λ z. if_some z Lost (λ i. act names i (frame_at p h.func numbers t.values home t.note.index t.note.place) below_frames))
       (fetched t.note.index a is) in
       subst (λ z. Move (source p) (thread names) b.most b.longest Related rank s (Runs z below_frames)) (sym t.frame)
-      (follow_move p names numbers h b thrown home limit rest below_frames small Related stands stops flies current current_type t.note.lead rank t.values t.are_words t.based t.note.facts t.holds s v.to (Runs (frame_at p h.func numbers t.values home t.note.index t.note.place) below_frames)
+      (follow_move p names numbers h b thrown home limit rest below_frames small Related stands stops flies current current_type t.note.lead rank t.values
+      t.are_words t.based t.note.facts t.holds s v.to (Runs (frame_at p h.func numbers t.values home t.note.index t.note.place) below_frames)
       (subst (λ z. Path (source p) z s v.to) v.long v.path) short
       (followed h.table t.note.facts t.note.index a t.note.place (advanced p h.func no_answers t.note.lead t.note.outcome)) fits
       (subst (λ z. Follows p h.func numbers t.values home rest below_frames

@@ -94,8 +94,10 @@ module _ (p : Program) (names : Names) (numbers : Typ → ℕ) (h : Held) (b : B
   reaches_move : (answers : Answers) (right : AreRight p x answers) (target : ℕ) (r : Place) → Reaches p h.func b h.notes thrown known answers rank target r o
       → step_act names flight ≡ code.goes (Runs (frame_at p h.func numbers x home target r) below_frames) → Moves
   reaches_move answers right target r fits e =
-      let l = landed p names numbers h b thrown home limit rest below_frames small Related stands stops flies current current_type x bounded based known holds answers right target r o s fits.lands shows in
-      strode p names numbers h b thrown home limit rest below_frames small Related stands stops flies current current_type 0 fits.lands.lag rank fits.lands.note.rank s s l.to flight (Runs (frame_at p h.func numbers x home target r) below_frames) here l.path e
+      let l = landed p names numbers h b thrown home limit rest below_frames small Related stands stops flies current current_type x bounded based known holds
+      answers right target r o s fits.lands shows in
+      strode p names numbers h b thrown home limit rest below_frames small Related stands stops flies current current_type 0 fits.lands.lag rank
+      fits.lands.note.rank s s l.to flight (Runs (frame_at p h.func numbers x home target r) below_frames) here l.path e
       (plain fits.lands.lag fits.short) fits.lands.low l.related (some fits.lands.lag fits.lands.note.rank fits.some)
     where
       plain : (n : ℕ) → n ≤ b.longest → 0 + n ≤ b.longest

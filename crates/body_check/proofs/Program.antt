@@ -109,7 +109,9 @@ module _ (p : Program) (names : Names) (b : Bounds) (book : Book) (id : ℕ) (li
         → (index : ℕ) (q : Place) (e : Exception) (o : Outcome) → (t : Flies p h.func b h.notes book.thrown numbers h.rows known index q e o)
         → book.thrown (exception_of p h.func x e).typ ≡ true → Shows p h.func x r.rest o s
         → Together p names b book id t.rank s (Unwinds (coded numbers (exception_of p h.func x e)) (frame_at p h.func numbers x home index q) fs)
-    flying_in s x bounded based known holds index q e o fits type shows = flies_in p names b book id links small n safe base r.body r.there fs r.rest r.covered r.callers s x bounded based known holds index q e o fits type shows
+    flying_in s x bounded based known holds index q e o fits type shows =
+        flies_in p names b book id links small n safe base r.body r.there fs r.rest r.covered r.callers s x bounded based known holds index q e o fits type
+        shows
 
     current : code.current fs ≡ option_map (coded numbers) (frames.handled r.rest)
     current = callers_current p names b book id links small (book.gives n) h.func.stops fs r.rest r.callers
@@ -157,7 +159,10 @@ module _ (p : Program) (names : Names) (b : Bounds) (book : Book) (id : ℕ) (li
         → t ≡ enter (here_of p h.func x ws) (words_of p h.func x words) (p.func m) (below p h.func x k r.rest)
         → step_act names (Runs frame fs) ≡ code.enter_act names m into (words_of p h.func x words) (under_frame under) fs → Makes rank s (Runs frame fs)
     enter_at into m body there words under ws k count behind cover t path short g e =
-        call_move p names b book id links small n safe base x r.stands.are_words r.stands.based note.index note.place fs r.rest m into body there r.body r.there words under ws k count note.facts r.stands.holds (subst (λ z. Behind p b book (book.gives m) z h note.facts note.index note.place under ws k) (sym (links.stops_so m into)) behind) r.covered cover r.callers
+        call_move p names b book id links small n safe base x r.stands.are_words r.stands.based note.index note.place fs r.rest m into body there r.body r.there
+        words under ws k count note.facts r.stands.holds
+        (subst (λ z. Behind p b book (book.gives m) z h note.facts note.index note.place under ws k) (sym (links.stops_so m into)) behind) r.covered cover
+        r.callers
         note.lead rank s t (Runs frame fs) path short e g
 
     call_at : (into : Bool) (name count : ℕ) → (into ≡ true → no_atomic (note.place.opens ++ code.blocks_in fs) ≡ false) → note.lead + 1 ≤ b.half
@@ -375,7 +380,9 @@ module _ (p : Program) (names : Names) (b : Bounds) (book : Book) (id : ℕ) (li
         → (t : Flies p own.func b own.notes book.thrown numbers own.rows known index q e o) → book.thrown (exception_of p own.func x e).typ ≡ true
         → Shows p own.func x r.rest o s
         → Together p names b book id t.rank s (Unwinds (coded numbers (exception_of p own.func x e)) (frame_at p own.func numbers x own_home index q) fs)
-    own_flies s x bounded based known holds index q e o fits type shows = flies_in p names b book id links small n safe base r.body r.there fs r.rest r.covered r.callers s x bounded based known holds index q e o fits type shows
+    own_flies s x bounded based known holds index q e o fits type shows =
+        flies_in p names b book id links small n safe base r.body r.there fs r.rest r.covered r.callers s x bounded based known holds index q e o fits type
+        shows
 
     own_current : code.current fs ≡ option_map (coded numbers) (frames.handled r.rest)
     own_current = callers_current p names b book id links small (book.gives n) own.func.stops fs r.rest r.callers
@@ -403,7 +410,11 @@ module _ (p : Program) (names : Names) (b : Bounds) (book : Book) (id : ℕ) (li
 
     flying_move : Makes rank s (Unwinds e top fs)
     flying_move = subst (λ z. Makes rank s (Unwinds z top fs)) (sym r.is) (subst (λ z. Makes rank s (Unwinds (coded numbers thrown) z fs)) (sym r.frame)
-        (flight_move p names numbers own b book.thrown own_home (limit p names b book id) r.rest fs small (Together p names b book id) own_stands own_stops own_flies own_current own_current_type links.cancels r.values r.are_words r.based r.facts r.holds rank r.index r.place r.form r.outcome s r.shows r.type leaves_function rows_are (subst (λ z. (t : Typ) → IsOf r.form t → book.thrown t ≡ true → TypeFits p own.func b own.notes book.thrown numbers own.rows r.facts z r.index r.place r.form r.outcome t) r.ranked r.fits.fits)))
+        (flight_move p names numbers own b book.thrown own_home (limit p names b book id) r.rest fs small
+        (Together p names b book id) own_stands own_stops own_flies own_current own_current_type links.cancels r.values r.are_words r.based r.facts r.holds
+        rank r.index r.place r.form r.outcome s r.shows r.type leaves_function rows_are
+        (subst (λ z. (t : Typ) → IsOf r.form t → book.thrown t ≡ true → TypeFits p own.func b own.notes book.thrown numbers own.rows r.facts z r.index
+        r.place r.form r.outcome t) r.ranked r.fits.fits)))
 
   pub together_moves : (rank : ℕ) (s : State) (c : code.State) → rank ≤ b.most → Together p names b book id rank s c → Makes rank s c
   together_moves rank s c low (running {top = top} {fs = fs} n safe base r) = running_move n safe base fs rank s top r

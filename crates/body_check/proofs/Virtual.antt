@@ -227,7 +227,12 @@ asking_fits_5 safe = record {
                     rank = 0;
                     low = omega arith;
                     fits = λ t is so.
-                        record { answers = no_answers; right = λ n handler answer e. absurd cc; found = record { lag = 2; temporaries = []; is = refl; short = omega arith } };
+                        record {
+                          answers = no_answers;
+                          right = λ n handler answer e. absurd cc;
+                          found =
+                              record { lag = 2; temporaries = []; is = refl; short = omega arith };
+                        };
                   };
               opens = refl;
               caught = refl;

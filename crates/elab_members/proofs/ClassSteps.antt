@@ -71,7 +71,8 @@ late_bodiless lams s a n name those at kind kids m q e f =
     record {
       grown = grown_refl a;
       is = ap (λ (z : Result Method ElabFault). and_then z
-          (λ (y : Method). late_method lams s (state_of a) n kind y (body_in kids))) (ap (λ (z : List ℕ). method_of s (state_of a) n z at kind kids) (sym q) ∙ e)
+          (λ (y : Method). late_method lams s (state_of a) n kind y (body_in kids)))
+          (ap (λ (z : List ℕ). method_of s (state_of a) n z at kind kids) (sym q) ∙ e)
           ∙ ap (late_method lams s (state_of a) n kind m) f;
     }
 

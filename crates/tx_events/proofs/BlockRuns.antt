@@ -183,7 +183,8 @@ module _ {S : Type 0} (a : Thread S) (p : MemoryLayout) where
         state = ap (λ s. a.after s Nothing) f.state;
         accessed = ap (λ w. update w (word_of addr) true) f.accessed;
         stored = ap (λ w. update w (word_of addr) true) f.stored;
-        memory = λ x e. elim (x == word_of addr) as (λ q. (x == word_of addr) ≡ q → cond q (merge addr size value (j.memory (word_of addr))) (j.memory x) ≡ cond q
+        memory = λ x e. elim (x == word_of addr) as (λ q. (x == word_of addr) ≡ q → cond q (merge addr size value (j.memory (word_of addr))) (j.memory x)
+            ≡ cond q
             (merge addr size value (k.memory (word_of addr))) (k.memory x)) [
               | true ↦ λ i. ap (merge addr size value) (f.memory (word_of addr) (subst (λ y. m y ≡ n y) (eqb-true x (word_of addr) i) e))
               | false ↦ λ i. f.memory x e

@@ -232,7 +232,14 @@ declarators::pointer_declarator-all_qualified-requires t c =
 
 pub declarators::pointer_declarator-returns : goal.declarators::pointer_declarator-returns
 declarators::pointer_declarator-returns t c =
-    says_same declared_of _ _ _ ((pointer_is (lexemes_of c.args.tokens.now) (ctx_of c.args.env.now) (map closure_of c.args.closures.now) (work_of c.args.work.now) c.args.at (typ_of c.args.ty.now) (tree_at (syntax_of c.args.nodes.now) c.args.id) _ _ _ _ c.node_at.ensures.node c.requires.kind) ∙ pointer_made (lexemes_of c.args.tokens.now) (ctx_of c.args.env.now) (map closure_of c.args.closures.now) (work_of c.args.work.now) c.args.at (typ_of c.args.ty.now) _ _ (syntax_of c.args.nodes.now) _ _ c.in-Some.kid (last_is c.node_at.result.now.kids.items c.deref.result.now c.deref-2.result.now c.len.result c.in-Some.kid c.deref.ensures.value c.deref-2.ensures.value (c.len.ensures ∙ vec_len_is c.node_at.result.now.kids) c.in-Some.ensures.kid) c.in_ok-plain.ensures c.in_ok-pointer.ensures.are c.in_ok-pointer.ensures.typ) c.declared.ensures
+    says_same declared_of _ _ _ ((pointer_is (lexemes_of c.args.tokens.now) (ctx_of c.args.env.now) (map closure_of c.args.closures.now)
+    (work_of c.args.work.now) c.args.at (typ_of c.args.ty.now)
+    (tree_at (syntax_of c.args.nodes.now) c.args.id) _ _ _ _ c.node_at.ensures.node c.requires.kind)
+    ∙ pointer_made (lexemes_of c.args.tokens.now) (ctx_of c.args.env.now) (map closure_of c.args.closures.now) (work_of c.args.work.now) c.args.at
+    (typ_of c.args.ty.now) _ _ (syntax_of c.args.nodes.now) _ _ c.in-Some.kid
+    (last_is c.node_at.result.now.kids.items c.deref.result.now c.deref-2.result.now c.len.result c.in-Some.kid c.deref.ensures.value
+    c.deref-2.ensures.value (c.len.ensures ∙ vec_len_is c.node_at.result.now.kids) c.in-Some.ensures.kid) c.in_ok-plain.ensures c.in_ok-pointer.ensures.are
+    c.in_ok-pointer.ensures.typ) c.declared.ensures
 
 pub declarators::reference_declarator-returns : goal.declarators::reference_declarator-returns
 declarators::reference_declarator-returns t c =

@@ -8,4 +8,5 @@ returns c =
     whole_is (ctx_of c.args.env.now) (ctx_of c.add_name.new.env) (ctx_of c.add_class.new.env)
     (ctx_of c.add_rows.new.env) c.args.name.now c.in_ok-named.named.items c.in_ok-copied.copied.items c.args.class (typ_of c.class_type.result)
     (traits_of c.no_traits.result)
-    c.in_ok-named.ensures.items c.class_type.ensures c.requires c.in_ok-add_name.ensures c.in_ok-copied.ensures.items c.in_ok-add_class.ensures c.no_traits.ensures c.in_ok-add_rows.ensures
+    c.in_ok-named.ensures.items c.class_type.ensures c.requires c.in_ok-add_name.ensures c.in_ok-copied.ensures.items c.in_ok-add_class.ensures
+    c.no_traits.ensures c.in_ok-add_rows.ensures

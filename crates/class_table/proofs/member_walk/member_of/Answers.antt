@@ -53,7 +53,11 @@ returns-in-MemberDeclaration c bodies =
     (started_from (lexemes_of c.args.tokens.now) no_storage (trees_at (syntax_of c.args.nodes.now) c.as_slice-kids.result.now)))
     (member_of (lexemes_of c.args.tokens.now) (home_of c.args.home.now)
     (reading (ctx_of c.args.env.now) (work_of c.args.work.now) bodies c.args.members.now) (tree_at (syntax_of c.args.nodes.now) c.args.id))
-    (declaration_member (lexemes_of c.args.tokens.now) (home_of c.args.home.now) (reading (ctx_of c.args.env.now) (work_of c.args.work.now) bodies c.args.members.now) (tree_at (syntax_of c.args.nodes.now) c.args.id) (syntax_of c.args.nodes.now) c.node_at-node.result.now.kind c.node_at-node.result.now.at c.node_at-node.result.now.token c.node_at-node.result.now.kids.items c.as_slice-kids.result.now c.place-at.result c.node_at-node.ensures.node c.place-at.ensures c.as_slice-kids.ensures.value c.in-MemberDeclaration.is) (c.member_declaration.ensures bodies)
+    (declaration_member (lexemes_of c.args.tokens.now) (home_of c.args.home.now)
+    (reading (ctx_of c.args.env.now) (work_of c.args.work.now) bodies c.args.members.now) (tree_at (syntax_of c.args.nodes.now) c.args.id)
+    (syntax_of c.args.nodes.now) c.node_at-node.result.now.kind c.node_at-node.result.now.at c.node_at-node.result.now.token
+    c.node_at-node.result.now.kids.items c.as_slice-kids.result.now c.place-at.result c.node_at-node.ensures.node c.place-at.ensures
+    c.as_slice-kids.ensures.value c.in-MemberDeclaration.is) (c.member_declaration.ensures bodies)
 
 pub returns-in-FunctionDefinition : goal.returns-in-FunctionDefinition
 returns-in-FunctionDefinition c bodies =
@@ -63,7 +67,11 @@ returns-in-FunctionDefinition c bodies =
     (trees_at (syntax_of c.args.nodes.now) c.as_slice-kids.result.now))
     (member_of (lexemes_of c.args.tokens.now) (home_of c.args.home.now)
     (reading (ctx_of c.args.env.now) (work_of c.args.work.now) bodies c.args.members.now) (tree_at (syntax_of c.args.nodes.now) c.args.id))
-    (function_defined (lexemes_of c.args.tokens.now) (home_of c.args.home.now) (reading (ctx_of c.args.env.now) (work_of c.args.work.now) bodies c.args.members.now) (tree_at (syntax_of c.args.nodes.now) c.args.id) (syntax_of c.args.nodes.now) c.node_at-node.result.now.kind c.node_at-node.result.now.at c.node_at-node.result.now.token c.node_at-node.result.now.kids.items c.as_slice-kids.result.now c.place-at.result c.node_at-node.ensures.node c.place-at.ensures c.as_slice-kids.ensures.value c.in-FunctionDefinition.is) (c.defined_method.ensures bodies)
+    (function_defined (lexemes_of c.args.tokens.now) (home_of c.args.home.now)
+    (reading (ctx_of c.args.env.now) (work_of c.args.work.now) bodies c.args.members.now) (tree_at (syntax_of c.args.nodes.now) c.args.id)
+    (syntax_of c.args.nodes.now) c.node_at-node.result.now.kind c.node_at-node.result.now.at c.node_at-node.result.now.token
+    c.node_at-node.result.now.kids.items c.as_slice-kids.result.now c.place-at.result c.node_at-node.ensures.node c.place-at.ensures
+    c.as_slice-kids.ensures.value c.in-FunctionDefinition.is) (c.defined_method.ensures bodies)
 
 pub returns-in-ConstructorDeclaration : goal.returns-in-ConstructorDeclaration
 returns-in-ConstructorDeclaration c bodies =
@@ -73,7 +81,11 @@ returns-in-ConstructorDeclaration c bodies =
     (trees_at (syntax_of c.args.nodes.now) c.as_slice-kids.result.now))
     (member_of (lexemes_of c.args.tokens.now) (home_of c.args.home.now)
     (reading (ctx_of c.args.env.now) (work_of c.args.work.now) bodies c.args.members.now) (tree_at (syntax_of c.args.nodes.now) c.args.id))
-    (constructor_member (lexemes_of c.args.tokens.now) (home_of c.args.home.now) (reading (ctx_of c.args.env.now) (work_of c.args.work.now) bodies c.args.members.now) (tree_at (syntax_of c.args.nodes.now) c.args.id) (syntax_of c.args.nodes.now) c.node_at-node.result.now.kind c.node_at-node.result.now.at c.node_at-node.result.now.token c.node_at-node.result.now.kids.items c.as_slice-kids.result.now c.place-at.result c.node_at-node.ensures.node c.place-at.ensures c.as_slice-kids.ensures.value c.in-ConstructorDeclaration.is) (c.declared_method.ensures bodies)
+    (constructor_member (lexemes_of c.args.tokens.now) (home_of c.args.home.now)
+    (reading (ctx_of c.args.env.now) (work_of c.args.work.now) bodies c.args.members.now) (tree_at (syntax_of c.args.nodes.now) c.args.id)
+    (syntax_of c.args.nodes.now) c.node_at-node.result.now.kind c.node_at-node.result.now.at c.node_at-node.result.now.token
+    c.node_at-node.result.now.kids.items c.as_slice-kids.result.now c.place-at.result c.node_at-node.ensures.node c.place-at.ensures
+    c.as_slice-kids.ensures.value c.in-ConstructorDeclaration.is) (c.declared_method.ensures bodies)
 
 pub returns-in-ConstructorDefinition : goal.returns-in-ConstructorDefinition
 returns-in-ConstructorDefinition c bodies =
@@ -84,7 +96,11 @@ returns-in-ConstructorDefinition c bodies =
     (trees_at (syntax_of c.args.nodes.now) c.as_slice-kids.result.now))
     (member_of (lexemes_of c.args.tokens.now) (home_of c.args.home.now)
     (reading (ctx_of c.args.env.now) (work_of c.args.work.now) bodies c.args.members.now) (tree_at (syntax_of c.args.nodes.now) c.args.id))
-    (constructor_defined (lexemes_of c.args.tokens.now) (home_of c.args.home.now) (reading (ctx_of c.args.env.now) (work_of c.args.work.now) bodies c.args.members.now) (tree_at (syntax_of c.args.nodes.now) c.args.id) (syntax_of c.args.nodes.now) c.node_at-node.result.now.kind c.node_at-node.result.now.at c.node_at-node.result.now.token c.node_at-node.result.now.kids.items c.as_slice-kids.result.now c.place-at.result c.node_at-node.ensures.node c.place-at.ensures c.as_slice-kids.ensures.value c.in-ConstructorDefinition.is) (c.defined_method-in-ConstructorDefinition.ensures bodies)
+    (constructor_defined (lexemes_of c.args.tokens.now) (home_of c.args.home.now)
+    (reading (ctx_of c.args.env.now) (work_of c.args.work.now) bodies c.args.members.now) (tree_at (syntax_of c.args.nodes.now) c.args.id)
+    (syntax_of c.args.nodes.now) c.node_at-node.result.now.kind c.node_at-node.result.now.at c.node_at-node.result.now.token
+    c.node_at-node.result.now.kids.items c.as_slice-kids.result.now c.place-at.result c.node_at-node.ensures.node c.place-at.ensures
+    c.as_slice-kids.ensures.value c.in-ConstructorDefinition.is) (c.defined_method-in-ConstructorDefinition.ensures bodies)
 
 pub returns-in-DestructorDeclaration : goal.returns-in-DestructorDeclaration
 returns-in-DestructorDeclaration c bodies =
@@ -95,7 +111,11 @@ returns-in-DestructorDeclaration c bodies =
     (trees_at (syntax_of c.args.nodes.now) c.as_slice-kids.result.now))
     (member_of (lexemes_of c.args.tokens.now) (home_of c.args.home.now)
     (reading (ctx_of c.args.env.now) (work_of c.args.work.now) bodies c.args.members.now) (tree_at (syntax_of c.args.nodes.now) c.args.id))
-    (destructor_member (lexemes_of c.args.tokens.now) (home_of c.args.home.now) (reading (ctx_of c.args.env.now) (work_of c.args.work.now) bodies c.args.members.now) (tree_at (syntax_of c.args.nodes.now) c.args.id) (syntax_of c.args.nodes.now) c.node_at-node.result.now.kind c.node_at-node.result.now.at c.node_at-node.result.now.token c.node_at-node.result.now.kids.items c.as_slice-kids.result.now c.place-at.result c.node_at-node.ensures.node c.place-at.ensures c.as_slice-kids.ensures.value c.in-DestructorDeclaration.is) (c.declared_method-in-DestructorDeclaration.ensures bodies)
+    (destructor_member (lexemes_of c.args.tokens.now) (home_of c.args.home.now)
+    (reading (ctx_of c.args.env.now) (work_of c.args.work.now) bodies c.args.members.now) (tree_at (syntax_of c.args.nodes.now) c.args.id)
+    (syntax_of c.args.nodes.now) c.node_at-node.result.now.kind c.node_at-node.result.now.at c.node_at-node.result.now.token
+    c.node_at-node.result.now.kids.items c.as_slice-kids.result.now c.place-at.result c.node_at-node.ensures.node c.place-at.ensures
+    c.as_slice-kids.ensures.value c.in-DestructorDeclaration.is) (c.declared_method-in-DestructorDeclaration.ensures bodies)
 
 pub returns-in-DestructorDefinition : goal.returns-in-DestructorDefinition
 returns-in-DestructorDefinition c bodies =
@@ -106,4 +126,8 @@ returns-in-DestructorDefinition c bodies =
     (trees_at (syntax_of c.args.nodes.now) c.as_slice-kids.result.now))
     (member_of (lexemes_of c.args.tokens.now) (home_of c.args.home.now)
     (reading (ctx_of c.args.env.now) (work_of c.args.work.now) bodies c.args.members.now) (tree_at (syntax_of c.args.nodes.now) c.args.id))
-    (destructor_defined (lexemes_of c.args.tokens.now) (home_of c.args.home.now) (reading (ctx_of c.args.env.now) (work_of c.args.work.now) bodies c.args.members.now) (tree_at (syntax_of c.args.nodes.now) c.args.id) (syntax_of c.args.nodes.now) c.node_at-node.result.now.kind c.node_at-node.result.now.at c.node_at-node.result.now.token c.node_at-node.result.now.kids.items c.as_slice-kids.result.now c.place-at.result c.node_at-node.ensures.node c.place-at.ensures c.as_slice-kids.ensures.value c.in-DestructorDefinition.is) (c.defined_method-in-DestructorDefinition.ensures bodies)
+    (destructor_defined (lexemes_of c.args.tokens.now) (home_of c.args.home.now)
+    (reading (ctx_of c.args.env.now) (work_of c.args.work.now) bodies c.args.members.now) (tree_at (syntax_of c.args.nodes.now) c.args.id)
+    (syntax_of c.args.nodes.now) c.node_at-node.result.now.kind c.node_at-node.result.now.at c.node_at-node.result.now.token
+    c.node_at-node.result.now.kids.items c.as_slice-kids.result.now c.place-at.result c.node_at-node.ensures.node c.place-at.ensures
+    c.as_slice-kids.ensures.value c.in-DestructorDefinition.is) (c.defined_method-in-DestructorDefinition.ensures bodies)

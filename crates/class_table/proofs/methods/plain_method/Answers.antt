@@ -18,7 +18,9 @@ returns-in_err-header-clause-method c bodies =
     (storage_of c.args.storage) (trees_at (syntax_of c.args.nodes.now) (drop c.args.start c.args.kids.now)))
     (plain_method (lexemes_of c.args.tokens.now) (at_hand (ctx_of c.args.env.now) (work_of c.args.work.now) bodies) c.args.class c.args.at
     (storage_of c.args.storage) (trees_at (syntax_of c.args.nodes.now) (drop c.args.start c.args.kids.now))) is_error refl
-    (plain_fails (lexemes_of c.args.tokens.now) (ctx_of c.args.env.now) (work_of c.args.work.now) bodies c.args.class c.args.at (storage_of c.args.storage) (syntax_of c.args.nodes.now) c.args.kids.now c.args.start c.in-Some.base c.in-Some-kid_at.declarator c.in_err-header.field-0.0 c.in-Some.ensures.kid c.in-Some-kid_at.ensures.kid c.in_err-header.ensures)
+    (plain_fails (lexemes_of c.args.tokens.now) (ctx_of c.args.env.now) (work_of c.args.work.now) bodies c.args.class c.args.at (storage_of c.args.storage)
+    (syntax_of c.args.nodes.now) c.args.kids.now c.args.start c.in-Some.base c.in-Some-kid_at.declarator c.in_err-header.field-0.0 c.in-Some.ensures.kid
+    c.in-Some-kid_at.ensures.kid c.in_err-header.ensures)
 
 pub returns-clause-method : goal.returns-clause-method
 returns-clause-method c bodies =

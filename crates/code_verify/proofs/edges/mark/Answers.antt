@@ -21,6 +21,7 @@ pub returns-clause-marks : goal.returns-clause-marks
 returns-clause-marks c = λ i h.
     let l : c.len.result ≡ length c.args.covered.now.items = omega (arith, c.len.ensures, c.args.covered.now.ok) in
     let w : i < c.len.result = omega (arith, h, l) in
-    c.loop-index.invariant.marks i h ∙ ranged c.len.result c.args.row.from c.args.row.to c.end_within-end.result c.loop-index.index i _ w c.end_within-end.ensures.row c.end_within-end.ensures.all
+    c.loop-index.invariant.marks i h ∙ ranged c.len.result c.args.row.from c.args.row.to c.end_within-end.result c.loop-index.index i _ w
+    c.end_within-end.ensures.row c.end_within-end.ensures.all
     (λ k. let u : c.loop-index.index ≤ c.end_within-end.result = c.loop-index.auto.index-end (omega (arith, k)) in
     omega (arith, u, c.loop-index-test.false)) c.loop-index.invariant.none

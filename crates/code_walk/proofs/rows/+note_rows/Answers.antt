@@ -87,8 +87,11 @@ returns-then-all_cover-clause-right t c =
     let q = c.deref_mut-in-Fork.result.now in
     let sp = subst (λ z. SpanOf c.in-Fork.span (rows_of z ++ rows_of q)) (sym c.deref_mut.ensures.value)
     (subst (λ z. SpanOf c.in-Fork.span (rows_of c.in-Fork.left.value ++ rows_of z)) (sym c.deref_mut-in-Fork.ensures.value) r.2) in
-    whole_right n a c.note_rows.new.slots c.note_rows-in-Fork.new.slots l q c.note_rows.new.tree c.note_rows-in-Fork.new.tree c.in-Fork.span c.in-Fork.key c.args.index c.args.shape
-    c.in_ok-note_rows-in-Fork.ensures.notes c.in_ok-note_rows-in-Fork-2.ensures.notes c.in_ok-note_rows-in-Fork.ensures.rows c.in_ok-note_rows-in-Fork-2.ensures.rows c.in_ok-note_rows-in-Fork.ensures.right c.in_ok-note_rows-in-Fork-2.ensures.right sp (sym c.if-all_cover.ensures) c.requires.shape
+    whole_right n a c.note_rows.new.slots c.note_rows-in-Fork.new.slots l q c.note_rows.new.tree c.note_rows-in-Fork.new.tree c.in-Fork.span c.in-Fork.key
+    c.args.index c.args.shape
+    c.in_ok-note_rows-in-Fork.ensures.notes c.in_ok-note_rows-in-Fork-2.ensures.notes c.in_ok-note_rows-in-Fork.ensures.rows
+    c.in_ok-note_rows-in-Fork-2.ensures.rows c.in_ok-note_rows-in-Fork.ensures.right c.in_ok-note_rows-in-Fork-2.ensures.right sp
+    (sym c.if-all_cover.ensures) c.requires.shape
 
 pub returns-else-all_cover-clause-right : goal.returns-else-all_cover-clause-right
 returns-else-all_cover-clause-right t c =
@@ -101,5 +104,7 @@ returns-else-all_cover-clause-right t c =
     (subst (λ z. SpanOf c.in-Fork.span (rows_of c.in-Fork.left.value ++ rows_of z)) (sym c.deref_mut-in-Fork.ensures.value) r.2) in
     let k = subst (λ z. KeySettled n (map (slot_of n) a) (rows_of z ++ rows_of q) c.in-Fork.key) (sym c.deref_mut.ensures.value)
     (subst (λ z. KeySettled n (map (slot_of n) a) (rows_of c.in-Fork.left.value ++ rows_of z) c.in-Fork.key) (sym c.deref_mut-in-Fork.ensures.value) r.3) in
-    part_right n a c.note_rows.new.slots c.note_rows-in-Fork.new.slots l q c.note_rows.new.tree c.note_rows-in-Fork.new.tree c.in-Fork.span c.in-Fork.key c.args.index c.args.shape
-    c.in_ok-note_rows-in-Fork.ensures.notes c.in_ok-note_rows-in-Fork-2.ensures.notes c.in_ok-note_rows-in-Fork.ensures.rows c.in_ok-note_rows-in-Fork-2.ensures.rows c.in_ok-note_rows-in-Fork.ensures.right c.in_ok-note_rows-in-Fork-2.ensures.right sp k
+    part_right n a c.note_rows.new.slots c.note_rows-in-Fork.new.slots l q c.note_rows.new.tree c.note_rows-in-Fork.new.tree c.in-Fork.span c.in-Fork.key
+    c.args.index c.args.shape
+    c.in_ok-note_rows-in-Fork.ensures.notes c.in_ok-note_rows-in-Fork-2.ensures.notes c.in_ok-note_rows-in-Fork.ensures.rows
+    c.in_ok-note_rows-in-Fork-2.ensures.rows c.in_ok-note_rows-in-Fork.ensures.right c.in_ok-note_rows-in-Fork-2.ensures.right sp k

@@ -12,7 +12,9 @@ use Rattle.code_walk.proofs.walk.advance.Goals as goal
 pub give-requires-clause-slots : goal.give-requires-clause-slots
 give-requires-clause-slots c =
     let j = c.args.judged in
-    subst (λ z. list_all (slot_fits c.args.nests.now) z ≡ true) (sym c.in-Some.ensures.looked) (mark_fit (table_in j) (signature_in j) (view_in j) c.args.nests.now c.args.slots.now c.in-Some.looked.index c.in-Some.looked.slot c.in-Some.ensures.within c.in-Some.ensures.slot c.requires.slots)
+    subst (λ z. list_all (slot_fits c.args.nests.now) z ≡ true) (sym c.in-Some.ensures.looked)
+    (mark_fit (table_in j) (signature_in j) (view_in j) c.args.nests.now c.args.slots.now c.in-Some.looked.index c.in-Some.looked.slot
+    c.in-Some.ensures.within c.in-Some.ensures.slot c.requires.slots)
 
 pub give-requires-clause-right : goal.give-requires-clause-right
 give-requires-clause-right c =

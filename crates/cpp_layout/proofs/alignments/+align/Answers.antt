@@ -44,12 +44,23 @@ class_align-members_align-requires t c =
     )
 
 pub class_align-returns-clause-value : goal.class_align-returns-clause-value
-class_align-returns-clause-value t c = class_aligned (classes_of c.args.classes.now) c.requires.in_order c.args.class c.in-Some-complete.number (class_of c.in-Some.found.now) c.in-Some.ensures c.in-Some-complete.is c.base_align.result c.pointer_align.result c.members_align.result c.max.result c.base_align.ensures.value c.pointer_align.ensures.value (c.members_align.ensures.value ∙ ap (λ (z : List MemberRec). greatest_align (member_extents (classes_of c.args.classes.now) (map member_of z))) c.deref.ensures.value) (omega arith)
+class_align-returns-clause-value t c = class_aligned (classes_of c.args.classes.now) c.requires.in_order c.args.class c.in-Some-complete.number
+    (class_of c.in-Some.found.now) c.in-Some.ensures c.in-Some-complete.is c.base_align.result c.pointer_align.result c.members_align.result c.max.result
+    c.base_align.ensures.value c.pointer_align.ensures.value
+    (c.members_align.ensures.value ∙ ap (λ (z : List MemberRec). greatest_align (member_extents (classes_of c.args.classes.now) (map member_of z)))
+    c.deref.ensures.value) (omega arith)
 
 pub members_align-align_of-requires : goal.members_align-align_of-requires
 members_align-align_of-requires t c =
-    let d = member_depth (classes_of c.args.classes.now) c.args.number c.args.members.now c.requires.held c.loop-member.member-index c.member-item.result c.loop-member-test.true c.member-item.is in
-    (omega arith, (c.requires.in_order, member_complete (classes_of c.args.classes.now) c.args.number c.args.members.now c.requires.held c.loop-member.member-index c.member-item.result c.loop-member-test.true c.member-item.is))
+    let d = member_depth (classes_of c.args.classes.now) c.args.number c.args.members.now c.requires.held c.loop-member.member-index c.member-item.result
+    c.loop-member-test.true c.member-item.is in (
+      omega arith,
+      (
+        c.requires.in_order,
+        member_complete (classes_of c.args.classes.now) c.args.number c.args.members.now c.requires.held
+            c.loop-member.member-index c.member-item.result c.loop-member-test.true c.member-item.is,
+      ),
+    )
 
 pub members_align-loop-member-preserved : goal.members_align-loop-member-preserved
 members_align-loop-member-preserved t c = record {

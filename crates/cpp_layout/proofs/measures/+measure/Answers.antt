@@ -58,7 +58,11 @@ class_measured-returns-in_err-cursor t c = none_answers c.from_residual-in_err-c
     (extents_of (classes_of c.args.classes.now) z)) c.deref.ensures.value c.in_err-cursor.ensures))
 
 pub class_measured-returns : goal.class_measured-returns
-class_measured-returns t c = answers_along c.whole_of.result (seen c.in_ok-cursor.cursor) (class_extent (classes_of c.args.classes.now) c.args.class) (whole_is (classes_of c.args.classes.now) c.requires.in_order c.args.class c.in_ok-number.number (class_of c.in_ok-found.found.now) c.in_ok-found.ensures c.in_ok-number.was c.in_ok-base.base c.in_ok-head.head c.in_ok-cursor.cursor c.in_ok-base.ensures c.in_ok-head.ensures (subst (λ (z : List MemberRec). Follows c.in_ok-head.head (extents_of (classes_of c.args.classes.now) z) c.in_ok-cursor.cursor) c.deref.ensures.value c.in_ok-cursor.ensures)) c.whole_of.ensures
+class_measured-returns t c = answers_along c.whole_of.result (seen c.in_ok-cursor.cursor) (class_extent (classes_of c.args.classes.now) c.args.class)
+    (whole_is (classes_of c.args.classes.now) c.requires.in_order c.args.class c.in_ok-number.number
+    (class_of c.in_ok-found.found.now) c.in_ok-found.ensures c.in_ok-number.was c.in_ok-base.base c.in_ok-head.head c.in_ok-cursor.cursor c.in_ok-base.ensures
+    c.in_ok-head.ensures (subst (λ (z : List MemberRec). Follows c.in_ok-head.head (extents_of (classes_of c.args.classes.now) z) c.in_ok-cursor.cursor)
+    c.deref.ensures.value c.in_ok-cursor.ensures)) c.whole_of.ensures
 
 pub measured-returns-then-has_no_elements : goal.measured-returns-then-has_no_elements
 measured-returns-then-has_no_elements t c = vacant_measured (class_extent (classes_of c.args.classes.now)) (shape_form c.args.shape.now) c.align_of.result
@@ -72,7 +76,9 @@ measured-returns-in_err-class_measured-in-Some t c = none_answers c.from_residua
     (sym c.if-has_no_elements.ensures) c.in_err-class_measured-in-Some.ensures)
 
 pub measured-returns-in_ok-class_measured-in-Some : goal.measured-returns-in_ok-class_measured-in-Some
-measured-returns-in_ok-class_measured-in-Some t c = answers_by (class_extent (classes_of c.args.classes.now)) (shape_form c.args.shape.now) c.held_class.result c.in-Some.part c.scaled.result c.in_ok-class_measured-in-Some.field-0 c.in-Some.is c.held_class.ensures c.in_ok-class_measured-in-Some.ensures c.scaled.ensures
+measured-returns-in_ok-class_measured-in-Some t c = answers_by (class_extent (classes_of c.args.classes.now))
+    (shape_form c.args.shape.now) c.held_class.result c.in-Some.part c.scaled.result c.in_ok-class_measured-in-Some.field-0 c.in-Some.is c.held_class.ensures
+    c.in_ok-class_measured-in-Some.ensures c.scaled.ensures
 
 pub measured-returns-in-None : goal.measured-returns-in-None
 measured-returns-in-None t c = answers_alone (class_extent (classes_of c.args.classes.now))
@@ -80,14 +86,33 @@ measured-returns-in-None t c = answers_alone (class_extent (classes_of c.args.cl
 
 pub with_members-measured-requires : goal.with_members-measured-requires
 with_members-measured-requires t c =
-    let d = member_depth (classes_of c.args.classes.now) c.args.number c.args.members.now c.requires.held c.loop-member.member-index c.member-item.result c.loop-member-test.true c.member-item.is in
-    (omega arith, (c.requires.in_order, member_complete (classes_of c.args.classes.now) c.args.number c.args.members.now c.requires.held c.loop-member.member-index c.member-item.result c.loop-member-test.true c.member-item.is))
+    let d = member_depth (classes_of c.args.classes.now) c.args.number c.args.members.now c.requires.held c.loop-member.member-index c.member-item.result
+    c.loop-member-test.true c.member-item.is in (
+      omega arith,
+      (
+        c.requires.in_order,
+        member_complete (classes_of c.args.classes.now) c.args.number c.args.members.now c.requires.held
+            c.loop-member.member-index c.member-item.result c.loop-member-test.true c.member-item.is,
+      ),
+    )
 
 pub with_members-returns-in_err-measured : goal.with_members-returns-in_err-measured
-with_members-returns-in_err-measured t c = no_members c.from_residual.result c.args.start (extents_of (classes_of c.args.classes.now) c.args.members.now) c.from_residual.ensures (member_over (classes_of c.args.classes.now) c.args.members.now c.loop-member.member-index c.member-item.result c.loop-member-test.true c.member-item.is c.args.start c.loop-member.cursor c.loop-member.invariant (large_item c.loop-member.cursor.end (member_extent (class_extent (classes_of c.args.classes.now)) (member_of c.member-item.result)) c.in_err-measured.ensures))
+with_members-returns-in_err-measured t c = no_members c.from_residual.result c.args.start
+    (extents_of (classes_of c.args.classes.now) c.args.members.now) c.from_residual.ensures
+    (member_over (classes_of c.args.classes.now) c.args.members.now c.loop-member.member-index c.member-item.result c.loop-member-test.true c.member-item.is
+    c.args.start c.loop-member.cursor c.loop-member.invariant
+    (large_item c.loop-member.cursor.end (member_extent (class_extent (classes_of c.args.classes.now)) (member_of c.member-item.result))
+    c.in_err-measured.ensures))
 
 pub with_members-returns-in_err-cursor : goal.with_members-returns-in_err-cursor
-with_members-returns-in_err-cursor t c = no_members c.from_residual-in_err-cursor.result c.args.start (extents_of (classes_of c.args.classes.now) c.args.members.now) c.from_residual-in_err-cursor.ensures (member_over (classes_of c.args.classes.now) c.args.members.now c.loop-member.member-index c.member-item.result c.loop-member-test.true c.member-item.is c.args.start c.loop-member.cursor c.loop-member.invariant (item_over c.loop-member.cursor (member_extent (class_extent (classes_of c.args.classes.now)) (member_of c.member-item.result)) c.in_ok-measured.field-0 c.in_ok-measured.ensures c.in_err-cursor.ensures))
+with_members-returns-in_err-cursor t c = no_members c.from_residual-in_err-cursor.result c.args.start
+    (extents_of (classes_of c.args.classes.now) c.args.members.now) c.from_residual-in_err-cursor.ensures
+    (member_over (classes_of c.args.classes.now) c.args.members.now c.loop-member.member-index c.member-item.result c.loop-member-test.true c.member-item.is
+    c.args.start c.loop-member.cursor c.loop-member.invariant
+    (item_over c.loop-member.cursor (member_extent (class_extent (classes_of c.args.classes.now)) (member_of c.member-item.result)) c.in_ok-measured.field-0
+    c.in_ok-measured.ensures c.in_err-cursor.ensures))
 
 pub with_members-loop-member-preserved : goal.with_members-loop-member-preserved
-with_members-loop-member-preserved t c = member_behind (classes_of c.args.classes.now) c.args.members.now c.loop-member.member-index c.member-item.result c.loop-member-test.true c.member-item.is c.args.start c.loop-member.cursor c.loop-member.invariant c.in_ok-measured.field-0 c.in_ok-cursor.cursor c.in_ok-measured.ensures c.in_ok-cursor.ensures
+with_members-loop-member-preserved t c = member_behind
+    (classes_of c.args.classes.now) c.args.members.now c.loop-member.member-index c.member-item.result c.loop-member-test.true c.member-item.is c.args.start
+    c.loop-member.cursor c.loop-member.invariant c.in_ok-measured.field-0 c.in_ok-cursor.cursor c.in_ok-measured.ensures c.in_ok-cursor.ensures

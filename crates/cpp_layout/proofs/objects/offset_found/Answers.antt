@@ -29,6 +29,11 @@ member_found-requires-clause-held c = subst (λ (z : List MemberRec). HeldBelow 
 
 pub returns : goal.returns
 returns c = match_map _ _ _ _ _
-    (λ l. over_members (classes_of c.args.classes.now) c.requires.in_order c.args.class c.in_ok-number.number (class_of c.in_ok-found.found.now) c.in_ok-found.ensures c.in_ok-number.was c.in_ok-base.base c.in_ok-head.head c.in_ok-base.ensures c.in_ok-head.ensures (subst (λ (z : List MemberRec). GREATEST_SIZE < end_from c.in_ok-head.head.end (extents_of (classes_of c.args.classes.now) z)) c.deref.ensures.value l))
-    (λ x q. place_offset (classes_of c.args.classes.now) c.args.class (class_of c.in_ok-found.found.now) c.in_ok-found.ensures c.in_ok-base.base c.in_ok-head.head c.in_ok-base.ensures c.in_ok-head.ensures c.deref.result.now (ap (map member_of) (sym c.deref.ensures.value)) c.args.member x q)
+    (λ l. over_members (classes_of c.args.classes.now) c.requires.in_order c.args.class c.in_ok-number.number
+    (class_of c.in_ok-found.found.now) c.in_ok-found.ensures c.in_ok-number.was c.in_ok-base.base c.in_ok-head.head c.in_ok-base.ensures
+    c.in_ok-head.ensures (subst (λ (z : List MemberRec). GREATEST_SIZE < end_from c.in_ok-head.head.end (extents_of (classes_of c.args.classes.now) z))
+    c.deref.ensures.value l))
+    (λ x q. place_offset (classes_of c.args.classes.now) c.args.class
+    (class_of c.in_ok-found.found.now) c.in_ok-found.ensures c.in_ok-base.base c.in_ok-head.head c.in_ok-base.ensures c.in_ok-head.ensures
+    c.deref.result.now (ap (map member_of) (sym c.deref.ensures.value)) c.args.member x q)
     c.member_found.ensures

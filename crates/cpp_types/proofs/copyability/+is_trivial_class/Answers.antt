@@ -19,19 +19,31 @@ returns-then-not-is_plain_class t c = (
 
 pub is_trivial_class-requires : goal.is_trivial_class-requires
 is_trivial_class-requires t c =
-    let h = lower_member (classes_of c.args.classes.now) c.args.class (class_of c.in-Some.found.now) c.loop-member.member-index (member_of c.member-item.result) c.in-Some-held_class.part c.requires c.in-Some.ensures (sym c.if-not-is_plain_class.ensures) (member_found c.deref-member-items.result.now c.in-Some.found.now.members.items c.loop-member.member-index c.member-item.result c.deref-member-items.ensures.value c.loop-member-test.true c.member-item.is) (sym c.in-Some-held_class.ensures) in
+    let h = lower_member (classes_of c.args.classes.now) c.args.class (class_of c.in-Some.found.now) c.loop-member.member-index
+    (member_of c.member-item.result) c.in-Some-held_class.part c.requires c.in-Some.ensures (sym c.if-not-is_plain_class.ensures)
+    (member_found c.deref-member-items.result.now c.in-Some.found.now.members.items c.loop-member.member-index c.member-item.result
+    c.deref-member-items.ensures.value c.loop-member-test.true c.member-item.is) (sym c.in-Some-held_class.ensures) in
     (omega arith, c.requires)
 
 pub returns-in-loop-member : goal.returns-in-loop-member
-returns-in-loop-member t c =
-    (λ z. absurd cc, λ q. absurd (member_not (classes_of c.args.classes.now) c.args.class (class_of c.in-Some.found.now) c.loop-member.member-index (member_of c.member-item.result) c.in-Some-held_class.part c.in-Some.ensures (member_found c.deref-member-items.result.now c.in-Some.found.now.members.items c.loop-member.member-index c.member-item.result c.deref-member-items.ensures.value c.loop-member-test.true c.member-item.is) (sym c.in-Some-held_class.ensures) (λ (w : IsTrivialClass (classes_of c.args.classes.now) c.in-Some-held_class.part). let z : IsTrue false = c.if-not-is_trivial_class.ensures.1 w in absurd cc) q))
+returns-in-loop-member t c = (
+  λ z. absurd cc,
+  λ q. absurd (member_not (classes_of c.args.classes.now) c.args.class (class_of c.in-Some.found.now) c.loop-member.member-index
+      (member_of c.member-item.result) c.in-Some-held_class.part c.in-Some.ensures
+      (member_found c.deref-member-items.result.now c.in-Some.found.now.members.items c.loop-member.member-index c.member-item.result
+      c.deref-member-items.ensures.value c.loop-member-test.true c.member-item.is) (sym c.in-Some-held_class.ensures)
+      (λ (w : IsTrivialClass (classes_of c.args.classes.now) c.in-Some-held_class.part). let z : IsTrue false = c.if-not-is_trivial_class.ensures.1 w in
+      absurd cc) q),
+)
 
 pub loop-member-preserved : goal.loop-member-preserved
 loop-member-preserved t c j m e h f g = elim (cases_lt j c.loop-member.member-index) [
   | inl a ↦ c.loop-member.invariant j m e a f g
   | inr a ↦
       let l : j ≡ c.loop-member.member-index = omega arith in
-      let s : member_of c.member-item.result ≡ m = same_index c.in-Some.found.now.members.items c.loop-member.member-index j (member_of c.member-item.result) m (member_found c.deref-member-items.result.now c.in-Some.found.now.members.items c.loop-member.member-index c.member-item.result c.deref-member-items.ensures.value c.loop-member-test.true c.member-item.is) f l in
+      let s : member_of c.member-item.result ≡ m = same_index c.in-Some.found.now.members.items c.loop-member.member-index j (member_of c.member-item.result) m
+      (member_found c.deref-member-items.result.now c.in-Some.found.now.members.items c.loop-member.member-index c.member-item.result
+      c.deref-member-items.ensures.value c.loop-member-test.true c.member-item.is) f l in
       let o : held (member_of c.member-item.result).typ ≡ Some e = ap (λ (z : Member). held z.typ) s ∙ g in
       elim c.in_default.branch [
         | in_default-via-in-None-1 w ↦ absurd cc

@@ -18,14 +18,20 @@ write_function-returns t c =
 
 pub write_list-loop-i-preserved : goal.write_list-loop-i-preserved
 write_list-loop-i-preserved t c =
-    after_three c.args.out.now.items (listed (classes_of c.args.classes.now) false (typs_of (take c.loop-i.i c.args.types.now))) (where_set (ltb 0 c.loop-i.i) (codes ",")) (spelling (classes_of c.args.classes.now) (typ_of c.index-types-i.result)) c.loop-i.out.items c.write_if.new.out.items c.write_type.new.out.items c.loop-i.invariant c.in_ok-write_if.ensures c.in_ok-write_type.ensures
+    after_three c.args.out.now.items (listed (classes_of c.args.classes.now) false (typs_of (take c.loop-i.i c.args.types.now)))
+    (where_set (ltb 0 c.loop-i.i) (codes ",")) (spelling (classes_of c.args.classes.now) (typ_of c.index-types-i.result)) c.loop-i.out.items
+    c.write_if.new.out.items c.write_type.new.out.items c.loop-i.invariant c.in_ok-write_if.ensures c.in_ok-write_type.ensures
     ∙ ap (λ (z : List ℕ). c.args.out.now.items ++ z) (sym
     (listed_more (classes_of c.args.classes.now) c.args.types.now c.loop-i.i c.index-types-i.result c.loop-i-test.true c.index-types-i.is))
 
 pub write_pointer-returns-in-Func : goal.write_pointer-returns-in-Func
 write_pointer-returns-in-Func t c =
-    ok_same c.write_function_pointer.result _ _ _ (ap (λ (z : List ℕ). c.args.out.now.items ++ z) (pointer_func (classes_of c.args.classes.now) c.args.target.now.shape c.in-Func.function c.deref.result.now c.args.is_const c.args.is_volatile c.args.target.now.is_const c.args.target.now.is_volatile c.deref.ensures c.in-Func.is)) c.write_function_pointer.ensures
+    ok_same c.write_function_pointer.result _ _ _ (ap (λ (z : List ℕ). c.args.out.now.items ++ z)
+    (pointer_func (classes_of c.args.classes.now) c.args.target.now.shape c.in-Func.function c.deref.result.now c.args.is_const c.args.is_volatile
+    c.args.target.now.is_const c.args.target.now.is_volatile c.deref.ensures c.in-Func.is)) c.write_function_pointer.ensures
 
 pub write_pointer-returns-in_default : goal.write_pointer-returns-in_default
 write_pointer-returns-in_default t c =
-    ok_same c.write_plain_pointer.result _ _ _ (ap (λ (z : List ℕ). c.args.out.now.items ++ z) (pointer_plain (classes_of c.args.classes.now) c.args.target.now.shape c.args.is_const c.args.is_volatile c.args.target.now.is_const c.args.target.now.is_volatile c.in_default.not-Func)) c.write_plain_pointer.ensures
+    ok_same c.write_plain_pointer.result _ _ _ (ap (λ (z : List ℕ). c.args.out.now.items ++ z)
+    (pointer_plain (classes_of c.args.classes.now) c.args.target.now.shape c.args.is_const c.args.is_volatile c.args.target.now.is_const
+    c.args.target.now.is_volatile c.in_default.not-Func)) c.write_plain_pointer.ensures

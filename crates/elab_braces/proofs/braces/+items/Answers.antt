@@ -58,4 +58,6 @@ placed_item-returns-in_err-init t c =
     (nodes.tree_at (nodes.syntax_of c.args.nodes.now) c.args.id) _ _ _ _ c.in_ok-target.ensures c.in_ok-ty.ensures c.in_err-init.ensures)
 
 pub placed_item-returns : goal.placed_item-returns
-placed_item-returns t c = placed_made (lexemes_of c.args.tokens.now) (ctx_of c.args.env.now) _ _ _ c.args.at _ (part_of c.args.part.now) _ (nodes.tree_at (nodes.syntax_of c.args.nodes.now) c.args.id) _ _ _ _ _ _ _ c.in_ok-target.ensures c.in_ok-ty.ensures c.in_ok-init.ensures c.in_ok-made.ensures c.node_at.ensures.place
+placed_item-returns t c = placed_made (lexemes_of c.args.tokens.now) (ctx_of c.args.env.now) _ _ _ c.args.at _ (part_of c.args.part.now) _
+    (nodes.tree_at (nodes.syntax_of c.args.nodes.now) c.args.id) _ _ _ _ _ _ _ c.in_ok-target.ensures c.in_ok-ty.ensures c.in_ok-init.ensures
+    c.in_ok-made.ensures c.node_at.ensures.place

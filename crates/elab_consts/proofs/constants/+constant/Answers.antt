@@ -18,4 +18,6 @@ returns-then-kids-eq3 t c =
 pub returns : goal.returns
 returns t c =
     let trees = trees_of c.args.nodes.now.items in
-    c.word_at.ensures ∙ of_others (map global_of c.args.globals.now.items) trees (tree_at trees c.args.id) c.node_at-node.result.now.kind c.node_at-node.result.now.cat c.in_ok-kids.kids.now c.node_at-node.ensures.kind c.node_at-node.ensures.cat c.in_ok-kids.ensures.kids (not_load _ c.in_default.not-Load) c.if-kids-eq1.false c.if-kids-eq2.false c.if-kids-eq3.false
+    c.word_at.ensures ∙ of_others (map global_of c.args.globals.now.items) trees
+    (tree_at trees c.args.id) c.node_at-node.result.now.kind c.node_at-node.result.now.cat c.in_ok-kids.kids.now c.node_at-node.ensures.kind
+    c.node_at-node.ensures.cat c.in_ok-kids.ensures.kids (not_load _ c.in_default.not-Load) c.if-kids-eq1.false c.if-kids-eq2.false c.if-kids-eq3.false

@@ -20,7 +20,10 @@ returns-in_err-found c bodies =
     says_refused (counted (ctx_of c.args.env.now) (work_of c.found_value.new.work) bodies) c.from_residual.result c.in_err-found.field-0.0
     (enumerator_declared (lexemes_of c.args.tokens.now) c.args.scoped c.args.owner.now
     (counted (ctx_of c.args.env.now) (work_of c.args.work.now) bodies c.args.next) (tree_at (syntax_of c.args.nodes.now) c.args.id)) is_error
-    (found_fails (lexemes_of c.args.tokens.now) c.args.scoped c.args.owner.now (counted (ctx_of c.args.env.now) (work_of c.args.work.now) bodies c.args.next) c.node_at-node.result.now.kind c.node_at-node.result.now.at c.node_at-node.result.now.token c.in-Some.token (trees_at (syntax_of c.args.nodes.now) c.node_at-node.result.now.kids.items) (tree_at (syntax_of c.args.nodes.now) c.args.id) c.place-at.result
+    (found_fails (lexemes_of c.args.tokens.now) c.args.scoped c.args.owner.now
+    (counted (ctx_of c.args.env.now) (work_of c.args.work.now) bodies c.args.next) c.node_at-node.result.now.kind c.node_at-node.result.now.at
+    c.node_at-node.result.now.token c.in-Some.token (trees_at (syntax_of c.args.nodes.now) c.node_at-node.result.now.kids.items)
+    (tree_at (syntax_of c.args.nodes.now) c.args.id) c.place-at.result
     c.node_at-node.ensures.node c.in-Some.is c.place-at.ensures c.in_err-found.field-0.0
     (subst (λ (z : List NodeId). Faults c.in_err-found.field-0.0
     (found_value (lexemes_of c.args.tokens.now) (ctx_of c.args.env.now) (work_of c.args.work.now) c.place-at.result c.args.next
@@ -42,7 +45,10 @@ returns c bodies =
     (to_z w128 (of_z w128 c.in_ok-found.found.value)))
     (enumerator_declared (lexemes_of c.args.tokens.now) c.args.scoped c.args.owner.now
     (counted (ctx_of c.args.env.now) (work_of c.args.work.now) bodies c.args.next) (tree_at (syntax_of c.args.nodes.now) c.args.id))
-    (found_is (lexemes_of c.args.tokens.now) c.args.scoped c.args.owner.now (counted (ctx_of c.args.env.now) (work_of c.args.work.now) bodies c.args.next) c.node_at-node.result.now.kind c.node_at-node.result.now.at c.node_at-node.result.now.token c.in-Some.token (trees_at (syntax_of c.args.nodes.now) c.node_at-node.result.now.kids.items) (tree_at (syntax_of c.args.nodes.now) c.args.id) c.place-at.result
+    (found_is (lexemes_of c.args.tokens.now) c.args.scoped c.args.owner.now
+    (counted (ctx_of c.args.env.now) (work_of c.args.work.now) bodies c.args.next) c.node_at-node.result.now.kind c.node_at-node.result.now.at
+    c.node_at-node.result.now.token c.in-Some.token (trees_at (syntax_of c.args.nodes.now) c.node_at-node.result.now.kids.items)
+    (tree_at (syntax_of c.args.nodes.now) c.args.id) c.place-at.result
     c.node_at-node.ensures.node c.in-Some.is c.place-at.ensures (valued_shown c.in_ok-found.found) c.spelling-name.result.now
     (ap (λ (z : List NodeId). found_value (lexemes_of c.args.tokens.now) (ctx_of c.args.env.now) (work_of c.args.work.now) c.place-at.result c.args.next
     (trees_at (syntax_of c.args.nodes.now) z)) (sym c.deref.ensures.value)

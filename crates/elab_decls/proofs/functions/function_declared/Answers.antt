@@ -13,5 +13,6 @@ returns-in-None c =
     ∙ c.in-None.is in
     says_same (placed_at c.first_declared.new.env) c.first_declared.result (newly_declared (ctx_of c.args.env.now) (header_of c.args.header.now))
     (function_declared (ctx_of c.args.env.now) (header_of c.args.header.now) c.args.defines)
-    (declared_is (ctx_of c.args.env.now) (header_of c.args.header.now) c.args.defines c.in_ok-main_fits.field-0 c.in_ok-words_fit.field-0 c.in_ok-header_sized.field-0 None c.in_ok-main_fits.ensures c.in_ok-words_fit.ensures c.in_ok-header_sized.ensures none)
+    (declared_is (ctx_of c.args.env.now) (header_of c.args.header.now) c.args.defines c.in_ok-main_fits.field-0 c.in_ok-words_fit.field-0
+    c.in_ok-header_sized.field-0 None c.in_ok-main_fits.ensures c.in_ok-words_fit.ensures c.in_ok-header_sized.ensures none)
     c.first_declared.ensures

@@ -36,4 +36,8 @@ returns g c =
     let inside : state_of c.enter_function.new.st ≡ entered (state_of c.args.st.now) (signature_result (header_of c.args.header.now).signature)
     (option_map typ_of c.args.this) c.args.header.now.class = c.in_ok-around.ensures.is
     ∙ ap (λ (z : Typ). entered (state_of c.args.st.now) z (option_map typ_of c.args.this) c.args.header.now.class) c.result_type-ret.ensures in
-    function_done (g.L.MakeLambdas.lambdas c.args.lams.now) (lexemes_of c.args.tokens.now) c.args.st.now _ _ _ _ (header_of c.args.header.now) (option_map typ_of c.args.this) c.args.func (syntax_at (syntax_of c.args.nodes.now) c.args.body) (round_of c.in_ok-around.around) c.in_ok-made.field-0 _ _ _ whole inside c.in_ok-around.ensures.round c.in_ok-made.ensures c.leave_function-inside.ensures.is (c.leave_function-inside.ensures.trees ∙ c.in_ok-around.ensures.trees) (ap (λ (z : List Tree). tree_at z c.in_ok-made.field-0) c.leave_function-inside.ensures.nodes) c.leave_function-inside.ensures.frame c.body_made.ensures
+    function_done (g.L.MakeLambdas.lambdas c.args.lams.now) (lexemes_of c.args.tokens.now) c.args.st.now _ _ _ _ (header_of c.args.header.now)
+    (option_map typ_of c.args.this) c.args.func (syntax_at (syntax_of c.args.nodes.now) c.args.body)
+    (round_of c.in_ok-around.around) c.in_ok-made.field-0 _ _ _ whole inside c.in_ok-around.ensures.round c.in_ok-made.ensures
+    c.leave_function-inside.ensures.is (c.leave_function-inside.ensures.trees ∙ c.in_ok-around.ensures.trees)
+    (ap (λ (z : List Tree). tree_at z c.in_ok-made.field-0) c.leave_function-inside.ensures.nodes) c.leave_function-inside.ensures.frame c.body_made.ensures

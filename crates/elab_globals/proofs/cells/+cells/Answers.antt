@@ -8,7 +8,8 @@ use Rattle.elab_globals.proofs.CellLists.{cells_from, cells_say, collecting_more
 use Rattle.elab_globals.proofs.cells.+cells.Goals as goal
 
 pub cells_of-returns : goal.cells_of-returns
-cells_of-returns t c = cells_say _ _ _ (cells_from (ctx_of c.args.env.now) (work_of c.args.work.now) (tree_at (trees_of c.args.work.now.nodes.items) c.args.id) _ _ _ c.node_at-node.ensures.kind c.node_at-node.ensures.place c.in_ok-kids.ensures.kids) c.cells_by.ensures
+cells_of-returns t c = cells_say _ _ _ (cells_from (ctx_of c.args.env.now) (work_of c.args.work.now) (tree_at (trees_of c.args.work.now.nodes.items) c.args.id)
+    _ _ _ c.node_at-node.ensures.kind c.node_at-node.ensures.place c.in_ok-kids.ensures.kids) c.cells_by.ensures
 
 pub cells_of_all-loop-kid-preserved : goal.cells_of_all-loop-kid-preserved
 cells_of_all-loop-kid-preserved t c =

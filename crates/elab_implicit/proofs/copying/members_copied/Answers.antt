@@ -14,7 +14,9 @@ loop-member-preserved c =
     let size = c.in_ok-count.ensures in
     let low : c.loop-member.member < length ms = omega arith in
     record {
-      so_far = member_more c.args.st.now c.loop-member.st _ c.args.at c.args.class (source_object c.args.class (typ_of c.args.param.now) c.args.at) (source_const (typ_of c.args.param.now)) c.loop-member.member ms _ _ _ _ _ c.loop-member.invariant.so_far c.loop-member.invariant.classes refl low c.in_ok-made.ensures.is c.in_ok-keep.ensures;
+      so_far = member_more c.args.st.now c.loop-member.st _ c.args.at c.args.class (source_object c.args.class (typ_of c.args.param.now) c.args.at)
+          (source_const (typ_of c.args.param.now)) c.loop-member.member ms _ _ _ _ _ c.loop-member.invariant.so_far c.loop-member.invariant.classes refl low
+          c.in_ok-made.ensures.is c.in_ok-keep.ensures;
       classes = c.in_ok-made.ensures.classes ∙ c.loop-member.invariant.classes;
     }
 
@@ -34,4 +36,7 @@ returns-in_err-made c =
     let size = c.in_ok-count.ensures in
     let low : c.loop-member.member < length ms = omega arith in
     let is_error : c.from_residual-in_err-made.result ≡ Err c.in_err-made.field-0.0 = search rules in
-    does_all_fail _ _ _ _ _ _ _ is_error (member_fails c.args.st.now c.loop-member.st c.args.at c.args.class (source_object c.args.class (typ_of c.args.param.now) c.args.at) (source_const (typ_of c.args.param.now)) c.loop-member.member ms _ _ _ _ c.loop-member.invariant.so_far c.loop-member.invariant.classes refl low c.in_err-made.ensures.is)
+    does_all_fail _ _ _ _ _ _ _ is_error (member_fails c.args.st.now c.loop-member.st c.args.at c.args.class
+    (source_object c.args.class (typ_of c.args.param.now) c.args.at)
+    (source_const (typ_of c.args.param.now)) c.loop-member.member ms _ _ _ _ c.loop-member.invariant.so_far c.loop-member.invariant.classes refl low
+    c.in_err-made.ensures.is)

@@ -10,4 +10,5 @@ pub returns : goal.returns
 returns c = closure_is (ctx_of c.args.env.now) (ctx_of c.add_closure_class.new.env) (ctx_of c.add_rows.new.env) (ctx_of c.add_call.new.env)
     (map capture_of c.args.captures.now) (call_of c.args.words (signature_of c.args.ty.now))
     (map parameter_of c.args.params.now) c.in_ok-class.class c.args.words.closed (traits_of c.closure_traits-traits.result) (func_of c.in_ok-call.call)
-    c.in_ok-add_closure_class.ensures c.in_ok-add_rows.ensures c.in_ok-add_call.ensures c.in_ok-class.ensures c.closure_traits-traits.ensures c.in_ok-call.ensures
+    c.in_ok-add_closure_class.ensures c.in_ok-add_rows.ensures c.in_ok-add_call.ensures c.in_ok-class.ensures c.closure_traits-traits.ensures
+    c.in_ok-call.ensures

@@ -23,7 +23,8 @@ returns c =
     (c.in_ok-around.ensures.is
     (syntax_of c.args.nodes.now)) c.in_ok-returns.ensures c.in_ok-around.ensures.round c.in_ok-made.ensures c.leave_function-inside.ensures.is
     (c.leave_function-inside.ensures.trees ∙ c.in_ok-around.ensures.trees)
-    (ap (λ (z : List Tree). tree_at z c.in_ok-made.made) c.leave_function-inside.ensures.nodes) c.leave_function-inside.ensures.frame c.in_ok-func.ensures c.body_made.ensures
+    (ap (λ (z : List Tree). tree_at z c.in_ok-made.made) c.leave_function-inside.ensures.nodes) c.leave_function-inside.ensures.frame c.in_ok-func.ensures
+    c.body_made.ensures
 
 pub returns-in_err-made : goal.returns-in_err-made
 returns-in_err-made c =

@@ -16,7 +16,9 @@ returns c =
     read_done (lexemes_of c.args.tokens.now) c.args.st.now c.enter.new.st c.body_statements.new.st c.leave_function-inside.new.st
     (written_of (syntax_of c.args.nodes.now) c.args.x.now) (signature_of c.args.function.now) (deduced None) (returns_of inside.returns)
     (typ_of c.plain_type-ret.result) (round_of c.in_ok-around.around) c.in_ok-body_statements.field-0 c.in_ok-found.found
-    (c.in_ok-around.ensures.is (syntax_of c.args.nodes.now)) refl c.plain_type-ret.ensures c.in_ok-around.ensures.round c.in_ok-body_statements.ensures c.leave_function-inside.ensures.is (c.leave_function-inside.ensures.trees ∙ c.in_ok-around.ensures.trees) c.leave_function-inside.ensures.returns c.in_ok-found.ensures
+    (c.in_ok-around.ensures.is (syntax_of c.args.nodes.now)) refl c.plain_type-ret.ensures c.in_ok-around.ensures.round c.in_ok-body_statements.ensures
+    c.leave_function-inside.ensures.is (c.leave_function-inside.ensures.trees ∙ c.in_ok-around.ensures.trees) c.leave_function-inside.ensures.returns
+    c.in_ok-found.ensures
 
 pub returns-in_err-body_statements : goal.returns-in_err-body_statements
 returns-in_err-body_statements c =

@@ -17,7 +17,9 @@ returns-in_default c = wording_short (ctx_of c.args.env.now) (work_of c.args.wor
 pub args-2-preserved : goal.args-2-preserved
 args-2-preserved c =
     let is : slice_get c.args.os.now c.args-2.i ≡ Some c.in-Some.o = sym c.operand_at.ensures ∙ c.in-Some.is in
-    wording_more (ctx_of c.args.env.now) (work_of c.args.work.now) c.args.params.now c.args.os.now c.args-2.i _ _ _ _ _ _ _ c.index-params-i.result _ c.in-Some.o _ _ c.args-2.invariant c.requires c.args-2-test.true (slice_get_within c.args.os.now c.args-2.i c.in-Some.o is) c.index-params-i.is (element_at c.args.os.now c.args-2.i c.in-Some.o is) c.in_ok-word.ensures c.in_ok-keep.ensures
+    wording_more (ctx_of c.args.env.now) (work_of c.args.work.now) c.args.params.now c.args.os.now c.args-2.i _ _ _ _ _ _ _ c.index-params-i.result _
+    c.in-Some.o _ _ c.args-2.invariant c.requires c.args-2-test.true (slice_get_within c.args.os.now c.args-2.i c.in-Some.o is) c.index-params-i.is
+    (element_at c.args.os.now c.args-2.i c.in-Some.o is) c.in_ok-word.ensures c.in_ok-keep.ensures
 
 pub returns : goal.returns
 returns c = wording_done (ctx_of c.args.env.now) (work_of c.args.work.now) c.args.params.now c.args.os.now _ _ _ _ _ c.args-2.invariant c.args-2-test.false
@@ -30,6 +32,10 @@ passed-requires c =
 pub returns-in_err-word : goal.returns-in_err-word
 returns-in_err-word c =
     let is : slice_get c.args.os.now c.args-2.i ≡ Some c.in-Some.o = sym c.operand_at.ensures ∙ c.in-Some.is in
-    let known : Faults c.in_err-word.field-0.0 (words (ctx_of c.args.env.now) (work_of c.args.work.now) (typs_of c.args.params.now) (operands_in (trees_of c.args.work.now.nodes.items) c.args.os.now)) = wording_fails (ctx_of c.args.env.now) (work_of c.args.work.now) c.args.params.now c.args.os.now c.args-2.i _ _ _ _ c.index-params-i.result _ c.in-Some.o _ _ c.args-2.invariant c.requires c.args-2-test.true (slice_get_within c.args.os.now c.args-2.i c.in-Some.o is) c.index-params-i.is (element_at c.args.os.now c.args-2.i c.in-Some.o is) c.in_err-word.ensures in
+    let known : Faults c.in_err-word.field-0.0 (words (ctx_of c.args.env.now) (work_of c.args.work.now) (typs_of c.args.params.now)
+    (operands_in (trees_of c.args.work.now.nodes.items) c.args.os.now)) =
+    wording_fails (ctx_of c.args.env.now) (work_of c.args.work.now) c.args.params.now c.args.os.now c.args-2.i _ _ _ _ c.index-params-i.result _ c.in-Some.o
+    _ _ c.args-2.invariant c.requires c.args-2-test.true (slice_get_within c.args.os.now c.args-2.i c.in-Some.o is) c.index-params-i.is
+    (element_at c.args.os.now c.args-2.i c.in-Some.o is) c.in_err-word.ensures in
     let is_error : c.from_residual.result ≡ Err c.in_err-word.field-0.0 = search rules in
     refused_all _ _ _ _ _ _ is_error known

@@ -24,7 +24,8 @@ add_fields-returns-in_ok-stride-in-Array t c =
     (c.in_ok-stride-in-Array.ensures ∙ ap (λ z. (extent_of (classes_of c.args.env.now.classes.items) (typ_of z)).size) d)) c.add_repeated.ensures
 
 pub add_parts-loop-part-preserved : goal.add_parts-loop-part-preserved
-add_parts-loop-part-preserved t c = part_added _ _ _ _ _ _ _ c.part-item.result _ _ _ _ _ c.in_ok-more.more.items _ c.loop-part.invariant c.loop-part-test.true c.part-item.is c.in_ok-here.ensures c.in_ok-more.ensures (c.in_ok-keep_all.ensures ∙ ap (λ z. c.loop-part.ids.items ++ z) c.deref.ensures.value)
+add_parts-loop-part-preserved t c = part_added _ _ _ _ _ _ _ c.part-item.result _ _ _ _ _ c.in_ok-more.more.items _ c.loop-part.invariant c.loop-part-test.true
+    c.part-item.is c.in_ok-here.ensures c.in_ok-more.ensures (c.in_ok-keep_all.ensures ∙ ap (λ z. c.loop-part.ids.items ++ z) c.deref.ensures.value)
 
 pub add_parts-returns : goal.add_parts-returns
 add_parts-returns t c = parts_done _ _ _ _ _ _ _ _ _ c.loop-part.invariant c.loop-part-test.false

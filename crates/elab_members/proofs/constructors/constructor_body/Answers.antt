@@ -12,7 +12,12 @@ use Rattle.elab_members.proofs.ObjectBodies.{changes_fail, body_refused, body_do
 use Rattle.elab_members.proofs.constructors.constructor_body.Goals as goal
 
 pub returns : goal.returns
-returns g c = body_done c.args.st.now _ _ _ _ (header_of c.args.header.now) c.args.func c.args.class (λ (z : State). constructor_inside (g.L.MakeLambdas.lambdas c.args.lams.now) (lexemes_of c.args.tokens.now) z (header_of c.args.header.now) c.args.class (syntaxes_at (syntax_of c.args.nodes.now) c.args.inits.now) (syntax_at (syntax_of c.args.nodes.now) c.args.body)) (round_of c.in_ok-around.around) c.in_ok-made.field-0 _ _ _ c.in_ok-around.ensures.is c.in_ok-around.ensures.round c.in_ok-made.ensures c.leave_function-inside.ensures.is (c.leave_function-inside.ensures.trees ∙ c.in_ok-around.ensures.trees) (ap (λ (z : List Tree). tree_at z c.in_ok-made.field-0) c.leave_function-inside.ensures.nodes) c.leave_function-inside.ensures.frame c.body_made.ensures
+returns g c = body_done c.args.st.now _ _ _ _ (header_of c.args.header.now) c.args.func c.args.class
+    (λ (z : State). constructor_inside (g.L.MakeLambdas.lambdas c.args.lams.now) (lexemes_of c.args.tokens.now) z (header_of c.args.header.now) c.args.class
+    (syntaxes_at (syntax_of c.args.nodes.now) c.args.inits.now) (syntax_at (syntax_of c.args.nodes.now) c.args.body))
+    (round_of c.in_ok-around.around) c.in_ok-made.field-0 _ _ _ c.in_ok-around.ensures.is c.in_ok-around.ensures.round c.in_ok-made.ensures
+    c.leave_function-inside.ensures.is (c.leave_function-inside.ensures.trees ∙ c.in_ok-around.ensures.trees)
+    (ap (λ (z : List Tree). tree_at z c.in_ok-made.field-0) c.leave_function-inside.ensures.nodes) c.leave_function-inside.ensures.frame c.body_made.ensures
 
 pub returns-in_err-made : goal.returns-in_err-made
 returns-in_err-made g c =

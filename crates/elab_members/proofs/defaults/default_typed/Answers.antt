@@ -12,7 +12,13 @@ use Rattle.elab_members.proofs.InitialiserSteps.{default_done, default_refused}
 use Rattle.elab_members.proofs.defaults.default_typed.Goals as goal
 
 pub returns : goal.returns
-returns g c = default_done (g.L.MakeLambdas.lambdas c.args.lams.now) (lexemes_of c.args.tokens.now) c.args.st.now _ _ c.leave_function-inside.new.st _ c.args.class c.args.member (typ_of c.args.ty.now) (syntax_at (syntax_of c.args.nodes.now) c.args.id) (round_of c.in_ok-around.around) c.in_ok-made.field-0 _ _ c.in_ok-around.ensures.is c.in_ok-around.ensures.round c.in_ok-made.ensures c.leave_function-inside.ensures.is (c.leave_function-inside.ensures.trees ∙ c.in_ok-around.ensures.trees) (ap (λ (z : List Tree). tree_at z c.in_ok-made.field-0) c.leave_function-inside.ensures.nodes) c.leave_function-inside.ensures.frame refl (ap (λ (z : Ctx). record (state_of c.leave_function-inside.new.st) { ctx = z }) c.in_ok-keep_default.ensures)
+returns g c = default_done (g.L.MakeLambdas.lambdas c.args.lams.now)
+    (lexemes_of c.args.tokens.now) c.args.st.now _ _ c.leave_function-inside.new.st _ c.args.class c.args.member (typ_of c.args.ty.now)
+    (syntax_at (syntax_of c.args.nodes.now) c.args.id)
+    (round_of c.in_ok-around.around) c.in_ok-made.field-0 _ _ c.in_ok-around.ensures.is c.in_ok-around.ensures.round c.in_ok-made.ensures
+    c.leave_function-inside.ensures.is (c.leave_function-inside.ensures.trees ∙ c.in_ok-around.ensures.trees)
+    (ap (λ (z : List Tree). tree_at z c.in_ok-made.field-0) c.leave_function-inside.ensures.nodes) c.leave_function-inside.ensures.frame refl
+    (ap (λ (z : Ctx). record (state_of c.leave_function-inside.new.st) { ctx = z }) c.in_ok-keep_default.ensures)
 
 pub returns-in_err-made : goal.returns-in_err-made
 returns-in_err-made g c =

@@ -11,7 +11,9 @@ pub returns-in_err-header-clause-method : goal.returns-in_err-header-clause-meth
 returns-in_err-header-clause-method c bodies =
     let is_error : c.from_residual.result ≡ Err c.in_err-header.field-0.0 = search rules in
     says_refused (method_shown (syntax_of c.args.nodes.now) c.args.kids.now) c.from_residual.result c.in_err-header.field-0.0 _ is_error
-    (plain_fails (lexemes_of c.args.tokens.now) (ctx_of c.args.env.now) (work_of c.args.work.now) bodies c.args.at (storage_of c.args.storage) (syntax_of c.args.nodes.now) c.args.kids.now c.args.start c.in-Some.base c.in-Some-kid_at.declarator c.in_err-header.field-0.0 c.in-Some.ensures.kid c.in-Some-kid_at.ensures.kid c.in_err-header.ensures)
+    (plain_fails (lexemes_of c.args.tokens.now) (ctx_of c.args.env.now) (work_of c.args.work.now) bodies c.args.at (storage_of c.args.storage)
+    (syntax_of c.args.nodes.now) c.args.kids.now c.args.start c.in-Some.base c.in-Some-kid_at.declarator c.in_err-header.field-0.0 c.in-Some.ensures.kid
+    c.in-Some-kid_at.ensures.kid c.in_err-header.ensures)
 
 pub returns-clause-method : goal.returns-clause-method
 returns-clause-method c bodies =

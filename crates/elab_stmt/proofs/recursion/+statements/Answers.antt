@@ -124,7 +124,13 @@ single-returns-in-ReturnStatement g t c =
 
 pub single-returns-in_default : goal.single-returns-in_default
 single-returns-in_default g t c =
-    faulted _ (Ill c.place-at.result OutOfProfile) _ c.ill.ensures (other_row (g.L.MakeLambdas.lambdas c.args.lams.now) (lexemes_of c.args.tokens.now) (state_of c.args.st.now) (tree_at (syntax_of c.args.nodes.now) c.args.id) _ _ c.place-at.result _ _ c.node_at-node.ensures.node c.requires.single c.place-at.ensures c.in_default.not-CompoundStatement c.in_default.not-NullStatement c.in_default.not-ExpressionStatement c.in_default.not-IfStatement c.in_default.not-WhileStatement c.in_default.not-DoStatement c.in_default.not-ForStatement c.in_default.not-SwitchStatement c.in_default.not-BreakStatement c.in_default.not-ContinueStatement c.in_default.not-ReturnStatement c.in_default.not-TryBlock c.in_default.not-SynchronizedStatement c.in_default.not-AtomicStatement)
+    faulted _ (Ill c.place-at.result OutOfProfile) _ c.ill.ensures
+    (other_row (g.L.MakeLambdas.lambdas c.args.lams.now) (lexemes_of c.args.tokens.now) (state_of c.args.st.now)
+    (tree_at (syntax_of c.args.nodes.now) c.args.id) _ _ c.place-at.result _ _ c.node_at-node.ensures.node c.requires.single c.place-at.ensures
+    c.in_default.not-CompoundStatement c.in_default.not-NullStatement c.in_default.not-ExpressionStatement c.in_default.not-IfStatement
+    c.in_default.not-WhileStatement c.in_default.not-DoStatement c.in_default.not-ForStatement c.in_default.not-SwitchStatement
+    c.in_default.not-BreakStatement c.in_default.not-ContinueStatement c.in_default.not-ReturnStatement c.in_default.not-TryBlock
+    c.in_default.not-SynchronizedStatement c.in_default.not-AtomicStatement)
 
 pub body-returns : goal.body-returns
 body-returns g t c =
@@ -174,7 +180,9 @@ inner_part-returns-in_err-made g t c =
 
 pub loop_part-returns : goal.loop_part-returns
 loop_part-returns g t c =
-    in_scope c.args.st.now _ _ _ _ _ _ (λ (z : State). part_of (g.L.MakeLambdas.lambdas c.args.lams.now) (lexemes_of c.args.tokens.now) z c.args.at (tree_at (syntax_of c.args.nodes.now) c.args.id)) refl refl c.in_ok-enter_loop.ensures refl c.in_ok-made.ensures c.mark_here-mark.ensures c.leave.ensures refl refl
+    in_scope c.args.st.now _ _ _ _ _ _ (λ (z : State). part_of (g.L.MakeLambdas.lambdas c.args.lams.now) (lexemes_of c.args.tokens.now) z c.args.at
+    (tree_at (syntax_of c.args.nodes.now) c.args.id)) refl refl c.in_ok-enter_loop.ensures refl c.in_ok-made.ensures c.mark_here-mark.ensures
+    c.leave.ensures refl refl
 
 pub loop_part-returns-in_err-made : goal.loop_part-returns-in_err-made
 loop_part-returns-in_err-made g t c =
@@ -198,7 +206,11 @@ tried-returns-in_err-made g t c =
 
 pub for_statement-returns : goal.for_statement-returns
 for_statement-returns g t c =
-    one_same _ _ _ _ _ (for_tree (g.L.MakeLambdas.lambdas c.args.lams.now) (lexemes_of c.args.tokens.now) (state_of c.args.st.now) (tree_at (syntax_of c.args.nodes.now) c.args.id) c.requires.kind) (in_scope c.args.st.now _ _ _ _ _ _ (λ (z : State). for_inside_kids (g.L.MakeLambdas.lambdas c.args.lams.now) (lexemes_of c.args.tokens.now) z (tree_at (syntax_of c.args.nodes.now) c.args.id)) refl refl c.in_ok-enter_loop.ensures refl c.in_ok-made.ensures c.mark_here-mark.ensures c.leave.ensures refl refl)
+    one_same _ _ _ _ _ (for_tree (g.L.MakeLambdas.lambdas c.args.lams.now) (lexemes_of c.args.tokens.now) (state_of c.args.st.now)
+    (tree_at (syntax_of c.args.nodes.now) c.args.id) c.requires.kind)
+    (in_scope c.args.st.now _ _ _ _ _ _ (λ (z : State). for_inside_kids (g.L.MakeLambdas.lambdas c.args.lams.now) (lexemes_of c.args.tokens.now) z
+    (tree_at (syntax_of c.args.nodes.now) c.args.id)) refl refl c.in_ok-enter_loop.ensures refl c.in_ok-made.ensures c.mark_here-mark.ensures
+    c.leave.ensures refl refl)
 
 pub for_statement-returns-in_err-made : goal.for_statement-returns-in_err-made
 for_statement-returns-in_err-made g t c =
@@ -226,7 +238,14 @@ handler_scope-returns-in_err-made g t c =
 
 pub guarded-returns : goal.guarded-returns
 guarded-returns g t c =
-    one_same _ _ _ _ _ (guarded_row (g.L.MakeLambdas.lambdas c.args.lams.now) (lexemes_of c.args.tokens.now) (state_of c.args.st.now) c.args.at c.args.kind (tree_at (syntax_of c.args.nodes.now) c.args.id)) (node_over c.args.st.now (record c.body.new.st { env = c.leave.new.env }) _ c.in_ok-inside.inside _ _ c.args.at (λ (z : Tree). statement c.args.kind c.args.at (one z)) (in_scope c.args.st.now (record c.args.st.now { env = c.enter_block.new.env }) c.body.new.st (record c.body.new.st { env = c.leave.new.env }) _ c.in_ok-inside.inside _ (λ (z : State). body_of (g.L.MakeLambdas.lambdas c.args.lams.now) (lexemes_of c.args.tokens.now) z (tree_at (syntax_of c.args.nodes.now) c.args.id)) refl refl c.in_ok-enter_block.ensures refl c.in_ok-inside.ensures c.mark_here-mark.ensures c.leave.ensures refl refl) c.in_ok-made.ensures refl)
+    one_same _ _ _ _ _ (guarded_row (g.L.MakeLambdas.lambdas c.args.lams.now) (lexemes_of c.args.tokens.now) (state_of c.args.st.now) c.args.at c.args.kind
+    (tree_at (syntax_of c.args.nodes.now) c.args.id))
+    (node_over c.args.st.now (record c.body.new.st { env = c.leave.new.env }) _ c.in_ok-inside.inside _ _ c.args.at
+    (λ (z : Tree). statement c.args.kind c.args.at (one z))
+    (in_scope c.args.st.now (record c.args.st.now { env = c.enter_block.new.env }) c.body.new.st
+    (record c.body.new.st { env = c.leave.new.env }) _ c.in_ok-inside.inside _
+    (λ (z : State). body_of (g.L.MakeLambdas.lambdas c.args.lams.now) (lexemes_of c.args.tokens.now) z (tree_at (syntax_of c.args.nodes.now) c.args.id))
+    refl refl c.in_ok-enter_block.ensures refl c.in_ok-inside.ensures c.mark_here-mark.ensures c.leave.ensures refl refl) c.in_ok-made.ensures refl)
 
 pub guarded-returns-in_err-inside : goal.guarded-returns-in_err-inside
 guarded-returns-in_err-inside g t c =

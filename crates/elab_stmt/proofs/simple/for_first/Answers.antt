@@ -19,4 +19,6 @@ returns-in-SimpleDeclaration g c = all_same _ _ _ _ _ _ _
     (ap (trees_at (syntax_of c.args.nodes.now)) c.deref.ensures.value)) c.block_declaration.ensures
 
 pub returns-in_default : goal.returns-in_default
-returns-in_default g c = all_same _ _ _ _ _ _ _ (first_plain (g.L.MakeLambdas.lambdas c.args.lams.now) (lexemes_of c.args.tokens.now) (state_of c.args.st.now) (tree_at (syntax_of c.args.nodes.now) c.args.id) _ _ _ _ c.node_at-node.ensures.node c.in_default.not-Absent c.in_default.not-SimpleDeclaration) c.first_expression.ensures
+returns-in_default g c = all_same _ _ _ _ _ _ _ (first_plain (g.L.MakeLambdas.lambdas c.args.lams.now) (lexemes_of c.args.tokens.now) (state_of c.args.st.now)
+    (tree_at (syntax_of c.args.nodes.now) c.args.id) _ _ _ _ c.node_at-node.ensures.node c.in_default.not-Absent c.in_default.not-SimpleDeclaration)
+    c.first_expression.ensures

@@ -26,7 +26,8 @@ loop-unit-preserved c =
     record {
       long = omega (arith, ap length c.in_ok-keep_unit.ensures, length-append all (u ∷ []), c.loop-unit.invariant.long);
       readable = readable_more all c.keep_unit.new.units.items u c.loop-unit.invariant.readable c.in_ok-behind.ensures.readable c.in_ok-keep_unit.ensures;
-      so_far = one_more c.args.units.now c.loop-unit.unit-index c.in-Ok.source _ all c.keep_unit.new.units.items c.loop-unit.known c.unit-item.result c.in_ok-behind.behind c.loop-unit.invariant.so_far here source refl c.in_ok-behind.ensures.keeps c.in_ok-keep_unit.ensures;
+      so_far = one_more c.args.units.now c.loop-unit.unit-index c.in-Ok.source _ all c.keep_unit.new.units.items c.loop-unit.known c.unit-item.result
+          c.in_ok-behind.behind c.loop-unit.invariant.so_far here source refl c.in_ok-behind.ensures.keeps c.in_ok-keep_unit.ensures;
     }
 
 pub returns-clause-elaborates : goal.returns-clause-elaborates
@@ -39,7 +40,8 @@ returns-in_err-behind-clause-elaborates c =
     let here : slice_get c.args.units.now c.loop-unit.unit-index ≡ Some c.unit-item.result =
     slice_get_read c.args.units.now (length c.args.units.now) c.loop-unit.unit-index c.unit-item.result refl c.loop-unit-test.true c.unit-item.is in
     let source : c.in-Ok.source ≡ c.loop-unit.unit-index = search rules in
-    refused_at c.args.units.now c.loop-unit.unit-index c.in-Ok.source c.loop-unit.trees.items c.loop-unit.known c.unit-item.result c.from_residual.result c.in_err-behind.field-0.0 is_error c.loop-unit.invariant.so_far here source c.in_err-behind.ensures.keeps
+    refused_at c.args.units.now c.loop-unit.unit-index c.in-Ok.source c.loop-unit.trees.items c.loop-unit.known c.unit-item.result c.from_residual.result
+    c.in_err-behind.field-0.0 is_error c.loop-unit.invariant.so_far here source c.in_err-behind.ensures.keeps
 
 pub returns-clause-in_order : goal.returns-clause-in_order
 returns-clause-in_order c = in_order (classes_of c.loop-unit.known.classes.items) c.loop-unit.known.in_order

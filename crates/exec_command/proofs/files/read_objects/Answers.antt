@@ -13,5 +13,6 @@ returns-in-Err-BadObject-clause-wrong c =
 pub files-preserved : goal.files-preserved
 files-preserved c =
     let pushed : c.push.new.self.items ≡ c.files.objects.items ++ c.in-Ok.object ∷ [] = search rules in
-    spelled_next c.args.texts.now c.files.index c.index-texts-index.result c.as_slice.result.now c.files.objects.items c.push.new.self.items c.in-Ok.object c.files-test.true
+    spelled_next c.args.texts.now c.files.index c.index-texts-index.result c.as_slice.result.now c.files.objects.items c.push.new.self.items c.in-Ok.object
+    c.files-test.true
     (c.as_slice.ensures.value ∙ ap (λ text. text.items) c.index-texts-index.is) pushed c.files.invariant c.in-Ok.ensures.object

@@ -17,4 +17,6 @@ scan_node-returns-in_ok-scan_all-in-ParameterDeclaration t c =
     parameter_scanned c.declare.result (lexemes_of c.args.tokens.now)
     (ctx_of c.args.env.now) c.args.scan.now c.scan_all-in-ParameterDeclaration.new.scan c.declare.new.scan
     (tree_at (syntax_of c.args.nodes.now) c.args.id) n.kind n.at n.token c.name_among.result (syntax_of c.args.nodes.now) n.kids.items
-    c.deref-in-ParameterDeclaration.result.now c.deref-in-ParameterDeclaration-2.result.now c.node_at-node.ensures.node c.in-ParameterDeclaration.is c.deref-in-ParameterDeclaration.ensures.value c.deref-in-ParameterDeclaration-2.ensures.value c.in_ok-scan_all-in-ParameterDeclaration.ensures c.name_among.ensures (c.declare.ensures (lexemes_of c.args.tokens.now))
+    c.deref-in-ParameterDeclaration.result.now c.deref-in-ParameterDeclaration-2.result.now c.node_at-node.ensures.node c.in-ParameterDeclaration.is
+    c.deref-in-ParameterDeclaration.ensures.value c.deref-in-ParameterDeclaration-2.ensures.value c.in_ok-scan_all-in-ParameterDeclaration.ensures
+    c.name_among.ensures (c.declare.ensures (lexemes_of c.args.tokens.now))

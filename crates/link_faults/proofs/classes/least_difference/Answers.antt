@@ -29,7 +29,8 @@ loop-i-preserved c =
       c.note_class.ensures.first views (sym c.class_name-name.ensures) within c.loop-i.invariant.0,
       c.note_class.ensures.length ∙ c.loop-i.invariant.1,
       c.note_class.ensures.within (length c.args.classes.now) c.loop-i-test.true c.loop-i.invariant.2,
-      class_step views c.loop-i.i c.class_name-name.result c.first_at.result c.with_name-least.result c.differs_from_first-disputed.result within c.class_name-name.ensures c.differs_from_first-disputed.ensures
+      class_step views c.loop-i.i c.class_name-name.result c.first_at.result c.with_name-least.result c.differs_from_first-disputed.result within
+          c.class_name-name.ensures c.differs_from_first-disputed.ensures
           (c.loop-i.invariant.0 c.class_name-name.result c.first_at.result (rw c.deref.ensures.value at c.first_at.ensures))
           (c.with_name-least.ensures.least (is_disputed_class (take c.loop-i.i views)) c.loop-i.invariant.3),
       c.with_name-least.ensures.within c.args.names (λ _. named) c.loop-i.invariant.4,

@@ -8,7 +8,8 @@ use Rattle.link_faults.proofs.definitions.least_unsafe.Goals as goal
 pub loop-entry-preserved : goal.loop-entry-preserved
 loop-entry-preserved c =
     let within = c.requires.within c.loop-entry.entry-index _ c.loop-entry-test.true in (
-      symbol_step (is_unsafe_rank c.args.entries.now) c.args.entries.now c.loop-entry.entry-index _ c.with_name-least.result c.is_unsafe-unsafe_here.result c.loop-entry-test.true
+      symbol_step (is_unsafe_rank c.args.entries.now) c.args.entries.now c.loop-entry.entry-index _ c.with_name-least.result c.is_unsafe-unsafe_here.result
+          c.loop-entry-test.true
           (c.is_unsafe-unsafe_here.ensures c.args.entries.now
           (place_at c.args.entries.now c.args.kept.now _ c.first_claim.result c.requires.places within c.first_claim.ensures))
           (c.with_name-least.ensures.least (λ k. list_any (λ (e : RankedEntry). nat_eq e.symbol k && is_unsafe_rank c.args.entries.now e)

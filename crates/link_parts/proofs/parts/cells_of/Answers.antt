@@ -14,6 +14,8 @@ end_behind-place-requires c = let w = end_within 0 c.args.found.now c.loop-globa
 
 pub loop-global-preserved : goal.loop-global-preserved
 loop-global-preserved c = (
-  cells_step c.args.numbers.now c.args.found.now c.loop-global.global-index c.global-item.result c.loop-global.place c.loop-global.cells.items c.add_cells.new.cells.items c.loop-global-test.true c.global-item.is c.loop-global.invariant.0 c.loop-global.invariant.1 c.in_ok-add_cells.ensures,
-  end_step c.args.found.now c.loop-global.global-index c.global-item.result c.loop-global.place c.end_behind-place.result c.loop-global-test.true c.global-item.is c.loop-global.invariant.1 c.end_behind-place.ensures,
+  cells_step c.args.numbers.now c.args.found.now c.loop-global.global-index c.global-item.result c.loop-global.place c.loop-global.cells.items
+      c.add_cells.new.cells.items c.loop-global-test.true c.global-item.is c.loop-global.invariant.0 c.loop-global.invariant.1 c.in_ok-add_cells.ensures,
+  end_step c.args.found.now c.loop-global.global-index c.global-item.result c.loop-global.place c.end_behind-place.result c.loop-global-test.true
+      c.global-item.is c.loop-global.invariant.1 c.end_behind-place.ensures,
 )

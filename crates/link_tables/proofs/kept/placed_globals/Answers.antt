@@ -8,6 +8,8 @@ end_behind-number-requires c = let w = end_within 0 c.args.found.now c.loop-glob
 
 pub loop-global-preserved : goal.loop-global-preserved
 loop-global-preserved c = (
-  placed_step c.args.found.now c.loop-global.global-index c.global-item.result c.loop-global.defs.items c.push.new.self.items c.loop-global.number c.loop-global-test.true c.global-item.is c.loop-global.invariant.1 c.loop-global.invariant.0 c.in_ok-push.ensures.items,
-  end_step c.args.found.now c.loop-global.global-index c.global-item.result c.loop-global.number c.end_behind-number.result c.loop-global-test.true c.global-item.is c.loop-global.invariant.1 c.end_behind-number.ensures,
+  placed_step c.args.found.now c.loop-global.global-index c.global-item.result c.loop-global.defs.items c.push.new.self.items c.loop-global.number
+      c.loop-global-test.true c.global-item.is c.loop-global.invariant.1 c.loop-global.invariant.0 c.in_ok-push.ensures.items,
+  end_step c.args.found.now c.loop-global.global-index c.global-item.result c.loop-global.number c.end_behind-number.result c.loop-global-test.true
+      c.global-item.is c.loop-global.invariant.1 c.end_behind-number.ensures,
 )

@@ -16,17 +16,21 @@ returns-then-is_free-clause-released c =
     ∙ ap (λ rs. mode_in (record_of rs word) u) (sym there) in
     let free : (u : ℕ) → mode_of c.without_hold-left.result u ≡ None =
     λ u. free_says_none c.without_hold-left.result u c.without_hold-left.ensures.reads (sym c.is_free.ensures ∙ c.if-is_free.true) in
-    holds_changed stripes word c.stripe_index.result c.args.t word c.index_mut-stripe.result.now c.remove_at.new.self None None c.requires.len c.stripe_index.ensures.value c.index_mut-stripe.ensures.value refl c.remove_at.ensures.found
+    holds_changed stripes word c.stripe_index.result c.args.t word c.index_mut-stripe.result.now c.remove_at.new.self None None c.requires.len
+    c.stripe_index.ensures.value c.index_mut-stripe.ensures.value refl c.remove_at.ensures.found
     (λ u. sym (free u) ∙ (c.without_hold-left.ensures.modes u ∙ ap (λ o. cond (u == c.args.t) None o) (was u)))
 
 pub returns-then-is_free-clause-placed : goal.returns-then-is_free-clause-placed
 returns-then-is_free-clause-placed c =
-    placed_at c.args.stripes.now.items c.args.word c.stripe_index.result c.index_mut-stripe.result.now c.remove_at.new.self c.requires.len c.stripe_index.ensures.value c.index_mut-stripe.ensures.value c.requires.placed (λ all. c.remove_at.ensures.kept (λ r. stripe_of r.word == stripe_of c.args.word) all)
+    placed_at c.args.stripes.now.items c.args.word c.stripe_index.result c.index_mut-stripe.result.now c.remove_at.new.self c.requires.len
+    c.stripe_index.ensures.value c.index_mut-stripe.ensures.value c.requires.placed
+    (λ all. c.remove_at.ensures.kept (λ r. stripe_of r.word == stripe_of c.args.word) all)
 
 pub returns-else-is_free-clause-placed : goal.returns-else-is_free-clause-placed
 returns-else-is_free-clause-placed c =
     let same : c.without_hold-left.result.word ≡ c.args.word = c.without_hold-left.ensures.word ∙ c.holds_at.ensures.word in
-    placed_at c.args.stripes.now.items c.args.word c.stripe_index.result c.index_mut-stripe.result.now c.put_at.new.self c.requires.len c.stripe_index.ensures.value c.index_mut-stripe.ensures.value c.requires.placed
+    placed_at c.args.stripes.now.items c.args.word c.stripe_index.result c.index_mut-stripe.result.now c.put_at.new.self c.requires.len
+    c.stripe_index.ensures.value c.index_mut-stripe.ensures.value c.requires.placed
     (λ all. c.put_at.ensures.kept (λ r. stripe_of r.word == stripe_of c.args.word) all
     (eq-eqb (stripe_of c.without_hold-left.result.word) (stripe_of c.args.word) (ap stripe_of same)))
 
@@ -51,5 +55,6 @@ returns-in_default-clause-released c =
     (omega arith) c.index_mut-stripe.ensures.value in
     let absent : record_of c.index_mut-stripe.result.now.records.items word ≡ None =
     record_of-nowhere c.index_mut-stripe.result.now.records.items word (sym c.index_of.ensures ∙ c.in_default.is) in
-    holds_changed stripes word c.stripe_index.result c.args.t word c.index_mut-stripe.result.now c.index_mut-stripe.result.now None None c.requires.len c.stripe_index.ensures.value c.index_mut-stripe.ensures.value refl (λ w. none_at (record_of c.index_mut-stripe.result.now.records.items) word w absent)
+    holds_changed stripes word c.stripe_index.result c.args.t word c.index_mut-stripe.result.now c.index_mut-stripe.result.now None None c.requires.len
+    c.stripe_index.ensures.value c.index_mut-stripe.ensures.value refl (λ w. none_at (record_of c.index_mut-stripe.result.now.records.items) word w absent)
     (λ u. left_at (u == c.args.t) (hold_at stripes u word) (ap (λ rs. mode_in (record_of rs word) u) there ∙ ap (λ o. mode_in o u) absent))

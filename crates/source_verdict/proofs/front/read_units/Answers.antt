@@ -23,5 +23,6 @@ returns-then-is_err-clause-unread c =
 pub texts-preserved : goal.texts-preserved
 texts-preserved c =
     let pushed : c.push.new.self.items ≡ c.texts.units.items ++ c.in-Ok.unit ∷ [] = search rules in
-    read_next c.args.texts.now c.texts.index c.in-Some.number c.index-texts-index.result c.as_slice.result.now c.texts.units.items c.push.new.self.items c.in-Ok.unit c.texts-test.true c.in-Some.ensures
+    read_next c.args.texts.now c.texts.index c.in-Some.number c.index-texts-index.result c.as_slice.result.now c.texts.units.items c.push.new.self.items
+    c.in-Ok.unit c.texts-test.true c.in-Some.ensures
     (c.as_slice.ensures.value ∙ ap (λ text. text.items) c.index-texts-index.is) pushed c.texts.invariant c.in-Ok.ensures.read

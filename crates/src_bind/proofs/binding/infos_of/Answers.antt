@@ -17,7 +17,10 @@ info-requires-clause-frame c = c.requires.can.frames _
 
 pub loop-def-preserved : goal.loop-def-preserved
 loop-def-preserved c = (
-  infos_more (record { program = c.args.program.now; choices = c.args.choices.now }) c.deref.result.now c.loop-def.infos.items c.push.new.self.items c.in_ok-info.field-0 c.args.kept.now c.loop-def.def-index _ _ (drop_more c.args.kept.now c.loop-def.def-index _ c.loop-def-test.true) c.deref.ensures.value c.in_ok-info.ensures.shown c.in_ok-push.ensures.items c.loop-def.invariant.0,
+  infos_more (record { program = c.args.program.now; choices = c.args.choices.now }) c.deref.result.now c.loop-def.infos.items c.push.new.self.items
+      c.in_ok-info.field-0 c.args.kept.now c.loop-def.def-index _ _
+      (drop_more c.args.kept.now c.loop-def.def-index _ c.loop-def-test.true) c.deref.ensures.value c.in_ok-info.ensures.shown c.in_ok-push.ensures.items
+      c.loop-def.invariant.0,
   image_more (λ (i : FuncInfo). Some i.body)
       (body_found c.args.program.now) c.loop-def.infos.items c.push.new.self.items c.in_ok-info.field-0 c.args.kept.now c.loop-def.def-index _ _
       (drop_more c.args.kept.now c.loop-def.def-index _ c.loop-def-test.true) c.in_ok-info.ensures.body c.in_ok-push.ensures.items c.loop-def.invariant.1,

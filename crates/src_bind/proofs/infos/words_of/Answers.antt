@@ -9,7 +9,8 @@ pub returns-in_default-get : goal.returns-in_default-get
 returns-in_default-get c = no_item _ _ _ c.loop-i.i _ c.args.items.now (c.in_default-get.ensures.lookup).0 c.loop-i.invariant
 
 pub loop-i-preserved : goal.loop-i-preserved
-loop-i-preserved c = one_more c.loop-i.words.items c.push.new.self.items _ _ c.args.count c.loop-i.i c.args.offsets.now c.args.items.now c.in-Some.offset.now c.in-Some-get.item.now c.loop-i-test.true
+loop-i-preserved c = one_more c.loop-i.words.items c.push.new.self.items _ _ c.args.count c.loop-i.i c.args.offsets.now c.args.items.now c.in-Some.offset.now
+    c.in-Some-get.item.now c.loop-i-test.true
     (item_first c.args.offsets.now c.loop-i.i c.in-Some.offset.now ((c.in-Some.ensures.lookup).3).0 (c.in-Some.ensures.lookup).1)
     (item_first c.args.items.now c.loop-i.i c.in-Some-get.item.now ((c.in-Some-get.ensures.lookup).3).0 (c.in-Some-get.ensures.lookup).1)
     (ap (λ k. record {

@@ -7,5 +7,6 @@ pub returns-clause-seen : goal.returns-clause-seen
 returns-clause-seen c = λ program w s stand going e event once enabled.
     let world = c.args.world.now in
     IfOk-weaker c.act.result _ _
-    (λ r h. seen_once program (layout_of world.memory) c.args.t w s world.left c.act.new.self c.args.events.now.items c.push.new.self.items c.args.event r once event c.in_ok-push.ensures.items h)
+    (λ r h. seen_once program (layout_of world.memory) c.args.t w s world.left c.act.new.self c.args.events.now.items c.push.new.self.items c.args.event r once
+    event c.in_ok-push.ensures.items h)
     (c.act.ensures.acted program w s stand going e event enabled)

@@ -16,7 +16,9 @@ entries-init c =
     record {
       left = omega (arith, w.left);
       early = omega (arith, w.left);
-      ran = alone_first (given c.args.bound.now) c.args.input.now c.args.most c.in_ok-world.world c.new-order.result.items (steps_of c.new-ahead.result) c.new-events.result.items w.world w.layout w.stands w.left c.new-order.ensures.items c.new-ahead.ensures c.new-events.ensures.items;
+      ran = alone_first (given c.args.bound.now) c.args.input.now c.args.most c.in_ok-world.world c.new-order.result.items
+          (steps_of c.new-ahead.result) c.new-events.result.items w.world w.layout w.stands w.left c.new-order.ensures.items c.new-ahead.ensures
+          c.new-events.ensures.items;
     }
 
 pub next-requires-clause-few : goal.next-requires-clause-few
@@ -100,7 +102,8 @@ entries-preserved c =
     record {
       left = omega (arith, c.entries.invariant.left, c.in_ok-next.ensures.less, c.in_ok-take-in-Ready.ensures.less);
       early = omega (arith, near, c.entries.invariant.early, c.in_ok-next.ensures.less, c.in_ok-take-in-Ready.ensures.paid c.in-Taken.is);
-      ran = alone_taken b input most c.entries.order.items from old ns told ran none k t ready.0 new ms after c.push.new.self.items c.in_ok-push-in-Taken.ensures.items entry;
+      ran = alone_taken b input most c.entries.order.items from old ns told ran none k t ready.0 new ms after c.push.new.self.items
+          c.in_ok-push-in-Taken.ensures.items entry;
     }
 
 pub overflow_add-turn : goal.overflow_add-turn

@@ -30,7 +30,8 @@ loop-taken-init c =
       nested = first_block p nested first.marks.items (notes ∙ c.new-nested.ensures.notes) c.new-nested.ensures.marks
           (marks ∙ ap (λ ns. first.marks.items ++ length ns ∷ []) c.new-nested.ensures.notes);
       marked = some_mark nested.marks.items first.marks.items (length first.notes.items) marks c.new-nested.ensures.marks;
-      run = λ program w s stand e. seen_start program p c.args.t w s c.args.event world.left c.args.events.now.items world now first nested c.push.new.self.items e
+      run = λ program w s stand e. seen_start program p c.args.t w s c.args.event world.left c.args.events.now.items world now first nested
+          c.push.new.self.items e
           (c.in_ok-go_on.ensures.set program p s stand
           (stands_in c.args.t w s
           (world_of world) e)) refl c.new-nested.ensures.notes c.new-nested.ensures.marks notes marks refl c.in_ok-push.ensures.items;
@@ -63,7 +64,8 @@ loop-taken-preserved c =
           let inner = inner_on program p (layout_of old.memory) c.args.t w h.block.last mid nested c.in_ok-step.step inv.layout
           (c.in_ok-step.ensures.steps program w h.block.last h.block.stands h.block.at) in
           let here = c.next-inner.ensures (record { state = h.block.last.state; ended = false }) (stands_at c.args.t w h.block.last old before h.block.at) in
-          seen_more program p c.args.t w s c.args.event world.left c.args.events.now.items old mid paid before nested c.loop-taken.events.items c.note.new.events.items c.next-inner.result h
+          seen_more program p c.args.t w s c.args.event world.left c.args.events.now.items old mid paid before nested c.loop-taken.events.items
+          c.note.new.events.items c.next-inner.result h
           (at_goes program p c.args.t w h.block.last mid nested c.in_ok-step.step c.in-Goes.is inner) inner.stands kept same less here c.in_ok-note.ensures;
     }
 
@@ -144,7 +146,8 @@ returns-in-Halts-clause-seen c = λ program w s kind stand going e begins is ena
     IfOk-weaker c.halt.result _ _ (λ r n. seen_halted program p c.args.t w s c.args.event world.left c.args.events.now.items kind (begins ∙ is) is
     (ap (λ z. is_enabled c.args.t w z) (sym is) ∙ enabled) old mid paid c.halt.new.self before c.in-Halts.end r
     c.loop-taken.events.items c.note.new.events.items c.next-inner.result h
-    (at_halts program p c.args.t w h.block.last mid nested c.in_ok-step.step c.in-Halts.end c.in-Halts.is inner) inner.stands layout c.in_ok-step.ensures.same same less n here c.in_ok-note.ensures) c.halt.ensures.halted
+    (at_halts program p c.args.t w h.block.last mid nested c.in_ok-step.step c.in-Halts.end c.in-Halts.is inner) inner.stands layout c.in_ok-step.ensures.same
+    same less n here c.in_ok-note.ensures) c.halt.ensures.halted
 
 pub returns-in-Never-clause-seen : goal.returns-in-Never-clause-seen
 returns-in-Never-clause-seen c = λ program w s kind stand going e begins is enabled.

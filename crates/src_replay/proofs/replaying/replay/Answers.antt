@@ -20,14 +20,18 @@ pub returns-in-Refused : goal.returns-in-Refused
 returns-in-Refused c =
     let inv = c.loop-i.invariant in
     let b = given c.args.bound.now in
-    ran_refused b c.args.input.now c.args.order.now c.args.most c.loop-i.i (get_or c.args.order.now c.loop-i.i 0) c.loop-i.world c.step.new.self inv.ran c.loop-i-test.true refl c.place-index.result c.in-Ok-step.entry c.place-index.ensures c.in-Refused.is
+    ran_refused b c.args.input.now c.args.order.now c.args.most c.loop-i.i
+    (get_or c.args.order.now c.loop-i.i 0) c.loop-i.world c.step.new.self inv.ran c.loop-i-test.true refl c.place-index.result c.in-Ok-step.entry
+    c.place-index.ensures c.in-Refused.is
     (c.in-Ok-step.ensures.stepped (program_in b) inv.ran.stands)
 
 pub returns-in-Spent : goal.returns-in-Spent
 returns-in-Spent c =
     let inv = c.loop-i.invariant in
     let b = given c.args.bound.now in
-    ran_spent b c.args.input.now c.args.order.now c.args.most c.loop-i.i (get_or c.args.order.now c.loop-i.i 0) c.loop-i.world c.step.new.self inv.ran c.loop-i-test.true refl c.place-index.result c.in-Ok-step.entry c.place-index.ensures c.in-Spent.is
+    ran_spent b c.args.input.now c.args.order.now c.args.most c.loop-i.i
+    (get_or c.args.order.now c.loop-i.i 0) c.loop-i.world c.step.new.self inv.ran c.loop-i-test.true refl c.place-index.result c.in-Ok-step.entry
+    c.place-index.ensures c.in-Spent.is
     (c.in-Ok-step.ensures.stepped (program_in b) inv.ran.stands)
 
 pub loop-i-init : goal.loop-i-init

@@ -12,7 +12,8 @@ returns-then-not-branch c =
 pub loop-function-preserved : goal.loop-function-preserved
 loop-function-preserved c =
     let yes : c.in_ok-has_body.field-0 ≡ true = search rules in
-    bodies_more c.args.program.now c.args.unit.now c.loop-function.function-index c.function-item.result c.deref-function-items.result.now c.deref-function-items.ensures.value c.function-item.is c.loop-function.invariant
+    bodies_more c.args.program.now c.args.unit.now c.loop-function.function-index c.function-item.result c.deref-function-items.result.now
+    c.deref-function-items.ensures.value c.function-item.is c.loop-function.invariant
     (c.in_ok-has_body.ensures.0 yes)
 
 pub returns : goal.returns

@@ -7,7 +7,8 @@ use Rattle.tree_check.proofs.program.is_well_formed.Goals as goal
 pub loop-unit-preserved : goal.loop-unit-preserved
 loop-unit-preserved c =
     let yes : c.in_ok-is_unit.field-0 ≡ true = search rules in
-    units_more c.args.program.now c.loop-unit.unit-index c.unit-item.result c.deref-unit-items.result.now c.deref-unit-items.ensures.value c.unit-item.is c.loop-unit.invariant (c.in_ok-is_unit.ensures.0 yes)
+    units_more c.args.program.now c.loop-unit.unit-index c.unit-item.result c.deref-unit-items.result.now c.deref-unit-items.ensures.value c.unit-item.is
+    c.loop-unit.invariant (c.in_ok-is_unit.ensures.0 yes)
 
 pub returns : goal.returns
 returns c =

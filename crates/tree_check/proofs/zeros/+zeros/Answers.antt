@@ -33,7 +33,8 @@ zeroes-returns-in-Some-only_kid t c =
     let statement : is_statement_typ (typ_of c.node_at-node.result.now.ty) c.node_at-node.result.now.cat ≡ true = search rules in
     elements_at (classes_of c.args.setting.program.now.classes.items) c.args.volatile c.volatile_to_zero-marked.result (part_typ c.args.what)
     (typ_of c.in-Some-elements_to_zero.element.now) c.in-Elements.count c.in-Elements.stride
-    (trees_of c.args.setting.unit.now.nodes.items) c.args.id c.in-Some-only_kid.kid c.node_at-node.result.now c.zeroes.result c.node_at-node.ensures.tree c.in-Elements.is statement
+    (trees_of c.args.setting.unit.now.nodes.items) c.args.id c.in-Some-only_kid.kid c.node_at-node.result.now c.zeroes.result c.node_at-node.ensures.tree
+    c.in-Elements.is statement
     (ap (λ z. has_elements (classes_of z) c.in-Elements.count c.in-Elements.stride (form_to_zero (part_typ c.args.what))) (sym c.as_slice-classes.ensures.value)
     ∙ c.in-Some-elements_to_zero.ensures.some)
     c.in-Some-elements_to_zero.ensures.element c.volatile_to_zero-marked.ensures (sym c.in-Some-only_kid.ensures) c.zeroes.ensures

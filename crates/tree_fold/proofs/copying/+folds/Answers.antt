@@ -5,7 +5,9 @@ use Rattle.tree_fold.proofs.Copied.{word_copied, rest_copied, kid_copied, own_co
 use Rattle.tree_fold.proofs.copying.+folds.Goals as goal
 
 pub fold_tree-returns-in-Some : goal.fold_tree-returns-in-Some
-fold_tree-returns-in-Some t c = λ v s. word_copied v (trees_of c.args.from.now) _ _ c.args.sights.now (length c.args.from.now) c.args.id c.node_at-node.result.now _ _ s c.requires.many c.node_at-node.ensures.below c.node_at-node.ensures.tree c.in-Some.ensures c.add_literal.ensures
+fold_tree-returns-in-Some t c = λ v s. word_copied v (trees_of c.args.from.now) _ _ c.args.sights.now
+    (length c.args.from.now) c.args.id c.node_at-node.result.now _ _ s c.requires.many c.node_at-node.ensures.below c.node_at-node.ensures.tree
+    c.in-Some.ensures c.add_literal.ensures
 
 pub fold_tree-returns-in-None : goal.fold_tree-returns-in-None
 fold_tree-returns-in-None t c = λ v s. rest_copied v (trees_of c.args.from.now) _ _ c.args.sights.now

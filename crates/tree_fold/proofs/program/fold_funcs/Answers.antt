@@ -29,7 +29,9 @@ loop-i-preserved c =
     record {
       long = set_long c.loop-i.funcs.items c.set_body.new.funcs.items c.loop-i.i (length c.args.funcs.now.items) _ c.loop-i.invariant.long e;
       roots = next_roots c.args.from.now c.loop-i.funcs.items c.set_body.new.funcs.items c.loop-i.i _ c.loop-i.invariant.roots e;
-      folded = λ v s. next_func_at v (trees_of c.args.from.now) (trees_of c.loop-i.nodes.items) (trees_of c.fold_body.new.nodes.items) c.loop-i.i c.args.funcs.now.items c.loop-i.funcs.items c.set_body.new.funcs.items f.0 c.body_at-old.result c.in_ok-body.body
+      folded = λ v s. next_func_at v (trees_of c.args.from.now) (trees_of c.loop-i.nodes.items)
+          (trees_of c.fold_body.new.nodes.items) c.loop-i.i c.args.funcs.now.items c.loop-i.funcs.items c.set_body.new.funcs.items f.0 c.body_at-old.result
+          c.in_ok-body.body
           (c.loop-i.invariant.folded v s) h f.1 old (c.in_ok-body.ensures v s) e;
     }
 

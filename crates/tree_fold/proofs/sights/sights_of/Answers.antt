@@ -21,5 +21,8 @@ folded_sight-next-requires c = record {
 pub loop-node-preserved : goal.loop-node-preserved
 loop-node-preserved c = record {
   many = next_many c.loop-node.sights.items _ _ c.loop-node.node-index c.loop-node.invariant.many c.in_ok-keep_sight.ensures;
-  shown = next_sights (marked c.args.volatile.now) c.args.nodes.now c.loop-node.sights.items _ _ c.loop-node.node-index c.node-item.result c.requires c.loop-node.invariant.shown c.loop-node.invariant.many c.loop-node-test.true c.node-item.is (c.folded_sight-next.ensures ∙ ap (λ (z : List Sight). sight_seen (marked c.args.volatile.now) z c.node-item.result) c.as_slice-seen.ensures.value) c.in_ok-keep_sight.ensures;
+  shown = next_sights (marked c.args.volatile.now) c.args.nodes.now c.loop-node.sights.items _ _ c.loop-node.node-index c.node-item.result c.requires
+      c.loop-node.invariant.shown c.loop-node.invariant.many c.loop-node-test.true c.node-item.is
+      (c.folded_sight-next.ensures ∙ ap (λ (z : List Sight). sight_seen (marked c.args.volatile.now) z c.node-item.result) c.as_slice-seen.ensures.value)
+      c.in_ok-keep_sight.ensures;
 }

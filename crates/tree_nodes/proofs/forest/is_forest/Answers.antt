@@ -7,4 +7,5 @@ are_distinct-requires c = forest_bound c.args.nodes.now
     (length c.args.nodes.now) c.deref.result.now c.in_ok-all.all.items c.deref.ensures.value c.in_ok-all.ensures refl c.requires
 
 pub returns : goal.returns
-returns c = forest_answer c.are_distinct.result c.args.nodes.now c.deref.result.now c.in_ok-all.all.items c.are_distinct.ensures c.deref.ensures.value c.in_ok-all.ensures
+returns c = forest_answer c.are_distinct.result c.args.nodes.now c.deref.result.now c.in_ok-all.all.items c.are_distinct.ensures c.deref.ensures.value
+    c.in_ok-all.ensures

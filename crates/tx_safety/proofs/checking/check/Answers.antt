@@ -17,7 +17,8 @@ invariant_of-result c =
           c.in_ok-volatile.ensures;
     } in
     record {
-      known = checked c.args.program c.in_ok-volatile.volatile.items c.deref-3.result.now c.deref.result.now c.deref-2.result.now c.in_ok-checked.checked.found c.in_ok-checked.checked.marks.items l
+      known = checked c.args.program c.in_ok-volatile.volatile.items c.deref-3.result.now c.deref.result.now c.deref-2.result.now c.in_ok-checked.checked.found
+          c.in_ok-checked.checked.marks.items l
           c.in_ok-checked.ensures.found c.in-None.is c.in_ok-checked.ensures.long c.in_ok-checked.ensures.marks;
     }
 
@@ -31,4 +32,6 @@ returns-in-Some c =
       tells =
           c.in_ok-volatile.ensures;
     } in
-    first_is c.args.program c.in_ok-checked.checked.found c.in-Some.first (found_is c.args.program c.in_ok-volatile.volatile.items c.deref-3.result.now c.deref.result.now c.deref-2.result.now c.in_ok-checked.checked.found l c.in_ok-checked.ensures.found) c.in-Some.is
+    first_is c.args.program c.in_ok-checked.checked.found c.in-Some.first
+    (found_is c.args.program c.in_ok-volatile.volatile.items c.deref-3.result.now c.deref.result.now c.deref-2.result.now c.in_ok-checked.checked.found l
+    c.in_ok-checked.ensures.found) c.in-Some.is

@@ -8,7 +8,9 @@ pub loop-unit-preserved : goal.loop-unit-preserved
 loop-unit-preserved c =
     let v = marked c.args.volatile.now in let all = c.loop-unit.marks.items in let m = c.in_ok-checked.checked.marks in
     record {
-      found = next_unit v c.args.units.now c.loop-unit.unit-index c.unit-item.result c.loop-unit.found c.in_ok-checked.checked.found _ c.loop-unit-test.true c.unit-item.is c.in_ok-checked.ensures.found c.loop-unit.invariant.found;
+      found = next_unit v c.args.units.now c.loop-unit.unit-index c.unit-item.result c.loop-unit.found c.in_ok-checked.checked.found _ c.loop-unit-test.true
+          c.unit-item.is c.in_ok-checked.ensures.found c.loop-unit.invariant.found;
       long = omega (arith, ap length c.in_ok-push.ensures.items, length-append all (m ∷ []), c.loop-unit.invariant.long);
-      marks = next_marks v c.args.units.now all c.push.new.self.items c.loop-unit.unit-index c.unit-item.result m c.loop-unit.invariant.long c.loop-unit.invariant.marks c.in_ok-push.ensures.items c.loop-unit-test.true c.unit-item.is c.in_ok-checked.ensures.marks;
+      marks = next_marks v c.args.units.now all c.push.new.self.items c.loop-unit.unit-index c.unit-item.result m c.loop-unit.invariant.long
+          c.loop-unit.invariant.marks c.in_ok-push.ensures.items c.loop-unit-test.true c.unit-item.is c.in_ok-checked.ensures.marks;
     }

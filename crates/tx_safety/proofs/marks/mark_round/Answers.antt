@@ -16,7 +16,8 @@ loop-n-preserved c =
       long = next_long_marks marks new n (length c.args.funcs.now) o c.loop-n.invariant.long c.mark-changed.ensures.marks;
       sound = next_sound_marks v funcs marks new n o l c.loop-n.invariant.sound refl c.mark-changed.ensures.marks;
       kept = next_kept_marks v funcs marks new n start o l c.loop-n.invariant.sound refl c.mark-changed.ensures.marks c.loop-n.invariant.kept;
-      more = λ t. next_more_marks v funcs marks new n start c.loop-n.changed o l c.loop-n.invariant.sound refl c.mark-changed.ensures.marks c.loop-n.invariant.kept c.loop-n.invariant.more (sym (ap (λ z. c.loop-n.changed || z) c.mark-changed.ensures.is) ∙ t);
+      more = λ t. next_more_marks v funcs marks new n start c.loop-n.changed o l c.loop-n.invariant.sound refl c.mark-changed.ensures.marks
+          c.loop-n.invariant.kept c.loop-n.invariant.more (sym (ap (λ z. c.loop-n.changed || z) c.mark-changed.ensures.is) ∙ t);
       closed = λ t. next_closed_marks v funcs marks new n c.loop-n.changed o refl c.mark-changed.ensures.marks c.loop-n.invariant.closed
           (sym (ap (λ z. c.loop-n.changed || z) c.mark-changed.ensures.is) ∙ t);
     }

@@ -13,6 +13,7 @@ loop-i-preserved c =
       long = next_long marks new i (length c.args.classes.now) b c.loop-i.invariant.long c.mark-changed.ensures.marks;
       sound = next_sound cs marks new i b l c.loop-i.invariant.sound c.mark-changed.ensures.is c.mark-changed.ensures.marks;
       kept = next_kept cs marks new i start b l c.mark-changed.ensures.is c.mark-changed.ensures.marks c.loop-i.invariant.kept;
-      more = next_more cs marks new i start c.loop-i.changed b l c.mark-changed.ensures.is c.mark-changed.ensures.marks c.loop-i.invariant.kept c.loop-i.invariant.more;
+      more = next_more cs marks new i start c.loop-i.changed b l c.mark-changed.ensures.is c.mark-changed.ensures.marks c.loop-i.invariant.kept
+          c.loop-i.invariant.more;
       closed = next_closed cs marks new i c.loop-i.changed b c.mark-changed.ensures.is c.mark-changed.ensures.marks c.loop-i.invariant.closed;
     }

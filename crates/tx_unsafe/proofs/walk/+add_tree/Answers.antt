@@ -14,11 +14,16 @@ add_tree-requires t c =
     (omega arith, (c.requires.ordered, omega arith))
 
 pub returns-clause-first : goal.returns-clause-first
-returns-clause-first t c = whole_first (marked c.args.volatile.now) c.args.inside c.is_inside-deeper.result c.args.nodes.now c.args.id c.index-nodes-id.result c.deref-kid-items.result.now c.args.contents.now.first c.add_counted.new.contents.first c.loop-kid.contents.first
+returns-clause-first t c = whole_first (marked c.args.volatile.now) c.args.inside c.is_inside-deeper.result c.args.nodes.now c.args.id c.index-nodes-id.result
+    c.deref-kid-items.result.now c.args.contents.now.first c.add_counted.new.contents.first c.loop-kid.contents.first
     c.requires.ordered c.requires.within c.index-nodes-id.is c.is_inside-deeper.ensures c.deref-kid-items.ensures.value c.in_ok-add_counted.ensures.first
-    (last_first (marked c.args.volatile.now) c.is_inside-deeper.result (trees_of c.args.nodes.now) c.deref-kid-items.result.now c.loop-kid.kid-index c.loop-kid.contents.first _ c.loop-kid-test.false c.loop-kid.invariant.first)
+    (last_first (marked c.args.volatile.now) c.is_inside-deeper.result
+    (trees_of c.args.nodes.now) c.deref-kid-items.result.now c.loop-kid.kid-index c.loop-kid.contents.first _ c.loop-kid-test.false
+    c.loop-kid.invariant.first)
 
 pub returns-clause-calls : goal.returns-clause-calls
-returns-clause-calls t c = whole_calls c.args.inside c.is_inside-deeper.result c.args.nodes.now c.args.id c.index-nodes-id.result c.deref-kid-items.result.now c.args.contents.now.calls.items c.add_counted.new.contents.calls.items c.loop-kid.contents.calls.items
+returns-clause-calls t c = whole_calls c.args.inside c.is_inside-deeper.result c.args.nodes.now c.args.id c.index-nodes-id.result c.deref-kid-items.result.now
+    c.args.contents.now.calls.items c.add_counted.new.contents.calls.items c.loop-kid.contents.calls.items
     c.requires.ordered c.requires.within c.index-nodes-id.is c.is_inside-deeper.ensures c.deref-kid-items.ensures.value c.in_ok-add_counted.ensures.calls
-    (last_calls c.is_inside-deeper.result (trees_of c.args.nodes.now) c.deref-kid-items.result.now c.loop-kid.kid-index c.loop-kid.contents.calls.items _ c.loop-kid-test.false c.loop-kid.invariant.calls)
+    (last_calls c.is_inside-deeper.result (trees_of c.args.nodes.now) c.deref-kid-items.result.now c.loop-kid.kid-index c.loop-kid.contents.calls.items _
+    c.loop-kid-test.false c.loop-kid.invariant.calls)

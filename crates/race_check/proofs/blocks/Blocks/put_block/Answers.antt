@@ -9,7 +9,8 @@ inside-init c = putting_first c.args.items.now c.args.self.now c.args.t c.args.l
 
 pub inside-preserved-then-item-t : goal.inside-preserved-then-item-t
 inside-preserved-then-item-t c =
-    putting_passed c.args.items.now c.args.t c.args.l c.args.from c.inside.k c.item_at-item.result c.item_at-item.ensures c.inside.self c.if-item-t.true c.inside.invariant
+    putting_passed c.args.items.now c.args.t c.args.l c.args.from c.inside.k c.item_at-item.result c.item_at-item.ensures c.inside.self c.if-item-t.true
+    c.inside.invariant
 
 pub inside-preserved : goal.inside-preserved
 inside-preserved c =

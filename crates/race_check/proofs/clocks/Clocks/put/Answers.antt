@@ -10,11 +10,13 @@ returns-clause-clocked c =
     clocked_more c.args.items.now c.args.j c.args.item c.requires.there c.args.self.now
     (record { rows = c.put_start.new.rows; begun = c.begin.new.begun }) c.count_at.new.rows.items
     c.requires.regular c.requires.reached
-    (counted c.args.items.now c.args.j c.args.item c.requires.there c.args.self.now c.count_at.new.rows.items c.requires.reached a.kept a.gained a.only) a.others b.size
+    (counted c.args.items.now c.args.j c.args.item c.requires.there c.args.self.now c.count_at.new.rows.items c.requires.reached a.kept a.gained a.only)
+    a.others b.size
     (g.size ∙ c.requires.reached.begun_size) b.there b.others g.there g.others
 
 pub returns-clause-whole : goal.returns-clause-whole
 returns-clause-whole c =
     let a = c.count_at.ensures in
     still_counted c.args.items.now c.args.j c.args.item c.requires.there c.requires.regular c.count_at.new.rows.items c.put_start.new.rows.items
-    (counted c.args.items.now c.args.j c.args.item c.requires.there c.args.self.now c.count_at.new.rows.items c.requires.reached a.kept a.gained a.only) c.put_start.ensures.others
+    (counted c.args.items.now c.args.j c.args.item c.requires.there c.args.self.now c.count_at.new.rows.items c.requires.reached a.kept a.gained a.only)
+    c.put_start.ensures.others

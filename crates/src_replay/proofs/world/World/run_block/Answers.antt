@@ -126,7 +126,8 @@ returns-in-Halts-clause-acted c = λ program w s kind stand going e begins enabl
     let inner = inner_on program p (layout_of old.memory) t w h.last mid nested c.in_ok-step.step inv.layout
     (c.in_ok-step.ensures.steps program w h.last h.stands h.at) in
     IfOk-weaker c.halt.result _ _ (λ r n. block_halted program p t w s self.left kind begins enabled old mid paid c.halt.new.self before c.in-Halts.end r h
-    (at_halts program p t w h.last mid nested c.in_ok-step.step c.in-Halts.end c.in-Halts.is inner) inner.stands layout c.in_ok-step.ensures.same same less n) c.halt.ensures.halted
+    (at_halts program p t w h.last mid nested c.in_ok-step.step c.in-Halts.end c.in-Halts.is inner) inner.stands layout c.in_ok-step.ensures.same same less n)
+    c.halt.ensures.halted
 
 pub returns-in-Never-clause-acted : goal.returns-in-Never-clause-acted
 returns-in-Never-clause-acted c = λ program w s kind stand going e begins enabled.
@@ -153,7 +154,8 @@ returns-then-comes_inside-clause-acted c = λ program w s kind stand going e beg
     let inv = c.loop-taken.invariant in
     let h : BlockRun program p t w s self.left old before = inv.run program w s stand e in
     let event = c.next.ensures (record { state = h.last.state; ended = false }) (stands_at t w h.last old before h.at) in
-    block_spent program p t w s self.left kind begins enabled old before h c.next.result c.comes_inside.result event c.comes_inside.ensures c.if-comes_inside.true (omega (arith, inv.left, c.loop-taken-test.false))
+    block_spent program p t w s self.left kind begins enabled old before h c.next.result c.comes_inside.result event c.comes_inside.ensures
+    c.if-comes_inside.true (omega (arith, inv.left, c.loop-taken-test.false))
 
 pub returns-clause-acted : goal.returns-clause-acted
 returns-clause-acted c = λ program w s kind stand going e begins enabled.
@@ -165,4 +167,5 @@ returns-clause-acted c = λ program w s kind stand going e begins enabled.
     let inv = c.loop-taken.invariant in
     let h : BlockRun program p t w s self.left old before = inv.run program w s stand e in
     let event = c.next.ensures (record { state = h.last.state; ended = false }) (stands_at t w h.last old before h.at) in
-    block_refused program p t w s self.left kind begins enabled old before h c.next.result c.comes_inside.result event c.comes_inside.ensures c.if-comes_inside.false
+    block_refused program p t w s self.left kind begins enabled old before h c.next.result c.comes_inside.result event c.comes_inside.ensures
+    c.if-comes_inside.false

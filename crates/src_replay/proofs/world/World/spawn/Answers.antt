@@ -42,7 +42,9 @@ returns-clause-took c = λ program w s stand going e.
       world = v;
       does = cond_true (nat_lt w.started p.limit) v (ends w (Trapped TooManyThreads))
           (lt-ltb w.started p.limit (omega (arith, started, few, c.count-count.ensures, stand.limit)));
-      shows = shows_going t w s program c.goes.new.self v (spawned program t c.args.func c.args.arg w s self mid c.goes.new.self number c.id_reply.result e c.count-count.ensures c.id_reply.ensures more refl g.world);
+      shows = shows_going t w s program c.goes.new.self v
+          (spawned program t c.args.func c.args.arg w s self mid c.goes.new.self number c.id_reply.result e c.count-count.ensures c.id_reply.ensures more refl
+          g.world);
       stays = record { stands = g.stays.stands; layout = g.stays.layout };
       left = g.left;
     })

@@ -27,7 +27,9 @@ returns-clause-words c =
     let words = c.args.self.now.words.items in
     let yes = accessed p c.args.addr c.args.size c.in-Some.slot (sym c.in-Some.is ∙ c.slot.ensures) in
     let below = slot_within p c.args.addr c.in-Some.slot c.args.self.now.whole yes.1 in
-    stored p words c.args.addr c.args.size c.args.value c.in-Some.slot c.index-word.result.now c.shift_of.result c.bits_of.result c.with_part.result c.args.self.now.whole c.args.self.now.covers yes.1 (omega (arith, below, c.args.self.now.covers)) c.index-word.ensures c.shift_of.ensures c.bits_of.ensures c.with_part.ensures.merged
+    stored p words c.args.addr c.args.size c.args.value c.in-Some.slot c.index-word.result.now c.shift_of.result c.bits_of.result c.with_part.result
+    c.args.self.now.whole c.args.self.now.covers yes.1
+    (omega (arith, below, c.args.self.now.covers)) c.index-word.ensures c.shift_of.ensures c.bits_of.ensures c.with_part.ensures.merged
     ∙ sym (ap (λ b. cond b (store (words_of c.args.self.now) c.args.addr c.args.size c.args.value) (words_of c.args.self.now)) yes.0)
 
 pub returns-in_default-clause-word : goal.returns-in_default-clause-word

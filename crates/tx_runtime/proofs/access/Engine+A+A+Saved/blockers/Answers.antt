@@ -10,4 +10,5 @@ returns g c =
     let self = c.args.self.now in
     let f = λ (v : ℕ). birth_of ((machine_in g.A.Actor.state g.A.Actor.saved_state self).threads v) in
     subst (λ p. Sums p f (length self.threads.items) c.sum_up.result)
-    (sym (keeps_is g.A.Actor.state g.A.Actor.saved_state self.holders self.threads.items c.args.t c.args.store c.args.word c.blockers.result self.whole.free c.blockers.ensures)) c.sum_up.ensures
+    (sym (keeps_is g.A.Actor.state g.A.Actor.saved_state self.holders self.threads.items c.args.t c.args.store c.args.word c.blockers.result self.whole.free
+    c.blockers.ensures)) c.sum_up.ensures

@@ -17,7 +17,9 @@ returns-in-Wait-clause-chosen g c =
           (λ k. FnReturnsAt g.F.Fn c.args.policy.now.answer k Wait × (g.R.Rule.allows k Wait ≡ true)) (c.in-Wait.ensures.answers, c.in-Wait.ensures.allowed);
       turned = inside_row g.A.Actor.state g.A.Actor.saved_state g.A.Actor.is_reached g.A.Actor.thread c.args.self.now
           (λ _. Wait) c.args.t c.requires.here.0 _ c.requires.here.2 (λ l at i. c.wait.ensures.done
-          ∙ clash_row g.A.Actor.thread (layout_in c.args.self.now) (λ _. Wait) c.args.t (machine_in g.A.Actor.state g.A.Actor.saved_state c.args.self.now) l i.birth i.kept i.saves c.requires.here.0 c.requires.here.1 c.args.word c.args.blockers.eldest c.requires.here.3 c.requires.here.4.eldest);
+          ∙ clash_row g.A.Actor.thread (layout_in c.args.self.now) (λ _. Wait) c.args.t
+          (machine_in g.A.Actor.state g.A.Actor.saved_state c.args.self.now) l i.birth i.kept i.saves c.requires.here.0 c.requires.here.1 c.args.word
+          c.args.blockers.eldest c.requires.here.3 c.requires.here.4.eldest);
     }
 
 pub returns-in-Yield-clause-chosen : goal.returns-in-Yield-clause-chosen
@@ -31,7 +33,9 @@ returns-in-Yield-clause-chosen g c = if_ok c.roll.result (λ kind done.
           (c.in-Yield.ensures.answers, c.in-Yield.ensures.allowed);
       turned = inside_row g.A.Actor.state g.A.Actor.saved_state g.A.Actor.is_reached g.A.Actor.thread c.args.self.now
           (λ _. Yield) c.args.t c.requires.here.0 _ c.requires.here.2 (λ l at i. done l i.birth i.kept i.saves at i.tx
-          ∙ clash_row g.A.Actor.thread (layout_in c.args.self.now) (λ _. Yield) c.args.t (machine_in g.A.Actor.state g.A.Actor.saved_state c.args.self.now) l i.birth i.kept i.saves c.requires.here.0 c.requires.here.1 c.args.word c.args.blockers.eldest c.requires.here.3 c.requires.here.4.eldest);
+          ∙ clash_row g.A.Actor.thread (layout_in c.args.self.now) (λ _. Yield) c.args.t
+          (machine_in g.A.Actor.state g.A.Actor.saved_state c.args.self.now) l i.birth i.kept i.saves c.requires.here.0 c.requires.here.1 c.args.word
+          c.args.blockers.eldest c.requires.here.3 c.requires.here.4.eldest);
     }) c.roll.ensures.done
 
 pub roll-requires-clause-open : goal.roll-requires-clause-open

@@ -91,7 +91,8 @@ returns-clause-turned g c = λ answer. closing_row g.A.Actor.state g.A.Actor.sav
           (least (without v.held word) bound);
     } in
     let gone = released_held t word self.holders held one in
-    ap (kinded (Released word)) (stepped g.A.Actor.state g.A.Actor.saved_state m self.holders held self.threads.items t s c.close.new.self l f refl refl refl h c.index_mut-thread.ensures.value at (others_same t word None self.holders held one)
+    ap (kinded (Released word)) (stepped g.A.Actor.state g.A.Actor.saved_state m self.holders held self.threads.items t s c.close.new.self l f refl refl refl h
+    c.index_mut-thread.ensures.value at (others_same t word None self.holders held one)
     (hold_local g.A.Actor.state g.A.Actor.saved_state self.holders held t s c.close.new.self _ _ _ _ (c.close.ensures.local held t) gone
     (released_wrote t word self.holders held one)
     (ap (closed_by c.holds_words-holds.result) birth ∙ (c.holds_words-holds.ensures b ∙ ap (λ z. closes b (least z bound)) gone)))

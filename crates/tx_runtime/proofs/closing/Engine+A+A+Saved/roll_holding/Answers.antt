@@ -51,7 +51,8 @@ returns-clause-done g c = λ l b k ss at tx.
     let some = c.requires.held in
     let least_is = some_least l.held bound some.0 (access_bound (layout_in self) some.0 (self.whole.words t some.0 some.1))
     (ap (λ (z : ℕ → Bool). z some.0) (held_at g.A.Actor.state g.A.Actor.saved_state self.holders self.threads.items t l at) ∙ some.1) in
-    ap (kinded (Rolled c.args.word c.args.holder)) (stepped g.A.Actor.state g.A.Actor.saved_state m self.holders self.holders self.threads.items t s c.give_up.new.self l f refl refl refl h c.index_mut-thread.ensures.value at (same_holds t self.holders)
+    ap (kinded (Rolled c.args.word c.args.holder)) (stepped g.A.Actor.state g.A.Actor.saved_state m self.holders self.holders self.threads.items t s
+    c.give_up.new.self l f refl refl refl h c.index_mut-thread.ensures.value at (same_holds t self.holders)
     (c.give_up.ensures.local self.holders t x parts.0.is
     ∙ (ap (λ z. record (local_of g.A.Actor.state g.A.Actor.saved_state self.holders t s) {
       tx = GivingUp z (g.A.Actor.saved_state x.kept)

@@ -9,7 +9,11 @@ pub invariant_of-self : goal.invariant_of-self
 invariant_of-self g c =
     let self = c.args.self.now in
     let p = layout_of self.memory in
-    record { whole = whole_set p self.limit self.holders self.threads.items c.args.t c.ready.new.self self.whole (c.ready.ensures.sound p ∙ whole_sound p self.limit self.holders self.threads.items c.args.t c.index_mut-thread.result.now self.whole c.requires c.index_mut-thread.ensures.value) }
+    record {
+      whole = whole_set p self.limit self.holders self.threads.items c.args.t c.ready.new.self self.whole
+          (c.ready.ensures.sound p ∙ whole_sound p self.limit self.holders self.threads.items c.args.t c.index_mut-thread.result.now self.whole c.requires
+          c.index_mut-thread.ensures.value);
+    }
 
 pub returns-clause-capacity : goal.returns-clause-capacity
 returns-clause-capacity g c =
@@ -21,6 +25,7 @@ returns-clause-same g c =
     let self = c.args.self.now in
     let m = machine_in g.A.Actor.state g.A.Actor.saved_state self in
     changed m _ m.threads _ m.waits _
-    (same_thread g.A.Actor.state g.A.Actor.saved_state self.holders self.threads.items c.args.t c.index_mut-thread.result.now c.ready.new.self c.requires c.index_mut-thread.ensures.value (c.ready.ensures.local self.holders c.args.t))
+    (same_thread g.A.Actor.state g.A.Actor.saved_state self.holders self.threads.items c.args.t c.index_mut-thread.result.now c.ready.new.self c.requires
+    c.index_mut-thread.ensures.value (c.ready.ensures.local self.holders c.args.t))
     (same_waits self.threads.items c.args.t c.index_mut-thread.result.now c.ready.new.self c.requires c.index_mut-thread.ensures.value c.ready.ensures.waits)
     (length-set self.threads.items c.args.t c.ready.new.self)

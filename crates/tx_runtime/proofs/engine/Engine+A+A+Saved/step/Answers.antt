@@ -17,12 +17,17 @@ pub invariant_of-self : goal.invariant_of-self
 invariant_of-self g c =
     let self = c.args.self.now in
     let p = layout_of self.memory in
-    record { whole = whole_set p self.limit self.holders self.threads.items c.args.t c.go_on.new.self self.whole (c.go_on.ensures.sound p ∙ whole_sound p self.limit self.holders self.threads.items c.args.t c.index_mut-thread.result.now self.whole c.requires.started c.index_mut-thread.ensures.value) }
+    record {
+      whole = whole_set p self.limit self.holders self.threads.items c.args.t c.go_on.new.self self.whole
+          (c.go_on.ensures.sound p ∙ whole_sound p self.limit self.holders self.threads.items c.args.t c.index_mut-thread.result.now self.whole c.requires.started
+          c.index_mut-thread.ensures.value);
+    }
 
 pub returns-clause-done : goal.returns-clause-done
 returns-clause-done g c = λ l at.
     let self = c.args.self.now in
-    stepped g.A.Actor.state g.A.Actor.saved_state (machine_in g.A.Actor.state g.A.Actor.saved_state self) self.holders self.holders self.threads.items c.args.t c.index_mut-thread.result.now c.go_on.new.self l
+    stepped g.A.Actor.state g.A.Actor.saved_state (machine_in g.A.Actor.state g.A.Actor.saved_state self) self.holders self.holders self.threads.items c.args.t
+    c.index_mut-thread.result.now c.go_on.new.self l
     (λ (v : Local g.A.Actor.State). record v {
       state =
           g.A.Actor.thread.after v.state c.args.reply;

@@ -102,7 +102,8 @@ returns-clause-turned g c = λ answer. inside_row g.A.Actor.state g.A.Actor.save
     let its_parts = open_parts g.A.Actor.saved_state s.tx (saves_of s.log) i.saves i.birth i.kept tx in
     let f = λ (v : Local g.A.Actor.State). record v { state = g.A.Actor.thread.after v.state Nothing; tx = OpenTx i.birth i.kept (no_save ∷ i.saves) } in
     alone_row t n m _ (f l) same
-    (stepped g.A.Actor.state g.A.Actor.saved_state n q.holders q.holders q.threads.items t s c.enter.new.self l f refl refl refl h c.index_mut-thread.ensures.value (ap (λ z. z.threads t) same ∙ at) (same_holds t q.holders)
+    (stepped g.A.Actor.state g.A.Actor.saved_state n q.holders q.holders q.threads.items t s c.enter.new.self l f refl refl refl h
+    c.index_mut-thread.ensures.value (ap (λ z. z.threads t) same ∙ at) (same_holds t q.holders)
     (c.enter.ensures.local q.holders t ∙ ap (λ z. record (local_of g.A.Actor.state g.A.Actor.saved_state q.holders t s) {
       state = g.A.Actor.thread.after
           (g.A.Actor.state s.actor) Nothing;

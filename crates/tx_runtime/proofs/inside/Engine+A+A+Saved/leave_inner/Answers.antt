@@ -86,7 +86,8 @@ returns-clause-done g c = λ l b k ss at tx.
     let its_parts = open_parts g.A.Actor.saved_state s.tx (saves_of s.log) ss b k (ap (λ (v : Local g.A.Actor.State). v.tx) one ∙ tx) in
     let f = λ (v : Local g.A.Actor.State). record v { state = g.A.Actor.thread.after v.state Nothing; tx = OpenTx b k (handed ss) } in
     alone_row t n m _ (f l) same
-    (stepped g.A.Actor.state g.A.Actor.saved_state n q.holders q.holders q.threads.items t s c.leave_inner.new.self l f refl refl refl h c.index_mut-thread.ensures.value (ap (λ z. z.threads t) same ∙ at) (same_holds t q.holders)
+    (stepped g.A.Actor.state g.A.Actor.saved_state n q.holders q.holders q.threads.items t s c.leave_inner.new.self l f refl refl refl h
+    c.index_mut-thread.ensures.value (ap (λ z. z.threads t) same ∙ at) (same_holds t q.holders)
     (c.leave_inner.ensures.local q.holders t ∙ ap (λ z.
     record (local_of g.A.Actor.state g.A.Actor.saved_state q.holders t s) { state = g.A.Actor.thread.after (g.A.Actor.state s.actor) Nothing; tx = z })
     (open_with g.A.Actor.saved_state s.tx b k its_parts.0 (handed (saves_of s.log)) ∙ ap (λ z. OpenTx b k (handed z)) its_parts.1))

@@ -27,7 +27,11 @@ returns-in_default-clause-chosen g c = if_ok c.halt.result (λ kind done.
     let none = loaded_none _ _ _ c.load.ensures.value c.in_default.is in
     unasked g.A.Actor.thread (layout_in self) c.args.t m _ _ kind _
     (load_free g.A.Actor.thread (layout_in self) c.args.t m there.0 c.args.addr c.args.size c.requires.here.0 there.1 is.next (inl none))
-    (λ answer. inside_row g.A.Actor.state g.A.Actor.saved_state g.A.Actor.is_reached g.A.Actor.thread c.args.self.now answer c.args.t (Load c.args.addr c.args.size c.requires.here.0) _ c.requires.here.1 (λ l at i. done ∙ load_traps_in g.A.Actor.thread (layout_in c.args.self.now) answer c.args.t (machine_in g.A.Actor.state g.A.Actor.saved_state c.args.self.now) l i.birth i.kept i.saves c.args.addr c.args.size c.requires.here.0 none))) c.halt.ensures.done
+    (λ answer. inside_row g.A.Actor.state g.A.Actor.saved_state g.A.Actor.is_reached g.A.Actor.thread c.args.self.now answer c.args.t
+    (Load c.args.addr c.args.size c.requires.here.0) _ c.requires.here.1
+    (λ l at i. done ∙ load_traps_in g.A.Actor.thread (layout_in c.args.self.now) answer c.args.t
+    (machine_in g.A.Actor.state g.A.Actor.saved_state c.args.self.now) l i.birth i.kept i.saves c.args.addr c.args.size c.requires.here.0 none)))
+    c.halt.ensures.done
 
 pub returns-in-None-clause-chosen : goal.returns-in-None-clause-chosen
 returns-in-None-clause-chosen g c = if_ok c.read_inside.result (λ kind turned.

@@ -11,5 +11,9 @@ step_alone-requires-clause-answers g c = λ l at.
     answers_at g.A.Actor.thread l.state h.event Nothing (h.here.at l at).next (passing_answer h.event h.passes)
 
 pub returns-clause-turned : goal.returns-clause-turned
-returns-clause-turned g c = if_ok c.step_alone.result (λ kind done answer. inside_row g.A.Actor.state g.A.Actor.saved_state g.A.Actor.is_reached g.A.Actor.thread c.args.self.now answer c.args.t c.requires.here.event _ c.requires.here.here
-    (λ l at i. done l at ∙ passes_row g.A.Actor.thread (layout_in c.args.self.now) answer c.args.t (machine_in g.A.Actor.state g.A.Actor.saved_state c.args.self.now) l i.birth i.kept i.saves c.requires.here.event c.requires.here.passes i.tx)) c.step_alone.ensures.done
+returns-clause-turned g c = if_ok c.step_alone.result
+    (λ kind done answer. inside_row g.A.Actor.state g.A.Actor.saved_state g.A.Actor.is_reached g.A.Actor.thread c.args.self.now answer c.args.t
+    c.requires.here.event _ c.requires.here.here
+    (λ l at i. done l at ∙ passes_row g.A.Actor.thread (layout_in c.args.self.now) answer c.args.t
+    (machine_in g.A.Actor.state g.A.Actor.saved_state c.args.self.now) l i.birth i.kept i.saves c.requires.here.event c.requires.here.passes i.tx))
+    c.step_alone.ensures.done

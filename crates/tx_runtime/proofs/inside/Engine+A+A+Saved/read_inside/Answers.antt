@@ -133,4 +133,6 @@ returns-clause-turned g c = λ answer. inside_row g.A.Actor.state g.A.Actor.save
     (step_local g.A.Actor.state g.A.Actor.saved_state q.holders new t s c.go_on.new.self _ _ _ (c.go_on.ensures.local new t)
     (taken_held t word Read q.holders new one ∙ ap (λ x. update (held_in q.holders t) x true) we) (taken_read t word q.holders new one))
     c.go_on.ensures.waits)
-    ∙ load_done_in g.A.Actor.thread (layout_in c.args.self.now) answer c.args.t (machine_in g.A.Actor.state g.A.Actor.saved_state c.args.self.now) l i.birth i.kept i.saves c.args.addr c.requires.here.0 c.args.value c.requires.here.1 c.requires.here.3 c.requires.free c.requires.here.2 i.tx)
+    ∙ load_done_in g.A.Actor.thread (layout_in c.args.self.now) answer c.args.t
+    (machine_in g.A.Actor.state g.A.Actor.saved_state c.args.self.now) l i.birth i.kept i.saves c.args.addr c.requires.here.0 c.args.value c.requires.here.1
+    c.requires.here.3 c.requires.free c.requires.here.2 i.tx)

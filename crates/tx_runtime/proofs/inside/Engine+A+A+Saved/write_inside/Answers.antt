@@ -217,4 +217,6 @@ returns-clause-turned g c = λ answer. inside_row g.A.Actor.state g.A.Actor.save
     ∙ (ap (λ z. OpenTx i.birth i.kept (note z word c.in-Some.old)) mine.1
     ∙ (ap (λ z. OpenTx i.birth i.kept (note i.saves z c.in-Some.old)) we ∙ ap (λ z. OpenTx i.birth i.kept (note i.saves x z)) old))))
     c.write.ensures.waits)
-    ∙ store_done_in g.A.Actor.thread (layout_in c.args.self.now) answer c.args.t (machine_in g.A.Actor.state g.A.Actor.saved_state c.args.self.now) l i.birth i.kept i.saves c.args.addr c.args.size c.args.value c.requires.here.0 c.requires.access c.requires.free)
+    ∙ store_done_in g.A.Actor.thread (layout_in c.args.self.now) answer c.args.t
+    (machine_in g.A.Actor.state g.A.Actor.saved_state c.args.self.now) l i.birth i.kept i.saves c.args.addr c.args.size c.args.value c.requires.here.0
+    c.requires.access c.requires.free)

@@ -27,7 +27,11 @@ returns-then-index-clause-turned g c = if_ok c.step_in_order.result
     let m = machine_in g.A.Actor.state g.A.Actor.saved_state c.args.self.now in
     let j = c.joined.ensures.some c.in-Some.number c.in-Some.is in
     let u = c.index.result.now in
-    done l at ∙ join_done g.A.Actor.thread (layout_in c.args.self.now) c.args.t (machine_in g.A.Actor.state g.A.Actor.saved_state c.args.self.now) l c.args.id (local_of g.A.Actor.state g.A.Actor.saved_state c.args.self.now.holders c.in-Some.number u) (ap (λ i. target c.args.t i m.threads) (sym (to_z-of_z w32 c.args.id c.ranges.id)) ∙ (j.target ∙ thread_at g.A.Actor.state g.A.Actor.saved_state c.args.self.now.holders c.args.self.now.threads.items c.in-Some.number u j.started c.index.ensures)) c.if-index.true)) c.step_in_order.ensures.done
+    done l at ∙ join_done g.A.Actor.thread (layout_in c.args.self.now) c.args.t (machine_in g.A.Actor.state g.A.Actor.saved_state c.args.self.now) l c.args.id
+    (local_of g.A.Actor.state g.A.Actor.saved_state c.args.self.now.holders c.in-Some.number u)
+    (ap (λ i. target c.args.t i m.threads) (sym (to_z-of_z w32 c.args.id c.ranges.id))
+    ∙ (j.target ∙ thread_at g.A.Actor.state g.A.Actor.saved_state c.args.self.now.holders c.args.self.now.threads.items c.in-Some.number u j.started
+    c.index.ensures)) c.if-index.true)) c.step_in_order.ensures.done
 
 pub returns-else-index-clause-turned : goal.returns-else-index-clause-turned
 returns-else-index-clause-turned g c =
@@ -36,4 +40,9 @@ returns-else-index-clause-turned g c =
     let m = machine_in g.A.Actor.state g.A.Actor.saved_state c.args.self.now in
     let j = c.joined.ensures.some c.in-Some.number c.in-Some.is in
     let u = c.index.result.now in
-    join_waits g.A.Actor.thread (layout_in c.args.self.now) c.args.t (machine_in g.A.Actor.state g.A.Actor.saved_state c.args.self.now) l c.args.id c.in-Some.number (local_of g.A.Actor.state g.A.Actor.saved_state c.args.self.now.holders c.in-Some.number u) (sym (to_z-of_z w32 c.args.id c.ranges.id) ∙ j.number) (ap (λ i. target c.args.t i m.threads) (sym (to_z-of_z w32 c.args.id c.ranges.id)) ∙ (j.target ∙ thread_at g.A.Actor.state g.A.Actor.saved_state c.args.self.now.holders c.args.self.now.threads.items c.in-Some.number u j.started c.index.ensures)) c.if-index.false)
+    join_waits g.A.Actor.thread (layout_in c.args.self.now) c.args.t
+    (machine_in g.A.Actor.state g.A.Actor.saved_state c.args.self.now) l c.args.id c.in-Some.number
+    (local_of g.A.Actor.state g.A.Actor.saved_state c.args.self.now.holders c.in-Some.number u) (sym (to_z-of_z w32 c.args.id c.ranges.id) ∙ j.number)
+    (ap (λ i. target c.args.t i m.threads) (sym (to_z-of_z w32 c.args.id c.ranges.id))
+    ∙ (j.target ∙ thread_at g.A.Actor.state g.A.Actor.saved_state c.args.self.now.holders c.args.self.now.threads.items c.in-Some.number u j.started
+    c.index.ensures)) c.if-index.false)

@@ -26,7 +26,10 @@ pub returns-in-Some-blockers-clause-turned : goal.returns-in-Some-blockers-claus
 returns-in-Some-blockers-clause-turned g c =
     λ answer. outside_row g.A.Actor.state g.A.Actor.saved_state g.A.Actor.is_reached g.A.Actor.thread c.args.self.now answer c.args.t
     (Store c.args.addr c.args.size c.args.value c.requires.here.0) _ c.requires.here.1
-    (λ l at is. c.wait.ensures.done ∙ store_waits g.A.Actor.thread (layout_in c.args.self.now) c.args.t (machine_in g.A.Actor.state g.A.Actor.saved_state c.args.self.now) l c.args.addr c.args.size c.args.value c.word_of-word.result c.in-Some-blockers.blockers.eldest c.requires.here.0 (loaded_some _ _ _ _ c.load.ensures.value c.in-Some.is).0 c.word_of-word.ensures c.in-Some-blockers.ensures.eldest)
+    (λ l at is. c.wait.ensures.done ∙ store_waits g.A.Actor.thread (layout_in c.args.self.now) c.args.t
+    (machine_in g.A.Actor.state g.A.Actor.saved_state c.args.self.now) l c.args.addr c.args.size c.args.value c.word_of-word.result
+    c.in-Some-blockers.blockers.eldest c.requires.here.0
+    (loaded_some _ _ _ _ c.load.ensures.value c.in-Some.is).0 c.word_of-word.ensures c.in-Some-blockers.ensures.eldest)
 
 pub returns-in-None-clause-turned : goal.returns-in-None-clause-turned
 returns-in-None-clause-turned g c = if_ok c.write_outside.result

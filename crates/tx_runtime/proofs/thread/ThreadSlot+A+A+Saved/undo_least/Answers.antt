@@ -24,7 +24,8 @@ returns-clause-local g c = λ holders t. relog g.A.Actor.state g.A.Actor.saved_s
     (log_forgot c.args.self.now.log _ c.in-Some.word c.requires.mark c.in-Some.ensures.notes c.undo_newest.ensures.marks)
 
 pub returns-clause-sound : goal.returns-clause-sound
-returns-clause-sound g c = sound_forgot (layout_of c.args.memory.now) c.args.self.now c.undo_newest.new.self c.in-Some.word c.requires.mark c.requires.sound c.in-Some.ensures.notes c.undo_newest.ensures.marks
+returns-clause-sound g c = sound_forgot (layout_of c.args.memory.now) c.args.self.now c.undo_newest.new.self c.in-Some.word c.requires.mark c.requires.sound
+    c.in-Some.ensures.notes c.undo_newest.ensures.marks
 
 pub returns-in_default-clause-none : goal.returns-in_default-clause-none
 returns-in_default-clause-none g c = newest_none c.args.self.now.log c.requires.mark (c.in_default.ensures.none.0 refl)

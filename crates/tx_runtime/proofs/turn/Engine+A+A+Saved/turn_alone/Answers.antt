@@ -19,7 +19,8 @@ returns-in_default-clause-turned g c answer =
     inside_row g.A.Actor.state g.A.Actor.saved_state g.A.Actor.is_reached g.A.Actor.thread c.args.self.now answer c.args.t c.args.event _ c.requires.here
     (λ l at i. stays_in g.A.Actor.thread (layout_in c.args.self.now) answer c.args.t
     (machine_in g.A.Actor.state g.A.Actor.saved_state c.args.self.now) l i.birth i.kept i.saves c.args.event c.requires.alone
-    c.in_default.not-Silent c.in_default.not-BeginSync c.in_default.not-EndSync c.in_default.not-BeginAtomic c.in_default.not-EndAtomic c.in_default.not-Raise c.in_default.not-Stop)
+    c.in_default.not-Silent c.in_default.not-BeginSync c.in_default.not-EndSync c.in_default.not-BeginAtomic c.in_default.not-EndAtomic c.in_default.not-Raise
+    c.in_default.not-Stop)
 
 pub returns-in-Silent-clause-capacity : goal.returns-in-Silent-clause-capacity
 returns-in-Silent-clause-capacity g c = on_err c.pass.result
