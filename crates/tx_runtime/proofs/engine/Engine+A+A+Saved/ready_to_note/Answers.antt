@@ -11,7 +11,8 @@ invariant_of-self g c =
     let p = layout_of self.memory in
     record {
       whole = whole_set p self.limit self.holders self.threads.items c.args.t c.ready_to_note.new.self self.whole
-          (c.ready_to_note.ensures.sound p ∙ whole_sound p self.limit self.holders self.threads.items c.args.t c.index_mut-thread.result.now self.whole c.requires
+          (c.ready_to_note.ensures.sound p ∙ whole_sound p self.limit self.holders self.threads.items c.args.t c.index_mut-thread.result.now self.whole
+          c.requires
           c.index_mut-thread.ensures.value);
     }
 

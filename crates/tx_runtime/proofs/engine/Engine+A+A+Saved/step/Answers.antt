@@ -19,7 +19,8 @@ invariant_of-self g c =
     let p = layout_of self.memory in
     record {
       whole = whole_set p self.limit self.holders self.threads.items c.args.t c.go_on.new.self self.whole
-          (c.go_on.ensures.sound p ∙ whole_sound p self.limit self.holders self.threads.items c.args.t c.index_mut-thread.result.now self.whole c.requires.started
+          (c.go_on.ensures.sound p ∙ whole_sound p self.limit self.holders self.threads.items c.args.t c.index_mut-thread.result.now self.whole
+          c.requires.started
           c.index_mut-thread.ensures.value);
     }
 
