@@ -228,7 +228,8 @@ module _ {S : Type 0} (R : S → Type 0) (a : Thread S) (p : MemoryLayout) (m : 
       rolled_open x u is (Closing b) e = absurd
           (subst (λ z. KindBy a p answer t m l (Closing b) z) is (subst (λ z. KindBy a p answer t m l z (turn a p answer t m).kind) e kind_is))
       rolled_open x u is (OpenTx b k ss) e =
-          let kind = subst (λ z. KindBy a p answer t m l (OpenTx b k ss) z) is (subst (λ z. KindBy a p answer t m l z (turn a p answer t m).kind) e kind_is) in (
+          let kind = subst (λ z. KindBy a p answer t m l (OpenTx b k ss) z) is
+          (subst (λ z. KindBy a p answer t m l z (turn a p answer t m).kind) e kind_is) in (
             subst (λ z. birth_of (m.threads u) < z) (sym (own_birth t rule l goes b k ss e)) (rolled_more t rule l goes b k ss e x u kind),
             own_tx t rule l goes b k ss e,
             record { local = l; goes = goes; store = kind.0; access = kind.1.0; off = found_off t x u kind.0 kind.1.1 },
