@@ -1,15 +1,15 @@
 //! Whether terms are the same.
 
-ghost use Rattle.std.specs.Prelude.{◌≡◌, IsTrue, ◌↔◌};
+ghost use Rattle.std.specs.Prelude.{ℕ, ◌≡◌, IsTrue, ◌↔◌};
+ghost use Rattle.cpp_tree.specs.cpp_types.Typ.{Typ};
 ghost use Rattle.symbolic_code.specs.Same.{same_term as is_same_term, same_exception as is_same_exception};
-ghost use Rattle.symbolic_terms.specs.Words.{term_of, exception_of, puts_of, terms_of};
+ghost use Rattle.symbolic_terms.specs.Words.{numbered, term_of, exception_of, puts_of, terms_of};
 
 use crate::terms::{Exception, Puts, Term, Terms};
-use cpp_types::same;
 
 /// Whether two exceptions are one unknown one. Exceptions that were made are not compared.
 pub fn same_exception(left: &Exception<'_>, right: &Exception<'_>) -> bool
-    ensures { result ≡ is_same_exception (exception_of left.now) (exception_of right.now) }
+    ensures { (types : ℕ → Typ) → result ≡ is_same_exception (exception_of types left.now) (exception_of types right.now) }
 {
     match (left, right) {
         (Exception::Unknown(m), Exception::Unknown(n)) => *m == *n,
@@ -19,7 +19,7 @@ pub fn same_exception(left: &Exception<'_>, right: &Exception<'_>) -> bool
 
 /// Whether two terms are the same, as the definitions of the checker compare them.
 pub fn same_term(left: &Term<'_>, right: &Term<'_>) -> bool
-    ensures { result ≡ is_same_term (term_of left.now) (term_of right.now) }
+    ensures { (types : ℕ → Typ) → result ≡ is_same_term (term_of types left.now) (term_of types right.now) }
 {
     match (left, right) {
         (Term::Number(m), Term::Number(n)) => *m == *n,
@@ -82,7 +82,8 @@ pub fn same_term(left: &Term<'_>, right: &Term<'_>) -> bool
 /// Whether two terms are one, with all that was put into exceptions.
 #[cycle(equal)]
 pub fn equal_terms(left: &Term<'_>, right: &Term<'_>) -> bool
-    ensures { IsTrue result ↔ (term_of left.now ≡ term_of right.now) }
+    ensures shows { IsTrue result → (types : ℕ → Typ) → term_of types left.now ≡ term_of types right.now }
+    ensures own { term_of numbered left.now ≡ term_of numbered right.now → IsTrue result }
 {
     match (left, right) {
         (Term::Number(m), Term::Number(n)) => *m == *n,
@@ -145,12 +146,13 @@ pub fn equal_terms(left: &Term<'_>, right: &Term<'_>) -> bool
 /// Whether two exceptions are one.
 #[cycle(equal)]
 pub fn equal_exceptions(left: &Exception<'_>, right: &Exception<'_>) -> bool
-    ensures { IsTrue result ↔ (exception_of left.now ≡ exception_of right.now) }
+    ensures shows { IsTrue result → (types : ℕ → Typ) → exception_of types left.now ≡ exception_of types right.now }
+    ensures own { exception_of numbered left.now ≡ exception_of numbered right.now → IsTrue result }
 {
     match (left, right) {
         (Exception::Unknown(m), Exception::Unknown(n)) => *m == *n,
-        (Exception::Made(ty, puts), Exception::Made(other_ty, other_puts)) => {
-            same(ty, other_ty) && equal_puts(puts, other_puts)
+        (Exception::Made(typ, puts), Exception::Made(other_typ, other_puts)) => {
+            *typ == *other_typ && equal_puts(puts, other_puts)
         }
         _ => false,
     }
@@ -159,7 +161,8 @@ pub fn equal_exceptions(left: &Exception<'_>, right: &Exception<'_>) -> bool
 /// Whether the same words were put at the same places in the same order.
 #[cycle(equal)]
 pub fn equal_puts(left: &Puts<'_>, right: &Puts<'_>) -> bool
-    ensures { IsTrue result ↔ (puts_of left.now ≡ puts_of right.now) }
+    ensures shows { IsTrue result → (types : ℕ → Typ) → puts_of types left.now ≡ puts_of types right.now }
+    ensures own { puts_of numbered left.now ≡ puts_of numbered right.now → IsTrue result }
 {
     match (left, right) {
         (Puts::Untouched, Puts::Untouched) => true,
@@ -188,7 +191,8 @@ pub fn equal_puts(left: &Puts<'_>, right: &Puts<'_>) -> bool
 
 /// Whether two lists of terms are one.
 pub fn equal_lists(left: &Terms<'_>, right: &Terms<'_>) -> bool
-    ensures { IsTrue result ↔ (terms_of left.now ≡ terms_of right.now) }
+    ensures shows { IsTrue result → (types : ℕ → Typ) → terms_of types left.now ≡ terms_of types right.now }
+    ensures own { terms_of numbered left.now ≡ terms_of numbered right.now → IsTrue result }
 {
     match (left, right) {
         (Terms::Empty, Terms::Empty) => true,

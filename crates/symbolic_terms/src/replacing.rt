@@ -1,6 +1,7 @@
 //! Terms in the place of variables.
 
-ghost use Rattle.std.specs.Prelude.{◌≡◌, ◌+◌, IfOk};
+ghost use Rattle.std.specs.Prelude.{ℕ, ◌≡◌, ◌+◌, IfOk};
+ghost use Rattle.cpp_tree.specs.cpp_types.Typ.{Typ};
 ghost use Rattle.symbolic_source.specs.Replacing.{in_term, in_exception, in_puts, in_terms};
 ghost use Rattle.symbolic_terms.specs.Words.{term_of, exception_of, puts_of, terms_of};
 ghost use Rattle.symbolic_terms.specs.Replaced.{replacing_of};
@@ -38,7 +39,7 @@ fn next(number: u32) -> Result<u32, Refusal>
 
 // What comes in the place of a variable.
 fn word_for<'a>(with: Replacing<'a>, number: u32) -> Result<Term<'a>, Refusal>
-    ensures { IfOk result (λ w. term_of w ≡ (replacing_of with.entry).word number) }
+    ensures { IfOk result (λ w. (types : ℕ → Typ) → term_of types w ≡ (replacing_of types with.entry).word number) }
 {
     match with {
         Replacing::Later => Ok(Term::Variable(next(number)?)),
@@ -52,7 +53,7 @@ fn word_for<'a>(with: Replacing<'a>, number: u32) -> Result<Term<'a>, Refusal>
 
 // What comes in the place of an unknown exception.
 fn exception_for<'a>(with: Replacing<'a>, number: u32) -> Result<Exception<'a>, Refusal>
-    ensures { IfOk result (λ e. exception_of e ≡ (replacing_of with.entry).exception number) }
+    ensures { IfOk result (λ e. (types : ℕ → Typ) → exception_of types e ≡ (replacing_of types with.entry).exception number) }
 {
     match with {
         Replacing::Later => Ok(Exception::Unknown(number)),
@@ -71,7 +72,7 @@ pub fn replaced_term<'a>(
     with: Replacing<'a>,
     term: Term<'a>,
 ) -> Result<Term<'a>, Refusal>
-    ensures { IfOk result (λ c. term_of c ≡ in_term (replacing_of with.entry) (term_of term.entry)) }
+    ensures { IfOk result (λ c. (types : ℕ → Typ) → term_of types c ≡ in_term (replacing_of types with.entry) (term_of types term.entry)) }
 {
     match term {
         Term::Number(number) => Ok(Term::Number(number)),
@@ -142,7 +143,7 @@ pub fn replaced_exception<'a>(
     with: Replacing<'a>,
     exception: Exception<'a>,
 ) -> Result<Exception<'a>, Refusal>
-    ensures { IfOk result (λ c. exception_of c ≡ in_exception (replacing_of with.entry) (exception_of exception.entry)) }
+    ensures { IfOk result (λ c. (types : ℕ → Typ) → exception_of types c ≡ in_exception (replacing_of types with.entry) (exception_of types exception.entry)) }
 {
     match exception {
         Exception::Unknown(number) => exception_for(with, number),
@@ -157,7 +158,7 @@ pub fn replaced_puts<'a>(
     with: Replacing<'a>,
     puts: Puts<'a>,
 ) -> Result<Puts<'a>, Refusal>
-    ensures { IfOk result (λ c. puts_of c ≡ in_puts (replacing_of with.entry) (puts_of puts.entry)) }
+    ensures { IfOk result (λ c. (types : ℕ → Typ) → puts_of types c ≡ in_puts (replacing_of types with.entry) (puts_of types puts.entry)) }
 {
     match puts {
         Puts::Untouched => Ok(Puts::Untouched),
@@ -185,7 +186,7 @@ pub fn replaced_terms<'a>(
     with: Replacing<'a>,
     terms: Terms<'a>,
 ) -> Result<Terms<'a>, Refusal>
-    ensures { IfOk result (λ c. terms_of c ≡ in_terms (replacing_of with.entry) (terms_of terms.entry)) }
+    ensures { IfOk result (λ c. (types : ℕ → Typ) → terms_of types c ≡ in_terms (replacing_of types with.entry) (terms_of types terms.entry)) }
 {
     match terms {
         Terms::Empty => Ok(Terms::Empty),

@@ -1,0 +1,6 @@
+pub mod Plain
+pub mod Tables
+pub mod Called
+pub mod Noted
+pub mod Fitting
+pub mod Behind

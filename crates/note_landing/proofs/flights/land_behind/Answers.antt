@@ -1,0 +1,6 @@
+use Rattle.note_landing.specs.Shown.{linked_by, func_by, notes_by, thrown_by, types_by}
+use Rattle.note_landing.proofs.Lands.{at_once_at}
+use Rattle.note_landing.proofs.flights.land_behind.Goals as goal
+
+pub returns : goal.returns
+returns c = at_once_at (linked_by c.args.body.now) (func_by c.args.body.now) (notes_by c.args.body.now c.args.notes.now) (thrown_by c.args.body.now) _ _ _ _ _ _ _ (c.in_ok-facts.ensures (types_by c.args.body.now)) c.in_ok-outcome.ensures c.in_ok-land.ensures

@@ -1,0 +1,8 @@
+use Rattle.std.proofs.Common.{rules}
+use Rattle.symbolic_leaving.specs.Source.{units_of}
+use Rattle.note_landing.specs.Shown.{types_by, func_by}
+use Rattle.note_landing.proofs.Landed.{agrees_as}
+use Rattle.note_landing.proofs.landing.land.Goals as goal
+
+pub returns-in-Some : goal.returns-in-Some
+returns-in-Some c = agrees_as c.args.body.now c.args.notes.now _ _ _ _ _ _ _ (c.settled-outcome.ensures (types_by c.args.body.now) (units_of c.args.body.now.source) (func_by c.args.body.now)) (c.is_stuck.ensures c.args.body.now) (search rules) c.in-Some.ensures

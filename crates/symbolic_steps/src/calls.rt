@@ -1,0 +1,213 @@
+//! Calls (C++14 5.2.2, 10.3).
+
+ghost use Rattle.std.specs.Prelude.{ℕ, ◌≡◌, ◌∷◌, ◌++◌, [], false, drop, IfOk};
+ghost use Rattle.cpp_tree.specs.cpp_types.Typ.{Typ};
+ghost use Rattle.src_frames.specs.Bounds.{all_kids};
+ghost use Rattle.symbolic_source.specs.Terms.{plus_number as plus_number_of};
+ghost use Rattle.symbolic_source.specs.Frames.{Slot as SlotOf, Passes as PassesWords};
+ghost use Rattle.symbolic_source.specs.Outcomes.{goes as goes_on, reads as reads_word, finds as finds_so};
+ghost use Rattle.symbolic_terms.specs.Words.{term_of, terms_of};
+ghost use Rattle.symbolic_terms.specs.Shown.{call_of};
+ghost use Rattle.symbolic_leaving.specs.Source.{types_at, units_of, func_of};
+ghost use Rattle.symbolic_leaving.specs.Shown.{left_in, waits_in, outcome_at};
+ghost use Rattle.symbolic_running.specs.Next.{next_of, given_to};
+
+use bumpalo::Bump;
+use src_frames::trees::KidsAt;
+use symbolic_leaving::answers::CaseAnswers;
+use symbolic_leaving::source::{Source, word_at};
+use symbolic_leaving::states::{Made, comes, number, writes};
+use symbolic_running::next::{Going, Next, When};
+use symbolic_running::words::{called, next_word, one_word};
+use symbolic_terms::arena::keep;
+use symbolic_terms::frames::{CallFrame, Callee, Frame};
+use symbolic_terms::outcomes::{Doing, Outcome, Rest};
+use symbolic_terms::refusal::Refusal;
+use symbolic_terms::sums::plus_number;
+use symbolic_terms::terms::{Term, Terms};
+
+/// Goes on with a value for a call.
+pub(crate) fn give_call<'a>(
+    arena: &'a Bump,
+    source: &Source<'a>,
+    answers: CaseAnswers<'_>,
+    rest: Rest<'a>,
+    frame: CallFrame<'a>,
+    value: Term<'a>,
+) -> Going<'a>
+    ensures { IfOk result (λ o. next_of source.now answers.entry rest.entry o ≡ given_to source.now answers.entry rest.entry (term_of (types_at source.now) value.entry) (call_of (types_at source.now) (units_of source.now) (func_of source.now) frame.entry)) }
+{
+    match frame {
+        CallFrame::Words {
+            callee,
+            before,
+            rest: others,
+        } => {
+            let words = with_word(arena, before, value)?;
+            Ok(Next::Made(
+                When::Always,
+                next_word(arena, source, rest, callee, words, others)?,
+            ))
+        }
+        CallFrame::Object {
+            before,
+            class,
+            slot,
+            pointer,
+            rest: others,
+        } => {
+            let object = Object {
+                before,
+                class,
+                slot,
+                pointer,
+                others,
+            };
+            Ok(Next::Made(
+                When::Always,
+                read_class(arena, source, rest, object, value)?,
+            ))
+        }
+        CallFrame::Slot {
+            before,
+            class,
+            slot,
+            rest: others,
+        } => {
+            let callee = Callee::Virtual {
+                class,
+                slot,
+                address: value,
+            };
+            let then = called(arena, source, rest, callee, before, others)?;
+            Ok(Next::Made(
+                When::Always,
+                finds(arena, source, class, slot, value, then)?,
+            ))
+        }
+        CallFrame::Pointer {
+            before,
+            pointer,
+            rest: others,
+        } => {
+            let callee = Callee::Pointer {
+                address: value,
+                pointer,
+            };
+            Ok(Next::Made(
+                When::Always,
+                called(arena, source, rest, callee, before, others)?,
+            ))
+        }
+        CallFrame::Passes { words, from } => {
+            pass_word(arena, source, answers, rest, words, from, value)
+        }
+    }
+}
+
+// One more word behind the others.
+fn with_word<'a>(arena: &'a Bump, before: Terms<'a>, word: Term<'a>) -> Result<Terms<'a>, Refusal>
+    ensures { IfOk result (λ v. (types : ℕ → Typ) → terms_of types v ≡ terms_of types before.entry ++ term_of types word.entry ∷ []) }
+{
+    match before {
+        Terms::Empty => one_word(arena, word),
+        Terms::More(first, others) => {
+            let behind = with_word(arena, *others, word)?;
+            Ok(Terms::More(first, keep(arena, behind)?))
+        }
+    }
+}
+
+// The object of a virtual call.
+#[derive(Clone, Copy)]
+struct Object<'a> {
+    before: Terms<'a>,
+    class: u32,
+    slot: u32,
+    pointer: u32,
+    others: KidsAt,
+}
+
+// Reads the class address of an object.
+fn read_class<'a>(
+    arena: &'a Bump,
+    source: &Source<'a>,
+    rest: Rest<'a>,
+    object: Object<'a>,
+    value: Term<'a>,
+) -> Made<'a>
+    ensures { IfOk result (λ o. outcome_at source.now o ≡ goes_on (reads_word (plus_number_of (term_of (types_at source.now) value.entry) object.entry.pointer) 8 false) (waits_in source.now rest.entry) (SlotOf (terms_of (types_at source.now) object.entry.before ++ term_of (types_at source.now) value.entry ∷ []) object.entry.class object.entry.slot (all_kids source.now.bound.now object.entry.others) ∷ left_in source.now rest.entry)) }
+{
+    let doing = Doing::Reads {
+        address: plus_number(arena, value, u64::from(object.pointer))?,
+        size: 8,
+        volatile: false,
+    };
+    let then = CallFrame::Slot {
+        before: with_word(arena, object.before, value)?,
+        class: object.class,
+        slot: object.slot,
+        rest: object.others,
+    };
+    comes(arena, source, rest, doing, Frame::Call(then))
+}
+
+// This, where the slot has a function.
+fn finds<'a>(
+    arena: &'a Bump,
+    source: &Source<'a>,
+    class: u32,
+    slot: u32,
+    address: Term<'a>,
+    then: Outcome<'a>,
+) -> Made<'a>
+    ensures { IfOk result (λ o. outcome_at source.now o ≡ finds_so class slot (term_of (types_at source.now) address.entry) (outcome_at source.now then.entry)) }
+{
+    let _shown = source;
+    Ok(Outcome::Finds {
+        class,
+        slot,
+        address,
+        then: keep(arena, then)?,
+    })
+}
+
+// Passes the next word into the frame.
+#[tactic(auto, using(crate::proofs::Passes::pass_no_place, crate::proofs::Passes::pass_one))]
+fn pass_word<'a>(
+    arena: &'a Bump,
+    source: &Source<'a>,
+    answers: CaseAnswers<'_>,
+    rest: Rest<'a>,
+    words: Terms<'a>,
+    from: usize,
+    value: Term<'a>,
+) -> Going<'a>
+    ensures { IfOk result (λ o. next_of source.now answers.entry rest.entry o ≡ given_to source.now answers.entry rest.entry (term_of (types_at source.now) value.entry) (PassesWords (terms_of (types_at source.now) words.entry) (drop from (func_of source.now).words))) }
+{
+    let _shown = answers;
+    let Terms::More(word, others) = words else {
+        return Ok(Next::Gives(number(0)));
+    };
+    let Some(place) = word_at(source, from) else {
+        return Ok(Next::Gives(number(0)));
+    };
+    let then = CallFrame::Passes {
+        words: *others,
+        from: from + 1,
+    };
+    let address = Term::Local(u64::from(place.offset));
+    Ok(Next::Made(
+        When::Always,
+        writes(
+            arena,
+            source,
+            rest,
+            address,
+            place.kind,
+            word,
+            place.volatile,
+            Frame::Call(then),
+        )?,
+    ))
+}

@@ -1,0 +1,67 @@
+//! Steps.
+
+ghost use Rattle.std.specs.Prelude.{◌≡◌, IfOk};
+ghost use Rattle.symbolic_source.specs.Steps.{step_of, advanced as advances};
+ghost use Rattle.symbolic_leaving.specs.Source.{linked_to, func_of};
+ghost use Rattle.symbolic_leaving.specs.Answers.{answers_at};
+ghost use Rattle.symbolic_leaving.specs.Shown.{outcome_at};
+
+use crate::giving::give;
+use bumpalo::Bump;
+use std::alloc::Global;
+use symbolic_leaving::answers::CaseAnswers;
+use symbolic_leaving::source::Source;
+use symbolic_leaving::states::{Made, number};
+use symbolic_terms::outcomes::{Doing, Leading, Outcome};
+
+/// What a silent step leads to.
+pub fn step<'a>(
+    alloc: Global,
+    arena: &'a Bump,
+    source: &Source<'a>,
+    answers: CaseAnswers<'_>,
+    outcome: Outcome<'a>,
+) -> Made<'a>
+    ensures { IfOk result (λ o. outcome_at source.now o ≡ step_of (linked_to source.now) (func_of source.now) (answers_at source.now answers.entry) (outcome_at source.now outcome.entry)) }
+{
+    match outcome {
+        Outcome::Goes(Leading::Does(doing), rest) => match doing {
+            Doing::Silent => give(
+                alloc,
+                arena,
+                source,
+                answers,
+                rest.temporaries,
+                number(0),
+                rest.frames,
+            ),
+            Doing::Reads { .. } | Doing::Writes { .. } | Doing::PutsOut(_) => Ok(Outcome::Stuck),
+            Doing::TakesIn | Doing::Joins(_) | Doing::BeginsAtomic(_) => Ok(Outcome::Stuck),
+            Doing::BeginsSync | Doing::EndsBlock(_) | Doing::LeavesBlock(..) => Ok(Outcome::Stuck),
+        },
+        Outcome::Goes(Leading::Calls { .. }, _) => Ok(Outcome::Stuck),
+        Outcome::Goes(Leading::Spawns { .. } | Leading::Rethrows, _) => Ok(Outcome::Stuck),
+        Outcome::Stuck | Outcome::Hands(..) | Outcome::GoesOut(..) => Ok(Outcome::Stuck),
+        Outcome::Chooses { .. } | Outcome::Results { .. } => Ok(Outcome::Stuck),
+        Outcome::Finds { .. } | Outcome::Halts(_) => Ok(Outcome::Stuck),
+    }
+}
+
+/// What so many silent steps lead to.
+#[tactic(auto, using(crate::proofs::Counts::advanced_next))]
+pub fn advanced<'a>(
+    alloc: Global,
+    arena: &'a Bump,
+    source: &Source<'a>,
+    answers: CaseAnswers<'_>,
+    steps: u32,
+    outcome: Outcome<'a>,
+) -> Made<'a>
+    ensures { IfOk result (λ o. outcome_at source.now o ≡ advances (linked_to source.now) (func_of source.now) (answers_at source.now answers.entry) steps (outcome_at source.now outcome.entry)) }
+{
+    if steps == 0 {
+        return Ok(outcome);
+    }
+    let next = step(alloc, arena, source, answers, outcome)?;
+    advanced(alloc, arena, source, answers, steps - 1, next)
+}
