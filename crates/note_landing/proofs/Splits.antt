@@ -1,6 +1,6 @@
 -- An exception of which nothing is known flies where it does so in each case of its type.
-use Rattle.std.proofs.Common.{ℕ, zero, suc, ◌≡◌, ◌<◌, ◌≤◌, ◌==◌, cond, Bool, true, false, not, ◌&&◌, ◌||◌, ◌++◌, if◌then◌else◌, refl, ap, ap₂, sym, ◌∙◌, subst, List, [], ◌∷◌, Option, Some, None, arith}
-use Rattle.std.specs.Prelude.{slice_get, length, unwrap_or, nat_eq}
+use Rattle.std.proofs.Common.{ℕ, zero, suc, ◌≡◌, ◌+◌, ◌<◌, ◌≤◌, ◌==◌, cond, Bool, true, false, not, ◌&&◌, ◌||◌, ◌++◌, if◌then◌else◌, refl, ap, ap₂, sym, ◌∙◌, subst, List, [], ◌∷◌, Option, Some, None, arith}
+use Rattle.std.specs.Prelude.{slice_get, map, length, unwrap_or, nat_eq}
 use Rattle.std.specs.Global.{Vec}
 use Rattle.std.proofs.lemmas.Bool.{true≢false, and_parts, eqb-true, eq-eqb}
 use Rattle.tx_code.specs.declared.body.Row.{Row}
@@ -10,9 +10,10 @@ use Rattle.cpp_tree.specs.cpp_types.Class.{Class}
 use Rattle.cpp_tree.specs.cpp_types.Equal.{name_eq}
 use Rattle.src_mean.specs.Exceptions.{form_in}
 use Rattle.src_mean.specs.Linked.{Func, Program}
-use Rattle.symbolic_source.specs.Terms.{unknown}
+use Rattle.symbolic_source.specs.Terms.{Exception, unknown}
 use Rattle.symbolic_source.specs.Outcomes.{Outcome}
 use Rattle.symbolic_code.specs.Places.{Place}
+use Rattle.symbolic_terms.specs.Meanings.{Meaning}
 use Rattle.symbolic_leaving.specs.Answers.{texts_of}
 use Rattle.body_check.specs.Cases.{Case, of_class, of_spelling, of_others, spelled, is_known, is_that, answers_in, find_in, class_cases, spelling_cases, cases, AreSpelled, Each}
 use Rattle.body_check.proofs.Cases.{cases_fit}
@@ -22,7 +23,8 @@ use Rattle.note_landing.specs.declared.compiled.Compiled.{Compiled}
 use Rattle.tx_code.specs.Images.{ImageView}
 use Rattle.image_links.specs.Books.{spelling_place}
 use Rattle.note_landing.specs.Books.{bounds}
-use Rattle.note_landing.specs.Cases.{text_at, IsSpelledBy, SpelledBy, IsTextOf, is_that_text, row_in, spellings_by, EachSpelling, CaseBy, CasesBy}
+use Rattle.note_landing.specs.Cases.{text_at, IsSpelledBy, SpelledBy, IsTextOf, is_that_text, row_in, spellings_by, EachFirst, EachSpelling, CaseBy, CasesBy}
+use Rattle.note_landing.proofs.Shows.{shown_at, more_each, each_all}
 use Rattle.note_landing.specs.Shown.{linked_by, func_by, image_by, rows_by, notes_by, thrown_by, numbers_by, facts_by, FoundFitsBy, FliesBy}
 
 name_same : (s t : List ℕ) → name_eq s t ≡ true → s ≡ t
@@ -99,14 +101,14 @@ module _ (classes : List Class) (known : List (List ℕ)) where
   each_spelling P [] f e = (e, tt)
   each_spelling P (s ∷ ss) f e = (f 0 s refl, each_spelling P ss (λ n t h. f (suc n) t h) e)
 
-pub all_cases : (b : Compiled) (ns : Notes) (u : Unknown) (q : Place) (o : Outcome) → u.rank ≤ 63 → CasesBy b ns u q o → FliesBy b ns (facts_by b u.known) u.index q (unknown u.number) o u.rank
-all_cases b ns u q o low c = record {
+pub all_cases : (b : Compiled) (m : Meaning) (ns : Notes) (u : Unknown) (q : Place) (o : Outcome) → u.rank ≤ 63 → CasesBy b m ns u q o → FliesBy b m ns (facts_by b m u.known) u.index q (unknown u.number) o u.rank
+all_cases b m ns u q o low c = record {
   flies = record {
     rank = u.rank;
     low = low;
-    fits = λ t is told. cases_fit (linked_by b) (func_by b) bounds (notes_by b ns) (thrown_by b) known (numbers_by b) (text_at (image_by b)) (rows_by b) (facts_by b u.known) u.rank u.index q u.number o
+    fits = λ t is told. cases_fit (linked_by b) (func_by b) bounds (notes_by b m ns) (thrown_by b) known (numbers_by b) (text_at (image_by b)) (rows_by b) (facts_by b m u.known) u.rank u.index q u.number o
       (spelled_rows classes known (image_by b) (rows_by b) c.spelled_rows)
-      (each_more classes known (CaseBy b ns u q o) (length classes) (spelling_cases classes known known) c.classes (each_spelling classes known (CaseBy b ns u q o) known c.spellings c.others)) t is;
+      (each_more classes known (CaseBy b m ns u q o) (length classes) (spelling_cases classes known known) c.classes (each_spelling classes known (CaseBy b m ns u q o) known c.spellings c.others)) t is;
   };
   rank_is = refl;
 }
@@ -119,24 +121,41 @@ all_cases b ns u q o low c = record {
 
 -- ---- the cases one by one
 
-module _ (b : Compiled) (ns : Notes) (u : Unknown) (q : Place) (o : Outcome) where
+module _ (b : Compiled) (m : Meaning) (ns : Notes) (u : Unknown) (q : Place) (o : Outcome) where
   -- the row of a case
-  pub case_as : (c : Case) (text : Option (Vec ℕ)) (row : Option Row) → IsTextOf (linked_by b).classes c text → row ≡ row_in (image_by b) text (rows_by b) u.index
-      → FoundFitsBy b ns (facts_by b u.known) (answers_in (linked_by b).classes (spellings_by b) u.number c) u.rank row q (unknown u.number) o → CaseBy b ns u q o c
-  case_as c text row is e w =
-      subst (λ z. FoundFitsBy b ns (facts_by b u.known) (answers_in (linked_by b).classes (spellings_by b) u.number c) u.rank z q (unknown u.number) o)
-      (e ∙ row_found (linked_by b).classes (spellings_by b) (image_by b) c text (rows_by b) u.index is) w
+  pub case_as : (c : Case) (text : Option (Vec ℕ)) (row : Option Row) (x : Exception) → IsTextOf (linked_by b).classes c text → row ≡ row_in (image_by b) text (rows_by b) u.index → x ≡ unknown u.number
+      → FoundFitsBy b m ns (facts_by b m u.known) (answers_in (linked_by b).classes (spellings_by b) u.number c) u.rank row q x o → CaseBy b m ns u q o c
+  case_as c text row x is e i w =
+      subst (λ z. FoundFitsBy b m ns (facts_by b m u.known) (answers_in (linked_by b).classes (spellings_by b) u.number c) u.rank z q (unknown u.number) o)
+      (e ∙ row_found (linked_by b).classes (spellings_by b) (image_by b) c text (rows_by b) u.index is)
+      (subst (λ z. FoundFitsBy b m ns (facts_by b m u.known) (answers_in (linked_by b).classes (spellings_by b) u.number c) u.rank row q z o) i w)
 
   -- all classes
-  pub cases_as : (n : ℕ) → n ≡ length (linked_by b).classes → SpelledBy (image_by b) (spellings_by b) (rows_by b) → Each (CaseBy b ns u q o) (class_cases (linked_by b).classes (spellings_by b) n) → EachSpelling (CaseBy b ns u q o) (spellings_by b)
-      → CaseBy b ns u q o of_others → CasesBy b ns u q o
+  pub cases_as : (n : ℕ) → n ≡ length (linked_by b).classes → SpelledBy (image_by b) (spellings_by b) (rows_by b) → Each (CaseBy b m ns u q o) (class_cases (linked_by b).classes (spellings_by b) n) → EachSpelling (CaseBy b m ns u q o) (spellings_by b)
+      → CaseBy b m ns u q o of_others → CasesBy b m ns u q o
   cases_as n e spelled classes spellings others = record {
     spelled_rows = spelled;
-    classes = subst (λ z. Each (CaseBy b ns u q o) (class_cases (linked_by b).classes (spellings_by b) z)) e classes;
+    classes = subst (λ z. Each (CaseBy b m ns u q o) (class_cases (linked_by b).classes (spellings_by b) z)) e classes;
     spellings = spellings;
     others = others;
   }
 
   -- a spelling
-  pub spelling_as : (s t : List ℕ) → s ≡ t → CaseBy b ns u q o (of_spelling s) → CaseBy b ns u q o (of_spelling t)
-  spelling_as s t e w = subst (λ z. CaseBy b ns u q o (of_spelling z)) e w
+  pub spelling_as : (s t : List ℕ) → s ≡ t → CaseBy b m ns u q o (of_spelling s) → CaseBy b m ns u q o (of_spelling t)
+  spelling_as s t e w = subst (λ z. CaseBy b m ns u q o (of_spelling z)) e w
+
+-- ---- spelling by spelling
+
+same_length : {A B : Type 0} (f : A → B) (xs : List A) → length (map f xs) ≡ length xs
+same_length f [] = refl
+same_length f (x ∷ xs) = ap suc (same_length f xs)
+
+module _ (P : Case → Type 0) (ss : List (Vec ℕ)) where
+  pub spelling_more : (n last : ℕ) (s : Vec ℕ) → n ≡ last + 1 → slice_get ss last ≡ Some s → P (of_spelling s.items) → EachFirst last P (texts_of ss) → EachFirst n P (texts_of ss)
+  spelling_more n last s e there p before =
+      subst (λ z. EachFirst z P (texts_of ss)) (sym e) (more_each (λ t. P (of_spelling t)) (texts_of ss) last s.items (shown_at (λ (t : Vec ℕ). t.items) ss last s there) p before)
+
+  pub all_spellings : (n : ℕ) → n ≡ length ss → EachFirst n P (texts_of ss) → EachSpelling P (texts_of ss)
+  all_spellings n e before =
+      let i = same_length (λ (t : Vec ℕ). t.items) ss in
+      each_all (λ t. P (of_spelling t)) (texts_of ss) n (omega (arith, e, i)) before

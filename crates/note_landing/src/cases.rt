@@ -1,14 +1,15 @@
 //! An exception of which nothing is known, by the cases of its type.
 
-ghost use Rattle.std.specs.Prelude.{◌≡◌, ◌||◌, ◌&&◌, not, nat_eq, IfOk, IsTrue, OnOk};
+ghost use Rattle.std.specs.Prelude.{ℕ, ◌≡◌, ◌<◌, ◌||◌, ◌&&◌, not, nat_eq, List, Some, slice_get, IfOk, IsTrue, OnOk};
 ghost use Rattle.tx_code.specs.Meaning.{covers};
 ghost use Rattle.tx_code.specs.Views.{image_view};
 ghost use Rattle.cpp_tree.specs.cpp_types.Class.{classes_of};
-ghost use Rattle.cpp_tree.specs.cpp_types.Typ.{class as of_class};
+ghost use Rattle.cpp_tree.specs.cpp_types.Typ.{Typ, class as of_class};
+ghost use Rattle.symbolic_terms.specs.Meanings.{Meaning, Agrees};
 ghost use Rattle.body_check.specs.Cases.{spelled, is_known as known_so, of_spelling, class_cases, Each};
 ghost use Rattle.symbolic_leaving.specs.Answers.{case_of, texts_of};
-ghost use Rattle.note_landing.specs.Cases.{text_at as text_in, IsSpelledBy, SpelledBy, IsTextOf, is_that_text, row_in, spellings_by, EachSpelling, CaseBy, CasesBy};
-ghost use Rattle.note_landing.specs.Shown.{place_by, outcome_by, linked_by, image_by};
+ghost use Rattle.note_landing.specs.Cases.{text_at as text_in, IsSpelledBy, SpelledBy, IsTextOf, is_that_text, row_in, spellings_by, EachFirst, CaseBy, CasesBy};
+ghost use Rattle.note_landing.specs.Shown.{types_by, place_by, outcome_by, linked_by, image_by};
 
 use crate::compiled::{Compiled, Room};
 use crate::flights::{Flight, found_fits};
@@ -18,9 +19,10 @@ use cpp_tree::below::{ClassRec, Shape, Ty, is_name, spell};
 use image_links::tables::spelling_place;
 use std::alloc::{AllocError, Global};
 use symbolic_steps::{Case, CaseAnswers};
+use symbolic_terms::made;
 use symbolic_terms::outcomes::Outcome;
 use symbolic_terms::places::{Facts, Place};
-use symbolic_terms::terms::Exception;
+use symbolic_terms::words::Words;
 use tx_code::{Image, Row};
 
 /// The spelling of a type of the image, or none.
@@ -139,6 +141,7 @@ pub(crate) struct Unknown<'a> {
 // A case of the type.
 fn case_fits<'a>(
     room: Room<'a>,
+    words: &mut Words<'a>,
     body: &Compiled<'a>,
     notes: &Notes<'a>,
     unknown: Unknown<'a>,
@@ -146,7 +149,8 @@ fn case_fits<'a>(
     place: Place<'a>,
     outcome: Outcome<'a>,
 ) -> Result<(), Unfit>
-    ensures { OnOk result (CaseBy body.now notes.now unknown.entry (place_by body.now place.entry) (outcome_by body.now outcome.entry) (case_of case.now)) }
+    ensures is { OnOk result ((m : Meaning) → Agrees (types_by body.now) m words.new → CaseBy body.now m notes.now unknown.entry (place_by body.now m place.entry) (outcome_by body.now m outcome.entry) (case_of case.now)) }
+    ensures grows { OnOk result ((types : ℕ → Typ) (m : Meaning) → Agrees types m words.new → Agrees types m words.old) }
 {
     let classes = body.source.bound.program().classes.as_slice();
     let text = case_text(room.alloc, case, classes)?;
@@ -160,14 +164,15 @@ fn case_fits<'a>(
         },
         rank: unknown.rank,
     };
-    let exception = Exception::Unknown(unknown.number);
-    found_fits(room, body, notes, flight, row, place, exception, outcome)?;
+    let exception = made::unknown(words, unknown.number)?;
+    found_fits(room, words, body, notes, flight, row, place, exception, outcome)?;
     Ok(())
 }
 
 // The cases of the first classes, so many.
 fn classes_fit<'a>(
     room: Room<'a>,
+    words: &mut Words<'a>,
     body: &Compiled<'a>,
     notes: &Notes<'a>,
     unknown: Unknown<'a>,
@@ -175,20 +180,22 @@ fn classes_fit<'a>(
     place: Place<'a>,
     outcome: Outcome<'a>,
 ) -> Result<(), Unfit>
-    ensures { OnOk result (Each (CaseBy body.now notes.now unknown.entry (place_by body.now place.entry) (outcome_by body.now outcome.entry)) (class_cases (linked_by body.now).classes (spellings_by body.now) count)) }
+    ensures is { OnOk result ((m : Meaning) → Agrees (types_by body.now) m words.new → Each (CaseBy body.now m notes.now unknown.entry (place_by body.now m place.entry) (outcome_by body.now m outcome.entry)) (class_cases (linked_by body.now).classes (spellings_by body.now) count)) }
+    ensures grows { OnOk result ((types : ℕ → Typ) (m : Meaning) → Agrees types m words.new → Agrees types m words.old) }
 {
     if count == 0 {
         return Ok(());
     }
     let class = count - 1;
-    case_fits(room, body, notes, unknown, &Case::Class(class), place, outcome)?;
-    classes_fit(room, body, notes, unknown, class, place, outcome)?;
+    case_fits(room, words, body, notes, unknown, &Case::Class(class), place, outcome)?;
+    classes_fit(room, words, body, notes, unknown, class, place, outcome)?;
     Ok(())
 }
 
 // The case of a spelling.
 fn spelling_fits<'a>(
     room: Room<'a>,
+    words: &mut Words<'a>,
     body: &Compiled<'a>,
     notes: &Notes<'a>,
     unknown: Unknown<'a>,
@@ -196,40 +203,52 @@ fn spelling_fits<'a>(
     place: Place<'a>,
     outcome: Outcome<'a>,
 ) -> Result<(), Unfit>
-    ensures { OnOk result (CaseBy body.now notes.now unknown.entry (place_by body.now place.entry) (outcome_by body.now outcome.entry) (of_spelling text.now)) }
+    ensures is { OnOk result ((m : Meaning) → Agrees (types_by body.now) m words.new → CaseBy body.now m notes.now unknown.entry (place_by body.now m place.entry) (outcome_by body.now m outcome.entry) (of_spelling text.now)) }
+    ensures grows { OnOk result ((types : ℕ → Typ) (m : Meaning) → Agrees types m words.new → Agrees types m words.old) }
 {
     let case = Case::Spelling(Vec::from_slice(room.alloc, text)?);
-    case_fits(room, body, notes, unknown, &case, place, outcome)?;
+    case_fits(room, words, body, notes, unknown, &case, place, outcome)?;
     Ok(())
 }
 
-// The cases of spellings.
+// The cases of the first spellings, so many.
 fn spellings_fit<'a>(
     room: Room<'a>,
+    words: &mut Words<'a>,
     body: &Compiled<'a>,
     notes: &Notes<'a>,
     unknown: Unknown<'a>,
+    count: usize,
     place: Place<'a>,
     outcome: Outcome<'a>,
 ) -> Result<(), Unfit>
-    ensures { OnOk result (EachSpelling (CaseBy body.now notes.now unknown.entry (place_by body.now place.entry) (outcome_by body.now outcome.entry)) (spellings_by body.now)) }
+    ensures is { OnOk result ((m : Meaning) → Agrees (types_by body.now) m words.new → EachFirst count (CaseBy body.now m notes.now unknown.entry (place_by body.now m place.entry) (outcome_by body.now m outcome.entry)) (spellings_by body.now)) }
+    ensures grows { OnOk result ((types : ℕ → Typ) (m : Meaning) → Agrees types m words.new → Agrees types m words.old) }
 {
-    for text in body.spellings {
-        spelling_fits(room, body, notes, unknown, text, place, outcome)?;
+    if count == 0 {
+        return Ok(());
     }
+    let last = count - 1;
+    let Some(text) = body.spellings.get(last) else {
+        return Err(Unfit::Never);
+    };
+    spelling_fits(room, words, body, notes, unknown, text, place, outcome)?;
+    spellings_fit(room, words, body, notes, unknown, last, place, outcome)?;
     Ok(())
 }
 
 /// An exception of which nothing is known, in each case of its type.
 pub(crate) fn cases_fit<'a>(
     room: Room<'a>,
+    words: &mut Words<'a>,
     body: &Compiled<'a>,
     notes: &Notes<'a>,
     unknown: Unknown<'a>,
     place: Place<'a>,
     outcome: Outcome<'a>,
 ) -> Result<(), Unfit>
-    ensures { OnOk result (CasesBy body.now notes.now unknown.entry (place_by body.now place.entry) (outcome_by body.now outcome.entry)) }
+    ensures is { OnOk result ((m : Meaning) → Agrees (types_by body.now) m words.new → CasesBy body.now m notes.now unknown.entry (place_by body.now m place.entry) (outcome_by body.now m outcome.entry)) }
+    ensures grows { OnOk result ((types : ℕ → Typ) (m : Meaning) → Agrees types m words.new → Agrees types m words.old) }
 {
     if !are_spelled(body.image, body.spellings, &body.body.rows) {
         return Err(Unfit::Never);
@@ -237,8 +256,9 @@ pub(crate) fn cases_fit<'a>(
     let Ok(count) = u32::try_from(body.source.bound.program().classes.len()) else {
         return Err(Unfit::Never);
     };
-    classes_fit(room, body, notes, unknown, count, place, outcome)?;
-    spellings_fit(room, body, notes, unknown, place, outcome)?;
-    case_fits(room, body, notes, unknown, &Case::Others, place, outcome)?;
+    classes_fit(room, words, body, notes, unknown, count, place, outcome)?;
+    let known = body.spellings.len();
+    spellings_fit(room, words, body, notes, unknown, known, place, outcome)?;
+    case_fits(room, words, body, notes, unknown, &Case::Others, place, outcome)?;
     Ok(())
 }

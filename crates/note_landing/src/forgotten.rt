@@ -11,12 +11,14 @@ use std::alloc::{AllocError, Global};
 use symbolic_frames::places::catching;
 use symbolic_steps::{Case, CaseAnswers};
 use symbolic_terms::arena::keep;
-use symbolic_terms::comparison::equal_exceptions;
+use symbolic_terms::comparison::equal_thrown;
 use symbolic_terms::frames::{ExceptionFrame, Exit, Frame, Frames};
+use symbolic_terms::ids::{ExceptionId, Exceptions};
+use symbolic_terms::made;
 use symbolic_terms::outcomes::{Outcome, Rest};
 use symbolic_terms::places::Place;
 use symbolic_terms::refusal::Refusal;
-use symbolic_terms::terms::{Exception, Exceptions};
+use symbolic_terms::words::Words;
 
 /// A number that no other unknown exception has.
 const FRESH: u32 = 4000;
@@ -32,27 +34,34 @@ fn case_of<'a>(alloc: Global, body: &Compiled<'a>, ty: &Ty) -> Result<Case, Allo
     }
 }
 
-// The unknown exception in the place of this one.
-fn fresh_for<'a>(thrown: Exception<'a>, exception: Exception<'a>) -> Exception<'a> {
-    if equal_exceptions(&thrown, &exception) {
-        Exception::Unknown(FRESH)
+// The exception that is known, and the unknown one that comes in its place.
+#[derive(Clone, Copy)]
+struct Exchange {
+    known: ExceptionId,
+    fresh: ExceptionId,
+}
+
+// The unknown exception in the place of the known one.
+fn fresh_for<'a>(words: &Words<'a>, thrown: ExceptionId, exchange: Exchange) -> ExceptionId {
+    if equal_thrown(words, thrown, exchange.known) {
+        exchange.fresh
     } else {
         thrown
     }
 }
 
-// The frame with the unknown exception in the place of this one.
-fn unknown_in<'a>(frame: Frame<'a>, exception: Exception<'a>) -> Frame<'a> {
+// The frame with the unknown exception in the place of the known one.
+fn unknown_in<'a>(words: &Words<'a>, frame: Frame<'a>, exchange: Exchange) -> Frame<'a> {
     match frame {
         Frame::Leaves(Exit::Throws(thrown)) => {
-            Frame::Leaves(Exit::Throws(fresh_for(thrown, exception)))
+            Frame::Leaves(Exit::Throws(fresh_for(words, thrown, exchange)))
         }
         Frame::Exception(ExceptionFrame::Trying {
             exception: thrown,
             handler,
             others,
         }) => Frame::Exception(ExceptionFrame::Trying {
-            exception: fresh_for(thrown, exception),
+            exception: fresh_for(words, thrown, exchange),
             handler,
             others,
         }),
@@ -60,17 +69,19 @@ fn unknown_in<'a>(frame: Frame<'a>, exception: Exception<'a>) -> Frame<'a> {
     }
 }
 
-// The frames with the unknown exception in the place of this one.
+// The frames with the unknown exception in the place of the known one.
 fn forget_in<'a>(
     room: Room<'a>,
+    words: &Words<'a>,
     frames: Frames<'a>,
-    exception: Exception<'a>,
+    exchange: Exchange,
 ) -> Result<Frames<'a>, Refusal> {
     match frames {
         Frames::Empty => Ok(Frames::Empty),
         Frames::More(frame, rest) => {
-            let others = forget_in(room, *rest, exception)?;
-            Ok(Frames::More(unknown_in(frame, exception), keep(room.arena, others)?))
+            let others = forget_in(room, words, *rest, exchange)?;
+            let forgotten = unknown_in(words, frame, exchange);
+            Ok(Frames::More(forgotten, keep(room.arena, others)?))
         }
     }
 }
@@ -78,15 +89,16 @@ fn forget_in<'a>(
 // What goes outward is unknown.
 fn forget<'a>(
     room: Room<'a>,
+    words: &Words<'a>,
     outcome: Outcome<'a>,
-    exception: Exception<'a>,
+    exchange: Exchange,
 ) -> Result<Outcome<'a>, Refusal> {
     match outcome {
         Outcome::Goes(leading, rest) => Ok(Outcome::Goes(
             leading,
             Rest {
                 temporaries: rest.temporaries,
-                frames: forget_in(room, rest.frames, exception)?,
+                frames: forget_in(room, words, rest.frames, exchange)?,
             },
         )),
         other => Ok(other),
@@ -94,7 +106,11 @@ fn forget<'a>(
 }
 
 // The place with the unknown exception in the place of the innermost handler's.
-fn place_with<'a>(room: Room<'a>, place: Place<'a>) -> Result<Place<'a>, Refusal> {
+fn place_with<'a>(
+    room: Room<'a>,
+    place: Place<'a>,
+    fresh: ExceptionId,
+) -> Result<Place<'a>, Refusal> {
     let caught = match place.caught {
         Exceptions::Empty => Exceptions::Empty,
         Exceptions::More(_, rest) => *rest,
@@ -105,16 +121,17 @@ fn place_with<'a>(room: Room<'a>, place: Place<'a>) -> Result<Place<'a>, Refusal
         caught,
         hold: place.hold,
     };
-    catching(room.arena, outer, Exception::Unknown(FRESH))
+    catching(room.arena, outer, fresh)
 }
 
 /// A note that is missing at a handler, with nothing known of the exception.
 pub(crate) fn forgotten<'a>(
     room: Room<'a>,
+    words: &mut Words<'a>,
     body: &Compiled<'a>,
     pace: Pace,
     typ: u32,
-    exception: Exception<'a>,
+    exception: ExceptionId,
     before: Outcome<'a>,
     missing: Missing<'a>,
 ) -> Result<Missing<'a>, Refusal> {
@@ -127,12 +144,16 @@ pub(crate) fn forgotten<'a>(
         case: &case,
         known: body.spellings,
     };
-    let unknown = forget(room, before, exception)?;
-    let ahead = advance(room, &body.source, answers, pace, unknown)?;
+    let exchange = Exchange {
+        known: exception,
+        fresh: made::unknown(words, FRESH)?,
+    };
+    let unknown = forget(room, words, before, exchange)?;
+    let ahead = advance(room, words, &body.source, answers, pace, unknown)?;
     Ok(Missing {
         index: missing.index,
         known: missing.known,
-        place: place_with(room, missing.place)?,
+        place: place_with(room, missing.place, exchange.fresh)?,
         outcome: ahead.outcome,
     })
 }

@@ -6,9 +6,10 @@ ghost use Rattle.cpp_tree.specs.cpp_types.Class.{classes_of};
 ghost use Rattle.cpp_tree.specs.cpp_types.Equal.{flag_eq};
 ghost use Rattle.src_mean.specs.Exceptions.{cancels_form};
 ghost use Rattle.symbolic_terms.specs.declared.terms.Exception.{Exception};
+ghost use Rattle.symbolic_terms.specs.Meanings.{Meaning, thrown_of, Agrees};
 ghost use Rattle.body_check.specs.Cases.{spelled};
 ghost use Rattle.body_check.specs.Notes.{IsThrown};
-ghost use Rattle.note_landing.specs.Shown.{numbers_by, thrown_by, exception_by};
+ghost use Rattle.note_landing.specs.Shown.{types_by, numbers_by, thrown_by, exception_by};
 ghost use Rattle.std.specs.Prelude.{ℕ, Some, slice_get};
 
 use crate::compiled::Compiled;
@@ -16,7 +17,10 @@ use cpp_tree::below::{ClassRec, Shape, Ty, copy, spell};
 use image_links::lookups::cancels;
 use image_links::tables::spelling_place;
 use std::alloc::{AllocError, Global};
+use symbolic_terms::ids::ExceptionId;
+use symbolic_terms::refusal::Refusal;
 use symbolic_terms::terms::Exception;
+use symbolic_terms::words::{Words, exception as exception_at};
 
 /// A type's spelling without its own qualifiers.
 pub fn plain_text(alloc: Global, ty: &Ty, classes: &[ClassRec]) -> Result<Vec<u8>, AllocError>
@@ -67,8 +71,8 @@ fn cancels_alike<'a>(alloc: Global, body: &Compiled<'a>, ty: &Ty) -> Result<bool
     Ok(is_same(cancels(body.image, number), is_cancelling(&ty.shape)))
 }
 
-/// Whether an exception is of a type that is thrown, where its type is known.
-pub fn is_thrown<'a>(
+// Whether an exception is of a type that is thrown, where its type is known.
+fn is_of_thrown<'a>(
     alloc: Global,
     body: &Compiled<'a>,
     exception: &Exception<'a>,
@@ -87,7 +91,21 @@ pub fn is_thrown<'a>(
     }
 }
 
-/// Whether each of these exceptions is.
+/// Whether an exception is of a type that is thrown, where its type is known.
+pub fn is_thrown<'a>(
+    alloc: Global,
+    words: &Words<'a>,
+    body: &Compiled<'a>,
+    exception: ExceptionId,
+) -> Result<bool, Refusal>
+    ensures { IfOk result (λ b. b ≡ true → (m : Meaning) → Agrees (types_by body.now) m words.now → IsThrown (thrown_by body.now) (thrown_of m exception)) }
+{
+    let made = exception_at(words, exception)?;
+    let thrown = is_of_thrown(alloc, body, &made)?;
+    Ok(thrown)
+}
+
+/// Whether each of these exceptions is of a type that is thrown.
 pub fn all_thrown<'a>(
     alloc: Global,
     body: &Compiled<'a>,
@@ -96,7 +114,7 @@ pub fn all_thrown<'a>(
     ensures { IfOk result (λ b. b ≡ true → (n : ℕ) (e : Exception) → slice_get exceptions.now n ≡ Some e → IsThrown (thrown_by body.now) (exception_by body.now e)) }
 {
     for exception in exceptions {
-        if !is_thrown(alloc, body, exception)? {
+        if !is_of_thrown(alloc, body, exception)? {
             return Ok(false);
         }
     }

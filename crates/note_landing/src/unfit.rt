@@ -30,6 +30,8 @@ pub enum Unfit {
     Beyond,
     /// A type of exceptions was not told.
     Untold,
+    /// A number was not given to anything.
+    NotMade,
 }
 
 // A list of one.
@@ -67,6 +69,7 @@ impl From<Refusal> for Unfit {
             Refusal::Memory => Unfit::Memory,
             Refusal::Beyond => Unfit::Beyond,
             Refusal::Untold => Unfit::Untold,
+            Refusal::NotMade => Unfit::NotMade,
         }
     }
 }

@@ -1,6 +1,5 @@
-use Rattle.std.proofs.Common.{rules}
 use Rattle.note_landing.proofs.Flown.{found_all}
 use Rattle.note_landing.proofs.flights.all_fly.Goals as goal
 
-pub returns-in_ok-found_fits-in-Some : goal.returns-in_ok-found_fits-in-Some
-returns-in_ok-found_fits-in-Some c = search (rules, found_all)
+pub returns-in_ok-found_fits-in-Some-clause-is : goal.returns-in_ok-found_fits-in-Some-clause-is
+returns-in_ok-found_fits-in-Some-clause-is c m a = found_all c.args.body.now m c.args.notes.now _ _ _ _ _ _ _ _ c.in-Some.ensures (c.in_ok-found_fits-in-Some.ensures.is m a)
