@@ -18,17 +18,20 @@ use symbolic_terms::outcomes::{Doing, Leading, Outcome};
 pub fn step<'a>(
     alloc: Global,
     arena: &'a Bump,
+    words: &mut Words<'a>,
     source: &Source<'a>,
     answers: CaseAnswers<'_>,
     outcome: Outcome<'a>,
 ) -> Made<'a>
-    ensures { IfOk result (λ o. outcome_at source.now o ≡ step_of (linked_to source.now) (func_of source.now) (answers_at source.now answers.entry) (outcome_at source.now outcome.entry)) }
+    ensures is { IfOk result (λ o. (m : Meaning) → Agrees (types_at source.now) m words.new → outcome_at source.now m o ≡ step_of (linked_to source.now) (func_of source.now) (answers_at source.now answers.entry) (outcome_at source.now m outcome.entry)) }
+    ensures grows { (types : ℕ → Typ) (m : Meaning) → Agrees types m words.new → Agrees types m words.old }
 {
     match outcome {
         Outcome::Goes(Leading::Does(doing), rest) => match doing {
             Doing::Silent => give(
                 alloc,
                 arena,
+                words,
                 source,
                 answers,
                 rest.temporaries,
@@ -52,16 +55,18 @@ pub fn step<'a>(
 pub fn advanced<'a>(
     alloc: Global,
     arena: &'a Bump,
+    words: &mut Words<'a>,
     source: &Source<'a>,
     answers: CaseAnswers<'_>,
     steps: u32,
     outcome: Outcome<'a>,
 ) -> Made<'a>
-    ensures { IfOk result (λ o. outcome_at source.now o ≡ advances (linked_to source.now) (func_of source.now) (answers_at source.now answers.entry) steps (outcome_at source.now outcome.entry)) }
+    ensures is { IfOk result (λ o. (m : Meaning) → Agrees (types_at source.now) m words.new → outcome_at source.now m o ≡ advances (linked_to source.now) (func_of source.now) (answers_at source.now answers.entry) steps (outcome_at source.now m outcome.entry)) }
+    ensures grows { (types : ℕ → Typ) (m : Meaning) → Agrees types m words.new → Agrees types m words.old }
 {
     if steps == 0 {
         return Ok(outcome);
     }
-    let next = step(alloc, arena, source, answers, outcome)?;
-    advanced(alloc, arena, source, answers, steps - 1, next)
+    let next = step(alloc, arena, words, source, answers, outcome)?;
+    advanced(alloc, arena, words, source, answers, steps - 1, next)
 }
