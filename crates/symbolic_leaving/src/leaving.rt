@@ -263,9 +263,9 @@ fn leave_body<'a>(
 {
     match exit {
         Exit::Breaks => {
-                let zero = number(words, 0)?;
-                Ok(Some(gives(arena, source, rest, zero)?))
-            }
+            let zero = number(words, 0)?;
+            Ok(Some(gives(arena, source, rest, zero)?))
+        }
         Exit::Continues => Ok(Some(run_step(arena, source, rest, parts)?)),
         Exit::Throws(_) | Exit::Returns(_) => Ok(None),
     }

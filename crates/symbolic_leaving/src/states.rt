@@ -21,13 +21,13 @@ use src_frames::frames::{LoopParts, Owner};
 use src_frames::trees::TreeAt;
 use src_frames::words::size_of_kind;
 use symbolic_terms::arena::keep;
-use symbolic_terms::ids::{Terms, WordId};
 use symbolic_terms::frames::{
     Callee, Frame, Frames, ObjectFrame, StatementFrame, ValueFrame, Waitings, Way,
 };
+use symbolic_terms::ids::{Terms, WordId};
+use symbolic_terms::made;
 use symbolic_terms::outcomes::{Doing, Leading, Outcome, Rest};
 use symbolic_terms::refusal::Refusal;
-use symbolic_terms::made;
 use symbolic_terms::terms::Term;
 use symbolic_terms::words::{Words, term};
 

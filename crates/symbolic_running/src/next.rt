@@ -20,14 +20,12 @@ use src_frames::trees::TreeAt;
 use symbolic_leaving::answers::CaseAnswers;
 use symbolic_leaving::leaving::leave;
 use symbolic_leaving::source::Source;
-use symbolic_leaving::states::{
-    comes, gives, goes, reads, run_before, run_into, run_next, writes,
-};
+use symbolic_leaving::states::{comes, gives, goes, reads, run_before, run_into, run_next, writes};
 use symbolic_terms::frames::{Exit, Frame, Way};
-use symbolic_terms::outcomes::{Doing, Outcome, Rest};
-use symbolic_terms::refusal::Refusal;
 use symbolic_terms::ids::WordId;
 use symbolic_terms::made::converted;
+use symbolic_terms::outcomes::{Doing, Outcome, Rest};
+use symbolic_terms::refusal::Refusal;
 use symbolic_terms::words::Words;
 
 /// What comes of a frame.

@@ -44,10 +44,10 @@ use symbolic_terms::frames::{
     BlockFrame, CallFrame, Callee, ExceptionFrame, Exit, Frame, ObjectFrame, Spot, StatementFrame,
     ValueFrame, Waiting, Waitings, Way,
 };
-use symbolic_terms::outcomes::{Doing, Rest};
-use symbolic_terms::refusal::Refusal;
 use symbolic_terms::ids::{Terms, WordId};
 use symbolic_terms::made::{function, global, plus_number, table};
+use symbolic_terms::outcomes::{Doing, Rest};
+use symbolic_terms::refusal::Refusal;
 use symbolic_terms::words::Words;
 
 // The parts of a loop.
@@ -195,8 +195,12 @@ fn run_kind<'a>(
         TKind::CopyScalar { kind, volatile } => {
             copy_scalar(arena, words, source, answers, rest, way, kind, volatile)
         }
-        TKind::Construct { func } => construct(arena, words, source, answers, rest, way, func, kids),
-        TKind::CopyConstruct { func } => copy_construct(arena, words, source, answers, rest, way, func),
+        TKind::Construct { func } => construct(
+            arena, words, source, answers, rest, way, func, kids,
+        ),
+        TKind::CopyConstruct { func } => copy_construct(
+            arena, words, source, answers, rest, way, func,
+        ),
         TKind::CopyFrom => {
             let then = ValueFrame::From {
                 target: target_of_way(words, way)?,
@@ -205,9 +209,13 @@ fn run_kind<'a>(
             run_operand(arena, source, answers, rest, kids, then)
         }
         TKind::Pieces => run_pieces(arena, words, source, answers, rest, way, kids),
-        TKind::Piece { offset } => run_piece(arena, words, source, answers, rest, way, offset, kids),
+        TKind::Piece { offset } => run_piece(
+            arena, words, source, answers, rest, way, offset, kids,
+        ),
         TKind::Elements { count, stride } => {
-            run_elements(arena, words, source, answers, rest, way, count, stride, kids)
+            run_elements(
+                arena, words, source, answers, rest, way, count, stride, kids,
+            )
         }
         TKind::Block { subobjects } => run_block(arena, source, answers, rest, subobjects, kids),
         TKind::Init => run_init(arena, source, answers, rest, kids),
@@ -850,6 +858,13 @@ fn run_return<'a>(
             let then = Frame::Statement(StatementFrame::Returning);
             running_before(arena, source, answers, rest, value, then)
         }
-        None => leaving(arena, words, source, answers, rest, Exit::Returns(number(words, 0)?)),
+        None => leaving(
+            arena,
+            words,
+            source,
+            answers,
+            rest,
+            Exit::Returns(number(words, 0)?),
+        ),
     }
 }

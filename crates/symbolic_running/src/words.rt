@@ -18,10 +18,10 @@ use symbolic_leaving::source::Source;
 use symbolic_leaving::states::{Made, calls, comes, number, run_before, scoped, spawns};
 use symbolic_terms::arena::keep;
 use symbolic_terms::frames::{CallFrame, Callee, Frame, ValueFrame, Way};
-use symbolic_terms::outcomes::{Doing, Outcome, Rest};
-use symbolic_terms::refusal::Refusal;
 use symbolic_terms::ids::{Terms, WordId};
 use symbolic_terms::made::low_byte;
+use symbolic_terms::outcomes::{Doing, Outcome, Rest};
+use symbolic_terms::refusal::Refusal;
 use symbolic_terms::words::Words;
 
 /// Where objects are built; 0 for a value.

@@ -9,7 +9,7 @@ ghost use Rattle.symbolic_source.specs.Terms.{converted_to, result as result_of}
 ghost use Rattle.symbolic_source.specs.Frames.{into, Run as Runs, Gives as GivesWord, Loaded as LoadedSo, UpdateOld as UpdatesOld};
 ghost use Rattle.symbolic_source.specs.Outcomes.{silent, reads as reads_word, writes as writes_word, goes as goes_on, results as results_in, either as either_of};
 ghost use Rattle.symbolic_source.specs.Steps.{given as gives};
-ghost use Rattle.symbolic_terms.specs.Words.{term_of};
+ghost use Rattle.symbolic_terms.specs.Meanings.{Meaning, word_of, Agrees};
 ghost use Rattle.symbolic_terms.specs.Shown.{way_of, value_of, block_of};
 ghost use Rattle.symbolic_leaving.specs.Source.{types_at, linked_to, units_of, func_of};
 ghost use Rattle.symbolic_leaving.specs.Answers.{answers_at};
@@ -28,8 +28,7 @@ use std::alloc::Global;
 use symbolic_leaving::answers::CaseAnswers;
 use symbolic_leaving::source::Source;
 use symbolic_leaving::states::{
-    Made, applied, chooses, converted, either, number, reads, run_into, run_next, with_frame,
-    writes,
+    Made, chooses, either, number, reads, run_into, run_next, with_frame, writes,
 };
 use symbolic_running::next::{
     Going, Next, When, coming, converting, leaving, reading, running, running_before, running_into,
@@ -38,9 +37,11 @@ use symbolic_running::next::{
 use symbolic_running::running::run;
 use symbolic_terms::arena::keep;
 use symbolic_terms::frames::{BlockFrame, Frame, Frames, ValueFrame, Waitings, Way};
+use symbolic_terms::ids::WordId;
+use symbolic_terms::made::{applied, converted};
 use symbolic_terms::outcomes::{Doing, Outcome, Rest};
 use symbolic_terms::refusal::Refusal;
-use symbolic_terms::terms::Term;
+use symbolic_terms::words::Words;
 
 /// Goes on with a value.
 pub fn give<'a>(
@@ -81,12 +82,30 @@ pub fn give<'a>(
                     left,
                     right,
                 } => {
-                    let word = applied(arena, op, kind, left, right)?;
-                    let then = give(alloc, arena, words, source, answers, temporaries, word, *others)?;
+                    let word = applied(arena, words, op, kind, left, right)?;
+                    let then = give(
+                        alloc,
+                        arena,
+                        words,
+                        source,
+                        answers,
+                        temporaries,
+                        word,
+                        *others,
+                    )?;
                     results(arena, source, op, kind, left, right, then)
                 }
                 Next::Made(When::NotZero { word, value }, other) => {
-                    let zero = give(alloc, arena, words, source, answers, temporaries, value, *others)?;
+                    let zero = give(
+                        alloc,
+                        arena,
+                        words,
+                        source,
+                        answers,
+                        temporaries,
+                        value,
+                        *others,
+                    )?;
                     chooses(arena, source, word, zero, other)
                 }
             }
@@ -140,7 +159,9 @@ fn give_to<'a>(
         Frame::Value(frame) => give_value(arena, words, source, answers, rest, frame, value),
         Frame::Call(frame) => give_call(arena, words, source, answers, rest, frame, value),
         Frame::Object(frame) => give_objects(arena, words, source, answers, rest, frame, value),
-        Frame::Statement(frame) => give_statement(arena, words, source, answers, rest, frame, value),
+        Frame::Statement(frame) => give_statement(
+            arena, words, source, answers, rest, frame, value,
+        ),
         Frame::Block(frame) => give_block(arena, words, source, answers, rest, frame, value),
         Frame::Exception(frame) => {
             give_exception(alloc, arena, words, source, answers, rest, frame, value)
@@ -187,7 +208,9 @@ fn give_value<'a>(
             right: value,
         }),
         ValueFrame::Choose { way, chosen, other } => {
-            choose(arena, words, source, answers, rest, way, chosen, other, value)
+            choose(
+                arena, words, source, answers, rest, way, chosen, other, value,
+            )
         }
         ValueFrame::AssignTo(kind, volatile, right) => {
             let then = ValueFrame::StoreTo {
@@ -213,7 +236,9 @@ fn give_value<'a>(
             change,
             address,
             old,
-        } => update(arena, words, source, answers, rest, change, address, old, value),
+        } => update(
+            arena, words, source, answers, rest, change, address, old, value,
+        ),
         ValueFrame::CopyTo { source: from, init } => {
             let then = ValueFrame::CopyBy {
                 target: value,
@@ -247,7 +272,10 @@ fn choose<'a>(
     let _shown = answers;
     let zero = run_next(arena, source, rest, way, other)?;
     let then = run_next(arena, source, rest, way, chosen)?;
-    Ok(Next::Made(When::Always, either(arena, words, source, value, zero, then)?))
+    Ok(Next::Made(
+        When::Always,
+        either(arena, words, source, value, zero, then)?,
+    ))
 }
 
 // Reads what is updated.
@@ -302,13 +330,13 @@ fn stored_word<'a>(
     ensures is { IfOk result (λ t. (types : ℕ → Typ) (m : Meaning) → Agrees types m words.new → word_of m t ≡ converted_to change.stored (result_of change.op change.operation (word_of m old) (word_of m right))) }
     ensures grows { (types : ℕ → Typ) (m : Meaning) → Agrees types m words.new → Agrees types m words.old }
 {
-    let word = applied(arena, change.op, change.operation, old, right)?;
-    converted(arena, change.stored, word)
+    let word = applied(arena, words, change.op, change.operation, old, right)?;
+    converted(arena, words, change.stored, word)
 }
 
 // What an update gives.
 fn updated<'a>(change: Change, address: WordId, old: WordId) -> WordId
-    ensures { (types : ℕ → Typ) (m : Meaning) → word_of m result ≡ cond change.old (word_of m old) (word_of m address) }
+    ensures { (m : Meaning) → word_of m result ≡ cond change.old (word_of m old) (word_of m address) }
 {
     if change.old { old } else { address }
 }
@@ -376,6 +404,6 @@ fn give_block<'a>(
             let then = Frame::Block(BlockFrame::Closes(block));
             coming(arena, source, answers, rest, Doing::EndsBlock(block), then)
         }
-        BlockFrame::Closes(_) => Ok(Next::Gives(number(0))),
+        BlockFrame::Closes(_) => Ok(Next::Gives(number(words, 0)?)),
     }
 }

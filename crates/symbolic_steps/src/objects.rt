@@ -1,6 +1,6 @@
 //! Objects, from their initialisation to their destruction (C++14 12.2, 12.4, 12.6).
 
-ghost use Rattle.std.specs.Prelude.{◌≡◌, ◌∷◌, IfOk};
+ghost use Rattle.std.specs.Prelude.{ℕ, ◌≡◌, ◌∷◌, IfOk};
 ghost use Rattle.src_frames.specs.Bounds.{tree_of, all_kids};
 ghost use Rattle.src_frames.specs.Shown.{owner_shown};
 ghost use Rattle.src_mean.specs.Frames.{of_block};
@@ -8,7 +8,8 @@ ghost use Rattle.symbolic_source.specs.Terms.{number as number_of_term, plus_num
 ghost use Rattle.symbolic_source.specs.Frames.{into, at_word, spot_frame as frame_of_spot, Run as Runs, Gives as GivesWord, Keeps as KeepsSome, Waits as WaitsIn, Cleans as CleansAll, Due as DueAt, Destroys as DestroysSome, Parts as PartsOf, Each as EachOf};
 ghost use Rattle.symbolic_source.specs.Outcomes.{silent, goes as goes_on};
 ghost use Rattle.symbolic_source.specs.Steps.{if_word, kept as kept_of, destroys_next as destroys, each_next as builds, destroyed};
-ghost use Rattle.symbolic_terms.specs.Words.{term_of};
+ghost use Rattle.symbolic_terms.specs.Meanings.{Meaning, word_of, Agrees};
+ghost use Rattle.cpp_tree.specs.cpp_types.Typ.{Typ};
 ghost use Rattle.symbolic_terms.specs.Shown.{object_of, spot_of};
 ghost use Rattle.symbolic_leaving.specs.Source.{types_at, linked_to, units_of, func_of};
 ghost use Rattle.symbolic_leaving.specs.Answers.{answers_at};
@@ -28,10 +29,11 @@ use symbolic_leaving::states::{Made, calls, gives, goes, is_zero, number, run_in
 use symbolic_running::next::{Going, Next, When};
 use symbolic_running::words::one_word;
 use symbolic_terms::frames::{Callee, Frame, ObjectFrame, Spot, Waiting, Waitings, Way};
+use symbolic_terms::ids::WordId;
+use symbolic_terms::made::{element_at, one_less, plus_number};
 use symbolic_terms::outcomes::{Outcome, Rest};
 use symbolic_terms::refusal::Refusal;
-use symbolic_terms::sums::{element_at, one_less, plus_number};
-use symbolic_terms::terms::Term;
+use symbolic_terms::words::Words;
 
 /// Goes on with a value for objects.
 pub(crate) fn give_objects<'a>(
@@ -88,7 +90,7 @@ pub(crate) fn give_objects<'a>(
             kids,
             target,
             source: from,
-        } => build_part(arena, words, source, answers, rest, kids, target, from, value),
+        } => build_part(arena, source, answers, rest, kids, target, from, value),
         ObjectFrame::Each {
             init,
             destroys,
@@ -186,7 +188,8 @@ fn build<'a>(
     };
     let then = ObjectFrame::Waits(Owner::Block, waiting);
     let rest = with_frame(arena, source, rest, Frame::Object(then))?;
-    run_into(arena, source, rest, address, number(0), init)
+    let zero = number(words, 0)?;
+    run_into(arena, source, rest, address, zero, init)
 }
 
 // The frame in which the address of a waiting object is found.
@@ -302,13 +305,13 @@ fn destroy_found<'a>(
     ensures is { IfOk result (λ o. (m : Meaning) → Agrees (types_at source.now) m words.new → outcome_at source.now m o ≡ if_word found.count (goes_on silent (waits_in source.now m rest.entry) (DestroysSome ((linked_to source.now).number (func_of source.now).unit found.func) (plus_number_of (word_of m address) found.offset) found.stride (number_of_term found.count) ∷ GivesWord (word_of m address) ∷ left_in source.now m rest.entry))) }
     ensures grows { (types : ℕ → Typ) (m : Meaning) → Agrees types m words.new → Agrees types m words.old }
 {
-    let first = plus_number(arena, address, u64::from(found.offset))?;
+    let first = plus_number(arena, words, address, u64::from(found.offset))?;
     let rest = with_frame(arena, source, rest, Frame::Gives(address))?;
     let frame = ObjectFrame::Destroys {
         number: number_of(source, found.func),
         address: first,
         stride: found.stride,
-        left: number(u64::from(found.count)),
+        left: number(words, u64::from(found.count))?,
     };
     goes(arena, source, rest, Frame::Object(frame))
 }
@@ -331,17 +334,17 @@ fn destroy_some<'a>(
     ensures grows { (types : ℕ → Typ) (m : Meaning) → Agrees types m words.new → Agrees types m words.old }
 {
     let _shown = answers;
-    match is_zero(&left) {
+    match is_zero(words, left)? {
         Some(true) => Ok(Next::Gives(value)),
         Some(false) => {
-            let fewer = one_less(arena, left)?;
+            let fewer = one_less(arena, words, left)?;
             Ok(Next::Made(
                 When::Always,
                 destroy_next(arena, words, source, rest, number, address, stride, fewer)?,
             ))
         }
         None => {
-            let fewer = one_less(arena, left)?;
+            let fewer = one_less(arena, words, left)?;
             let other = destroy_next(arena, words, source, rest, number, address, stride, fewer)?;
             Ok(Next::Made(When::NotZero { word: left, value }, other))
         }
@@ -362,7 +365,8 @@ fn destroy_next<'a>(
     ensures is { IfOk result (λ o. (m : Meaning) → Agrees (types_at source.now) m words.new → outcome_at source.now m o ≡ destroys (waits_in source.now m rest.entry) number (word_of m address) stride (word_of m left) (left_in source.now m rest.entry)) }
     ensures grows { (types : ℕ → Typ) (m : Meaning) → Agrees types m words.new → Agrees types m words.old }
 {
-    let words = one_word(arena, element_at(arena, address, left, stride)?)?;
+    let element = element_at(arena, words, address, left, stride)?;
+    let arguments = one_word(arena, element)?;
     let frame = ObjectFrame::Destroys {
         number,
         address,
@@ -370,7 +374,7 @@ fn destroy_next<'a>(
         left,
     };
     let rest = with_frame(arena, source, rest, Frame::Object(frame))?;
-    Ok(calls(source, rest, Callee::Known(number), words))
+    Ok(calls(source, rest, Callee::Known(number), arguments))
 }
 
 // Builds the first of these parts, and then the others.
@@ -386,8 +390,7 @@ fn build_part<'a>(
     from: WordId,
     value: WordId,
 ) -> Going<'a>
-    ensures is { IfOk result (λ o. (m : Meaning) → Agrees (types_at source.now) m words.new → next_of source.now m answers.entry rest.entry o ≡ given_to source.now m answers.entry rest.entry (word_of m value) (PartsOf (all_kids source.now.bound.now kids) (word_of m target) (word_of m from))) }
-    ensures grows { (types : ℕ → Typ) (m : Meaning) → Agrees types m words.new → Agrees types m words.old }
+    ensures { IfOk result (λ o. (m : Meaning) → next_of source.now m answers.entry rest.entry o ≡ given_to source.now m answers.entry rest.entry (word_of m value) (PartsOf (all_kids source.now.bound.now kids) (word_of m target) (word_of m from))) }
 {
     let _shown = answers;
     let Some(part) = head(source.bound, kids) else {
@@ -431,17 +434,17 @@ fn build_some<'a>(
     ensures grows { (types : ℕ → Typ) (m : Meaning) → Agrees types m words.new → Agrees types m words.old }
 {
     let _shown = answers;
-    match is_zero(&left) {
+    match is_zero(words, left)? {
         Some(true) => Ok(Next::Gives(value)),
         Some(false) => {
-            let fewer = one_less(arena, left)?;
+            let fewer = one_less(arena, words, left)?;
             Ok(Next::Made(
                 When::Always,
                 build_next(arena, words, source, rest, elements, fewer)?,
             ))
         }
         None => {
-            let fewer = one_less(arena, left)?;
+            let fewer = one_less(arena, words, left)?;
             let other = build_next(arena, words, source, rest, elements, fewer)?;
             Ok(Next::Made(When::NotZero { word: left, value }, other))
         }
@@ -451,16 +454,18 @@ fn build_some<'a>(
 // The elements behind the first.
 fn behind_first<'a>(
     arena: &'a Bump,
+    words: &mut Words<'a>,
     source: &Source<'a>,
     elements: Elements,
     left: WordId,
 ) -> Result<Frame<'a>, Refusal>
-    ensures { IfOk result (λ o. (m : Meaning) → frame_at source.now m o ≡ EachOf (tree_of source.now.bound.now elements.init) (all_kids source.now.bound.now elements.destroys) elements.stride (word_of m left) (plus_number_of (word_of m elements.target) elements.stride) (plus_number_of (word_of m elements.from) elements.stride)) }
+    ensures is { IfOk result (λ o. (m : Meaning) → Agrees (types_at source.now) m words.new → frame_at source.now m o ≡ EachOf (tree_of source.now.bound.now elements.init) (all_kids source.now.bound.now elements.destroys) elements.stride (word_of m left) (plus_number_of (word_of m elements.target) elements.stride) (plus_number_of (word_of m elements.from) elements.stride)) }
+    ensures grows { (types : ℕ → Typ) (m : Meaning) → Agrees types m words.new → Agrees types m words.old }
 {
     let _shown = source;
     let stride = u64::from(elements.stride);
-    let target = plus_number(arena, elements.target, stride)?;
-    let from = plus_number(arena, elements.from, stride)?;
+    let target = plus_number(arena, words, elements.target, stride)?;
+    let from = plus_number(arena, words, elements.from, stride)?;
     Ok(Frame::Object(ObjectFrame::Each {
         init: elements.init,
         destroys: elements.destroys,
@@ -483,7 +488,7 @@ fn build_next<'a>(
     ensures is { IfOk result (λ o. (m : Meaning) → Agrees (types_at source.now) m words.new → outcome_at source.now m o ≡ builds (waits_in source.now m rest.entry) (tree_of source.now.bound.now elements.init) (all_kids source.now.bound.now elements.destroys) elements.stride (word_of m left) (word_of m elements.target) (word_of m elements.from) (left_in source.now m rest.entry)) }
     ensures grows { (types : ℕ → Typ) (m : Meaning) → Agrees types m words.new → Agrees types m words.old }
 {
-    let others = behind_first(arena, source, elements, left)?;
+    let others = behind_first(arena, words, source, elements, left)?;
     let waiting = Waiting {
         address: Spot::Word(elements.target),
         destroys: elements.destroys,

@@ -8,7 +8,7 @@ ghost use Rattle.symbolic_source.specs.Terms.{number as number_of_term};
 ghost use Rattle.symbolic_source.specs.Frames.{value as for_value, Run as Runs, Gives as GivesWord, Body as Bodies, Items as ItemsOf};
 ghost use Rattle.symbolic_source.specs.Outcomes.{silent, goes as goes_on, either as either_of};
 ghost use Rattle.symbolic_source.specs.Steps.{if_word, same_word as same_word_of, run_items as runs_items, compared as compares};
-ghost use Rattle.symbolic_terms.specs.Words.{term_of};
+ghost use Rattle.symbolic_terms.specs.Meanings.{Meaning, word_of, Agrees};
 ghost use Rattle.symbolic_terms.specs.Shown.{statement_of};
 ghost use Rattle.symbolic_leaving.specs.Source.{types_at, units_of};
 ghost use Rattle.symbolic_leaving.specs.Shown.{left_in, waits_in, outcome_at};
@@ -24,14 +24,15 @@ use symbolic_leaving::leaving::leave;
 use symbolic_leaving::roots::{case_word, is_case, is_default};
 use symbolic_leaving::source::Source;
 use symbolic_leaving::states::{
-    Made, applied, either, gives, goes, number, run_before, run_body, run_step, run_test, scoped,
-    with_frame,
+    Made, either, gives, goes, number, run_before, run_body, run_step, run_test, scoped, with_frame,
 };
 use symbolic_running::next::{Going, Next, When};
 use symbolic_terms::frames::{Exit, Frame, StatementFrame};
+use symbolic_terms::ids::WordId;
+use symbolic_terms::made::applied;
 use symbolic_terms::outcomes::Rest;
 use symbolic_terms::refusal::Refusal;
-use symbolic_terms::terms::Term;
+use symbolic_terms::words::Words;
 
 // From the first `case` on.
 #[tactic(auto, using(crate::proofs::Labels::fewer, crate::proofs::Labels::label_next, crate::proofs::Labels::label_here, crate::proofs::Labels::label_none))]
@@ -106,7 +107,7 @@ pub(crate) fn give_statement<'a>(
             When::Always,
             compare_with(arena, words, source, rest, word, label, behind, items)?,
         )),
-        StatementFrame::Switches => Ok(Next::Gives(number(0))),
+        StatementFrame::Switches => Ok(Next::Gives(number(words, 0)?)),
         StatementFrame::Returning => {
             Ok(Next::Made(
                 When::Always,
@@ -146,7 +147,7 @@ fn run_item<'a>(
                 run_before(arena, source, rest, item, Frame::Statement(then))?,
             ))
         }
-        None => Ok(Next::Gives(number(0))),
+        None => Ok(Next::Gives(number(words, 0)?)),
     }
 }
 
@@ -162,7 +163,8 @@ fn test<'a>(
     ensures is { IfOk result (λ o. (m : Meaning) → Agrees (types_at source.now) m words.new → outcome_at source.now m o ≡ either_of (word_of m value) (goes_on silent (waits_in source.now m rest.entry) (GivesWord (number_of_term 0) ∷ left_in source.now m rest.entry)) (goes_on silent (waits_in source.now m rest.entry) (Runs for_value (tree_of source.now.bound.now parts.body) ∷ Bodies (tree_of source.now.bound.now parts.test) (tree_of source.now.bound.now parts.body) (tree_of source.now.bound.now parts.step) ∷ left_in source.now m rest.entry))) }
     ensures grows { (types : ℕ → Typ) (m : Meaning) → Agrees types m words.new → Agrees types m words.old }
 {
-    let zero = gives(arena, source, rest, number(0))?;
+    let word = number(words, 0)?;
+    let zero = gives(arena, source, rest, word)?;
     let other = run_body(arena, source, rest, parts)?;
     either(arena, words, source, value, zero, other)
 }
@@ -213,12 +215,18 @@ fn compare<'a>(
 }
 
 // Whether the value of a switch is that of a label.
-fn same_word<'a>(arena: &'a Bump, words: &mut Words<'a>, word: WordId, label: u64) -> Result<WordId, Refusal>
+fn same_word<'a>(
+    arena: &'a Bump,
+    words: &mut Words<'a>,
+    word: WordId,
+    label: u64,
+) -> Result<WordId, Refusal>
     ensures term { IfOk result (λ t. (types : ℕ → Typ) (m : Meaning) → Agrees types m words.new → word_of m t ≡ same_word_of (word_of m word) label) }
     ensures few { nat_lt label (2 ^ 64) ≡ true }
     ensures grows { (types : ℕ → Typ) (m : Meaning) → Agrees types m words.new → Agrees types m words.old }
 {
-    applied(arena, BinOp::Eq, IntKind::ULong, word, number(label))
+    let right = number(words, label)?;
+    applied(arena, words, BinOp::Eq, IntKind::ULong, word, right)
 }
 
 // A label is compared with the value of a switch.

@@ -1,8 +1,10 @@
 //! Steps.
 
-ghost use Rattle.std.specs.Prelude.{◌≡◌, IfOk};
+ghost use Rattle.std.specs.Prelude.{ℕ, ◌≡◌, IfOk};
+ghost use Rattle.cpp_tree.specs.cpp_types.Typ.{Typ};
 ghost use Rattle.symbolic_source.specs.Steps.{step_of, advanced as advances};
-ghost use Rattle.symbolic_leaving.specs.Source.{linked_to, func_of};
+ghost use Rattle.symbolic_terms.specs.Meanings.{Meaning, Agrees};
+ghost use Rattle.symbolic_leaving.specs.Source.{types_at, linked_to, func_of};
 ghost use Rattle.symbolic_leaving.specs.Answers.{answers_at};
 ghost use Rattle.symbolic_leaving.specs.Shown.{outcome_at};
 
@@ -13,6 +15,7 @@ use symbolic_leaving::answers::CaseAnswers;
 use symbolic_leaving::source::Source;
 use symbolic_leaving::states::{Made, number};
 use symbolic_terms::outcomes::{Doing, Leading, Outcome};
+use symbolic_terms::words::Words;
 
 /// What a silent step leads to.
 pub fn step<'a>(
@@ -28,16 +31,19 @@ pub fn step<'a>(
 {
     match outcome {
         Outcome::Goes(Leading::Does(doing), rest) => match doing {
-            Doing::Silent => give(
-                alloc,
-                arena,
-                words,
-                source,
-                answers,
-                rest.temporaries,
-                number(0),
-                rest.frames,
-            ),
+            Doing::Silent => {
+                let zero = number(words, 0)?;
+                give(
+                    alloc,
+                    arena,
+                    words,
+                    source,
+                    answers,
+                    rest.temporaries,
+                    zero,
+                    rest.frames,
+                )
+            }
             Doing::Reads { .. } | Doing::Writes { .. } | Doing::PutsOut(_) => Ok(Outcome::Stuck),
             Doing::TakesIn | Doing::Joins(_) | Doing::BeginsAtomic(_) => Ok(Outcome::Stuck),
             Doing::BeginsSync | Doing::EndsBlock(_) | Doing::LeavesBlock(..) => Ok(Outcome::Stuck),

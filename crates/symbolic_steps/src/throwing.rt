@@ -9,7 +9,7 @@ ghost use Rattle.symbolic_source.specs.Terms.{put as put_on};
 ghost use Rattle.symbolic_source.specs.Frames.{Fills as FillsIn, Trying as TryingOne, Takes as TakesOf};
 ghost use Rattle.symbolic_source.specs.Outcomes.{silent, goes as goes_on};
 ghost use Rattle.symbolic_source.specs.Steps.{handling as handles, fill_field as fills_field, take_field as takes_field, take_bytes as takes_bytes};
-ghost use Rattle.symbolic_terms.specs.Words.{term_of, exception_of, puts_of};
+ghost use Rattle.symbolic_terms.specs.Meanings.{Meaning, word_of, thrown_of, given_of, Agrees};
 ghost use Rattle.symbolic_terms.specs.Shown.{throwing_of};
 ghost use Rattle.symbolic_leaving.specs.Source.{types_at, linked_to, units_of, func_of};
 ghost use Rattle.symbolic_leaving.specs.Answers.{answers_at};
@@ -31,10 +31,11 @@ use symbolic_leaving::texts::is_object;
 use symbolic_running::next::{Going, Next, When};
 use symbolic_terms::arena::keep;
 use symbolic_terms::frames::{ExceptionFrame, Exit, Frame, Way};
+use symbolic_terms::ids::{ExceptionId, PutsId, WordId};
+use symbolic_terms::made::{self, field, made_of, plus_number, untouched};
 use symbolic_terms::outcomes::{Outcome, Rest};
 use symbolic_terms::refusal::Refusal;
-use symbolic_terms::sums::plus_number;
-use symbolic_terms::terms::{Exception, Puts, Term};
+use symbolic_terms::words::Words;
 
 /// Goes on with a value for an exception.
 pub(crate) fn give_exception<'a>(
@@ -52,9 +53,10 @@ pub(crate) fn give_exception<'a>(
 {
     match frame {
         ExceptionFrame::Throws { typ, fields } => {
+            let puts = untouched(words)?;
             Ok(Next::Made(
                 When::Always,
-                fills(arena, source, rest, typ, value, fields, Puts::Untouched)?,
+                fills(arena, source, rest, typ, value, fields, puts)?,
             ))
         }
         ExceptionFrame::Fills {
@@ -85,7 +87,7 @@ pub(crate) fn give_exception<'a>(
                 fills(arena, source, rest, typ, from, fields, puts)?,
             ))
         }
-        ExceptionFrame::Tries(_) => Ok(Next::Gives(number(0))),
+        ExceptionFrame::Tries(_) => Ok(Next::Gives(number(words, 0)?)),
         ExceptionFrame::Trying {
             exception,
             handler,
@@ -97,7 +99,9 @@ pub(crate) fn give_exception<'a>(
             exception,
             base,
             fields,
-        } => take(arena, words, source, answers, rest, exception, base, fields, value),
+        } => take(
+            arena, words, source, answers, rest, exception, base, fields, value,
+        ),
         ExceptionFrame::Taking {
             exception,
             base,
@@ -105,7 +109,9 @@ pub(crate) fn give_exception<'a>(
             kind,
         } => Ok(Next::Made(
             When::Always,
-            take_bytes(arena, words, source, answers, rest, exception, base, offset, kind)?,
+            take_bytes(
+                arena, words, source, answers, rest, exception, base, offset, kind,
+            )?,
         )),
         ExceptionFrame::Handling(_) => Ok(Next::Gives(value)),
     }
@@ -132,12 +138,8 @@ fn put<'a>(
     ensures is { IfOk result (λ q. (types : ℕ → Typ) (m : Meaning) → Agrees types m words.new → given_of m q ≡ put_on offset (kind_size kind) (word_of m word) (given_of m others)) }
     ensures grows { (types : ℕ → Typ) (m : Meaning) → Agrees types m words.new → Agrees types m words.old }
 {
-    Ok(Puts::Put {
-        offset,
-        size: u32::from(size_of_kind(kind)),
-        word: keep(arena, word)?,
-        others: keep(arena, others)?,
-    })
+    let size = u32::from(size_of_kind(kind));
+    made::put(arena, words, offset, size, word, others)
 }
 
 // Fills these fields of an exception.
@@ -184,7 +186,7 @@ fn fill<'a>(
             ))
         }
         None => {
-            let made = Exception::Made(filling.typ, filling.puts);
+            let made = made_of(words, filling.typ, filling.puts)?;
             Ok(Next::Made(
                 When::Always,
                 leave(
@@ -257,7 +259,7 @@ fn fill_at<'a>(
         puts,
     } = filling;
     if is_object(source, typ) {
-        let address = plus_number(arena, from, u64::from(offset))?;
+        let address = plus_number(arena, words, from, u64::from(offset))?;
         let frame = ExceptionFrame::Filled {
             typ,
             from,
@@ -290,7 +292,7 @@ fn try_handler<'a>(
     ensures is { IfOk result (λ o. (m : Meaning) → Agrees (types_at source.now) m words.new → next_of source.now m answers.entry rest.entry o ≡ given_to source.now m answers.entry rest.entry (word_of m value) (TryingOne (thrown_of m exception) (tree_of source.now.bound.now handler) (all_kids source.now.bound.now others))) }
     ensures grows { (types : ℕ → Typ) (m : Meaning) → Agrees types m words.new → Agrees types m words.old }
 {
-    match caught(alloc, source, answers, exception, handler)? {
+    match caught(alloc, words, source, answers, exception, handler)? {
         Some(true) => Ok(Next::Made(
             When::Always,
             handle(arena, words, source, answers, rest, exception, handler)?,
@@ -337,7 +339,7 @@ fn handle<'a>(
         Some(place) => {
             let frame = ExceptionFrame::Takes {
                 exception,
-                base: local(source, place),
+                base: local(words, source, place)?,
                 fields: rest_of(source.bound, kids),
             };
             let rest = with_frame(arena, source, rest, body)?;
@@ -369,10 +371,10 @@ fn take<'a>(
             let others = rest_of(source.bound, fields);
             Ok(Next::Made(
                 When::Always,
-                take_field(arena, words, source, answers, rest, exception, base, kind, others)?,
+                take_field(arena, source, answers, rest, exception, base, kind, others)?,
             ))
         }
-        None => Ok(Next::Gives(number(0))),
+        None => Ok(Next::Gives(number(words, 0)?)),
     }
 }
 
@@ -389,8 +391,7 @@ fn take_field<'a>(
     kind: TKind,
     others: KidsAt,
 ) -> Made<'a>
-    ensures is { IfOk result (λ o. (m : Meaning) → Agrees (types_at source.now) m words.new → outcome_at source.now m o ≡ takes_field (linked_to source.now) (func_of source.now) (answers_at source.now answers.entry) (waits_in source.now m rest.entry) (thrown_of m exception) (word_of m base) kind (all_kids source.now.bound.now others) (left_in source.now m rest.entry)) }
-    ensures grows { (types : ℕ → Typ) (m : Meaning) → Agrees types m words.new → Agrees types m words.old }
+    ensures { IfOk result (λ o. (m : Meaning) → outcome_at source.now m o ≡ takes_field (linked_to source.now) (func_of source.now) (answers_at source.now answers.entry) (waits_in source.now m rest.entry) (thrown_of m exception) (word_of m base) kind (all_kids source.now.bound.now others) (left_in source.now m rest.entry)) }
 {
     let _shown = answers;
     match field_of(kind) {
@@ -410,12 +411,7 @@ fn take_field<'a>(
 }
 
 // Stores these fields of an exception.
-fn takes<'a>(
-    source: &Source<'a>,
-    exception: ExceptionId,
-    base: WordId,
-    fields: KidsAt,
-) -> Frame<'a>
+fn takes<'a>(source: &Source<'a>, exception: ExceptionId, base: WordId, fields: KidsAt) -> Frame<'a>
     ensures { (m : Meaning) → frame_at source.now m result ≡ TakesOf (thrown_of m exception) (word_of m base) (all_kids source.now.bound.now fields) }
 {
     let _shown = source;
@@ -442,12 +438,10 @@ fn take_bytes<'a>(
     ensures grows { (types : ℕ → Typ) (m : Meaning) → Agrees types m words.new → Agrees types m words.old }
 {
     let _shown = answers;
-    let address = plus_number(arena, base, u64::from(offset))?;
-    let word = Term::Field {
-        exception: keep(arena, exception)?,
-        offset,
-        size: u32::from(size_of_kind(kind)),
-    };
+    let address = plus_number(arena, words, base, u64::from(offset))?;
+    let size = u32::from(size_of_kind(kind));
+    let word = field(arena, words, exception, offset, size)?;
+    let zero = number(words, 0)?;
     writes(
         arena,
         source,
@@ -456,6 +450,6 @@ fn take_bytes<'a>(
         kind,
         word,
         false,
-        Frame::Gives(number(0)),
+        Frame::Gives(zero),
     )
 }
