@@ -9,28 +9,29 @@ use Rattle.symbolic_terms.specs.declared.frames.ValueFrame.{ValueFrame}
 use Rattle.symbolic_terms.specs.declared.frames.ValueFrame.TheVariants.{Loads, Loaded, Replied, StoreTo, Converts, Right, Apply, Choose, AssignTo, UpdateAt, UpdateOld, UpdateBy, CopyTo, CopyBy, From}
 use Rattle.symbolic_terms.specs.declared.frames.CallFrame.{CallFrame}
 use Rattle.symbolic_terms.specs.declared.frames.CallFrame.TheVariants.{Words, Object, Slot, Pointer, Passes}
+use Rattle.symbolic_terms.specs.Meanings.{Meaning}
 use Rattle.symbolic_terms.specs.Shown.{value_of, call_of}
 
-pub skip_value : (types : ℕ → Typ) (p : Program) (g : ValueFrame) (ws : List frames.Waiting) (x : frames.Exit) (k : List frames.Frame) → left ws x (value_of types p g ∷ k) ≡ left ws x k
-skip_value types p (Loads kind volatile) ws x k = refl
-skip_value types p (Loaded kind) ws x k = refl
-skip_value types p Replied ws x k = refl
-skip_value types p (StoreTo address kind volatile answer) ws x k = refl
-skip_value types p (Converts kind) ws x k = refl
-skip_value types p (Right op kind t) ws x k = refl
-skip_value types p (Apply op kind left) ws x k = refl
-skip_value types p (Choose way chosen other) ws x k = refl
-skip_value types p (AssignTo kind volatile t) ws x k = refl
-skip_value types p (UpdateAt c t) ws x k = refl
-skip_value types p (UpdateOld c address t) ws x k = refl
-skip_value types p (UpdateBy c address old) ws x k = refl
-skip_value types p (CopyTo source init) ws x k = refl
-skip_value types p (CopyBy target init) ws x k = refl
-skip_value types p (From target init) ws x k = refl
+pub skip_value : (types : ℕ → Typ) (m : Meaning) (p : Program) (g : ValueFrame) (ws : List frames.Waiting) (x : frames.Exit) (k : List frames.Frame) → left ws x (value_of types m p g ∷ k) ≡ left ws x k
+skip_value types m p (Loads kind volatile) ws x k = refl
+skip_value types m p (Loaded kind) ws x k = refl
+skip_value types m p Replied ws x k = refl
+skip_value types m p (StoreTo address kind volatile answer) ws x k = refl
+skip_value types m p (Converts kind) ws x k = refl
+skip_value types m p (Right op kind t) ws x k = refl
+skip_value types m p (Apply op kind left) ws x k = refl
+skip_value types m p (Choose way chosen other) ws x k = refl
+skip_value types m p (AssignTo kind volatile t) ws x k = refl
+skip_value types m p (UpdateAt c t) ws x k = refl
+skip_value types m p (UpdateOld c address t) ws x k = refl
+skip_value types m p (UpdateBy c address old) ws x k = refl
+skip_value types m p (CopyTo source init) ws x k = refl
+skip_value types m p (CopyBy target init) ws x k = refl
+skip_value types m p (From target init) ws x k = refl
 
-pub skip_call : (types : ℕ → Typ) (p : Program) (f : Func) (g : CallFrame) (ws : List frames.Waiting) (x : frames.Exit) (k : List frames.Frame) → left ws x (call_of types p f g ∷ k) ≡ left ws x k
-skip_call types p f (Words callee before rest) ws x k = refl
-skip_call types p f (Object before class slot pointer rest) ws x k = refl
-skip_call types p f (Slot before class slot rest) ws x k = refl
-skip_call types p f (Pointer before t rest) ws x k = refl
-skip_call types p f (Passes words from) ws x k = refl
+pub skip_call : (types : ℕ → Typ) (m : Meaning) (p : Program) (f : Func) (g : CallFrame) (ws : List frames.Waiting) (x : frames.Exit) (k : List frames.Frame) → left ws x (call_of types m p f g ∷ k) ≡ left ws x k
+skip_call types m p f (Words callee before rest) ws x k = refl
+skip_call types m p f (Object before class slot pointer rest) ws x k = refl
+skip_call types m p f (Slot before class slot rest) ws x k = refl
+skip_call types m p f (Pointer before t rest) ws x k = refl
+skip_call types m p f (Passes words from) ws x k = refl

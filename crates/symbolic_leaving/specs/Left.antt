@@ -3,6 +3,7 @@ use Rattle.std.specs.Prelude.{◌==◌, ◌%◌, ◌^◌, Bool, Option, Some, No
 use Rattle.symbolic_source.specs.Terms as words
 use Rattle.symbolic_source.specs.Outcomes as outcomes
 use Rattle.symbolic_source.specs.Steps.{left}
+use Rattle.symbolic_terms.specs.Meanings.{Meaning}
 use Rattle.symbolic_terms.specs.declared.frames.Exit.{Exit}
 use Rattle.symbolic_terms.specs.declared.outcomes.Outcome.{Outcome}
 use Rattle.symbolic_terms.specs.declared.outcomes.Rest.{Rest}
@@ -12,9 +13,9 @@ use Rattle.symbolic_leaving.specs.Source.{types_at}
 use Rattle.symbolic_leaving.specs.Shown.{waits_in, left_in, outcome_at}
 
 -- an outcome has come of it, or it goes on past the frame
-abbrev pub past : Source → Rest → Exit → Option Outcome → outcomes.Outcome
-past s r exit (Some o) = outcome_at s o
-past s r exit None = left (waits_in s r) (exit_of (types_at s) exit) (left_in s r)
+abbrev pub past : Source → Meaning → Rest → Exit → Option Outcome → outcomes.Outcome
+past s m r exit (Some o) = outcome_at s m o
+past s m r exit None = left (waits_in s m r) (exit_of (types_at s) m exit) (left_in s m r)
 
 -- whether a word is 0, where that is known
 abbrev pub known_zero : words.Term → Option Bool

@@ -10,7 +10,7 @@ ghost use Rattle.src_mean.specs.Exceptions.{catches as catches_typ};
 ghost use Rattle.src_frames.specs.Bounds.{tree_of};
 ghost use Rattle.body_check.specs.Cases.{answer_in, handler_spelling};
 ghost use Rattle.symbolic_source.specs.Steps.{caught as caught_so};
-ghost use Rattle.symbolic_terms.specs.Words.{exception_of};
+ghost use Rattle.symbolic_terms.specs.Meanings.{Meaning, thrown_of, Agrees};
 ghost use Rattle.symbolic_leaving.specs.Source.{types_at, linked_to, func_of};
 ghost use Rattle.symbolic_leaving.specs.Answers.{case_of, texts_of, answers_at};
 
@@ -19,7 +19,10 @@ use crate::texts::{catches, plain_text};
 use cpp_tree::below::{ClassRec, Shape, Ty, is_name};
 use src_frames::trees::{TreeAt, type_of};
 use std::alloc::{AllocError, Global};
+use symbolic_terms::ids::ExceptionId;
+use symbolic_terms::refusal::Refusal;
 use symbolic_terms::terms::Exception;
+use symbolic_terms::words::{Words, exception as exception_at};
 
 /// What the types of an exception have in common: a class by its number, the spelling of any other type, or no known one.
 #[derive(Drop)]
@@ -43,15 +46,16 @@ pub enum CaseAnswers<'k> {
 /// Whether a handler catches an exception, where that is known.
 pub fn caught(
     alloc: Global,
+    words: &Words<'_>,
     source: &Source<'_>,
     answers: CaseAnswers<'_>,
-    exception: Exception<'_>,
+    exception: ExceptionId,
     handler: TreeAt,
-) -> Result<Option<bool>, AllocError>
-    ensures { IfOk result (λ o. o ≡ caught_so (linked_to source.now) (func_of source.now) (answers_at source.now answers.entry) (exception_of (types_at source.now) exception.entry) (tree_of source.now.bound.now handler)) }
+) -> Result<Option<bool>, Refusal>
+    ensures { IfOk result (λ o. (m : Meaning) → Agrees (types_at source.now) m words.now → o ≡ caught_so (linked_to source.now) (func_of source.now) (answers_at source.now answers.entry) (thrown_of m exception) (tree_of source.now.bound.now handler)) }
 {
-    match exception {
-        Exception::Unknown(number) => answered(alloc, source, answers, number, handler),
+    match exception_at(words, exception)? {
+        Exception::Unknown(number) => Ok(answered(alloc, source, answers, number, handler)?),
         Exception::Made(number, _) => Ok(Some(catches_number(alloc, source, handler, number)?)),
     }
 }

@@ -1,13 +1,14 @@
 //! What a frame does with a value.
 
-ghost use Rattle.std.specs.Prelude.{◌≡◌, ◌∷◌, IfOk};
+ghost use Rattle.std.specs.Prelude.{ℕ, ◌≡◌, ◌∷◌, IfOk};
 ghost use Rattle.cpp_tree.specs.cpp_layout.Layout.{kind_size};
 ghost use Rattle.src_frames.specs.Bounds.{tree_of};
 ghost use Rattle.symbolic_source.specs.Terms.{converted_to};
 ghost use Rattle.symbolic_source.specs.Frames.{value as for_value, into, Run as Runs, Gives as GivesWord, Loaded as LoadedSo};
 ghost use Rattle.symbolic_source.specs.Outcomes.{silent, reads as reads_word, writes as writes_word, goes as goes_on};
 ghost use Rattle.symbolic_source.specs.Steps.{left as leaves};
-ghost use Rattle.symbolic_terms.specs.Words.{term_of};
+ghost use Rattle.cpp_tree.specs.cpp_types.Typ.{Typ};
+ghost use Rattle.symbolic_terms.specs.Meanings.{Meaning, word_of, Agrees};
 ghost use Rattle.symbolic_terms.specs.Shown.{way_of, doing_of, exit_of};
 ghost use Rattle.symbolic_leaving.specs.Source.{types_at, units_of, func_of};
 ghost use Rattle.symbolic_leaving.specs.Shown.{frame_at, left_in, waits_in};
@@ -19,37 +20,37 @@ use src_frames::trees::TreeAt;
 use symbolic_leaving::answers::CaseAnswers;
 use symbolic_leaving::leaving::leave;
 use symbolic_leaving::source::Source;
-use symbolic_leaving::states::{
-    comes, converted, gives, goes, reads, run_before, run_into, run_next, writes,
-};
+use symbolic_leaving::states::{comes, gives, goes, reads, run_before, run_into, run_next, writes};
 use symbolic_terms::frames::{Exit, Frame, Way};
+use symbolic_terms::ids::WordId;
+use symbolic_terms::made::converted;
 use symbolic_terms::outcomes::{Doing, Outcome, Rest};
 use symbolic_terms::refusal::Refusal;
-use symbolic_terms::terms::Term;
+use symbolic_terms::words::Words;
 
 /// What comes of a frame.
 pub type Going<'a> = Result<Next<'a>, Refusal>;
 
 /// Where an outcome comes: always, or where a word is not 0, and else this value goes on to the frames behind.
 #[derive(Clone, Copy)]
-pub enum When<'a> {
+pub enum When {
     Always,
-    NotZero { word: Term<'a>, value: Term<'a> },
+    NotZero { word: WordId, value: WordId },
 }
 
 /// What a frame does.
 #[derive(Clone, Copy)]
 pub enum Next<'a> {
     /// This comes of it.
-    Made(When<'a>, Outcome<'a>),
+    Made(When, Outcome<'a>),
     /// A value goes on to the frames behind it.
-    Gives(Term<'a>),
+    Gives(WordId),
     /// Likewise the value of an operator, which can trap.
     Applied {
         op: BinOp,
         kind: IntKind,
-        left: Term<'a>,
-        right: Term<'a>,
+        left: WordId,
+        right: WordId,
     },
 }
 
@@ -59,10 +60,10 @@ pub fn coming<'a>(
     source: &Source<'a>,
     answers: CaseAnswers<'_>,
     rest: Rest<'a>,
-    doing: Doing<'a>,
+    doing: Doing,
     frame: Frame<'a>,
 ) -> Going<'a>
-    ensures { IfOk result (λ o. next_of source.now answers.entry rest.entry o ≡ goes_on (doing_of (types_at source.now) (units_of source.now) (func_of source.now) doing.entry) (waits_in source.now rest.entry) (frame_at source.now frame.entry ∷ left_in source.now rest.entry)) }
+    ensures { IfOk result (λ o. (m : Meaning) → next_of source.now m answers.entry rest.entry o ≡ goes_on (doing_of (types_at source.now) m (units_of source.now) (func_of source.now) doing) (waits_in source.now m rest.entry) (frame_at source.now m frame.entry ∷ left_in source.now m rest.entry)) }
 {
     let _shown = answers;
     Ok(Next::Made(When::Always, comes(arena, source, rest, doing, frame)?))
@@ -76,7 +77,7 @@ pub fn going<'a>(
     rest: Rest<'a>,
     frame: Frame<'a>,
 ) -> Going<'a>
-    ensures { IfOk result (λ o. next_of source.now answers.entry rest.entry o ≡ goes_on silent (waits_in source.now rest.entry) (frame_at source.now frame.entry ∷ left_in source.now rest.entry)) }
+    ensures { IfOk result (λ o. (m : Meaning) → next_of source.now m answers.entry rest.entry o ≡ goes_on silent (waits_in source.now m rest.entry) (frame_at source.now m frame.entry ∷ left_in source.now m rest.entry)) }
 {
     let _shown = answers;
     Ok(Next::Made(When::Always, goes(arena, source, rest, frame)?))
@@ -88,10 +89,10 @@ pub fn running<'a>(
     source: &Source<'a>,
     answers: CaseAnswers<'_>,
     rest: Rest<'a>,
-    way: Way<'a>,
+    way: Way,
     tree: TreeAt,
 ) -> Going<'a>
-    ensures { IfOk result (λ o. next_of source.now answers.entry rest.entry o ≡ goes_on silent (waits_in source.now rest.entry) (Runs (way_of (types_at source.now) way.entry) (tree_of source.now.bound.now tree) ∷ left_in source.now rest.entry)) }
+    ensures { IfOk result (λ o. (m : Meaning) → next_of source.now m answers.entry rest.entry o ≡ goes_on silent (waits_in source.now m rest.entry) (Runs (way_of (types_at source.now) m way) (tree_of source.now.bound.now tree) ∷ left_in source.now m rest.entry)) }
 {
     let _shown = answers;
     Ok(Next::Made(When::Always, run_next(arena, source, rest, way, tree)?))
@@ -106,7 +107,7 @@ pub fn running_before<'a>(
     tree: TreeAt,
     then: Frame<'a>,
 ) -> Going<'a>
-    ensures { IfOk result (λ o. next_of source.now answers.entry rest.entry o ≡ goes_on silent (waits_in source.now rest.entry) (Runs for_value (tree_of source.now.bound.now tree) ∷ frame_at source.now then.entry ∷ left_in source.now rest.entry)) }
+    ensures { IfOk result (λ o. (m : Meaning) → next_of source.now m answers.entry rest.entry o ≡ goes_on silent (waits_in source.now m rest.entry) (Runs for_value (tree_of source.now.bound.now tree) ∷ frame_at source.now m then.entry ∷ left_in source.now m rest.entry)) }
 {
     let _shown = answers;
     Ok(Next::Made(When::Always, run_before(arena, source, rest, tree, then)?))
@@ -118,11 +119,11 @@ pub fn running_into<'a>(
     source: &Source<'a>,
     answers: CaseAnswers<'_>,
     rest: Rest<'a>,
-    target: Term<'a>,
-    from: Term<'a>,
+    target: WordId,
+    from: WordId,
     tree: TreeAt,
 ) -> Going<'a>
-    ensures { IfOk result (λ o. next_of source.now answers.entry rest.entry o ≡ goes_on silent (waits_in source.now rest.entry) (Runs (into (term_of (types_at source.now) target.entry) (term_of (types_at source.now) from.entry)) (tree_of source.now.bound.now tree) ∷ left_in source.now rest.entry)) }
+    ensures { IfOk result (λ o. (m : Meaning) → next_of source.now m answers.entry rest.entry o ≡ goes_on silent (waits_in source.now m rest.entry) (Runs (into (word_of m target) (word_of m from)) (tree_of source.now.bound.now tree) ∷ left_in source.now m rest.entry)) }
 {
     let _shown = answers;
     Ok(Next::Made(
@@ -137,11 +138,11 @@ pub fn reading<'a>(
     source: &Source<'a>,
     answers: CaseAnswers<'_>,
     rest: Rest<'a>,
-    address: Term<'a>,
+    address: WordId,
     kind: IntKind,
     volatile: bool,
 ) -> Going<'a>
-    ensures { IfOk result (λ o. next_of source.now answers.entry rest.entry o ≡ goes_on (reads_word (term_of (types_at source.now) address.entry) (kind_size kind) volatile) (waits_in source.now rest.entry) (LoadedSo kind ∷ left_in source.now rest.entry)) }
+    ensures { IfOk result (λ o. (m : Meaning) → next_of source.now m answers.entry rest.entry o ≡ goes_on (reads_word (word_of m address) (kind_size kind) volatile) (waits_in source.now m rest.entry) (LoadedSo kind ∷ left_in source.now m rest.entry)) }
 {
     let _shown = answers;
     Ok(Next::Made(
@@ -156,13 +157,13 @@ pub fn writing<'a>(
     source: &Source<'a>,
     answers: CaseAnswers<'_>,
     rest: Rest<'a>,
-    address: Term<'a>,
+    address: WordId,
     kind: IntKind,
-    word: Term<'a>,
+    word: WordId,
     volatile: bool,
-    answer: Term<'a>,
+    answer: WordId,
 ) -> Going<'a>
-    ensures { IfOk result (λ o. next_of source.now answers.entry rest.entry o ≡ goes_on (writes_word (term_of (types_at source.now) address.entry) kind (term_of (types_at source.now) word.entry) volatile) (waits_in source.now rest.entry) (GivesWord (term_of (types_at source.now) answer.entry) ∷ left_in source.now rest.entry)) }
+    ensures { IfOk result (λ o. (m : Meaning) → next_of source.now m answers.entry rest.entry o ≡ goes_on (writes_word (word_of m address) kind (word_of m word) volatile) (waits_in source.now m rest.entry) (GivesWord (word_of m answer) ∷ left_in source.now m rest.entry)) }
 {
     let _shown = answers;
     let then = Frame::Gives(answer);
@@ -178,9 +179,9 @@ pub fn giving<'a>(
     source: &Source<'a>,
     answers: CaseAnswers<'_>,
     rest: Rest<'a>,
-    word: Term<'a>,
+    word: WordId,
 ) -> Going<'a>
-    ensures { IfOk result (λ o. next_of source.now answers.entry rest.entry o ≡ goes_on silent (waits_in source.now rest.entry) (GivesWord (term_of (types_at source.now) word.entry) ∷ left_in source.now rest.entry)) }
+    ensures { IfOk result (λ o. (m : Meaning) → next_of source.now m answers.entry rest.entry o ≡ goes_on silent (waits_in source.now m rest.entry) (GivesWord (word_of m word) ∷ left_in source.now m rest.entry)) }
 {
     let _shown = answers;
     Ok(Next::Made(When::Always, gives(arena, source, rest, word)?))
@@ -189,33 +190,37 @@ pub fn giving<'a>(
 /// The number of a word in a kind goes on.
 pub fn converting<'a>(
     arena: &'a Bump,
+    words: &mut Words<'a>,
     source: &Source<'a>,
     answers: CaseAnswers<'_>,
     rest: Rest<'a>,
     kind: IntKind,
-    word: Term<'a>,
+    word: WordId,
 ) -> Going<'a>
-    ensures { IfOk result (λ o. next_of source.now answers.entry rest.entry o ≡ given_at source.now answers.entry rest.entry (converted_to kind (term_of (types_at source.now) word.entry))) }
+    ensures is { IfOk result (λ o. (m : Meaning) → Agrees (types_at source.now) m words.new → next_of source.now m answers.entry rest.entry o ≡ given_at source.now m answers.entry rest.entry (converted_to kind (word_of m word))) }
+    ensures grows { (types : ℕ → Typ) (m : Meaning) → Agrees types m words.new → Agrees types m words.old }
 {
     let _shown = source;
     let _asked = answers;
     let _left = rest;
-    Ok(Next::Gives(converted(arena, kind, word)?))
+    Ok(Next::Gives(converted(arena, words, kind, word)?))
 }
 
 /// This goes outward.
 pub fn leaving<'a>(
     arena: &'a Bump,
+    words: &mut Words<'a>,
     source: &Source<'a>,
     answers: CaseAnswers<'_>,
     rest: Rest<'a>,
-    exit: Exit<'a>,
+    exit: Exit,
 ) -> Going<'a>
-    ensures { IfOk result (λ o. next_of source.now answers.entry rest.entry o ≡ leaves (waits_in source.now rest.entry) (exit_of (types_at source.now) exit.entry) (left_in source.now rest.entry)) }
+    ensures is { IfOk result (λ o. (m : Meaning) → Agrees (types_at source.now) m words.new → next_of source.now m answers.entry rest.entry o ≡ leaves (waits_in source.now m rest.entry) (exit_of (types_at source.now) m exit) (left_in source.now m rest.entry)) }
+    ensures grows { (types : ℕ → Typ) (m : Meaning) → Agrees types m words.new → Agrees types m words.old }
 {
     let _shown = answers;
     Ok(Next::Made(
         When::Always,
-        leave(arena, source, rest.temporaries, exit, rest.frames)?,
+        leave(arena, words, source, rest.temporaries, exit, rest.frames)?,
     ))
 }

@@ -6,7 +6,7 @@ ghost use Rattle.src_frames.specs.Bounds.{all_kids};
 ghost use Rattle.symbolic_source.specs.Terms.{plus_number as plus_number_of};
 ghost use Rattle.symbolic_source.specs.Frames.{Slot as SlotOf, Passes as PassesWords};
 ghost use Rattle.symbolic_source.specs.Outcomes.{goes as goes_on, reads as reads_word, finds as finds_so};
-ghost use Rattle.symbolic_terms.specs.Words.{term_of, terms_of};
+ghost use Rattle.symbolic_terms.specs.Meanings.{Meaning, word_of, words_of, Agrees};
 ghost use Rattle.symbolic_terms.specs.Shown.{call_of};
 ghost use Rattle.symbolic_leaving.specs.Source.{types_at, units_of, func_of};
 ghost use Rattle.symbolic_leaving.specs.Shown.{left_in, waits_in, outcome_at};
@@ -21,21 +21,24 @@ use symbolic_running::next::{Going, Next, When};
 use symbolic_running::words::{called, next_word, one_word};
 use symbolic_terms::arena::keep;
 use symbolic_terms::frames::{CallFrame, Callee, Frame};
+use symbolic_terms::ids::{Terms, WordId};
+use symbolic_terms::made::{self, plus_number};
 use symbolic_terms::outcomes::{Doing, Outcome, Rest};
 use symbolic_terms::refusal::Refusal;
-use symbolic_terms::sums::plus_number;
-use symbolic_terms::terms::{Term, Terms};
+use symbolic_terms::words::Words;
 
 /// Goes on with a value for a call.
 pub(crate) fn give_call<'a>(
     arena: &'a Bump,
+    words: &mut Words<'a>,
     source: &Source<'a>,
     answers: CaseAnswers<'_>,
     rest: Rest<'a>,
     frame: CallFrame<'a>,
-    value: Term<'a>,
+    value: WordId,
 ) -> Going<'a>
-    ensures { IfOk result (λ o. next_of source.now answers.entry rest.entry o ≡ given_to source.now answers.entry rest.entry (term_of (types_at source.now) value.entry) (call_of (types_at source.now) (units_of source.now) (func_of source.now) frame.entry)) }
+    ensures is { IfOk result (λ o. (m : Meaning) → Agrees (types_at source.now) m words.new → next_of source.now m answers.entry rest.entry o ≡ given_to source.now m answers.entry rest.entry (word_of m value) (call_of (types_at source.now) m (units_of source.now) (func_of source.now) frame.entry)) }
+    ensures grows { (types : ℕ → Typ) (m : Meaning) → Agrees types m words.new → Agrees types m words.old }
 {
     match frame {
         CallFrame::Words {
@@ -43,10 +46,10 @@ pub(crate) fn give_call<'a>(
             before,
             rest: others,
         } => {
-            let words = with_word(arena, before, value)?;
+            let arguments = with_word(arena, before, value)?;
             Ok(Next::Made(
                 When::Always,
-                next_word(arena, source, rest, callee, words, others)?,
+                next_word(arena, words, source, rest, callee, arguments, others)?,
             ))
         }
         CallFrame::Object {
@@ -65,7 +68,7 @@ pub(crate) fn give_call<'a>(
             };
             Ok(Next::Made(
                 When::Always,
-                read_class(arena, source, rest, object, value)?,
+                read_class(arena, words, source, rest, object, value)?,
             ))
         }
         CallFrame::Slot {
@@ -79,7 +82,7 @@ pub(crate) fn give_call<'a>(
                 slot,
                 address: value,
             };
-            let then = called(arena, source, rest, callee, before, others)?;
+            let then = called(arena, words, source, rest, callee, before, others)?;
             Ok(Next::Made(
                 When::Always,
                 finds(arena, source, class, slot, value, then)?,
@@ -96,18 +99,19 @@ pub(crate) fn give_call<'a>(
             };
             Ok(Next::Made(
                 When::Always,
-                called(arena, source, rest, callee, before, others)?,
+                called(arena, words, source, rest, callee, before, others)?,
             ))
         }
-        CallFrame::Passes { words, from } => {
-            pass_word(arena, source, answers, rest, words, from, value)
-        }
+        CallFrame::Passes {
+            words: passed,
+            from,
+        } => { pass_word(arena, words, source, answers, rest, passed, from, value) }
     }
 }
 
 // One more word behind the others.
-fn with_word<'a>(arena: &'a Bump, before: Terms<'a>, word: Term<'a>) -> Result<Terms<'a>, Refusal>
-    ensures { IfOk result (λ v. (types : ℕ → Typ) → terms_of types v ≡ terms_of types before.entry ++ term_of types word.entry ∷ []) }
+fn with_word<'a>(arena: &'a Bump, before: Terms<'a>, word: WordId) -> Result<Terms<'a>, Refusal>
+    ensures { IfOk result (λ v. (m : Meaning) → words_of m v ≡ words_of m before.entry ++ word_of m word ∷ []) }
 {
     match before {
         Terms::Empty => one_word(arena, word),
@@ -131,15 +135,17 @@ struct Object<'a> {
 // Reads the class address of an object.
 fn read_class<'a>(
     arena: &'a Bump,
+    words: &mut Words<'a>,
     source: &Source<'a>,
     rest: Rest<'a>,
     object: Object<'a>,
-    value: Term<'a>,
+    value: WordId,
 ) -> Made<'a>
-    ensures { IfOk result (λ o. outcome_at source.now o ≡ goes_on (reads_word (plus_number_of (term_of (types_at source.now) value.entry) object.entry.pointer) 8 false) (waits_in source.now rest.entry) (SlotOf (terms_of (types_at source.now) object.entry.before ++ term_of (types_at source.now) value.entry ∷ []) object.entry.class object.entry.slot (all_kids source.now.bound.now object.entry.others) ∷ left_in source.now rest.entry)) }
+    ensures is { IfOk result (λ o. (m : Meaning) → Agrees (types_at source.now) m words.new → outcome_at source.now m o ≡ goes_on (reads_word (plus_number_of (word_of m value) object.entry.pointer) 8 false) (waits_in source.now m rest.entry) (SlotOf (words_of m object.entry.before ++ word_of m value ∷ []) object.entry.class object.entry.slot (all_kids source.now.bound.now object.entry.others) ∷ left_in source.now m rest.entry)) }
+    ensures grows { (types : ℕ → Typ) (m : Meaning) → Agrees types m words.new → Agrees types m words.old }
 {
     let doing = Doing::Reads {
-        address: plus_number(arena, value, u64::from(object.pointer))?,
+        address: plus_number(arena, words, value, u64::from(object.pointer))?,
         size: 8,
         volatile: false,
     };
@@ -158,10 +164,10 @@ fn finds<'a>(
     source: &Source<'a>,
     class: u32,
     slot: u32,
-    address: Term<'a>,
+    address: WordId,
     then: Outcome<'a>,
 ) -> Made<'a>
-    ensures { IfOk result (λ o. outcome_at source.now o ≡ finds_so class slot (term_of (types_at source.now) address.entry) (outcome_at source.now then.entry)) }
+    ensures { IfOk result (λ o. (m : Meaning) → outcome_at source.now m o ≡ finds_so class slot (word_of m address) (outcome_at source.now m then.entry)) }
 {
     let _shown = source;
     Ok(Outcome::Finds {
@@ -176,27 +182,29 @@ fn finds<'a>(
 #[tactic(auto, using(crate::proofs::Passes::pass_no_place, crate::proofs::Passes::pass_one))]
 fn pass_word<'a>(
     arena: &'a Bump,
+    words: &mut Words<'a>,
     source: &Source<'a>,
     answers: CaseAnswers<'_>,
     rest: Rest<'a>,
-    words: Terms<'a>,
+    passed: Terms<'a>,
     from: usize,
-    value: Term<'a>,
+    value: WordId,
 ) -> Going<'a>
-    ensures { IfOk result (λ o. next_of source.now answers.entry rest.entry o ≡ given_to source.now answers.entry rest.entry (term_of (types_at source.now) value.entry) (PassesWords (terms_of (types_at source.now) words.entry) (drop from (func_of source.now).words))) }
+    ensures is { IfOk result (λ o. (m : Meaning) → Agrees (types_at source.now) m words.new → next_of source.now m answers.entry rest.entry o ≡ given_to source.now m answers.entry rest.entry (word_of m value) (PassesWords (words_of m passed.entry) (drop from (func_of source.now).words))) }
+    ensures grows { (types : ℕ → Typ) (m : Meaning) → Agrees types m words.new → Agrees types m words.old }
 {
     let _shown = answers;
-    let Terms::More(word, others) = words else {
-        return Ok(Next::Gives(number(0)));
+    let Terms::More(word, others) = passed else {
+        return Ok(Next::Gives(number(words, 0)?));
     };
     let Some(place) = word_at(source, from) else {
-        return Ok(Next::Gives(number(0)));
+        return Ok(Next::Gives(number(words, 0)?));
     };
     let then = CallFrame::Passes {
         words: *others,
         from: from + 1,
     };
-    let address = Term::Local(u64::from(place.offset));
+    let address = made::local(words, u64::from(place.offset))?;
     Ok(Next::Made(
         When::Always,
         writes(

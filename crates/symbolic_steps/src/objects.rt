@@ -1,6 +1,6 @@
 //! Objects, from their initialisation to their destruction (C++14 12.2, 12.4, 12.6).
 
-ghost use Rattle.std.specs.Prelude.{◌≡◌, ◌∷◌, IfOk};
+ghost use Rattle.std.specs.Prelude.{ℕ, ◌≡◌, ◌∷◌, IfOk};
 ghost use Rattle.src_frames.specs.Bounds.{tree_of, all_kids};
 ghost use Rattle.src_frames.specs.Shown.{owner_shown};
 ghost use Rattle.src_mean.specs.Frames.{of_block};
@@ -8,7 +8,8 @@ ghost use Rattle.symbolic_source.specs.Terms.{number as number_of_term, plus_num
 ghost use Rattle.symbolic_source.specs.Frames.{into, at_word, spot_frame as frame_of_spot, Run as Runs, Gives as GivesWord, Keeps as KeepsSome, Waits as WaitsIn, Cleans as CleansAll, Due as DueAt, Destroys as DestroysSome, Parts as PartsOf, Each as EachOf};
 ghost use Rattle.symbolic_source.specs.Outcomes.{silent, goes as goes_on};
 ghost use Rattle.symbolic_source.specs.Steps.{if_word, kept as kept_of, destroys_next as destroys, each_next as builds, destroyed};
-ghost use Rattle.symbolic_terms.specs.Words.{term_of};
+ghost use Rattle.symbolic_terms.specs.Meanings.{Meaning, word_of, Agrees};
+ghost use Rattle.cpp_tree.specs.cpp_types.Typ.{Typ};
 ghost use Rattle.symbolic_terms.specs.Shown.{object_of, spot_of};
 ghost use Rattle.symbolic_leaving.specs.Source.{types_at, linked_to, units_of, func_of};
 ghost use Rattle.symbolic_leaving.specs.Answers.{answers_at};
@@ -28,21 +29,24 @@ use symbolic_leaving::states::{Made, calls, gives, goes, is_zero, number, run_in
 use symbolic_running::next::{Going, Next, When};
 use symbolic_running::words::one_word;
 use symbolic_terms::frames::{Callee, Frame, ObjectFrame, Spot, Waiting, Waitings, Way};
+use symbolic_terms::ids::WordId;
+use symbolic_terms::made::{element_at, one_less, plus_number};
 use symbolic_terms::outcomes::{Outcome, Rest};
 use symbolic_terms::refusal::Refusal;
-use symbolic_terms::sums::{element_at, one_less, plus_number};
-use symbolic_terms::terms::Term;
+use symbolic_terms::words::Words;
 
 /// Goes on with a value for objects.
 pub(crate) fn give_objects<'a>(
     arena: &'a Bump,
+    words: &mut Words<'a>,
     source: &Source<'a>,
     answers: CaseAnswers<'_>,
     rest: Rest<'a>,
     frame: ObjectFrame<'a>,
-    value: Term<'a>,
+    value: WordId,
 ) -> Going<'a>
-    ensures { IfOk result (λ o. next_of source.now answers.entry rest.entry o ≡ given_to source.now answers.entry rest.entry (term_of (types_at source.now) value.entry) (object_of (types_at source.now) (units_of source.now) frame.entry)) }
+    ensures is { IfOk result (λ o. (m : Meaning) → Agrees (types_at source.now) m words.new → next_of source.now m answers.entry rest.entry o ≡ given_to source.now m answers.entry rest.entry (word_of m value) (object_of (types_at source.now) m (units_of source.now) frame.entry)) }
+    ensures grows { (types : ℕ → Typ) (m : Meaning) → Agrees types m words.new → Agrees types m words.old }
 {
     match frame {
         ObjectFrame::Full { outer } => {
@@ -69,18 +73,18 @@ pub(crate) fn give_objects<'a>(
         ObjectFrame::InitAt { init, destroys } => {
             Ok(Next::Made(
                 When::Always,
-                build(arena, source, rest, value, init, destroys)?,
+                build(arena, words, source, rest, value, init, destroys)?,
             ))
         }
         ObjectFrame::Cleans(waiting) => clean_next(arena, source, answers, rest, waiting, value),
-        ObjectFrame::Due(kids) => destroy_due(arena, source, answers, rest, value, kids),
+        ObjectFrame::Due(kids) => destroy_due(arena, words, source, answers, rest, value, kids),
         ObjectFrame::Destroys {
             number,
             address,
             stride,
             left,
         } => destroy_some(
-            arena, source, answers, rest, number, address, stride, left, value,
+            arena, words, source, answers, rest, number, address, stride, left, value,
         ),
         ObjectFrame::Parts {
             kids,
@@ -96,6 +100,7 @@ pub(crate) fn give_objects<'a>(
             source: from,
         } => build_some(
             arena,
+            words,
             source,
             answers,
             rest,
@@ -114,7 +119,7 @@ pub(crate) fn give_objects<'a>(
 
 // What is destroyed where a scope is left by its end.
 fn kept<'a>(source: &Source<'a>, always: bool, waiting: Waitings<'a>) -> Waitings<'a>
-    ensures { waiting_at source.now result ≡ kept_of always (waiting_at source.now waiting.entry) }
+    ensures { (m : Meaning) → waiting_at source.now m result ≡ kept_of always (waiting_at source.now m waiting.entry) }
 {
     let _shown = source;
     if always { waiting } else { Waitings::Empty }
@@ -126,10 +131,10 @@ fn wait_among<'a>(
     source: &Source<'a>,
     answers: CaseAnswers<'_>,
     rest: Rest<'a>,
-    waiting: Waiting<'a>,
-    value: Term<'a>,
+    waiting: Waiting,
+    value: WordId,
 ) -> Going<'a>
-    ensures { IfOk result (λ o. next_of source.now answers.entry rest.entry o ≡ given_to source.now answers.entry rest.entry (term_of (types_at source.now) value.entry) (KeepsSome (spot_of (types_at source.now) (units_of source.now) waiting.entry.address) (all_kids source.now.bound.now waiting.entry.destroys))) }
+    ensures { IfOk result (λ o. (m : Meaning) → next_of source.now m answers.entry rest.entry o ≡ given_to source.now m answers.entry rest.entry (word_of m value) (KeepsSome (spot_of (types_at source.now) m (units_of source.now) waiting.address) (all_kids source.now.bound.now waiting.destroys))) }
 {
     let _shown = answers;
     let with = Rest {
@@ -146,10 +151,10 @@ fn wait<'a>(
     answers: CaseAnswers<'_>,
     rest: Rest<'a>,
     owner: Owner,
-    waiting: Waiting<'a>,
-    value: Term<'a>,
+    waiting: Waiting,
+    value: WordId,
 ) -> Going<'a>
-    ensures { IfOk result (λ o. next_of source.now answers.entry rest.entry o ≡ given_to source.now answers.entry rest.entry (term_of (types_at source.now) value.entry) (WaitsIn (owner_shown owner) (spot_of (types_at source.now) (units_of source.now) waiting.entry.address) (all_kids source.now.bound.now waiting.entry.destroys))) }
+    ensures { IfOk result (λ o. (m : Meaning) → next_of source.now m answers.entry rest.entry o ≡ given_to source.now m answers.entry rest.entry (word_of m value) (WaitsIn (owner_shown owner) (spot_of (types_at source.now) m (units_of source.now) waiting.address) (all_kids source.now.bound.now waiting.destroys))) }
 {
     let _shown = answers;
     match put_some(arena, source.bound, owner, waiting, rest.frames)? {
@@ -167,13 +172,15 @@ fn wait<'a>(
 // Builds a variable, a base or a member at an address.
 fn build<'a>(
     arena: &'a Bump,
+    words: &mut Words<'a>,
     source: &Source<'a>,
     rest: Rest<'a>,
-    address: Term<'a>,
+    address: WordId,
     init: TreeAt,
     destroys: KidsAt,
 ) -> Made<'a>
-    ensures { IfOk result (λ o. outcome_at source.now o ≡ goes_on silent (waits_in source.now rest.entry) (Runs (into (term_of (types_at source.now) address.entry) (number_of_term 0)) (tree_of source.now.bound.now init) ∷ WaitsIn of_block (at_word (term_of (types_at source.now) address.entry)) (all_kids source.now.bound.now destroys) ∷ left_in source.now rest.entry)) }
+    ensures is { IfOk result (λ o. (m : Meaning) → Agrees (types_at source.now) m words.new → outcome_at source.now m o ≡ goes_on silent (waits_in source.now m rest.entry) (Runs (into (word_of m address) (number_of_term 0)) (tree_of source.now.bound.now init) ∷ WaitsIn of_block (at_word (word_of m address)) (all_kids source.now.bound.now destroys) ∷ left_in source.now m rest.entry)) }
+    ensures grows { (types : ℕ → Typ) (m : Meaning) → Agrees types m words.new → Agrees types m words.old }
 {
     let waiting = Waiting {
         address: Spot::Word(address),
@@ -181,12 +188,13 @@ fn build<'a>(
     };
     let then = ObjectFrame::Waits(Owner::Block, waiting);
     let rest = with_frame(arena, source, rest, Frame::Object(then))?;
-    run_into(arena, source, rest, address, number(0), init)
+    let zero = number(words, 0)?;
+    run_into(arena, source, rest, address, zero, init)
 }
 
 // The frame in which the address of a waiting object is found.
-fn spot_frame<'a>(source: &Source<'a>, spot: Spot<'a>) -> Frame<'a>
-    ensures { frame_at source.now result ≡ frame_of_spot (spot_of (types_at source.now) (units_of source.now) spot.entry) }
+fn spot_frame<'a>(source: &Source<'a>, spot: Spot) -> Frame<'a>
+    ensures { (m : Meaning) → frame_at source.now m result ≡ frame_of_spot (spot_of (types_at source.now) m (units_of source.now) spot) }
 {
     let _shown = source;
     match spot {
@@ -202,9 +210,9 @@ fn clean_next<'a>(
     answers: CaseAnswers<'_>,
     rest: Rest<'a>,
     waiting: Waitings<'a>,
-    value: Term<'a>,
+    value: WordId,
 ) -> Going<'a>
-    ensures { IfOk result (λ o. next_of source.now answers.entry rest.entry o ≡ given_to source.now answers.entry rest.entry (term_of (types_at source.now) value.entry) (CleansAll (waiting_at source.now waiting.entry))) }
+    ensures { IfOk result (λ o. (m : Meaning) → next_of source.now m answers.entry rest.entry o ≡ given_to source.now m answers.entry rest.entry (word_of m value) (CleansAll (waiting_at source.now m waiting.entry))) }
 {
     let _shown = answers;
     match waiting {
@@ -223,10 +231,10 @@ fn clean_one<'a>(
     arena: &'a Bump,
     source: &Source<'a>,
     rest: Rest<'a>,
-    waiting: Waiting<'a>,
+    waiting: Waiting,
     others: Waitings<'a>,
 ) -> Made<'a>
-    ensures { IfOk result (λ o. outcome_at source.now o ≡ goes_on silent (waits_in source.now rest.entry) (frame_of_spot (spot_of (types_at source.now) (units_of source.now) waiting.entry.address) ∷ DueAt (all_kids source.now.bound.now waiting.entry.destroys) ∷ CleansAll (waiting_at source.now others.entry) ∷ left_in source.now rest.entry)) }
+    ensures { IfOk result (λ o. (m : Meaning) → outcome_at source.now m o ≡ goes_on silent (waits_in source.now m rest.entry) (frame_of_spot (spot_of (types_at source.now) m (units_of source.now) waiting.address) ∷ DueAt (all_kids source.now.bound.now waiting.destroys) ∷ CleansAll (waiting_at source.now m others.entry) ∷ left_in source.now m rest.entry)) }
 {
     let behind = Frame::Object(ObjectFrame::Cleans(others));
     let rest = with_frame(arena, source, rest, behind)?;
@@ -239,13 +247,15 @@ fn clean_one<'a>(
 #[tactic(auto, using(crate::proofs::Looks::due_more, crate::proofs::Looks::due_none))]
 fn destroy_due<'a>(
     arena: &'a Bump,
+    words: &mut Words<'a>,
     source: &Source<'a>,
     answers: CaseAnswers<'_>,
     rest: Rest<'a>,
-    address: Term<'a>,
+    address: WordId,
     kids: KidsAt,
 ) -> Going<'a>
-    ensures { IfOk result (λ o. next_of source.now answers.entry rest.entry o ≡ given_to source.now answers.entry rest.entry (term_of (types_at source.now) address.entry) (DueAt (all_kids source.now.bound.now kids))) }
+    ensures is { IfOk result (λ o. (m : Meaning) → Agrees (types_at source.now) m words.new → next_of source.now m answers.entry rest.entry o ≡ given_to source.now m answers.entry rest.entry (word_of m address) (DueAt (all_kids source.now.bound.now kids))) }
+    ensures grows { (types : ℕ → Typ) (m : Meaning) → Agrees types m words.new → Agrees types m words.old }
 {
     match head(source.bound, kids) {
         Some(first) => {
@@ -253,7 +263,7 @@ fn destroy_due<'a>(
             let others = rest_of(source.bound, kids);
             Ok(Next::Made(
                 When::Always,
-                destroy(arena, source, answers, rest, address, kind, others)?,
+                destroy(arena, words, source, answers, rest, address, kind, others)?,
             ))
         }
         None => Ok(Next::Gives(address)),
@@ -264,19 +274,21 @@ fn destroy_due<'a>(
 #[tactic(auto, using(crate::proofs::Looks::destroy_some, crate::proofs::Looks::destroy_other))]
 fn destroy<'a>(
     arena: &'a Bump,
+    words: &mut Words<'a>,
     source: &Source<'a>,
     answers: CaseAnswers<'_>,
     rest: Rest<'a>,
-    address: Term<'a>,
+    address: WordId,
     kind: TKind,
     others: KidsAt,
 ) -> Made<'a>
-    ensures { IfOk result (λ o. outcome_at source.now o ≡ destroyed (linked_to source.now) (func_of source.now) (answers_at source.now answers.entry) (waits_in source.now rest.entry) (term_of (types_at source.now) address.entry) kind (all_kids source.now.bound.now others) (left_in source.now rest.entry)) }
+    ensures is { IfOk result (λ o. (m : Meaning) → Agrees (types_at source.now) m words.new → outcome_at source.now m o ≡ destroyed (linked_to source.now) (func_of source.now) (answers_at source.now answers.entry) (waits_in source.now m rest.entry) (word_of m address) kind (all_kids source.now.bound.now others) (left_in source.now m rest.entry)) }
+    ensures grows { (types : ℕ → Typ) (m : Meaning) → Agrees types m words.new → Agrees types m words.old }
 {
     let _shown = answers;
     let rest = with_frame(arena, source, rest, Frame::Object(ObjectFrame::Due(others)))?;
     match destruction_of(kind) {
-        Some(found) => destroy_found(arena, source, rest, address, found),
+        Some(found) => destroy_found(arena, words, source, rest, address, found),
         None => gives(arena, source, rest, address),
     }
 }
@@ -284,20 +296,22 @@ fn destroy<'a>(
 // A destruction at an address, which is given then.
 fn destroy_found<'a>(
     arena: &'a Bump,
+    words: &mut Words<'a>,
     source: &Source<'a>,
     rest: Rest<'a>,
-    address: Term<'a>,
+    address: WordId,
     found: Destruction,
 ) -> Made<'a>
-    ensures { IfOk result (λ o. outcome_at source.now o ≡ if_word found.count (goes_on silent (waits_in source.now rest.entry) (DestroysSome ((linked_to source.now).number (func_of source.now).unit found.func) (plus_number_of (term_of (types_at source.now) address.entry) found.offset) found.stride (number_of_term found.count) ∷ GivesWord (term_of (types_at source.now) address.entry) ∷ left_in source.now rest.entry))) }
+    ensures is { IfOk result (λ o. (m : Meaning) → Agrees (types_at source.now) m words.new → outcome_at source.now m o ≡ if_word found.count (goes_on silent (waits_in source.now m rest.entry) (DestroysSome ((linked_to source.now).number (func_of source.now).unit found.func) (plus_number_of (word_of m address) found.offset) found.stride (number_of_term found.count) ∷ GivesWord (word_of m address) ∷ left_in source.now m rest.entry))) }
+    ensures grows { (types : ℕ → Typ) (m : Meaning) → Agrees types m words.new → Agrees types m words.old }
 {
-    let first = plus_number(arena, address, u64::from(found.offset))?;
+    let first = plus_number(arena, words, address, u64::from(found.offset))?;
     let rest = with_frame(arena, source, rest, Frame::Gives(address))?;
     let frame = ObjectFrame::Destroys {
         number: number_of(source, found.func),
         address: first,
         stride: found.stride,
-        left: number(u64::from(found.count)),
+        left: number(words, u64::from(found.count))?,
     };
     goes(arena, source, rest, Frame::Object(frame))
 }
@@ -306,30 +320,32 @@ fn destroy_found<'a>(
 #[tactic(auto, using(symbolic_leaving::proofs::Zeros::either_known, symbolic_leaving::proofs::Zeros::either_open))]
 fn destroy_some<'a>(
     arena: &'a Bump,
+    words: &mut Words<'a>,
     source: &Source<'a>,
     answers: CaseAnswers<'_>,
     rest: Rest<'a>,
     number: u32,
-    address: Term<'a>,
+    address: WordId,
     stride: u32,
-    left: Term<'a>,
-    value: Term<'a>,
+    left: WordId,
+    value: WordId,
 ) -> Going<'a>
-    ensures { IfOk result (λ o. next_of source.now answers.entry rest.entry o ≡ given_to source.now answers.entry rest.entry (term_of (types_at source.now) value.entry) (DestroysSome number (term_of (types_at source.now) address.entry) stride (term_of (types_at source.now) left.entry))) }
+    ensures is { IfOk result (λ o. (m : Meaning) → Agrees (types_at source.now) m words.new → next_of source.now m answers.entry rest.entry o ≡ given_to source.now m answers.entry rest.entry (word_of m value) (DestroysSome number (word_of m address) stride (word_of m left))) }
+    ensures grows { (types : ℕ → Typ) (m : Meaning) → Agrees types m words.new → Agrees types m words.old }
 {
     let _shown = answers;
-    match is_zero(&left) {
+    match is_zero(words, left)? {
         Some(true) => Ok(Next::Gives(value)),
         Some(false) => {
-            let fewer = one_less(arena, left)?;
+            let fewer = one_less(arena, words, left)?;
             Ok(Next::Made(
                 When::Always,
-                destroy_next(arena, source, rest, number, address, stride, fewer)?,
+                destroy_next(arena, words, source, rest, number, address, stride, fewer)?,
             ))
         }
         None => {
-            let fewer = one_less(arena, left)?;
-            let other = destroy_next(arena, source, rest, number, address, stride, fewer)?;
+            let fewer = one_less(arena, words, left)?;
+            let other = destroy_next(arena, words, source, rest, number, address, stride, fewer)?;
             Ok(Next::Made(When::NotZero { word: left, value }, other))
         }
     }
@@ -338,16 +354,19 @@ fn destroy_some<'a>(
 // Destroys the element behind so many that are left.
 fn destroy_next<'a>(
     arena: &'a Bump,
+    words: &mut Words<'a>,
     source: &Source<'a>,
     rest: Rest<'a>,
     number: u32,
-    address: Term<'a>,
+    address: WordId,
     stride: u32,
-    left: Term<'a>,
+    left: WordId,
 ) -> Made<'a>
-    ensures { IfOk result (λ o. outcome_at source.now o ≡ destroys (waits_in source.now rest.entry) number (term_of (types_at source.now) address.entry) stride (term_of (types_at source.now) left.entry) (left_in source.now rest.entry)) }
+    ensures is { IfOk result (λ o. (m : Meaning) → Agrees (types_at source.now) m words.new → outcome_at source.now m o ≡ destroys (waits_in source.now m rest.entry) number (word_of m address) stride (word_of m left) (left_in source.now m rest.entry)) }
+    ensures grows { (types : ℕ → Typ) (m : Meaning) → Agrees types m words.new → Agrees types m words.old }
 {
-    let words = one_word(arena, element_at(arena, address, left, stride)?)?;
+    let element = element_at(arena, words, address, left, stride)?;
+    let arguments = one_word(arena, element)?;
     let frame = ObjectFrame::Destroys {
         number,
         address,
@@ -355,22 +374,23 @@ fn destroy_next<'a>(
         left,
     };
     let rest = with_frame(arena, source, rest, Frame::Object(frame))?;
-    Ok(calls(source, rest, Callee::Known(number), words))
+    Ok(calls(source, rest, Callee::Known(number), arguments))
 }
 
 // Builds the first of these parts, and then the others.
 #[tactic(auto, using(crate::proofs::Looks::parts_more, crate::proofs::Looks::parts_none))]
 fn build_part<'a>(
     arena: &'a Bump,
+    words: &mut Words<'a>,
     source: &Source<'a>,
     answers: CaseAnswers<'_>,
     rest: Rest<'a>,
     kids: KidsAt,
-    target: Term<'a>,
-    from: Term<'a>,
-    value: Term<'a>,
+    target: WordId,
+    from: WordId,
+    value: WordId,
 ) -> Going<'a>
-    ensures { IfOk result (λ o. next_of source.now answers.entry rest.entry o ≡ given_to source.now answers.entry rest.entry (term_of (types_at source.now) value.entry) (PartsOf (all_kids source.now.bound.now kids) (term_of (types_at source.now) target.entry) (term_of (types_at source.now) from.entry))) }
+    ensures { IfOk result (λ o. (m : Meaning) → next_of source.now m answers.entry rest.entry o ≡ given_to source.now m answers.entry rest.entry (word_of m value) (PartsOf (all_kids source.now.bound.now kids) (word_of m target) (word_of m from))) }
 {
     let _shown = answers;
     let Some(part) = head(source.bound, kids) else {
@@ -390,40 +410,42 @@ fn build_part<'a>(
 
 // What an array of elements that are alike is built of, from an address on.
 #[derive(Clone, Copy)]
-struct Elements<'a> {
+struct Elements {
     init: TreeAt,
     destroys: KidsAt,
     stride: u32,
-    target: Term<'a>,
-    from: Term<'a>,
+    target: WordId,
+    from: WordId,
 }
 
 // Builds the next of elements, of which so many are left.
 #[tactic(auto, using(symbolic_leaving::proofs::Zeros::either_known, symbolic_leaving::proofs::Zeros::either_open))]
 fn build_some<'a>(
     arena: &'a Bump,
+    words: &mut Words<'a>,
     source: &Source<'a>,
     answers: CaseAnswers<'_>,
     rest: Rest<'a>,
-    elements: Elements<'a>,
-    left: Term<'a>,
-    value: Term<'a>,
+    elements: Elements,
+    left: WordId,
+    value: WordId,
 ) -> Going<'a>
-    ensures { IfOk result (λ o. next_of source.now answers.entry rest.entry o ≡ given_to source.now answers.entry rest.entry (term_of (types_at source.now) value.entry) (EachOf (tree_of source.now.bound.now elements.entry.init) (all_kids source.now.bound.now elements.entry.destroys) elements.entry.stride (term_of (types_at source.now) left.entry) (term_of (types_at source.now) elements.entry.target) (term_of (types_at source.now) elements.entry.from))) }
+    ensures is { IfOk result (λ o. (m : Meaning) → Agrees (types_at source.now) m words.new → next_of source.now m answers.entry rest.entry o ≡ given_to source.now m answers.entry rest.entry (word_of m value) (EachOf (tree_of source.now.bound.now elements.init) (all_kids source.now.bound.now elements.destroys) elements.stride (word_of m left) (word_of m elements.target) (word_of m elements.from))) }
+    ensures grows { (types : ℕ → Typ) (m : Meaning) → Agrees types m words.new → Agrees types m words.old }
 {
     let _shown = answers;
-    match is_zero(&left) {
+    match is_zero(words, left)? {
         Some(true) => Ok(Next::Gives(value)),
         Some(false) => {
-            let fewer = one_less(arena, left)?;
+            let fewer = one_less(arena, words, left)?;
             Ok(Next::Made(
                 When::Always,
-                build_next(arena, source, rest, elements, fewer)?,
+                build_next(arena, words, source, rest, elements, fewer)?,
             ))
         }
         None => {
-            let fewer = one_less(arena, left)?;
-            let other = build_next(arena, source, rest, elements, fewer)?;
+            let fewer = one_less(arena, words, left)?;
+            let other = build_next(arena, words, source, rest, elements, fewer)?;
             Ok(Next::Made(When::NotZero { word: left, value }, other))
         }
     }
@@ -432,16 +454,18 @@ fn build_some<'a>(
 // The elements behind the first.
 fn behind_first<'a>(
     arena: &'a Bump,
+    words: &mut Words<'a>,
     source: &Source<'a>,
-    elements: Elements<'a>,
-    left: Term<'a>,
+    elements: Elements,
+    left: WordId,
 ) -> Result<Frame<'a>, Refusal>
-    ensures { IfOk result (λ o. frame_at source.now o ≡ EachOf (tree_of source.now.bound.now elements.entry.init) (all_kids source.now.bound.now elements.entry.destroys) elements.entry.stride (term_of (types_at source.now) left.entry) (plus_number_of (term_of (types_at source.now) elements.entry.target) elements.entry.stride) (plus_number_of (term_of (types_at source.now) elements.entry.from) elements.entry.stride)) }
+    ensures is { IfOk result (λ o. (m : Meaning) → Agrees (types_at source.now) m words.new → frame_at source.now m o ≡ EachOf (tree_of source.now.bound.now elements.init) (all_kids source.now.bound.now elements.destroys) elements.stride (word_of m left) (plus_number_of (word_of m elements.target) elements.stride) (plus_number_of (word_of m elements.from) elements.stride)) }
+    ensures grows { (types : ℕ → Typ) (m : Meaning) → Agrees types m words.new → Agrees types m words.old }
 {
     let _shown = source;
     let stride = u64::from(elements.stride);
-    let target = plus_number(arena, elements.target, stride)?;
-    let from = plus_number(arena, elements.from, stride)?;
+    let target = plus_number(arena, words, elements.target, stride)?;
+    let from = plus_number(arena, words, elements.from, stride)?;
     Ok(Frame::Object(ObjectFrame::Each {
         init: elements.init,
         destroys: elements.destroys,
@@ -455,14 +479,16 @@ fn behind_first<'a>(
 // Builds the next element, behind which so many are left.
 fn build_next<'a>(
     arena: &'a Bump,
+    words: &mut Words<'a>,
     source: &Source<'a>,
     rest: Rest<'a>,
-    elements: Elements<'a>,
-    left: Term<'a>,
+    elements: Elements,
+    left: WordId,
 ) -> Made<'a>
-    ensures { IfOk result (λ o. outcome_at source.now o ≡ builds (waits_in source.now rest.entry) (tree_of source.now.bound.now elements.entry.init) (all_kids source.now.bound.now elements.entry.destroys) elements.entry.stride (term_of (types_at source.now) left.entry) (term_of (types_at source.now) elements.entry.target) (term_of (types_at source.now) elements.entry.from) (left_in source.now rest.entry)) }
+    ensures is { IfOk result (λ o. (m : Meaning) → Agrees (types_at source.now) m words.new → outcome_at source.now m o ≡ builds (waits_in source.now m rest.entry) (tree_of source.now.bound.now elements.init) (all_kids source.now.bound.now elements.destroys) elements.stride (word_of m left) (word_of m elements.target) (word_of m elements.from) (left_in source.now m rest.entry)) }
+    ensures grows { (types : ℕ → Typ) (m : Meaning) → Agrees types m words.new → Agrees types m words.old }
 {
-    let others = behind_first(arena, source, elements, left)?;
+    let others = behind_first(arena, words, source, elements, left)?;
     let waiting = Waiting {
         address: Spot::Word(elements.target),
         destroys: elements.destroys,

@@ -8,7 +8,7 @@ ghost use Rattle.symbolic_source.specs.Terms.{number as number_of_term};
 ghost use Rattle.symbolic_source.specs.Frames.{value as for_value, Run as Runs, Gives as GivesWord, Body as Bodies, Items as ItemsOf};
 ghost use Rattle.symbolic_source.specs.Outcomes.{silent, goes as goes_on, either as either_of};
 ghost use Rattle.symbolic_source.specs.Steps.{if_word, same_word as same_word_of, run_items as runs_items, compared as compares};
-ghost use Rattle.symbolic_terms.specs.Words.{term_of};
+ghost use Rattle.symbolic_terms.specs.Meanings.{Meaning, word_of, Agrees};
 ghost use Rattle.symbolic_terms.specs.Shown.{statement_of};
 ghost use Rattle.symbolic_leaving.specs.Source.{types_at, units_of};
 ghost use Rattle.symbolic_leaving.specs.Shown.{left_in, waits_in, outcome_at};
@@ -24,14 +24,15 @@ use symbolic_leaving::leaving::leave;
 use symbolic_leaving::roots::{case_word, is_case, is_default};
 use symbolic_leaving::source::Source;
 use symbolic_leaving::states::{
-    Made, applied, either, gives, goes, number, run_before, run_body, run_step, run_test, scoped,
-    with_frame,
+    Made, either, gives, goes, number, run_before, run_body, run_step, run_test, scoped, with_frame,
 };
 use symbolic_running::next::{Going, Next, When};
 use symbolic_terms::frames::{Exit, Frame, StatementFrame};
+use symbolic_terms::ids::WordId;
+use symbolic_terms::made::applied;
 use symbolic_terms::outcomes::Rest;
 use symbolic_terms::refusal::Refusal;
-use symbolic_terms::terms::Term;
+use symbolic_terms::words::Words;
 
 // From the first `case` on.
 #[tactic(auto, using(crate::proofs::Labels::fewer, crate::proofs::Labels::label_next, crate::proofs::Labels::label_here, crate::proofs::Labels::label_none))]
@@ -66,19 +67,21 @@ fn from_default(source: &Source<'_>, items: KidsAt) -> KidsAt
 /// Goes on with a value for a statement.
 pub(crate) fn give_statement<'a>(
     arena: &'a Bump,
+    words: &mut Words<'a>,
     source: &Source<'a>,
     answers: CaseAnswers<'_>,
     rest: Rest<'a>,
-    frame: StatementFrame<'a>,
-    value: Term<'a>,
+    frame: StatementFrame,
+    value: WordId,
 ) -> Going<'a>
-    ensures { IfOk result (λ o. next_of source.now answers.entry rest.entry o ≡ given_to source.now answers.entry rest.entry (term_of (types_at source.now) value.entry) (statement_of (types_at source.now) (units_of source.now) frame.entry)) }
+    ensures is { IfOk result (λ o. (m : Meaning) → Agrees (types_at source.now) m words.new → next_of source.now m answers.entry rest.entry o ≡ given_to source.now m answers.entry rest.entry (word_of m value) (statement_of (types_at source.now) m (units_of source.now) frame)) }
+    ensures grows { (types : ℕ → Typ) (m : Meaning) → Agrees types m words.new → Agrees types m words.old }
 {
     match frame {
-        StatementFrame::Items(kids) => run_item(arena, source, answers, rest, kids, value),
+        StatementFrame::Items(kids) => run_item(arena, words, source, answers, rest, kids, value),
         StatementFrame::Test(parts) => Ok(Next::Made(
             When::Always,
-            test(arena, source, rest, parts, value)?,
+            test(arena, words, source, rest, parts, value)?,
         )),
         StatementFrame::Body(parts) => Ok(Next::Made(
             When::Always,
@@ -102,14 +105,15 @@ pub(crate) fn give_statement<'a>(
             items,
         } => Ok(Next::Made(
             When::Always,
-            compare_with(arena, source, rest, word, label, behind, items)?,
+            compare_with(arena, words, source, rest, word, label, behind, items)?,
         )),
-        StatementFrame::Switches => Ok(Next::Gives(number(0))),
+        StatementFrame::Switches => Ok(Next::Gives(number(words, 0)?)),
         StatementFrame::Returning => {
             Ok(Next::Made(
                 When::Always,
                 leave(
                     arena,
+                    words,
                     source,
                     rest.temporaries,
                     Exit::Returns(value),
@@ -124,13 +128,15 @@ pub(crate) fn give_statement<'a>(
 #[tactic(auto, using(crate::proofs::Looks::items_more, crate::proofs::Looks::items_none))]
 fn run_item<'a>(
     arena: &'a Bump,
+    words: &mut Words<'a>,
     source: &Source<'a>,
     answers: CaseAnswers<'_>,
     rest: Rest<'a>,
     kids: KidsAt,
-    value: Term<'a>,
+    value: WordId,
 ) -> Going<'a>
-    ensures { IfOk result (λ o. next_of source.now answers.entry rest.entry o ≡ given_to source.now answers.entry rest.entry (term_of (types_at source.now) value.entry) (ItemsOf (all_kids source.now.bound.now kids))) }
+    ensures is { IfOk result (λ o. (m : Meaning) → Agrees (types_at source.now) m words.new → next_of source.now m answers.entry rest.entry o ≡ given_to source.now m answers.entry rest.entry (word_of m value) (ItemsOf (all_kids source.now.bound.now kids))) }
+    ensures grows { (types : ℕ → Typ) (m : Meaning) → Agrees types m words.new → Agrees types m words.old }
 {
     let _shown = answers;
     match head(source.bound, kids) {
@@ -141,28 +147,31 @@ fn run_item<'a>(
                 run_before(arena, source, rest, item, Frame::Statement(then))?,
             ))
         }
-        None => Ok(Next::Gives(number(0))),
+        None => Ok(Next::Gives(number(words, 0)?)),
     }
 }
 
 // Goes on with the value of a loop's test.
 fn test<'a>(
     arena: &'a Bump,
+    words: &mut Words<'a>,
     source: &Source<'a>,
     rest: Rest<'a>,
     parts: LoopParts,
-    value: Term<'a>,
+    value: WordId,
 ) -> Made<'a>
-    ensures { IfOk result (λ o. outcome_at source.now o ≡ either_of (term_of (types_at source.now) value.entry) (goes_on silent (waits_in source.now rest.entry) (GivesWord (number_of_term 0) ∷ left_in source.now rest.entry)) (goes_on silent (waits_in source.now rest.entry) (Runs for_value (tree_of source.now.bound.now parts.body) ∷ Bodies (tree_of source.now.bound.now parts.test) (tree_of source.now.bound.now parts.body) (tree_of source.now.bound.now parts.step) ∷ left_in source.now rest.entry))) }
+    ensures is { IfOk result (λ o. (m : Meaning) → Agrees (types_at source.now) m words.new → outcome_at source.now m o ≡ either_of (word_of m value) (goes_on silent (waits_in source.now m rest.entry) (GivesWord (number_of_term 0) ∷ left_in source.now m rest.entry)) (goes_on silent (waits_in source.now m rest.entry) (Runs for_value (tree_of source.now.bound.now parts.body) ∷ Bodies (tree_of source.now.bound.now parts.test) (tree_of source.now.bound.now parts.body) (tree_of source.now.bound.now parts.step) ∷ left_in source.now m rest.entry))) }
+    ensures grows { (types : ℕ → Typ) (m : Meaning) → Agrees types m words.new → Agrees types m words.old }
 {
-    let zero = gives(arena, source, rest, number(0))?;
+    let word = number(words, 0)?;
+    let zero = gives(arena, source, rest, word)?;
     let other = run_body(arena, source, rest, parts)?;
-    either(arena, source, value, zero, other)
+    either(arena, words, source, value, zero, other)
 }
 
 // Runs statements of a switch.
 fn run_items<'a>(arena: &'a Bump, source: &Source<'a>, rest: Rest<'a>, items: KidsAt) -> Made<'a>
-    ensures { IfOk result (λ o. outcome_at source.now o ≡ runs_items (waits_in source.now rest.entry) (all_kids source.now.bound.now items) (left_in source.now rest.entry)) }
+    ensures { IfOk result (λ o. (m : Meaning) → outcome_at source.now m o ≡ runs_items (waits_in source.now m rest.entry) (all_kids source.now.bound.now items) (left_in source.now m rest.entry)) }
 {
     let rest = with_frame(
         arena,
@@ -185,11 +194,11 @@ fn compare<'a>(
     arena: &'a Bump,
     source: &Source<'a>,
     rest: Rest<'a>,
-    word: Term<'a>,
+    word: WordId,
     labels: KidsAt,
     items: KidsAt,
 ) -> Made<'a>
-    ensures { IfOk result (λ o. outcome_at source.now o ≡ compares (waits_in source.now rest.entry) (term_of (types_at source.now) word.entry) (all_kids source.now.bound.now labels) (all_kids source.now.bound.now items) (left_in source.now rest.entry)) }
+    ensures { IfOk result (λ o. (m : Meaning) → outcome_at source.now m o ≡ compares (waits_in source.now m rest.entry) (word_of m word) (all_kids source.now.bound.now labels) (all_kids source.now.bound.now items) (left_in source.now m rest.entry)) }
 {
     match head(source.bound, labels) {
         Some(first) => {
@@ -206,28 +215,37 @@ fn compare<'a>(
 }
 
 // Whether the value of a switch is that of a label.
-fn same_word<'a>(arena: &'a Bump, word: Term<'a>, label: u64) -> Result<Term<'a>, Refusal>
-    ensures term { IfOk result (λ t. (types : ℕ → Typ) → term_of types t ≡ same_word_of (term_of types word.entry) label) }
+fn same_word<'a>(
+    arena: &'a Bump,
+    words: &mut Words<'a>,
+    word: WordId,
+    label: u64,
+) -> Result<WordId, Refusal>
+    ensures term { IfOk result (λ t. (types : ℕ → Typ) (m : Meaning) → Agrees types m words.new → word_of m t ≡ same_word_of (word_of m word) label) }
     ensures few { nat_lt label (2 ^ 64) ≡ true }
+    ensures grows { (types : ℕ → Typ) (m : Meaning) → Agrees types m words.new → Agrees types m words.old }
 {
-    applied(arena, BinOp::Eq, IntKind::ULong, word, number(label))
+    let right = number(words, label)?;
+    applied(arena, words, BinOp::Eq, IntKind::ULong, word, right)
 }
 
 // A label is compared with the value of a switch.
 fn compare_with<'a>(
     arena: &'a Bump,
+    words: &mut Words<'a>,
     source: &Source<'a>,
     rest: Rest<'a>,
-    word: Term<'a>,
+    word: WordId,
     label: TKind,
     behind: KidsAt,
     items: KidsAt,
 ) -> Made<'a>
-    ensures { IfOk result (λ o. outcome_at source.now o ≡ if_word (word_of_case label) (either_of (same_word_of (term_of (types_at source.now) word.entry) (word_of_case label)) (compares (waits_in source.now rest.entry) (term_of (types_at source.now) word.entry) (from_label is_case_kind (all_kids source.now.bound.now behind)) (all_kids source.now.bound.now items) (left_in source.now rest.entry)) (runs_items (waits_in source.now rest.entry) (all_kids source.now.bound.now behind) (left_in source.now rest.entry)))) }
+    ensures is { IfOk result (λ o. (m : Meaning) → Agrees (types_at source.now) m words.new → outcome_at source.now m o ≡ if_word (word_of_case label) (either_of (same_word_of (word_of m word) (word_of_case label)) (compares (waits_in source.now m rest.entry) (word_of m word) (from_label is_case_kind (all_kids source.now.bound.now behind)) (all_kids source.now.bound.now items) (left_in source.now m rest.entry)) (runs_items (waits_in source.now m rest.entry) (all_kids source.now.bound.now behind) (left_in source.now m rest.entry)))) }
+    ensures grows { (types : ℕ → Typ) (m : Meaning) → Agrees types m words.new → Agrees types m words.old }
 {
-    let is_same = same_word(arena, word, case_word(label))?;
+    let is_same = same_word(arena, words, word, case_word(label))?;
     let labels = from_case(source, behind);
     let zero = compare(arena, source, rest, word, labels, items)?;
     let other = run_items(arena, source, rest, behind)?;
-    either(arena, source, is_same, zero, other)
+    either(arena, words, source, is_same, zero, other)
 }

@@ -9,7 +9,7 @@ ghost use Rattle.symbolic_source.specs.Terms.{put as put_on};
 ghost use Rattle.symbolic_source.specs.Frames.{Fills as FillsIn, Trying as TryingOne, Takes as TakesOf};
 ghost use Rattle.symbolic_source.specs.Outcomes.{silent, goes as goes_on};
 ghost use Rattle.symbolic_source.specs.Steps.{handling as handles, fill_field as fills_field, take_field as takes_field, take_bytes as takes_bytes};
-ghost use Rattle.symbolic_terms.specs.Words.{term_of, exception_of, puts_of};
+ghost use Rattle.symbolic_terms.specs.Meanings.{Meaning, word_of, thrown_of, given_of, Agrees};
 ghost use Rattle.symbolic_terms.specs.Shown.{throwing_of};
 ghost use Rattle.symbolic_leaving.specs.Source.{types_at, linked_to, units_of, func_of};
 ghost use Rattle.symbolic_leaving.specs.Answers.{answers_at};
@@ -31,28 +31,32 @@ use symbolic_leaving::texts::is_object;
 use symbolic_running::next::{Going, Next, When};
 use symbolic_terms::arena::keep;
 use symbolic_terms::frames::{ExceptionFrame, Exit, Frame, Way};
+use symbolic_terms::ids::{ExceptionId, PutsId, WordId};
+use symbolic_terms::made::{self, field, made_of, plus_number, untouched};
 use symbolic_terms::outcomes::{Outcome, Rest};
 use symbolic_terms::refusal::Refusal;
-use symbolic_terms::sums::plus_number;
-use symbolic_terms::terms::{Exception, Puts, Term};
+use symbolic_terms::words::Words;
 
 /// Goes on with a value for an exception.
 pub(crate) fn give_exception<'a>(
     alloc: Global,
     arena: &'a Bump,
+    words: &mut Words<'a>,
     source: &Source<'a>,
     answers: CaseAnswers<'_>,
     rest: Rest<'a>,
-    frame: ExceptionFrame<'a>,
-    value: Term<'a>,
+    frame: ExceptionFrame,
+    value: WordId,
 ) -> Going<'a>
-    ensures { IfOk result (λ o. next_of source.now answers.entry rest.entry o ≡ given_to source.now answers.entry rest.entry (term_of (types_at source.now) value.entry) (throwing_of (types_at source.now) (units_of source.now) frame.entry)) }
+    ensures is { IfOk result (λ o. (m : Meaning) → Agrees (types_at source.now) m words.new → next_of source.now m answers.entry rest.entry o ≡ given_to source.now m answers.entry rest.entry (word_of m value) (throwing_of (types_at source.now) m (units_of source.now) frame)) }
+    ensures grows { (types : ℕ → Typ) (m : Meaning) → Agrees types m words.new → Agrees types m words.old }
 {
     match frame {
         ExceptionFrame::Throws { typ, fields } => {
+            let puts = untouched(words)?;
             Ok(Next::Made(
                 When::Always,
-                fills(arena, source, rest, typ, value, fields, Puts::Untouched)?,
+                fills(arena, source, rest, typ, value, fields, puts)?,
             ))
         }
         ExceptionFrame::Fills {
@@ -67,7 +71,7 @@ pub(crate) fn give_exception<'a>(
                 fields,
                 puts,
             };
-            fill(arena, source, answers, rest, filling, value)
+            fill(arena, words, source, answers, rest, filling, value)
         }
         ExceptionFrame::Filled {
             typ,
@@ -77,25 +81,27 @@ pub(crate) fn give_exception<'a>(
             fields,
             puts,
         } => {
-            let puts = put(arena, offset, kind, value, puts)?;
+            let puts = put(arena, words, offset, kind, value, puts)?;
             Ok(Next::Made(
                 When::Always,
                 fills(arena, source, rest, typ, from, fields, puts)?,
             ))
         }
-        ExceptionFrame::Tries(_) => Ok(Next::Gives(number(0))),
+        ExceptionFrame::Tries(_) => Ok(Next::Gives(number(words, 0)?)),
         ExceptionFrame::Trying {
             exception,
             handler,
             others,
         } => try_handler(
-            alloc, arena, source, answers, rest, exception, handler, others, value,
+            alloc, arena, words, source, answers, rest, exception, handler, others, value,
         ),
         ExceptionFrame::Takes {
             exception,
             base,
             fields,
-        } => take(arena, source, answers, rest, exception, base, fields, value),
+        } => take(
+            arena, words, source, answers, rest, exception, base, fields, value,
+        ),
         ExceptionFrame::Taking {
             exception,
             base,
@@ -103,7 +109,9 @@ pub(crate) fn give_exception<'a>(
             kind,
         } => Ok(Next::Made(
             When::Always,
-            take_bytes(arena, source, answers, rest, exception, base, offset, kind)?,
+            take_bytes(
+                arena, words, source, answers, rest, exception, base, offset, kind,
+            )?,
         )),
         ExceptionFrame::Handling(_) => Ok(Next::Gives(value)),
     }
@@ -111,29 +119,27 @@ pub(crate) fn give_exception<'a>(
 
 // An exception of this type that is filled, from a word or from an object.
 #[derive(Clone, Copy)]
-struct Filling<'a> {
+struct Filling {
     typ: u32,
-    from: Term<'a>,
+    from: WordId,
     fields: KidsAt,
-    puts: Puts<'a>,
+    puts: PutsId,
 }
 
 // One more word in an exception.
 fn put<'a>(
     arena: &'a Bump,
+    words: &mut Words<'a>,
     offset: u32,
     kind: IntKind,
-    word: Term<'a>,
-    others: Puts<'a>,
-) -> Result<Puts<'a>, Refusal>
-    ensures { IfOk result (λ q. (types : ℕ → Typ) → puts_of types q ≡ put_on offset (kind_size kind) (term_of types word.entry) (puts_of types others.entry)) }
+    word: WordId,
+    others: PutsId,
+) -> Result<PutsId, Refusal>
+    ensures is { IfOk result (λ q. (types : ℕ → Typ) (m : Meaning) → Agrees types m words.new → given_of m q ≡ put_on offset (kind_size kind) (word_of m word) (given_of m others)) }
+    ensures grows { (types : ℕ → Typ) (m : Meaning) → Agrees types m words.new → Agrees types m words.old }
 {
-    Ok(Puts::Put {
-        offset,
-        size: u32::from(size_of_kind(kind)),
-        word: keep(arena, word)?,
-        others: keep(arena, others)?,
-    })
+    let size = u32::from(size_of_kind(kind));
+    made::put(arena, words, offset, size, word, others)
 }
 
 // Fills these fields of an exception.
@@ -142,11 +148,11 @@ fn fills<'a>(
     source: &Source<'a>,
     rest: Rest<'a>,
     typ: u32,
-    from: Term<'a>,
+    from: WordId,
     fields: KidsAt,
-    puts: Puts<'a>,
+    puts: PutsId,
 ) -> Made<'a>
-    ensures { IfOk result (λ o. outcome_at source.now o ≡ goes_on silent (waits_in source.now rest.entry) (FillsIn (types_at source.now typ) (term_of (types_at source.now) from.entry) (all_kids source.now.bound.now fields) (puts_of (types_at source.now) puts.entry) ∷ left_in source.now rest.entry)) }
+    ensures { IfOk result (λ o. (m : Meaning) → outcome_at source.now m o ≡ goes_on silent (waits_in source.now m rest.entry) (FillsIn (types_at source.now typ) (word_of m from) (all_kids source.now.bound.now fields) (given_of m puts) ∷ left_in source.now m rest.entry)) }
 {
     let frame = ExceptionFrame::Fills {
         typ,
@@ -161,28 +167,31 @@ fn fills<'a>(
 #[tactic(auto, using(crate::proofs::Looks::fills_more, crate::proofs::Looks::fills_none))]
 fn fill<'a>(
     arena: &'a Bump,
+    words: &mut Words<'a>,
     source: &Source<'a>,
     answers: CaseAnswers<'_>,
     rest: Rest<'a>,
-    filling: Filling<'a>,
-    value: Term<'a>,
+    filling: Filling,
+    value: WordId,
 ) -> Going<'a>
-    ensures { IfOk result (λ o. next_of source.now answers.entry rest.entry o ≡ given_to source.now answers.entry rest.entry (term_of (types_at source.now) value.entry) (FillsIn (types_at source.now filling.entry.typ) (term_of (types_at source.now) filling.entry.from) (all_kids source.now.bound.now filling.entry.fields) (puts_of (types_at source.now) filling.entry.puts))) }
+    ensures is { IfOk result (λ o. (m : Meaning) → Agrees (types_at source.now) m words.new → next_of source.now m answers.entry rest.entry o ≡ given_to source.now m answers.entry rest.entry (word_of m value) (FillsIn (types_at source.now filling.typ) (word_of m filling.from) (all_kids source.now.bound.now filling.fields) (given_of m filling.puts))) }
+    ensures grows { (types : ℕ → Typ) (m : Meaning) → Agrees types m words.new → Agrees types m words.old }
 {
     match head(source.bound, filling.fields) {
         Some(field) => {
             let kind = kind_of(source.bound, field);
             Ok(Next::Made(
                 When::Always,
-                fill_field(arena, source, answers, rest, filling, kind)?,
+                fill_field(arena, words, source, answers, rest, filling, kind)?,
             ))
         }
         None => {
-            let made = Exception::Made(filling.typ, filling.puts);
+            let made = made_of(words, filling.typ, filling.puts)?;
             Ok(Next::Made(
                 When::Always,
                 leave(
                     arena,
+                    words,
                     source,
                     rest.temporaries,
                     Exit::Throws(made),
@@ -197,13 +206,15 @@ fn fill<'a>(
 #[tactic(auto, using(crate::proofs::Looks::fill_some, crate::proofs::Looks::fill_other))]
 fn fill_field<'a>(
     arena: &'a Bump,
+    words: &mut Words<'a>,
     source: &Source<'a>,
     answers: CaseAnswers<'_>,
     rest: Rest<'a>,
-    filling: Filling<'a>,
+    filling: Filling,
     kind: TKind,
 ) -> Made<'a>
-    ensures { IfOk result (λ o. outcome_at source.now o ≡ fills_field (linked_to source.now) (func_of source.now) (answers_at source.now answers.entry) (waits_in source.now rest.entry) (types_at source.now filling.entry.typ) (term_of (types_at source.now) filling.entry.from) kind (kids_after (all_kids source.now.bound.now filling.entry.fields)) (puts_of (types_at source.now) filling.entry.puts) (left_in source.now rest.entry)) }
+    ensures is { IfOk result (λ o. (m : Meaning) → Agrees (types_at source.now) m words.new → outcome_at source.now m o ≡ fills_field (linked_to source.now) (func_of source.now) (answers_at source.now answers.entry) (waits_in source.now m rest.entry) (types_at source.now filling.typ) (word_of m filling.from) kind (kids_after (all_kids source.now.bound.now filling.fields)) (given_of m filling.puts) (left_in source.now m rest.entry)) }
+    ensures grows { (types : ℕ → Typ) (m : Meaning) → Agrees types m words.new → Agrees types m words.old }
 {
     let Filling {
         typ,
@@ -220,7 +231,7 @@ fn fill_field<'a>(
                 fields: others,
                 puts,
             };
-            fill_at(arena, source, answers, rest, field, filling)
+            fill_at(arena, words, source, answers, rest, field, filling)
         }
         None => fills(arena, source, rest, typ, from, others, puts),
     }
@@ -229,13 +240,15 @@ fn fill_field<'a>(
 // Fills a field of an exception, from the object that is thrown or with the value; the others are filled then.
 fn fill_at<'a>(
     arena: &'a Bump,
+    words: &mut Words<'a>,
     source: &Source<'a>,
     answers: CaseAnswers<'_>,
     rest: Rest<'a>,
     field: FieldAt,
-    filling: Filling<'a>,
+    filling: Filling,
 ) -> Made<'a>
-    ensures { IfOk result (λ o. outcome_at source.now o ≡ fills_field (linked_to source.now) (func_of source.now) (answers_at source.now answers.entry) (waits_in source.now rest.entry) (types_at source.now filling.entry.typ) (term_of (types_at source.now) filling.entry.from) (TKind.Field field.offset field.kind) (all_kids source.now.bound.now filling.entry.fields) (puts_of (types_at source.now) filling.entry.puts) (left_in source.now rest.entry)) }
+    ensures is { IfOk result (λ o. (m : Meaning) → Agrees (types_at source.now) m words.new → outcome_at source.now m o ≡ fills_field (linked_to source.now) (func_of source.now) (answers_at source.now answers.entry) (waits_in source.now m rest.entry) (types_at source.now filling.typ) (word_of m filling.from) (TKind.Field field.offset field.kind) (all_kids source.now.bound.now filling.fields) (given_of m filling.puts) (left_in source.now m rest.entry)) }
+    ensures grows { (types : ℕ → Typ) (m : Meaning) → Agrees types m words.new → Agrees types m words.old }
 {
     let _shown = answers;
     let FieldAt { offset, kind } = field;
@@ -246,7 +259,7 @@ fn fill_at<'a>(
         puts,
     } = filling;
     if is_object(source, typ) {
-        let address = plus_number(arena, from, u64::from(offset))?;
+        let address = plus_number(arena, words, from, u64::from(offset))?;
         let frame = ExceptionFrame::Filled {
             typ,
             from,
@@ -258,7 +271,7 @@ fn fill_at<'a>(
         let rest = with_frame(arena, source, rest, Frame::Exception(frame))?;
         reads(arena, source, rest, address, kind, false)
     } else {
-        let filled = put(arena, offset, kind, from, puts)?;
+        let filled = put(arena, words, offset, kind, from, puts)?;
         fills(arena, source, rest, typ, from, fields, filled)
     }
 }
@@ -267,20 +280,22 @@ fn fill_at<'a>(
 fn try_handler<'a>(
     alloc: Global,
     arena: &'a Bump,
+    words: &mut Words<'a>,
     source: &Source<'a>,
     answers: CaseAnswers<'_>,
     rest: Rest<'a>,
-    exception: Exception<'a>,
+    exception: ExceptionId,
     handler: TreeAt,
     others: KidsAt,
-    value: Term<'a>,
+    value: WordId,
 ) -> Going<'a>
-    ensures { IfOk result (λ o. next_of source.now answers.entry rest.entry o ≡ given_to source.now answers.entry rest.entry (term_of (types_at source.now) value.entry) (TryingOne (exception_of (types_at source.now) exception.entry) (tree_of source.now.bound.now handler) (all_kids source.now.bound.now others))) }
+    ensures is { IfOk result (λ o. (m : Meaning) → Agrees (types_at source.now) m words.new → next_of source.now m answers.entry rest.entry o ≡ given_to source.now m answers.entry rest.entry (word_of m value) (TryingOne (thrown_of m exception) (tree_of source.now.bound.now handler) (all_kids source.now.bound.now others))) }
+    ensures grows { (types : ℕ → Typ) (m : Meaning) → Agrees types m words.new → Agrees types m words.old }
 {
-    match caught(alloc, source, answers, exception, handler)? {
+    match caught(alloc, words, source, answers, exception, handler)? {
         Some(true) => Ok(Next::Made(
             When::Always,
-            handle(arena, source, answers, rest, exception, handler)?,
+            handle(arena, words, source, answers, rest, exception, handler)?,
         )),
         Some(false) => {
             let then = Frame::Exception(ExceptionFrame::Tries(others));
@@ -289,6 +304,7 @@ fn try_handler<'a>(
                 When::Always,
                 leave(
                     arena,
+                    words,
                     source,
                     rest.temporaries,
                     Exit::Throws(exception),
@@ -304,13 +320,15 @@ fn try_handler<'a>(
 #[tactic(auto, using(crate::proofs::Looks::handling_tree, crate::proofs::Looks::taken_some, crate::proofs::Looks::taken_other))]
 fn handle<'a>(
     arena: &'a Bump,
+    words: &mut Words<'a>,
     source: &Source<'a>,
     answers: CaseAnswers<'_>,
     rest: Rest<'a>,
-    exception: Exception<'a>,
+    exception: ExceptionId,
     handler: TreeAt,
 ) -> Made<'a>
-    ensures { IfOk result (λ o. outcome_at source.now o ≡ handles (linked_to source.now) (func_of source.now) (answers_at source.now answers.entry) (waits_in source.now rest.entry) (exception_of (types_at source.now) exception.entry) (tree_of source.now.bound.now handler) (left_in source.now rest.entry)) }
+    ensures is { IfOk result (λ o. (m : Meaning) → Agrees (types_at source.now) m words.new → outcome_at source.now m o ≡ handles (linked_to source.now) (func_of source.now) (answers_at source.now answers.entry) (waits_in source.now m rest.entry) (thrown_of m exception) (tree_of source.now.bound.now handler) (left_in source.now m rest.entry)) }
+    ensures grows { (types : ℕ → Typ) (m : Meaning) → Agrees types m words.new → Agrees types m words.old }
 {
     let _shown = answers;
     let kids = kids_of(source.bound, handler);
@@ -321,7 +339,7 @@ fn handle<'a>(
         Some(place) => {
             let frame = ExceptionFrame::Takes {
                 exception,
-                base: local(source, place),
+                base: local(words, source, place)?,
                 fields: rest_of(source.bound, kids),
             };
             let rest = with_frame(arena, source, rest, body)?;
@@ -335,15 +353,17 @@ fn handle<'a>(
 #[tactic(auto, using(crate::proofs::Looks::takes_more, crate::proofs::Looks::takes_none))]
 fn take<'a>(
     arena: &'a Bump,
+    words: &mut Words<'a>,
     source: &Source<'a>,
     answers: CaseAnswers<'_>,
     rest: Rest<'a>,
-    exception: Exception<'a>,
-    base: Term<'a>,
+    exception: ExceptionId,
+    base: WordId,
     fields: KidsAt,
-    value: Term<'a>,
+    value: WordId,
 ) -> Going<'a>
-    ensures { IfOk result (λ o. next_of source.now answers.entry rest.entry o ≡ given_to source.now answers.entry rest.entry (term_of (types_at source.now) value.entry) (TakesOf (exception_of (types_at source.now) exception.entry) (term_of (types_at source.now) base.entry) (all_kids source.now.bound.now fields))) }
+    ensures is { IfOk result (λ o. (m : Meaning) → Agrees (types_at source.now) m words.new → next_of source.now m answers.entry rest.entry o ≡ given_to source.now m answers.entry rest.entry (word_of m value) (TakesOf (thrown_of m exception) (word_of m base) (all_kids source.now.bound.now fields))) }
+    ensures grows { (types : ℕ → Typ) (m : Meaning) → Agrees types m words.new → Agrees types m words.old }
 {
     match head(source.bound, fields) {
         Some(field) => {
@@ -354,7 +374,7 @@ fn take<'a>(
                 take_field(arena, source, answers, rest, exception, base, kind, others)?,
             ))
         }
-        None => Ok(Next::Gives(number(0))),
+        None => Ok(Next::Gives(number(words, 0)?)),
     }
 }
 
@@ -362,15 +382,16 @@ fn take<'a>(
 #[tactic(auto, using(crate::proofs::Looks::take_some, crate::proofs::Looks::take_other))]
 fn take_field<'a>(
     arena: &'a Bump,
+    words: &mut Words<'a>,
     source: &Source<'a>,
     answers: CaseAnswers<'_>,
     rest: Rest<'a>,
-    exception: Exception<'a>,
-    base: Term<'a>,
+    exception: ExceptionId,
+    base: WordId,
     kind: TKind,
     others: KidsAt,
 ) -> Made<'a>
-    ensures { IfOk result (λ o. outcome_at source.now o ≡ takes_field (linked_to source.now) (func_of source.now) (answers_at source.now answers.entry) (waits_in source.now rest.entry) (exception_of (types_at source.now) exception.entry) (term_of (types_at source.now) base.entry) kind (all_kids source.now.bound.now others) (left_in source.now rest.entry)) }
+    ensures { IfOk result (λ o. (m : Meaning) → outcome_at source.now m o ≡ takes_field (linked_to source.now) (func_of source.now) (answers_at source.now answers.entry) (waits_in source.now m rest.entry) (thrown_of m exception) (word_of m base) kind (all_kids source.now.bound.now others) (left_in source.now m rest.entry)) }
 {
     let _shown = answers;
     match field_of(kind) {
@@ -390,13 +411,8 @@ fn take_field<'a>(
 }
 
 // Stores these fields of an exception.
-fn takes<'a>(
-    source: &Source<'a>,
-    exception: Exception<'a>,
-    base: Term<'a>,
-    fields: KidsAt,
-) -> Frame<'a>
-    ensures { frame_at source.now result ≡ TakesOf (exception_of (types_at source.now) exception.entry) (term_of (types_at source.now) base.entry) (all_kids source.now.bound.now fields) }
+fn takes<'a>(source: &Source<'a>, exception: ExceptionId, base: WordId, fields: KidsAt) -> Frame<'a>
+    ensures { (m : Meaning) → frame_at source.now m result ≡ TakesOf (thrown_of m exception) (word_of m base) (all_kids source.now.bound.now fields) }
 {
     let _shown = source;
     Frame::Exception(ExceptionFrame::Takes {
@@ -409,23 +425,23 @@ fn takes<'a>(
 // Stores a field of an exception into a handler's object.
 fn take_bytes<'a>(
     arena: &'a Bump,
+    words: &mut Words<'a>,
     source: &Source<'a>,
     answers: CaseAnswers<'_>,
     rest: Rest<'a>,
-    exception: Exception<'a>,
-    base: Term<'a>,
+    exception: ExceptionId,
+    base: WordId,
     offset: u32,
     kind: IntKind,
 ) -> Made<'a>
-    ensures { IfOk result (λ o. outcome_at source.now o ≡ takes_bytes (linked_to source.now) (func_of source.now) (answers_at source.now answers.entry) (waits_in source.now rest.entry) (exception_of (types_at source.now) exception.entry) (term_of (types_at source.now) base.entry) offset kind (left_in source.now rest.entry)) }
+    ensures is { IfOk result (λ o. (m : Meaning) → Agrees (types_at source.now) m words.new → outcome_at source.now m o ≡ takes_bytes (linked_to source.now) (func_of source.now) (answers_at source.now answers.entry) (waits_in source.now m rest.entry) (thrown_of m exception) (word_of m base) offset kind (left_in source.now m rest.entry)) }
+    ensures grows { (types : ℕ → Typ) (m : Meaning) → Agrees types m words.new → Agrees types m words.old }
 {
     let _shown = answers;
-    let address = plus_number(arena, base, u64::from(offset))?;
-    let word = Term::Field {
-        exception: keep(arena, exception)?,
-        offset,
-        size: u32::from(size_of_kind(kind)),
-    };
+    let address = plus_number(arena, words, base, u64::from(offset))?;
+    let size = u32::from(size_of_kind(kind));
+    let word = field(arena, words, exception, offset, size)?;
+    let zero = number(words, 0)?;
     writes(
         arena,
         source,
@@ -434,6 +450,6 @@ fn take_bytes<'a>(
         kind,
         word,
         false,
-        Frame::Gives(number(0)),
+        Frame::Gives(zero),
     )
 }
