@@ -54,7 +54,7 @@ fn opens_then<'a>(
     place: Place<'a>,
     opens: Opens<'a>,
 ) -> Result<Next<'a>, Refusal>
-    ensures { IfOk result (λ n. (types : ℕ → Typ) (o : SourceNext) → next_of types n o ≡ coming types Loudly (index + 1) (opened_after (place_of types place.entry) (opens_of opens.entry)) o) }
+    ensures { IfOk result (λ n. (types : ℕ → Typ) (m : Meaning) (o : SourceNext) → next_of types m n o ≡ coming m Loudly (index + 1) (opened_after (place_of types m place.entry) (opens_of opens.entry)) o) }
 {
     goes_by(Course::Loudly, index, opened_later(arena, place, opens)?)
 }
@@ -66,7 +66,7 @@ fn enters<'a>(
     place: Place<'a>,
     block: Open,
 ) -> Result<Next<'a>, Refusal>
-    ensures { IfOk result (λ n. (types : ℕ → Typ) (o : SourceNext) → next_of types n o ≡ coming types Loudly (index + 1) (opened_after (place_of types place.entry) (open_shown block ∷ opens_of place.entry.opens)) o) }
+    ensures { IfOk result (λ n. (types : ℕ → Typ) (m : Meaning) (o : SourceNext) → next_of types m n o ≡ coming m Loudly (index + 1) (opened_after (place_of types m place.entry) (open_shown block ∷ opens_of place.entry.opens)) o) }
 {
     let opens = Opens::More(block, keep(arena, place.opens)?);
     opens_then(arena, index, place, opens)
@@ -74,7 +74,7 @@ fn enters<'a>(
 
 // The innermost block is left.
 fn leaves<'a>(arena: &'a Bump, index: u32, place: Place<'a>) -> Result<Next<'a>, Refusal>
-    ensures { IfOk result (λ n. (types : ℕ → Typ) (o : SourceNext) → next_of types n o ≡ coming types Loudly (index + 1) (opened_after (place_of types place.entry) (rest_of (opens_of place.entry.opens))) o) }
+    ensures { IfOk result (λ n. (types : ℕ → Typ) (m : Meaning) (o : SourceNext) → next_of types m n o ≡ coming m Loudly (index + 1) (opened_after (place_of types m place.entry) (rest_of (opens_of place.entry.opens))) o) }
 {
     opens_then(arena, index, place, without_innermost(place.opens))
 }
@@ -87,7 +87,7 @@ pub fn begins<'a>(
     kind: BlockKind,
     outcome: &Outcome<'a>,
 ) -> Result<Next<'a>, Refusal>
-    ensures { IfOk result (λ n. (types : ℕ → Typ) (p : Program) (f : Func) → next_of types n (outcome_of types p f outcome.now) ≡ begins_atomic index (place_of types place.entry) kind (outcome_of types p f outcome.now)) }
+    ensures { IfOk result (λ n. (types : ℕ → Typ) (m : Meaning) (p : Program) (f : Func) → next_of types m n (outcome_of types m p f outcome.now) ≡ begins_atomic index (place_of types m place.entry) kind (outcome_of types m p f outcome.now)) }
 {
     match outcome {
         Outcome::Goes(Leading::Does(Doing::BeginsAtomic(begun)), _) => {
@@ -108,7 +108,7 @@ pub fn begins_locked<'a>(
     place: Place<'a>,
     outcome: &Outcome<'a>,
 ) -> Result<Next<'a>, Refusal>
-    ensures { IfOk result (λ n. (types : ℕ → Typ) (p : Program) (f : Func) → next_of types n (outcome_of types p f outcome.now) ≡ begins_sync index (place_of types place.entry) (outcome_of types p f outcome.now)) }
+    ensures { IfOk result (λ n. (types : ℕ → Typ) (m : Meaning) (p : Program) (f : Func) → next_of types m n (outcome_of types m p f outcome.now) ≡ begins_sync index (place_of types m place.entry) (outcome_of types m p f outcome.now)) }
 {
     match outcome {
         Outcome::Goes(Leading::Does(Doing::BeginsSync), _) => {
@@ -125,7 +125,7 @@ pub fn ends_atomic<'a>(
     place: Place<'a>,
     outcome: &Outcome<'a>,
 ) -> Result<Next<'a>, Refusal>
-    ensures { IfOk result (λ n. (types : ℕ → Typ) (p : Program) (f : Func) → next_of types n (outcome_of types p f outcome.now) ≡ leaves_atomic index (place_of types place.entry) (outcome_of types p f outcome.now)) }
+    ensures { IfOk result (λ n. (types : ℕ → Typ) (m : Meaning) (p : Program) (f : Func) → next_of types m n (outcome_of types m p f outcome.now) ≡ leaves_atomic index (place_of types m place.entry) (outcome_of types m p f outcome.now)) }
 {
     match outcome {
         Outcome::Goes(Leading::Does(Doing::EndsBlock(Open::Atomic(_))), _) => {
@@ -146,7 +146,7 @@ pub fn ends_locked<'a>(
     place: Place<'a>,
     outcome: &Outcome<'a>,
 ) -> Result<Next<'a>, Refusal>
-    ensures { IfOk result (λ n. (types : ℕ → Typ) (p : Program) (f : Func) → next_of types n (outcome_of types p f outcome.now) ≡ leaves_sync index (place_of types place.entry) (outcome_of types p f outcome.now)) }
+    ensures { IfOk result (λ n. (types : ℕ → Typ) (m : Meaning) (p : Program) (f : Func) → next_of types m n (outcome_of types m p f outcome.now) ≡ leaves_sync index (place_of types m place.entry) (outcome_of types m p f outcome.now)) }
 {
     match outcome {
         Outcome::Goes(Leading::Does(Doing::EndsBlock(Open::Sync)), _) => {

@@ -52,12 +52,12 @@ fn same_flag(flag: bool, other: bool) -> bool
 // The source and the code do the same, and the place is the one after the reply, where these operands stood before it.
 fn answered<'a>(
     arena: &'a Bump,
-    course: Course<'a>,
+    course: Course,
     index: u32,
     place: Place<'a>,
     operands: Terms<'a>,
 ) -> Result<Next<'a>, Refusal>
-    ensures { IfOk result (λ n. (types : ℕ → Typ) (o : SourceNext) → next_of types n o ≡ coming types course.entry (index + 1) (after_reply (place_of types place.entry) (in_terms later (terms_of types operands.entry))) o) }
+    ensures { IfOk result (λ n. (types : ℕ → Typ) (m : Meaning) (o : SourceNext) → next_of types m n o ≡ coming m course.entry (index + 1) (after_reply (place_of types m place.entry) (in_terms later (words_of m operands.entry))) o) }
 {
     let operands = replaced_terms(arena, Replacing::Later, operands)?;
     goes_by(course, index, place_later(arena, place, operands)?)
@@ -66,13 +66,13 @@ fn answered<'a>(
 // The same, and after the reply this word is on them.
 fn answered_with<'a>(
     arena: &'a Bump,
-    course: Course<'a>,
+    course: Course,
     index: u32,
     place: Place<'a>,
-    word: Term<'a>,
+    word: WordId,
     operands: Terms<'a>,
 ) -> Result<Next<'a>, Refusal>
-    ensures { IfOk result (λ n. (types : ℕ → Typ) (o : SourceNext) → next_of types n o ≡ coming types course.entry (index + 1) (after_reply (place_of types place.entry) (term_of types word.entry ∷ in_terms later (terms_of types operands.entry))) o) }
+    ensures { IfOk result (λ n. (types : ℕ → Typ) (m : Meaning) (o : SourceNext) → next_of types m n o ≡ coming m course.entry (index + 1) (after_reply (place_of types m place.entry) (word_of m word.entry ∷ in_terms later (words_of m operands.entry))) o) }
 {
     let below = replaced_terms(arena, Replacing::Later, operands)?;
     let operands = pushed(arena, word, below)?;
@@ -83,12 +83,12 @@ fn answered_with<'a>(
 fn reads_same(
     kind: IntKind,
     volatile: bool,
-    address: &Term<'_>,
-    read: &Term<'_>,
+    address: WordId,
+    read: WordId,
     bytes: u32,
     marked: bool,
 ) -> bool
-    ensures { (types : ℕ → Typ) → result ≡ (is_same (term_of types address.now) (term_of types read.now) && (bytes == size_of kind) && is_same_flag volatile marked) }
+    ensures { (types : ℕ → Typ) (m : Meaning) → result ≡ (is_same (word_of m address.now) (word_of m read.now) && (bytes == size_of kind) && is_same_flag volatile marked) }
 {
     same_term(address, read) && bytes == u32::from(size(kind)) && same_flag(volatile, marked)
 }
@@ -100,11 +100,11 @@ fn loads_from<'a>(
     place: Place<'a>,
     kind: IntKind,
     volatile: bool,
-    address: Term<'a>,
+    address: WordId,
     below: Terms<'a>,
     outcome: &Outcome<'a>,
 ) -> Result<Next<'a>, Refusal>
-    ensures { IfOk result (λ n. (types : ℕ → Typ) (p : Program) (f : Func) → next_of types n (outcome_of types p f outcome.now) ≡ loads_at index (place_of types place.entry) kind volatile (term_of types address.entry) (terms_of types below.entry) (outcome_of types p f outcome.now)) }
+    ensures { IfOk result (λ n. (types : ℕ → Typ) (m : Meaning) (p : Program) (f : Func) → next_of types m n (outcome_of types m p f outcome.now) ≡ loads_at index (place_of types m place.entry) kind volatile (word_of m address.entry) (words_of m below.entry) (outcome_of types m p f outcome.now)) }
 {
     match outcome {
         Outcome::Goes(
@@ -137,7 +137,7 @@ pub fn loads<'a>(
     volatile: bool,
     outcome: &Outcome<'a>,
 ) -> Result<Next<'a>, Refusal>
-    ensures { IfOk result (λ n. (types : ℕ → Typ) (p : Program) (f : Func) → next_of types n (outcome_of types p f outcome.now) ≡ one_of (terms_of types place.entry.operands) (λ a ws. loads_at index (place_of types place.entry) kind volatile a ws (outcome_of types p f outcome.now))) }
+    ensures { IfOk result (λ n. (types : ℕ → Typ) (m : Meaning) (p : Program) (f : Func) → next_of types m n (outcome_of types m p f outcome.now) ≡ one_of (words_of m place.entry.operands) (λ a ws. loads_at index (place_of types m place.entry) kind volatile a ws (outcome_of types m p f outcome.now))) }
 {
     match place.operands {
         Terms::Empty => Ok(Next::Refused),
@@ -157,8 +157,8 @@ fn is_unseen(kind: IntKind, bytes: u8) -> bool
 }
 
 // What of a word is seen in its lowest bytes, so many.
-fn kept<'a>(bytes: u8, term: Term<'a>) -> Term<'a>
-    ensures { (types : ℕ → Typ) → term_of types result ≡ kept_in bytes (term_of types term.entry) }
+fn kept<'a>(bytes: u8, term: WordId) -> WordId
+    ensures { (types : ℕ → Typ) (m : Meaning) → word_of m result ≡ kept_in bytes (word_of m term.entry) }
 {
     match term {
         Term::Converted(kind, of) => { if is_unseen(kind, bytes) { *of } else { term } }
@@ -167,8 +167,8 @@ fn kept<'a>(bytes: u8, term: Term<'a>) -> Term<'a>
 }
 
 // The word that a store of this kind stores.
-fn stored<'a>(arena: &'a Bump, kind: IntKind, word: Term<'a>) -> Result<Term<'a>, Refusal>
-    ensures { IfOk result (λ t. (types : ℕ → Typ) → term_of types t ≡ stored_as kind (term_of types word.entry)) }
+fn stored<'a>(arena: &'a Bump, kind: IntKind, word: WordId) -> Result<WordId, Refusal>
+    ensures { IfOk result (λ t. (types : ℕ → Typ) (m : Meaning) → word_of m t ≡ stored_as kind (word_of m word.entry)) }
 {
     match kind {
         IntKind::Bool => Ok(Term::Converted(IntKind::Bool, keep(arena, word)?)),
@@ -180,14 +180,14 @@ fn stored<'a>(arena: &'a Bump, kind: IntKind, word: Term<'a>) -> Result<Term<'a>
 fn writes_same(
     kind: IntKind,
     volatile: bool,
-    address: &Term<'_>,
-    word: &Term<'_>,
-    written_at: &Term<'_>,
+    address: WordId,
+    word: WordId,
+    written_at: WordId,
     written_as: IntKind,
-    written: &Term<'_>,
+    written: WordId,
     marked: bool,
 ) -> bool
-    ensures { (types : ℕ → Typ) → result ≡ (is_same (term_of types address.now) (term_of types written_at.now) && (kind_size kind == kind_size written_as) && (is_same (kept_in (kind_size kind) (term_of types word.now)) (kept_in (kind_size kind) (term_of types written.now)) && is_same_flag volatile marked)) }
+    ensures { (types : ℕ → Typ) (m : Meaning) → result ≡ (is_same (word_of m address.now) (word_of m written_at.now) && (kind_size kind == kind_size written_as) && (is_same (kept_in (kind_size kind) (word_of m word.now)) (kept_in (kind_size kind) (word_of m written.now)) && is_same_flag volatile marked)) }
 {
     let bytes = size_of_kind(kind);
     same_term(address, written_at)
@@ -203,12 +203,12 @@ fn stores_at<'a>(
     place: Place<'a>,
     kind: IntKind,
     volatile: bool,
-    address: Term<'a>,
-    word: Term<'a>,
+    address: WordId,
+    word: WordId,
     below: Terms<'a>,
     outcome: &Outcome<'a>,
 ) -> Result<Next<'a>, Refusal>
-    ensures { IfOk result (λ n. (types : ℕ → Typ) (p : Program) (f : Func) → next_of types n (outcome_of types p f outcome.now) ≡ stores_to index (place_of types place.entry) kind volatile (term_of types address.entry) (term_of types word.entry) (terms_of types below.entry) (outcome_of types p f outcome.now)) }
+    ensures { IfOk result (λ n. (types : ℕ → Typ) (m : Meaning) (p : Program) (f : Func) → next_of types m n (outcome_of types m p f outcome.now) ≡ stores_to index (place_of types m place.entry) kind volatile (word_of m address.entry) (word_of m word.entry) (words_of m below.entry) (outcome_of types m p f outcome.now)) }
 {
     match outcome {
         Outcome::Goes(
@@ -251,7 +251,7 @@ pub fn stores<'a>(
     volatile: bool,
     outcome: &Outcome<'a>,
 ) -> Result<Next<'a>, Refusal>
-    ensures { IfOk result (λ n. (types : ℕ → Typ) (p : Program) (f : Func) → next_of types n (outcome_of types p f outcome.now) ≡ two_of (terms_of types place.entry.operands) (λ a w ws. stores_to index (place_of types place.entry) kind volatile a w ws (outcome_of types p f outcome.now))) }
+    ensures { IfOk result (λ n. (types : ℕ → Typ) (m : Meaning) (p : Program) (f : Func) → next_of types m n (outcome_of types m p f outcome.now) ≡ two_of (words_of m place.entry.operands) (λ a w ws. stores_to index (place_of types m place.entry) kind volatile a w ws (outcome_of types m p f outcome.now))) }
 {
     match place.operands {
         Terms::Empty => Ok(Next::Refused),
@@ -267,11 +267,11 @@ fn outputs_word<'a>(
     arena: &'a Bump,
     index: u32,
     place: Place<'a>,
-    word: Term<'a>,
+    word: WordId,
     below: Terms<'a>,
     outcome: &Outcome<'a>,
 ) -> Result<Next<'a>, Refusal>
-    ensures { IfOk result (λ n. (types : ℕ → Typ) (p : Program) (f : Func) → next_of types n (outcome_of types p f outcome.now) ≡ puts_byte index (place_of types place.entry) (term_of types word.entry) (terms_of types below.entry) (outcome_of types p f outcome.now)) }
+    ensures { IfOk result (λ n. (types : ℕ → Typ) (m : Meaning) (p : Program) (f : Func) → next_of types m n (outcome_of types m p f outcome.now) ≡ puts_byte index (place_of types m place.entry) (word_of m word.entry) (words_of m below.entry) (outcome_of types m p f outcome.now)) }
 {
     match outcome {
         Outcome::Goes(Leading::Does(Doing::PutsOut(byte)), _) => {
@@ -294,7 +294,7 @@ pub fn outputs<'a>(
     place: Place<'a>,
     outcome: &Outcome<'a>,
 ) -> Result<Next<'a>, Refusal>
-    ensures { IfOk result (λ n. (types : ℕ → Typ) (p : Program) (f : Func) → next_of types n (outcome_of types p f outcome.now) ≡ one_of (terms_of types place.entry.operands) (λ a ws. puts_byte index (place_of types place.entry) a ws (outcome_of types p f outcome.now))) }
+    ensures { IfOk result (λ n. (types : ℕ → Typ) (m : Meaning) (p : Program) (f : Func) → next_of types m n (outcome_of types m p f outcome.now) ≡ one_of (words_of m place.entry.operands) (λ a ws. puts_byte index (place_of types m place.entry) a ws (outcome_of types m p f outcome.now))) }
 {
     match place.operands {
         Terms::Empty => Ok(Next::Refused),
@@ -309,7 +309,7 @@ pub fn inputs<'a>(
     place: Place<'a>,
     outcome: &Outcome<'a>,
 ) -> Result<Next<'a>, Refusal>
-    ensures { IfOk result (λ n. (types : ℕ → Typ) (p : Program) (f : Func) → next_of types n (outcome_of types p f outcome.now) ≡ takes_byte index (place_of types place.entry) (outcome_of types p f outcome.now)) }
+    ensures { IfOk result (λ n. (types : ℕ → Typ) (m : Meaning) (p : Program) (f : Func) → next_of types m n (outcome_of types m p f outcome.now) ≡ takes_byte index (place_of types m place.entry) (outcome_of types m p f outcome.now)) }
 {
     match outcome {
         Outcome::Goes(Leading::Does(Doing::TakesIn), _) => answered_with(
@@ -329,11 +329,11 @@ fn joins_thread<'a>(
     arena: &'a Bump,
     index: u32,
     place: Place<'a>,
-    thread: Term<'a>,
+    thread: WordId,
     below: Terms<'a>,
     outcome: &Outcome<'a>,
 ) -> Result<Next<'a>, Refusal>
-    ensures { IfOk result (λ n. (types : ℕ → Typ) (p : Program) (f : Func) → next_of types n (outcome_of types p f outcome.now) ≡ joining index (place_of types place.entry) (term_of types thread.entry) (terms_of types below.entry) (outcome_of types p f outcome.now)) }
+    ensures { IfOk result (λ n. (types : ℕ → Typ) (m : Meaning) (p : Program) (f : Func) → next_of types m n (outcome_of types m p f outcome.now) ≡ joining index (place_of types m place.entry) (word_of m thread.entry) (words_of m below.entry) (outcome_of types m p f outcome.now)) }
 {
     match outcome {
         Outcome::Goes(Leading::Does(Doing::Joins(id)), _) => {
@@ -354,7 +354,7 @@ pub fn joins<'a>(
     place: Place<'a>,
     outcome: &Outcome<'a>,
 ) -> Result<Next<'a>, Refusal>
-    ensures { IfOk result (λ n. (types : ℕ → Typ) (p : Program) (f : Func) → next_of types n (outcome_of types p f outcome.now) ≡ one_of (terms_of types place.entry.operands) (λ a ws. joining index (place_of types place.entry) a ws (outcome_of types p f outcome.now))) }
+    ensures { IfOk result (λ n. (types : ℕ → Typ) (m : Meaning) (p : Program) (f : Func) → next_of types m n (outcome_of types m p f outcome.now) ≡ one_of (words_of m place.entry.operands) (λ a ws. joining index (place_of types m place.entry) a ws (outcome_of types m p f outcome.now))) }
 {
     match place.operands {
         Terms::Empty => Ok(Next::Refused),
@@ -364,12 +364,12 @@ pub fn joins<'a>(
 
 // Whether a thread is the one that the source starts.
 fn starts_same(
-    address: &Term<'_>,
-    argument: &Term<'_>,
-    called: &Term<'_>,
-    passed: &Term<'_>,
+    address: WordId,
+    argument: WordId,
+    called: WordId,
+    passed: WordId,
 ) -> bool
-    ensures { (types : ℕ → Typ) → result ≡ (is_same (term_of types address.now) (term_of types called.now) && is_same (term_of types argument.now) (term_of types passed.now)) }
+    ensures { (types : ℕ → Typ) (m : Meaning) → result ≡ (is_same (word_of m address.now) (word_of m called.now) && is_same (word_of m argument.now) (word_of m passed.now)) }
 {
     same_term(address, called) && same_term(argument, passed)
 }
@@ -379,12 +379,12 @@ fn starts<'a>(
     arena: &'a Bump,
     index: u32,
     place: Place<'a>,
-    address: Term<'a>,
-    argument: Term<'a>,
+    address: WordId,
+    argument: WordId,
     below: Terms<'a>,
     outcome: &Outcome<'a>,
 ) -> Result<Next<'a>, Refusal>
-    ensures { IfOk result (λ n. (types : ℕ → Typ) (p : Program) (f : Func) → next_of types n (outcome_of types p f outcome.now) ≡ spawning index (place_of types place.entry) (term_of types address.entry) (term_of types argument.entry) (terms_of types below.entry) (outcome_of types p f outcome.now)) }
+    ensures { IfOk result (λ n. (types : ℕ → Typ) (m : Meaning) (p : Program) (f : Func) → next_of types m n (outcome_of types m p f outcome.now) ≡ spawning index (place_of types m place.entry) (word_of m address.entry) (word_of m argument.entry) (words_of m below.entry) (outcome_of types m p f outcome.now)) }
 {
     match outcome {
         Outcome::Goes(
@@ -412,7 +412,7 @@ pub fn spawns<'a>(
     place: Place<'a>,
     outcome: &Outcome<'a>,
 ) -> Result<Next<'a>, Refusal>
-    ensures { IfOk result (λ n. (types : ℕ → Typ) (p : Program) (f : Func) → next_of types n (outcome_of types p f outcome.now) ≡ two_of (terms_of types place.entry.operands) (λ a v ws. spawning index (place_of types place.entry) a v ws (outcome_of types p f outcome.now))) }
+    ensures { IfOk result (λ n. (types : ℕ → Typ) (m : Meaning) (p : Program) (f : Func) → next_of types m n (outcome_of types m p f outcome.now) ≡ two_of (words_of m place.entry.operands) (λ a v ws. spawning index (place_of types m place.entry) a v ws (outcome_of types m p f outcome.now))) }
 {
     match place.operands {
         Terms::Empty => Ok(Next::Refused),
@@ -425,7 +425,7 @@ pub fn spawns<'a>(
 
 /// `abort`.
 pub fn aborts<'a>(outcome: &Outcome<'a>) -> Next<'a>
-    ensures { (types : ℕ → Typ) (p : Program) (f : Func) → next_of types result (outcome_of types p f outcome.now) ≡ stops_abort (outcome_of types p f outcome.now) }
+    ensures { (types : ℕ → Typ) (m : Meaning) (p : Program) (f : Func) → next_of types m result (outcome_of types m p f outcome.now) ≡ stops_abort (outcome_of types m p f outcome.now) }
 {
     match outcome {
         Outcome::Halts(End::Abort) => Next::Ends(End::Abort),

@@ -34,7 +34,7 @@ pub fn makes_new<'a>(
     name: u32,
     place: Place<'a>,
 ) -> Result<Next<'a>, Refusal>
-    ensures { IfOk result (λ n. (types : ℕ → Typ) (o : SourceNext) → next_of types n o ≡ if_found (option_map types (number_in table.now.types.now name)) (λ (t : Typ). quietly (index + 1) (held (place_of types place.entry) (makes t untouched)) o)) }
+    ensures { IfOk result (λ n. (types : ℕ → Typ) (m : Meaning) (o : SourceNext) → next_of types m n o ≡ if_found (option_map types (number_in table.now.types.now name)) (λ (t : Typ). quietly (index + 1) (held (place_of types m place.entry) (makes t untouched)) o)) }
 {
     match number_named(table.types, name) {
         Some(typ) => {
@@ -56,9 +56,9 @@ fn puts_word<'a>(
     kind: IntKind,
     place: Place<'a>,
     typ: u32,
-    others: Puts<'a>,
+    others: PutsId,
 ) -> Result<Next<'a>, Refusal>
-    ensures { IfOk result (λ n. (types : ℕ → Typ) (o : SourceNext) → next_of types n o ≡ puts_into index offset kind (place_of types place.entry) o (makes (types typ) (puts_of types others.entry))) }
+    ensures { IfOk result (λ n. (types : ℕ → Typ) (m : Meaning) (o : SourceNext) → next_of types m n o ≡ puts_into index offset kind (place_of types m place.entry) o (makes (types typ) (given_of m others.entry))) }
 {
     if is_bool(kind) {
         return Ok(Next::Refused);
@@ -90,7 +90,7 @@ pub fn puts_in<'a>(
     kind: IntKind,
     place: Place<'a>,
 ) -> Result<Next<'a>, Refusal>
-    ensures { IfOk result (λ n. (types : ℕ → Typ) (o : SourceNext) → next_of types n o ≡ puts_into index offset kind (place_of types place.entry) o (hold_of types place.entry.hold)) }
+    ensures { IfOk result (λ n. (types : ℕ → Typ) (m : Meaning) (o : SourceNext) → next_of types m n o ≡ puts_into index offset kind (place_of types m place.entry) o (hold_of types m place.entry.hold)) }
 {
     match place.hold {
         Hold::Making(typ, others) => { puts_word(arena, index, offset, kind, place, typ, others) }
@@ -99,8 +99,8 @@ pub fn puts_in<'a>(
 }
 
 // An exception is in flight, and the frame has none of its own.
-fn throws<'a>(index: u32, place: Place<'a>, exception: Exception<'a>) -> Next<'a>
-    ensures { (types : ℕ → Typ) (o : SourceNext) → next_of types result o ≡ throwing (exception_of types exception.entry) index (held (place_of types place.entry) nothing) o }
+fn throws<'a>(index: u32, place: Place<'a>, exception: ExceptionId) -> Next<'a>
+    ensures { (types : ℕ → Typ) (m : Meaning) (o : SourceNext) → next_of types m result o ≡ throwing (thrown_of m exception.entry) index (held (place_of types m place.entry) nothing) o }
 {
     Next::Goes {
         course: Course::Throwing(exception),
@@ -114,7 +114,7 @@ fn throws<'a>(index: u32, place: Place<'a>, exception: Exception<'a>) -> Next<'a
 
 /// `throw`.
 pub fn throws_made<'a>(index: u32, place: Place<'a>) -> Next<'a>
-    ensures { (types : ℕ → Typ) (o : SourceNext) → next_of types result o ≡ throws_what index (place_of types place.entry) o (hold_of types place.entry.hold) }
+    ensures { (types : ℕ → Typ) (m : Meaning) (o : SourceNext) → next_of types m result o ≡ throws_what index (place_of types m place.entry) o (hold_of types m place.entry.hold) }
 {
     match place.hold {
         Hold::Making(typ, puts) => throws(index, place, Exception::Made(typ, puts)),
@@ -124,7 +124,7 @@ pub fn throws_made<'a>(index: u32, place: Place<'a>) -> Next<'a>
 
 /// `resume`.
 pub fn resumes<'a>(index: u32, place: Place<'a>) -> Next<'a>
-    ensures { (types : ℕ → Typ) (o : SourceNext) → next_of types result o ≡ resumes_with index (place_of types place.entry) o (hold_of types place.entry.hold) }
+    ensures { (types : ℕ → Typ) (m : Meaning) (o : SourceNext) → next_of types m result o ≡ resumes_with index (place_of types m place.entry) o (hold_of types m place.entry.hold) }
 {
     match place.hold {
         Hold::Flying(exception) => throws(index, place, exception),
@@ -134,7 +134,7 @@ pub fn resumes<'a>(index: u32, place: Place<'a>) -> Next<'a>
 
 // `rethrow`, where this function has entered no handler.
 fn rethrows_outer<'a>(index: u32, place: Place<'a>, outcome: &Outcome<'a>) -> Next<'a>
-    ensures { (types : ℕ → Typ) (p : Program) (f : Func) → next_of types result (outcome_of types p f outcome.now) ≡ rethrows_what index (place_of types place.entry) (outcome_of types p f outcome.now) [] }
+    ensures { (types : ℕ → Typ) (m : Meaning) (p : Program) (f : Func) → next_of types m result (outcome_of types m p f outcome.now) ≡ rethrows_what index (place_of types m place.entry) (outcome_of types m p f outcome.now) [] }
 {
     match outcome {
         Outcome::Goes(Leading::Rethrows, _) => Next::Goes {
@@ -152,7 +152,7 @@ fn rethrows_outer<'a>(index: u32, place: Place<'a>, outcome: &Outcome<'a>) -> Ne
 /// `rethrow`, of a handler of this function, or of a caller's.
 #[tactic(auto, using(crate::proofs::Families::rethrows_some))]
 pub fn rethrows_caught<'a>(index: u32, place: Place<'a>, outcome: &Outcome<'a>) -> Next<'a>
-    ensures { (types : ℕ → Typ) (p : Program) (f : Func) → next_of types result (outcome_of types p f outcome.now) ≡ rethrows_what index (place_of types place.entry) (outcome_of types p f outcome.now) (exceptions_of types place.entry.caught) }
+    ensures { (types : ℕ → Typ) (m : Meaning) (p : Program) (f : Func) → next_of types m result (outcome_of types m p f outcome.now) ≡ rethrows_what index (place_of types m place.entry) (outcome_of types m p f outcome.now) (all_thrown m place.entry.caught) }
 {
     match place.caught {
         Exceptions::Empty => rethrows_outer(index, place, outcome),
@@ -176,8 +176,8 @@ fn are_apart(offset: u32, size: u32, other_offset: u32, other_size: u32) -> bool
 }
 
 // What was put at this place of an exception, so many bytes.
-fn was_put<'a>(offset: u32, size: u32, puts: Puts<'a>) -> Option<Term<'a>>
-    ensures { (types : ℕ → Typ) → option_map (term_of types) result ≡ put_at offset size (puts_of types puts.entry) }
+fn was_put<'a>(offset: u32, size: u32, puts: PutsId) -> Option<WordId>
+    ensures { (types : ℕ → Typ) (m : Meaning) → option_map (word_of m) result ≡ put_at offset size (given_of m puts.entry) }
 {
     match puts {
         Puts::Untouched => None,
@@ -199,8 +199,8 @@ fn was_put<'a>(offset: u32, size: u32, puts: Puts<'a>) -> Option<Term<'a>>
 }
 
 // The same of an exception.
-fn put_in<'a>(offset: u32, size: u32, exception: Exception<'a>) -> Option<Term<'a>>
-    ensures { (types : ℕ → Typ) → option_map (term_of types) result ≡ found_put offset size (exception_of types exception.entry) }
+fn put_in<'a>(offset: u32, size: u32, exception: ExceptionId) -> Option<WordId>
+    ensures { (types : ℕ → Typ) (m : Meaning) → option_map (word_of m) result ≡ found_put offset size (thrown_of m exception.entry) }
 {
     match exception {
         Exception::Unknown(_) => None,
@@ -215,8 +215,8 @@ fn put_in<'a>(offset: u32, size: u32, exception: Exception<'a>) -> Option<Term<'
 }
 
 // A word read in a kind: what is read as an address is the word itself.
-fn read_as<'a>(arena: &'a Bump, kind: IntKind, word: Term<'a>) -> Result<Term<'a>, Refusal>
-    ensures { IfOk result (λ t. (types : ℕ → Typ) → term_of types t ≡ reads_as kind (term_of types word.entry)) }
+fn read_as<'a>(arena: &'a Bump, kind: IntKind, word: WordId) -> Result<WordId, Refusal>
+    ensures { IfOk result (λ t. (types : ℕ → Typ) (m : Meaning) → word_of m t ≡ reads_as kind (word_of m word.entry)) }
 {
     match kind {
         IntKind::ULong => Ok(word),
@@ -229,9 +229,9 @@ fn taken_word<'a>(
     arena: &'a Bump,
     kind: IntKind,
     offset: u8,
-    exception: Exception<'a>,
-) -> Result<Term<'a>, Refusal>
-    ensures { IfOk result (λ t. (types : ℕ → Typ) → term_of types t ≡ word_taken kind offset (exception_of types exception.entry) (found_put offset (size_of kind) (exception_of types exception.entry))) }
+    exception: ExceptionId,
+) -> Result<WordId, Refusal>
+    ensures { IfOk result (λ t. (types : ℕ → Typ) (m : Meaning) → word_of m t ≡ word_taken kind offset (thrown_of m exception.entry) (found_put offset (size_of kind) (thrown_of m exception.entry))) }
 {
     let offset = u32::from(offset);
     let size = u32::from(size(kind));
@@ -256,7 +256,7 @@ pub fn gets_caught<'a>(
     kind: IntKind,
     place: Place<'a>,
 ) -> Result<Next<'a>, Refusal>
-    ensures { IfOk result (λ n. (types : ℕ → Typ) (o : SourceNext) → next_of types n o ≡ gets_from index offset kind (place_of types place.entry) o (exceptions_of types place.entry.caught)) }
+    ensures { IfOk result (λ n. (types : ℕ → Typ) (m : Meaning) (o : SourceNext) → next_of types m n o ≡ gets_from index offset kind (place_of types m place.entry) o (all_thrown m place.entry.caught)) }
 {
     match place.caught {
         Exceptions::Empty => Ok(Next::Refused),
@@ -272,7 +272,7 @@ pub fn gets_caught<'a>(
 
 /// `xdone`.
 pub fn handler_ends<'a>(index: u32, place: Place<'a>) -> Result<Next<'a>, Refusal>
-    ensures { IfOk result (λ n. (types : ℕ → Typ) (o : SourceNext) → next_of types n o ≡ ends_at index (place_of types place.entry) o (exceptions_of types place.entry.caught)) }
+    ensures { IfOk result (λ n. (types : ℕ → Typ) (m : Meaning) (o : SourceNext) → next_of types m n o ≡ ends_at index (place_of types m place.entry) o (all_thrown m place.entry.caught)) }
 {
     match place.caught {
         Exceptions::Empty => Ok(Next::Refused),

@@ -41,7 +41,7 @@ fn names_global<'a>(
     name: u32,
     place: Place<'a>,
 ) -> Result<Next<'a>, Refusal>
-    ensures { IfOk result (λ n. (types : ℕ → Typ) (o : SourceNext) → next_of types n o ≡ if_found (number_in table.now.globals.now name) (λ g. pushes_word index (place_of types place.entry) o (global g) (terms_of types place.entry.operands))) }
+    ensures { IfOk result (λ n. (types : ℕ → Typ) (m : Meaning) (o : SourceNext) → next_of types m n o ≡ if_found (number_in table.now.globals.now name) (λ g. pushes_word index (place_of types m place.entry) o (global g) (words_of m place.entry.operands))) }
 {
     match number_named(table.globals, name) {
         Some(number) => { pushes(arena, index, place, Term::Global(number), place.operands) }
@@ -57,7 +57,7 @@ fn names_function<'a>(
     name: u32,
     place: Place<'a>,
 ) -> Result<Next<'a>, Refusal>
-    ensures { IfOk result (λ n. (types : ℕ → Typ) (o : SourceNext) → next_of types n o ≡ if_found (number_in table.now.functions.now name) (λ g. pushes_word index (place_of types place.entry) o (function g) (terms_of types place.entry.operands))) }
+    ensures { IfOk result (λ n. (types : ℕ → Typ) (m : Meaning) (o : SourceNext) → next_of types m n o ≡ if_found (number_in table.now.functions.now name) (λ g. pushes_word index (place_of types m place.entry) o (function g) (words_of m place.entry.operands))) }
 {
     match number_named(table.functions, name) {
         Some(number) => { pushes(arena, index, place, Term::Function(number), place.operands) }
@@ -73,7 +73,7 @@ fn names_class<'a>(
     name: u32,
     place: Place<'a>,
 ) -> Result<Next<'a>, Refusal>
-    ensures { IfOk result (λ n. (types : ℕ → Typ) (o : SourceNext) → next_of types n o ≡ if_found (number_in table.now.classes.now name) (λ g. pushes_word index (place_of types place.entry) o (table_word g) (terms_of types place.entry.operands))) }
+    ensures { IfOk result (λ n. (types : ℕ → Typ) (m : Meaning) (o : SourceNext) → next_of types m n o ≡ if_found (number_in table.now.classes.now name) (λ g. pushes_word index (place_of types m place.entry) o (table_word g) (words_of m place.entry.operands))) }
 {
     match number_named(table.classes, name) {
         Some(number) => { pushes(arena, index, place, Term::Table(number), place.operands) }
@@ -90,7 +90,7 @@ fn loads_kind<'a>(
     place: Place<'a>,
     outcome: &Outcome<'a>,
 ) -> Result<Next<'a>, Refusal>
-    ensures { IfOk result (λ n. (types : ℕ → Typ) (p : Program) (f : Func) → next_of types n (outcome_of types p f outcome.now) ≡ if_found (slice_get kinds number) (λ k. one_of (terms_of types place.entry.operands) (λ a ws. loads_at index (place_of types place.entry) k volatile a ws (outcome_of types p f outcome.now)))) }
+    ensures { IfOk result (λ n. (types : ℕ → Typ) (m : Meaning) (p : Program) (f : Func) → next_of types m n (outcome_of types m p f outcome.now) ≡ if_found (slice_get kinds number) (λ k. one_of (words_of m place.entry.operands) (λ a ws. loads_at index (place_of types m place.entry) k volatile a ws (outcome_of types m p f outcome.now)))) }
 {
     match int_kind(number) {
         Some(kind) => loads(arena, index, place, kind, volatile, outcome),
@@ -107,7 +107,7 @@ fn stores_kind<'a>(
     place: Place<'a>,
     outcome: &Outcome<'a>,
 ) -> Result<Next<'a>, Refusal>
-    ensures { IfOk result (λ n. (types : ℕ → Typ) (p : Program) (f : Func) → next_of types n (outcome_of types p f outcome.now) ≡ if_found (slice_get kinds number) (λ k. two_of (terms_of types place.entry.operands) (λ a w ws. stores_to index (place_of types place.entry) k volatile a w ws (outcome_of types p f outcome.now)))) }
+    ensures { IfOk result (λ n. (types : ℕ → Typ) (m : Meaning) (p : Program) (f : Func) → next_of types m n (outcome_of types m p f outcome.now) ≡ if_found (slice_get kinds number) (λ k. two_of (words_of m place.entry.operands) (λ a w ws. stores_to index (place_of types m place.entry) k volatile a w ws (outcome_of types m p f outcome.now)))) }
 {
     match int_kind(number) {
         Some(kind) => stores(arena, index, place, kind, volatile, outcome),
@@ -125,7 +125,7 @@ fn operates_kind<'a>(
     place: Place<'a>,
     outcome: &Outcome<'a>,
 ) -> Result<Next<'a>, Refusal>
-    ensures { IfOk result (λ n. (types : ℕ → Typ) (p : Program) (f : Func) → next_of types n (outcome_of types p f outcome.now) ≡ if_found (slice_get operators op) (λ b. if_found (slice_get kinds number) (λ k. two_of (terms_of types place.entry.operands) (λ a c ws. operates_with (facts_of types facts.entry) index (place_of types place.entry) b k a c ws (outcome_of types p f outcome.now))))) }
+    ensures { IfOk result (λ n. (types : ℕ → Typ) (m : Meaning) (p : Program) (f : Func) → next_of types m n (outcome_of types m p f outcome.now) ≡ if_found (slice_get operators op) (λ b. if_found (slice_get kinds number) (λ k. two_of (words_of m place.entry.operands) (λ a c ws. operates_with (facts_of types m facts.entry) index (place_of types m place.entry) b k a c ws (outcome_of types m p f outcome.now))))) }
 {
     let Some(op) = operator(op) else {
         return Ok(Next::Refused);
@@ -144,7 +144,7 @@ fn converts_kind<'a>(
     to: u8,
     place: Place<'a>,
 ) -> Result<Next<'a>, Refusal>
-    ensures { IfOk result (λ n. (types : ℕ → Typ) (o : SourceNext) → next_of types n o ≡ cond (from == 9) (if_found (slice_get kinds to) (λ k. one_of (terms_of types place.entry.operands) (λ a ws. pushes_word index (place_of types place.entry) o (converted_to k a) ws))) refused) }
+    ensures { IfOk result (λ n. (types : ℕ → Typ) (m : Meaning) (o : SourceNext) → next_of types m n o ≡ cond (from == 9) (if_found (slice_get kinds to) (λ k. one_of (words_of m place.entry.operands) (λ a ws. pushes_word index (place_of types m place.entry) o (converted_to k a) ws))) refused) }
 {
     if from != 9 {
         return Ok(Next::Refused);
@@ -163,7 +163,7 @@ fn begins_kind<'a>(
     place: Place<'a>,
     outcome: &Outcome<'a>,
 ) -> Result<Next<'a>, Refusal>
-    ensures { IfOk result (λ n. (types : ℕ → Typ) (p : Program) (f : Func) → next_of types n (outcome_of types p f outcome.now) ≡ if_found (slice_get block_kinds number) (λ kind. begins_block index (place_of types place.entry) kind (outcome_of types p f outcome.now))) }
+    ensures { IfOk result (λ n. (types : ℕ → Typ) (m : Meaning) (p : Program) (f : Func) → next_of types m n (outcome_of types m p f outcome.now) ≡ if_found (slice_get block_kinds number) (λ kind. begins_block index (place_of types m place.entry) kind (outcome_of types m p f outcome.now))) }
 {
     match block_kind(number) {
         Some(kind) => begins(arena, index, place, kind, outcome),
@@ -179,7 +179,7 @@ fn puts_kind<'a>(
     number: u8,
     place: Place<'a>,
 ) -> Result<Next<'a>, Refusal>
-    ensures { IfOk result (λ n. (types : ℕ → Typ) (o : SourceNext) → next_of types n o ≡ if_found (slice_get kinds number) (λ k. puts_into index offset k (place_of types place.entry) o (hold_of types place.entry.hold))) }
+    ensures { IfOk result (λ n. (types : ℕ → Typ) (m : Meaning) (o : SourceNext) → next_of types m n o ≡ if_found (slice_get kinds number) (λ k. puts_into index offset k (place_of types m place.entry) o (hold_of types m place.entry.hold))) }
 {
     match int_kind(number) {
         Some(kind) => puts_in(arena, index, offset, kind, place),
@@ -195,7 +195,7 @@ fn gets_kind<'a>(
     number: u8,
     place: Place<'a>,
 ) -> Result<Next<'a>, Refusal>
-    ensures { IfOk result (λ n. (types : ℕ → Typ) (o : SourceNext) → next_of types n o ≡ if_found (slice_get kinds number) (λ k. gets_from index offset k (place_of types place.entry) o (exceptions_of types place.entry.caught))) }
+    ensures { IfOk result (λ n. (types : ℕ → Typ) (m : Meaning) (o : SourceNext) → next_of types m n o ≡ if_found (slice_get kinds number) (λ k. gets_from index offset k (place_of types m place.entry) o (all_thrown m place.entry.caught))) }
 {
     match int_kind(number) {
         Some(kind) => gets_caught(arena, index, offset, kind, place),
@@ -204,8 +204,8 @@ fn gets_kind<'a>(
 }
 
 // What reads an address as a number reads the address.
-fn bare_address<'a>(term: Term<'a>) -> Term<'a>
-    ensures { (types : ℕ → Typ) → term_of types result ≡ bare_of (term_of types term.entry) }
+fn bare_address<'a>(term: WordId) -> WordId
+    ensures { (types : ℕ → Typ) (m : Meaning) → word_of m result ≡ bare_of (word_of m term.entry) }
 {
     match term {
         Term::Converted(IntKind::ULong, of) => *of,
@@ -217,12 +217,12 @@ fn bare_address<'a>(term: Term<'a>) -> Term<'a>
 fn finds_same(
     class: u32,
     slot: u32,
-    address: &Term<'_>,
+    address: WordId,
     other_class: u32,
     other_slot: u32,
-    other_address: &Term<'_>,
+    other_address: WordId,
 ) -> bool
-    ensures { (types : ℕ → Typ) → result ≡ ((class == other_class) && (slot == other_slot) && is_same (bare_of (term_of types address.now)) (term_of types other_address.now)) }
+    ensures { (types : ℕ → Typ) (m : Meaning) → result ≡ ((class == other_class) && (slot == other_slot) && is_same (bare_of (word_of m address.now)) (word_of m other_address.now)) }
 {
     class == other_class && slot == other_slot && same_term(&bare_address(*address), other_address)
 }
@@ -234,11 +234,11 @@ fn finds_at<'a>(
     class: u32,
     slot: u32,
     place: Place<'a>,
-    address: Term<'a>,
+    address: WordId,
     below: Terms<'a>,
     outcome: &Outcome<'a>,
 ) -> Result<Next<'a>, Refusal>
-    ensures { IfOk result (λ n. (types : ℕ → Typ) (p : Program) (f : Func) → next_of types n (outcome_of types p f outcome.now) ≡ slot_follows index class slot (place_of types place.entry) (term_of types address.entry) (terms_of types below.entry) (outcome_of types p f outcome.now)) }
+    ensures { IfOk result (λ n. (types : ℕ → Typ) (m : Meaning) (p : Program) (f : Func) → next_of types m n (outcome_of types m p f outcome.now) ≡ slot_follows index class slot (place_of types m place.entry) (word_of m address.entry) (words_of m below.entry) (outcome_of types m p f outcome.now)) }
 {
     match outcome {
         Outcome::Finds {
@@ -276,7 +276,7 @@ fn finds<'a>(
     place: Place<'a>,
     outcome: &Outcome<'a>,
 ) -> Result<Next<'a>, Refusal>
-    ensures { IfOk result (λ n. (types : ℕ → Typ) (p : Program) (f : Func) → next_of types n (outcome_of types p f outcome.now) ≡ one_of (terms_of types place.entry.operands) (λ a ws. slot_follows index class slot (place_of types place.entry) a ws (outcome_of types p f outcome.now))) }
+    ensures { IfOk result (λ n. (types : ℕ → Typ) (m : Meaning) (p : Program) (f : Func) → next_of types m n (outcome_of types m p f outcome.now) ≡ one_of (words_of m place.entry.operands) (λ a ws. slot_follows index class slot (place_of types m place.entry) a ws (outcome_of types m p f outcome.now))) }
 {
     match place.operands {
         Terms::Empty => Ok(Next::Refused),
@@ -296,7 +296,7 @@ fn finds_named<'a>(
     place: Place<'a>,
     outcome: &Outcome<'a>,
 ) -> Result<Next<'a>, Refusal>
-    ensures { IfOk result (λ n. (types : ℕ → Typ) (p : Program) (f : Func) → next_of types n (outcome_of types p f outcome.now) ≡ if_found (number_in table.now.classes.now name) (λ class. one_of (terms_of types place.entry.operands) (λ a ws. slot_follows index class slot (place_of types place.entry) a ws (outcome_of types p f outcome.now)))) }
+    ensures { IfOk result (λ n. (types : ℕ → Typ) (m : Meaning) (p : Program) (f : Func) → next_of types m n (outcome_of types m p f outcome.now) ≡ if_found (number_in table.now.classes.now name) (λ class. one_of (words_of m place.entry.operands) (λ a ws. slot_follows index class slot (place_of types m place.entry) a ws (outcome_of types m p f outcome.now)))) }
 {
     match number_named(table.classes, name) {
         Some(class) => finds(arena, index, class, slot, place, outcome),
@@ -314,7 +314,7 @@ pub fn follow<'a>(
     place: Place<'a>,
     outcome: &Outcome<'a>,
 ) -> Result<Next<'a>, Refusal>
-    ensures { IfOk result (λ n. (types : ℕ → Typ) (p : Program) (f : Func) (sigs : ℕ → Signature → Bool) (slots : ℕ → ℕ → ℕ → Bool) → next_of types n (outcome_of types p f outcome.now) ≡ is_followed (table_of types table.now sigs slots) (facts_of types facts.entry) index instr.now (place_of types place.entry) (outcome_of types p f outcome.now)) }
+    ensures { IfOk result (λ n. (types : ℕ → Typ) (m : Meaning) (p : Program) (f : Func) (sigs : ℕ → Signature → Bool) (slots : ℕ → ℕ → ℕ → Bool) → next_of types m n (outcome_of types m p f outcome.now) ≡ is_followed (table_of types table.now sigs slots) (facts_of types m facts.entry) index instr.now (place_of types m place.entry) (outcome_of types m p f outcome.now)) }
 {
     match *instr {
         Instr::Push(word) => { pushes(arena, index, place, Term::Number(word), place.operands) }

@@ -33,10 +33,10 @@ use symbolic_terms::terms::{Term, Terms};
 // A number less, where it is seen that none is borrowed; where nothing is left in a sum, what it is added to.
 fn minus_number<'a>(
     arena: &'a Bump,
-    term: Term<'a>,
+    term: WordId,
     number: u64,
-) -> Result<Option<Term<'a>>, Refusal>
-    ensures { IfOk result (λ t. (types : ℕ → Typ) → option_map (term_of types) t ≡ number_less (term_of types term.entry) number) }
+) -> Result<Option<WordId>, Refusal>
+    ensures { IfOk result (λ t. (types : ℕ → Typ) (m : Meaning) → option_map (word_of m) t ≡ number_less (word_of m term.entry) number) }
 {
     match term {
         Term::Number(own) => {
@@ -68,10 +68,10 @@ fn minus_number<'a>(
 fn less_one<'a>(
     arena: &'a Bump,
     facts: Facts<'a>,
-    term: Term<'a>,
+    term: WordId,
     number: u64,
-) -> Result<Option<Term<'a>>, Refusal>
-    ensures { IfOk result (λ t. (types : ℕ → Typ) → option_map (term_of types) t ≡ one_less_of (facts_of types facts.entry) (term_of types term.entry) number) }
+) -> Result<Option<WordId>, Refusal>
+    ensures { IfOk result (λ t. (types : ℕ → Typ) (m : Meaning) → option_map (word_of m) t ≡ one_less_of (facts_of types m facts.entry) (word_of m term.entry) number) }
 {
     if number == 1 && is_not_zero(&facts, &term) {
         Ok(Some(one_less(arena, term)?))
@@ -84,10 +84,10 @@ fn less_one<'a>(
 fn less<'a>(
     arena: &'a Bump,
     facts: Facts<'a>,
-    term: Term<'a>,
+    term: WordId,
     number: u64,
-) -> Result<Option<Term<'a>>, Refusal>
-    ensures { IfOk result (λ t. (types : ℕ → Typ) → option_map (term_of types) t ≡ or_one_less_of (facts_of types facts.entry) (term_of types term.entry) number (number_less (term_of types term.entry) number)) }
+) -> Result<Option<WordId>, Refusal>
+    ensures { IfOk result (λ t. (types : ℕ → Typ) (m : Meaning) → option_map (word_of m) t ≡ or_one_less_of (facts_of types m facts.entry) (word_of m term.entry) number (number_less (word_of m term.entry) number)) }
 {
     match minus_number(arena, term, number)? {
         Some(term) => Ok(Some(term)),
@@ -96,8 +96,8 @@ fn less<'a>(
 }
 
 // A number times a word.
-fn times<'a>(arena: &'a Bump, number: u64, word: Term<'a>) -> Result<Term<'a>, Refusal>
-    ensures { IfOk result (λ t. (types : ℕ → Typ) → term_of types t ≡ times_number (number == 0) number (term_of types word.entry)) }
+fn times<'a>(arena: &'a Bump, number: u64, word: WordId) -> Result<WordId, Refusal>
+    ensures { IfOk result (λ t. (types : ℕ → Typ) (m : Meaning) → word_of m t ≡ times_number (number == 0) number (word_of m word.entry)) }
 {
     if number == 0 {
         Ok(Term::Number(0))
@@ -110,10 +110,10 @@ fn times<'a>(arena: &'a Bump, number: u64, word: Term<'a>) -> Result<Term<'a>, R
 fn added<'a>(
     arena: &'a Bump,
     facts: Facts<'a>,
-    left: Term<'a>,
-    right: Term<'a>,
-) -> Result<Option<Term<'a>>, Refusal>
-    ensures { IfOk result (λ t. (types : ℕ → Typ) → option_map (term_of types) t ≡ address_of (facts_of types facts.entry) Add ULong (term_of types left.entry) (term_of types right.entry)) }
+    left: WordId,
+    right: WordId,
+) -> Result<Option<WordId>, Refusal>
+    ensures { IfOk result (λ t. (types : ℕ → Typ) (m : Meaning) → option_map (word_of m) t ≡ address_of (facts_of types m facts.entry) Add ULong (word_of m left.entry) (word_of m right.entry)) }
 {
     match right {
         Term::Number(number) => Ok(Some(plus_number(arena, left, number)?)),
@@ -125,10 +125,10 @@ fn added<'a>(
 fn subtracted<'a>(
     arena: &'a Bump,
     facts: Facts<'a>,
-    left: Term<'a>,
-    right: Term<'a>,
-) -> Result<Option<Term<'a>>, Refusal>
-    ensures { IfOk result (λ t. (types : ℕ → Typ) → option_map (term_of types) t ≡ address_of (facts_of types facts.entry) Sub ULong (term_of types left.entry) (term_of types right.entry)) }
+    left: WordId,
+    right: WordId,
+) -> Result<Option<WordId>, Refusal>
+    ensures { IfOk result (λ t. (types : ℕ → Typ) (m : Meaning) → option_map (word_of m) t ≡ address_of (facts_of types m facts.entry) Sub ULong (word_of m left.entry) (word_of m right.entry)) }
 {
     match right {
         Term::Number(number) => less(arena, facts, left, number),
@@ -140,10 +140,10 @@ fn subtracted<'a>(
 fn multiplied<'a>(
     arena: &'a Bump,
     facts: Facts<'a>,
-    left: Term<'a>,
-    right: Term<'a>,
-) -> Result<Option<Term<'a>>, Refusal>
-    ensures { IfOk result (λ t. (types : ℕ → Typ) → option_map (term_of types) t ≡ address_of (facts_of types facts.entry) Mul ULong (term_of types left.entry) (term_of types right.entry)) }
+    left: WordId,
+    right: WordId,
+) -> Result<Option<WordId>, Refusal>
+    ensures { IfOk result (λ t. (types : ℕ → Typ) (m : Meaning) → option_map (word_of m) t ≡ address_of (facts_of types m facts.entry) Mul ULong (word_of m left.entry) (word_of m right.entry)) }
 {
     match left {
         Term::Number(number) => Ok(Some(times(arena, number, right)?)),
@@ -156,10 +156,10 @@ fn applied<'a>(
     arena: &'a Bump,
     op: BinOp,
     kind: IntKind,
-    left: Term<'a>,
-    right: Term<'a>,
-) -> Result<Term<'a>, Refusal>
-    ensures { IfOk result (λ t. (types : ℕ → Typ) → term_of types t ≡ result_of op kind (term_of types left.entry) (term_of types right.entry)) }
+    left: WordId,
+    right: WordId,
+) -> Result<WordId, Refusal>
+    ensures { IfOk result (λ t. (types : ℕ → Typ) (m : Meaning) → word_of m t ≡ result_of op kind (word_of m left.entry) (word_of m right.entry)) }
 {
     Ok(Term::Applied {
         op,
@@ -175,10 +175,10 @@ fn addresses<'a>(
     facts: Facts<'a>,
     op: BinOp,
     kind: IntKind,
-    left: Term<'a>,
-    right: Term<'a>,
-) -> Result<Option<Term<'a>>, Refusal>
-    ensures { IfOk result (λ t. (types : ℕ → Typ) → option_map (term_of types) t ≡ address_of (facts_of types facts.entry) op kind (term_of types left.entry) (term_of types right.entry)) }
+    left: WordId,
+    right: WordId,
+) -> Result<Option<WordId>, Refusal>
+    ensures { IfOk result (λ t. (types : ℕ → Typ) (m : Meaning) → option_map (word_of m) t ≡ address_of (facts_of types m facts.entry) op kind (word_of m left.entry) (word_of m right.entry)) }
 {
     match (op, kind) {
         (BinOp::Add, IntKind::ULong) => added(arena, facts, left, right),
@@ -197,11 +197,11 @@ fn gives<'a>(
     place: Place<'a>,
     op: BinOp,
     kind: IntKind,
-    left: Term<'a>,
-    right: Term<'a>,
+    left: WordId,
+    right: WordId,
     below: Terms<'a>,
 ) -> Result<Next<'a>, Refusal>
-    ensures { IfOk result (λ n. (types : ℕ → Typ) (o : SourceNext) → next_of types n o ≡ if_found (address_of (facts_of types facts.entry) op kind (term_of types left.entry) (term_of types right.entry)) (λ w. pushes_word index (place_of types place.entry) o w (terms_of types below.entry))) }
+    ensures { IfOk result (λ n. (types : ℕ → Typ) (m : Meaning) (o : SourceNext) → next_of types m n o ≡ if_found (address_of (facts_of types m facts.entry) op kind (word_of m left.entry) (word_of m right.entry)) (λ w. pushes_word index (place_of types m place.entry) o w (words_of m below.entry))) }
 {
     match addresses(arena, facts, op, kind, left, right)? {
         Some(word) => pushes(arena, index, place, word, below),
@@ -213,14 +213,14 @@ fn gives<'a>(
 fn operates_same(
     op: BinOp,
     kind: IntKind,
-    left: &Term<'_>,
-    right: &Term<'_>,
+    left: WordId,
+    right: WordId,
     other_op: BinOp,
     other_kind: IntKind,
-    other_left: &Term<'_>,
-    other_right: &Term<'_>,
+    other_left: WordId,
+    other_right: WordId,
 ) -> bool
-    ensures { (types : ℕ → Typ) → result ≡ (is_same_operator op other_op && is_same_kind kind other_kind && (is_same (term_of types left.now) (term_of types other_left.now) && is_same (term_of types right.now) (term_of types other_right.now))) }
+    ensures { (types : ℕ → Typ) (m : Meaning) → result ≡ (is_same_operator op other_op && is_same_kind kind other_kind && (is_same (word_of m left.now) (word_of m other_left.now) && is_same (word_of m right.now) (word_of m other_right.now))) }
 {
     op == other_op
         && kind == other_kind
@@ -235,11 +235,11 @@ fn may_trap<'a>(
     place: Place<'a>,
     op: BinOp,
     kind: IntKind,
-    left: Term<'a>,
-    right: Term<'a>,
+    left: WordId,
+    right: WordId,
     below: Terms<'a>,
 ) -> Result<Next<'a>, Refusal>
-    ensures { IfOk result (λ n. (types : ℕ → Typ) (oq : BinOpOf) (j : IntKindOf) (a b : SourceTerm) (o : SourceNext) → next_of types n (results oq j a b o) ≡ unless_trap op kind (term_of types left.entry) (term_of types right.entry) (pushes_word index (place_of types place.entry) o (result_of op kind (term_of types left.entry) (term_of types right.entry)) (terms_of types below.entry))) }
+    ensures { IfOk result (λ n. (types : ℕ → Typ) (m : Meaning) (oq : BinOpOf) (j : IntKindOf) (a b : SourceTerm) (o : SourceNext) → next_of types m n (results oq j a b o) ≡ unless_trap op kind (word_of m left.entry) (word_of m right.entry) (pushes_word index (place_of types m place.entry) o (result_of op kind (word_of m left.entry) (word_of m right.entry)) (words_of m below.entry))) }
 {
     let word = applied(arena, op, kind, left, right)?;
     let course = Course::UnlessTrap {
@@ -259,12 +259,12 @@ fn operates_on<'a>(
     place: Place<'a>,
     op: BinOp,
     kind: IntKind,
-    left: Term<'a>,
-    right: Term<'a>,
+    left: WordId,
+    right: WordId,
     below: Terms<'a>,
     outcome: &Outcome<'a>,
 ) -> Result<Next<'a>, Refusal>
-    ensures { IfOk result (λ n. (types : ℕ → Typ) (p : Program) (f : Func) → next_of types n (outcome_of types p f outcome.now) ≡ operates_with (facts_of types facts.entry) index (place_of types place.entry) op kind (term_of types left.entry) (term_of types right.entry) (terms_of types below.entry) (outcome_of types p f outcome.now)) }
+    ensures { IfOk result (λ n. (types : ℕ → Typ) (m : Meaning) (p : Program) (f : Func) → next_of types m n (outcome_of types m p f outcome.now) ≡ operates_with (facts_of types m facts.entry) index (place_of types m place.entry) op kind (word_of m left.entry) (word_of m right.entry) (words_of m below.entry) (outcome_of types m p f outcome.now)) }
 {
     match outcome {
         Outcome::Results {
@@ -303,7 +303,7 @@ pub fn operates<'a>(
     kind: IntKind,
     outcome: &Outcome<'a>,
 ) -> Result<Next<'a>, Refusal>
-    ensures { IfOk result (λ n. (types : ℕ → Typ) (p : Program) (f : Func) → next_of types n (outcome_of types p f outcome.now) ≡ two_of (terms_of types place.entry.operands) (λ a b ws. operates_with (facts_of types facts.entry) index (place_of types place.entry) op kind a b ws (outcome_of types p f outcome.now))) }
+    ensures { IfOk result (λ n. (types : ℕ → Typ) (m : Meaning) (p : Program) (f : Func) → next_of types m n (outcome_of types m p f outcome.now) ≡ two_of (words_of m place.entry.operands) (λ a b ws. operates_with (facts_of types m facts.entry) index (place_of types m place.entry) op kind a b ws (outcome_of types m p f outcome.now))) }
 {
     match place.operands {
         Terms::Empty => Ok(Next::Refused),
@@ -321,7 +321,7 @@ pub fn converts<'a>(
     place: Place<'a>,
     kind: IntKind,
 ) -> Result<Next<'a>, Refusal>
-    ensures { IfOk result (λ n. (types : ℕ → Typ) (o : SourceNext) → next_of types n o ≡ one_of (terms_of types place.entry.operands) (λ a ws. pushes_word index (place_of types place.entry) o (converted_to kind a) ws)) }
+    ensures { IfOk result (λ n. (types : ℕ → Typ) (m : Meaning) (o : SourceNext) → next_of types m n o ≡ one_of (words_of m place.entry.operands) (λ a ws. pushes_word index (place_of types m place.entry) o (converted_to kind a) ws)) }
 {
     match place.operands {
         Terms::Empty => Ok(Next::Refused),
@@ -333,8 +333,8 @@ pub fn converts<'a>(
 }
 
 // A jump at which the source decides nothing.
-fn jumps<'a>(index: u32, target: u32, place: Place<'a>, word: Term<'a>) -> Result<Next<'a>, Refusal>
-    ensures { IfOk result (λ n. (types : ℕ → Typ) (o : SourceNext) → next_of types n o ≡ decided index target (place_of types place.entry) (term_of types word.entry) o) }
+fn jumps<'a>(index: u32, target: u32, place: Place<'a>, word: WordId) -> Result<Next<'a>, Refusal>
+    ensures { IfOk result (λ n. (types : ℕ → Typ) (m : Meaning) (o : SourceNext) → next_of types m n o ≡ decided index target (place_of types m place.entry) (word_of m word.entry) o) }
 {
     match word {
         Term::Number(number) => {
@@ -357,11 +357,11 @@ fn jumps_where<'a>(
     index: u32,
     target: u32,
     place: Place<'a>,
-    word: Term<'a>,
+    word: WordId,
     below: Terms<'a>,
     outcome: &Outcome<'a>,
 ) -> Result<Next<'a>, Refusal>
-    ensures { IfOk result (λ n. (types : ℕ → Typ) (p : Program) (f : Func) → next_of types n (outcome_of types p f outcome.now) ≡ jumps_at index target (place_of types place.entry) (term_of types word.entry) (terms_of types below.entry) (outcome_of types p f outcome.now)) }
+    ensures { IfOk result (λ n. (types : ℕ → Typ) (m : Meaning) (p : Program) (f : Func) → next_of types m n (outcome_of types m p f outcome.now) ≡ jumps_at index target (place_of types m place.entry) (word_of m word.entry) (words_of m below.entry) (outcome_of types m p f outcome.now)) }
 {
     let under = Place {
         operands: below,
@@ -386,7 +386,7 @@ pub fn jumps_zero<'a>(
     place: Place<'a>,
     outcome: &Outcome<'a>,
 ) -> Result<Next<'a>, Refusal>
-    ensures { IfOk result (λ n. (types : ℕ → Typ) (p : Program) (f : Func) → next_of types n (outcome_of types p f outcome.now) ≡ one_of (terms_of types place.entry.operands) (λ a ws. jumps_at index target (place_of types place.entry) a ws (outcome_of types p f outcome.now))) }
+    ensures { IfOk result (λ n. (types : ℕ → Typ) (m : Meaning) (p : Program) (f : Func) → next_of types m n (outcome_of types m p f outcome.now) ≡ one_of (words_of m place.entry.operands) (λ a ws. jumps_at index target (place_of types m place.entry) a ws (outcome_of types m p f outcome.now))) }
 {
     match place.operands {
         Terms::Empty => Ok(Next::Refused),

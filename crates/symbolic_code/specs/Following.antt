@@ -57,8 +57,8 @@ pub data Next : Type 0 where
   loudly : Doing → (temporaries : List Waiting) → List symbolic.Frame → (index : ℕ) → Place → Next  -- an event, and the place after its reply
   throwing : Exception → (index : ℕ) → Place → Outcome → Next  -- a silent step, and the exception is in flight at this index
   finding : (class slot : ℕ) → Term → Next → Next  -- whether the slot of the class at this address has a function
-  starting : (address argument : Term) → (temporaries : List Waiting) → List symbolic.Frame → (index : ℕ) → Place → Next  -- a thread,
-      and the place after the reply
+  -- a thread, and the place after the reply
+  starting : (address argument : Term) → (temporaries : List Waiting) → List symbolic.Frame → (index : ℕ) → Place → Next
   rethrowing : (temporaries : List Waiting) → List symbolic.Frame → (index : ℕ) → Place → Next  -- what a caller's handler has
   ends : Ending → Next
 
