@@ -5,11 +5,12 @@ ghost use Rattle.cpp_tree.specs.declared.program.Program.{Program};
 ghost use Rattle.cpp_tree.specs.cpp_types.Typ.{Typ};
 ghost use Rattle.src_mean.specs.Linked.{Func};
 ghost use Rattle.tx_code.specs.Meaning.{size_of};
-ghost use Rattle.symbolic_source.specs.Terms.{untouched};
+ghost use Rattle.symbolic_source.specs.Terms.{untouched as untouched_yet};
 ghost use Rattle.symbolic_source.specs.Outcomes.{Outcome as SourceNext};
 ghost use Rattle.symbolic_code.specs.Places.{nothing, making as makes, holding as held};
 ghost use Rattle.symbolic_code.specs.Following.{quietly, throwing, if_found, puts_in as puts_into, throws_made as throws_what, resumes as resumes_with, rethrows_caught as rethrows_what, was_put as put_at, put_in as found_put, read_as as reads_as, taken_word as word_taken, gets_caught as gets_from, handler_ends as ends_at};
-ghost use Rattle.symbolic_terms.specs.Words.{term_of, exception_of, puts_of, exceptions_of};
+ghost use Rattle.symbolic_terms.specs.Words.{term_of, exception_of, puts_of};
+ghost use Rattle.symbolic_terms.specs.Meanings.{Meaning, Agrees, word_of, thrown_of, given_of, all_thrown};
 ghost use Rattle.symbolic_terms.specs.Shown.{outcome_of, hold_of, place_of};
 ghost use Rattle.code_follows.specs.Names.{number_in};
 ghost use Rattle.code_follows.specs.Shown.{next_of};
@@ -21,28 +22,30 @@ use crate::operands::{goes_by, pushes};
 use bumpalo::Bump;
 use cpp_tree::below::IntKind;
 use symbolic_terms::arena::keep;
+use symbolic_terms::ids::{ExceptionId, Exceptions, PutsId, Terms, WordId};
+use symbolic_terms::made::{made_of, put, untouched};
 use symbolic_terms::outcomes::{Leading, Outcome};
 use symbolic_terms::places::{Hold, Place};
 use symbolic_terms::refusal::Refusal;
-use symbolic_terms::terms::{Exception, Exceptions, Puts, Term, Terms};
+use symbolic_terms::terms::{Exception, Puts, Term};
+use symbolic_terms::words::{Words, exception, made};
 use tx_code::size;
 
 /// `xnew`.
 pub fn makes_new<'a>(
+    words: &mut Words<'a>,
     table: &NameTable<'a>,
     index: u32,
     name: u32,
     place: Place<'a>,
 ) -> Result<Next<'a>, Refusal>
-    ensures { IfOk result (λ n. (types : ℕ → Typ) (m : Meaning) (o : SourceNext) → next_of types m n o ≡ if_found (option_map types (number_in table.now.types.now name)) (λ (t : Typ). quietly (index + 1) (held (place_of types m place.entry) (makes t untouched)) o)) }
+    ensures is { IfOk result (λ n. (types : ℕ → Typ) (m : Meaning) (o : SourceNext) → Agrees types m words.new → next_of types m n o ≡ if_found (option_map types (number_in table.now.types.now name)) (λ (t : Typ). quietly (index + 1) (held (place_of types m place.entry) (makes t untouched_yet)) o)) }
+    ensures grows { (types : ℕ → Typ) (m : Meaning) → Agrees types m words.new → Agrees types m words.old }
 {
     match number_named(table.types, name) {
         Some(typ) => {
-            let made = Place {
-                hold: Hold::Making(typ, Puts::Untouched),
-                ..place
-            };
-            goes_by(Course::Quietly, index, made)
+            let hold = Hold::Making(typ, untouched(words)?);
+            goes_by(Course::Quietly, index, Place { hold, ..place })
         }
         None => Ok(Next::Refused),
     }
@@ -51,6 +54,7 @@ pub fn makes_new<'a>(
 // A word is put into an exception of this type that has these already.
 fn puts_word<'a>(
     arena: &'a Bump,
+    words: &mut Words<'a>,
     index: u32,
     offset: u8,
     kind: IntKind,
@@ -58,7 +62,8 @@ fn puts_word<'a>(
     typ: u32,
     others: PutsId,
 ) -> Result<Next<'a>, Refusal>
-    ensures { IfOk result (λ n. (types : ℕ → Typ) (m : Meaning) (o : SourceNext) → next_of types m n o ≡ puts_into index offset kind (place_of types m place.entry) o (makes (types typ) (given_of m others.entry))) }
+    ensures is { IfOk result (λ n. (types : ℕ → Typ) (m : Meaning) (o : SourceNext) → Agrees types m words.new → next_of types m n o ≡ puts_into index offset kind (place_of types m place.entry) o (makes (types typ) (given_of m others.entry))) }
+    ensures grows { (types : ℕ → Typ) (m : Meaning) → Agrees types m words.new → Agrees types m words.old }
 {
     if is_bool(kind) {
         return Ok(Next::Refused);
@@ -66,18 +71,14 @@ fn puts_word<'a>(
     match place.operands {
         Terms::Empty => Ok(Next::Refused),
         Terms::More(word, below) => {
-            let puts = Puts::Put {
-                offset: u32::from(offset),
-                size: u32::from(size(kind)),
-                word: keep(arena, word)?,
-                others: keep(arena, others)?,
-            };
-            let put = Place {
+            let size = u32::from(size(kind));
+            let puts = put(arena, words, u32::from(offset), size, word, others)?;
+            let after = Place {
                 operands: *below,
                 hold: Hold::Making(typ, puts),
                 ..place
             };
-            goes_by(Course::Quietly, index, put)
+            goes_by(Course::Quietly, index, after)
         }
     }
 }
@@ -85,15 +86,19 @@ fn puts_word<'a>(
 /// `xput`.
 pub fn puts_in<'a>(
     arena: &'a Bump,
+    words: &mut Words<'a>,
     index: u32,
     offset: u8,
     kind: IntKind,
     place: Place<'a>,
 ) -> Result<Next<'a>, Refusal>
-    ensures { IfOk result (λ n. (types : ℕ → Typ) (m : Meaning) (o : SourceNext) → next_of types m n o ≡ puts_into index offset kind (place_of types m place.entry) o (hold_of types m place.entry.hold)) }
+    ensures is { IfOk result (λ n. (types : ℕ → Typ) (m : Meaning) (o : SourceNext) → Agrees types m words.new → next_of types m n o ≡ puts_into index offset kind (place_of types m place.entry) o (hold_of types m place.entry.hold)) }
+    ensures grows { (types : ℕ → Typ) (m : Meaning) → Agrees types m words.new → Agrees types m words.old }
 {
     match place.hold {
-        Hold::Making(typ, others) => { puts_word(arena, index, offset, kind, place, typ, others) }
+        Hold::Making(typ, others) => {
+            puts_word(arena, words, index, offset, kind, place, typ, others)
+        }
         Hold::Nothing | Hold::Flying(_) => Ok(Next::Refused),
     }
 }
@@ -113,12 +118,13 @@ fn throws<'a>(index: u32, place: Place<'a>, exception: ExceptionId) -> Next<'a>
 }
 
 /// `throw`.
-pub fn throws_made<'a>(index: u32, place: Place<'a>) -> Next<'a>
-    ensures { (types : ℕ → Typ) (m : Meaning) (o : SourceNext) → next_of types m result o ≡ throws_what index (place_of types m place.entry) o (hold_of types m place.entry.hold) }
+pub fn throws_made<'a>(words: &mut Words<'a>, index: u32, place: Place<'a>) -> Result<Next<'a>, Refusal>
+    ensures is { IfOk result (λ n. (types : ℕ → Typ) (m : Meaning) (o : SourceNext) → Agrees types m words.new → next_of types m n o ≡ throws_what index (place_of types m place.entry) o (hold_of types m place.entry.hold)) }
+    ensures grows { (types : ℕ → Typ) (m : Meaning) → Agrees types m words.new → Agrees types m words.old }
 {
     match place.hold {
-        Hold::Making(typ, puts) => throws(index, place, Exception::Made(typ, puts)),
-        Hold::Nothing | Hold::Flying(_) => Next::Refused,
+        Hold::Making(typ, puts) => Ok(throws(index, place, made_of(words, typ, puts)?)),
+        Hold::Nothing | Hold::Flying(_) => Ok(Next::Refused),
     }
 }
 
@@ -176,8 +182,8 @@ fn are_apart(offset: u32, size: u32, other_offset: u32, other_size: u32) -> bool
 }
 
 // What was put at this place of an exception, so many bytes.
-fn was_put<'a>(offset: u32, size: u32, puts: PutsId) -> Option<WordId>
-    ensures { (types : ℕ → Typ) (m : Meaning) → option_map (word_of m) result ≡ put_at offset size (given_of m puts.entry) }
+fn was_put<'a>(offset: u32, size: u32, puts: Puts<'a>) -> Option<Term<'a>>
+    ensures { (types : ℕ → Typ) → option_map (term_of types) result ≡ put_at offset size (puts_of types puts.entry) }
 {
     match puts {
         Puts::Untouched => None,
@@ -199,8 +205,8 @@ fn was_put<'a>(offset: u32, size: u32, puts: PutsId) -> Option<WordId>
 }
 
 // The same of an exception.
-fn put_in<'a>(offset: u32, size: u32, exception: ExceptionId) -> Option<WordId>
-    ensures { (types : ℕ → Typ) (m : Meaning) → option_map (word_of m) result ≡ found_put offset size (thrown_of m exception.entry) }
+fn put_in<'a>(offset: u32, size: u32, exception: Exception<'a>) -> Option<Term<'a>>
+    ensures { (types : ℕ → Typ) → option_map (term_of types) result ≡ found_put offset size (exception_of types exception.entry) }
 {
     match exception {
         Exception::Unknown(_) => None,
@@ -215,8 +221,8 @@ fn put_in<'a>(offset: u32, size: u32, exception: ExceptionId) -> Option<WordId>
 }
 
 // A word read in a kind: what is read as an address is the word itself.
-fn read_as<'a>(arena: &'a Bump, kind: IntKind, word: WordId) -> Result<WordId, Refusal>
-    ensures { IfOk result (λ t. (types : ℕ → Typ) (m : Meaning) → word_of m t ≡ reads_as kind (word_of m word.entry)) }
+fn read_as<'a>(arena: &'a Bump, kind: IntKind, word: Term<'a>) -> Result<Term<'a>, Refusal>
+    ensures { IfOk result (λ t. (types : ℕ → Typ) → term_of types t ≡ reads_as kind (term_of types word.entry)) }
 {
     match kind {
         IntKind::ULong => Ok(word),
@@ -229,9 +235,9 @@ fn taken_word<'a>(
     arena: &'a Bump,
     kind: IntKind,
     offset: u8,
-    exception: ExceptionId,
-) -> Result<WordId, Refusal>
-    ensures { IfOk result (λ t. (types : ℕ → Typ) (m : Meaning) → word_of m t ≡ word_taken kind offset (thrown_of m exception.entry) (found_put offset (size_of kind) (thrown_of m exception.entry))) }
+    exception: Exception<'a>,
+) -> Result<Term<'a>, Refusal>
+    ensures { IfOk result (λ t. (types : ℕ → Typ) → term_of types t ≡ word_taken kind offset (exception_of types exception.entry) (found_put offset (size_of kind) (exception_of types exception.entry))) }
 {
     let offset = u32::from(offset);
     let size = u32::from(size(kind));
@@ -248,15 +254,32 @@ fn taken_word<'a>(
     }
 }
 
+// A number for the word of a kind at a place of an exception.
+fn taken<'a>(
+    arena: &'a Bump,
+    words: &mut Words<'a>,
+    kind: IntKind,
+    offset: u8,
+    from: ExceptionId,
+) -> Result<WordId, Refusal>
+    ensures is { IfOk result (λ w. (types : ℕ → Typ) (m : Meaning) → Agrees types m words.new → word_of m w ≡ word_taken kind offset (thrown_of m from.entry) (found_put offset (size_of kind) (thrown_of m from.entry))) }
+    ensures grows { (types : ℕ → Typ) (m : Meaning) → Agrees types m words.new → Agrees types m words.old }
+{
+    let word = taken_word(arena, kind, offset, exception(words, from)?)?;
+    made(words, word)
+}
+
 /// `xget`.
 pub fn gets_caught<'a>(
     arena: &'a Bump,
+    words: &mut Words<'a>,
     index: u32,
     offset: u8,
     kind: IntKind,
     place: Place<'a>,
 ) -> Result<Next<'a>, Refusal>
-    ensures { IfOk result (λ n. (types : ℕ → Typ) (m : Meaning) (o : SourceNext) → next_of types m n o ≡ gets_from index offset kind (place_of types m place.entry) o (all_thrown m place.entry.caught)) }
+    ensures is { IfOk result (λ n. (types : ℕ → Typ) (m : Meaning) (o : SourceNext) → Agrees types m words.new → next_of types m n o ≡ gets_from index offset kind (place_of types m place.entry) o (all_thrown m place.entry.caught)) }
+    ensures grows { (types : ℕ → Typ) (m : Meaning) → Agrees types m words.new → Agrees types m words.old }
 {
     match place.caught {
         Exceptions::Empty => Ok(Next::Refused),
@@ -264,7 +287,7 @@ pub fn gets_caught<'a>(
             if is_bool(kind) {
                 return Ok(Next::Refused);
             }
-            let word = taken_word(arena, kind, offset, exception)?;
+            let word = taken(arena, words, kind, offset, exception)?;
             pushes(arena, index, place, word, place.operands)
         }
     }

@@ -1,8 +1,8 @@
 //! What comes of an instruction.
 
 use cpp_tree::below::{BinOp, End, IntKind};
+use symbolic_terms::ids::{ExceptionId, WordId};
 use symbolic_terms::places::Place;
-use symbolic_terms::terms::{Exception, Term};
 
 /// What an instruction does.
 #[derive(Clone, Copy)]

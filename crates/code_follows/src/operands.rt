@@ -5,16 +5,16 @@ ghost use Rattle.cpp_tree.specs.cpp_types.Typ.{Typ};
 ghost use Rattle.symbolic_source.specs.Outcomes.{Outcome as SourceNext};
 ghost use Rattle.symbolic_code.specs.Following.{quietly, one_of, two_of, pushes as pushes_word};
 ghost use Rattle.symbolic_code.specs.Places.{with_operands};
-ghost use Rattle.symbolic_terms.specs.Words.{term_of, terms_of};
+ghost use Rattle.symbolic_terms.specs.Meanings.{Meaning, word_of, words_of};
 ghost use Rattle.symbolic_terms.specs.Shown.{place_of};
 ghost use Rattle.code_follows.specs.Shown.{coming, next_of};
 
 use crate::next::{Course, Next};
 use bumpalo::Bump;
 use symbolic_terms::arena::keep;
+use symbolic_terms::ids::{Terms, WordId};
 use symbolic_terms::places::Place;
 use symbolic_terms::refusal::Refusal;
-use symbolic_terms::terms::{Term, Terms};
 
 /// The index behind this one.
 pub fn behind(index: u32) -> Result<u32, Refusal>
