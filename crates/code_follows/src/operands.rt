@@ -5,16 +5,16 @@ ghost use Rattle.cpp_tree.specs.cpp_types.Typ.{Typ};
 ghost use Rattle.symbolic_source.specs.Outcomes.{Outcome as SourceNext};
 ghost use Rattle.symbolic_code.specs.Following.{quietly, one_of, two_of, pushes as pushes_word};
 ghost use Rattle.symbolic_code.specs.Places.{with_operands};
-ghost use Rattle.symbolic_terms.specs.Words.{term_of, terms_of};
+ghost use Rattle.symbolic_terms.specs.Meanings.{Meaning, word_of, words_of};
 ghost use Rattle.symbolic_terms.specs.Shown.{place_of};
 ghost use Rattle.code_follows.specs.Shown.{coming, next_of};
 
 use crate::next::{Course, Next};
 use bumpalo::Bump;
 use symbolic_terms::arena::keep;
+use symbolic_terms::ids::{Terms, WordId};
 use symbolic_terms::places::Place;
 use symbolic_terms::refusal::Refusal;
-use symbolic_terms::terms::{Term, Terms};
 
 /// The index behind this one.
 pub fn behind(index: u32) -> Result<u32, Refusal>
@@ -27,15 +27,15 @@ pub fn behind(index: u32) -> Result<u32, Refusal>
 }
 
 /// A word on operands.
-pub fn pushed<'a>(arena: &'a Bump, word: Term<'a>, below: Terms<'a>) -> Result<Terms<'a>, Refusal>
-    ensures { IfOk result (λ ws. (types : ℕ → Typ) → terms_of types ws ≡ term_of types word.entry ∷ terms_of types below.entry) }
+pub fn pushed<'a>(arena: &'a Bump, word: WordId, below: Terms<'a>) -> Result<Terms<'a>, Refusal>
+    ensures { IfOk result (λ ws. (types : ℕ → Typ) (m : Meaning) → words_of m ws ≡ word_of m word.entry ∷ words_of m below.entry) }
 {
     Ok(Terms::More(word, keep(arena, below)?))
 }
 
 /// An instruction does this, and goes on to the next index.
-pub fn goes_by<'a>(course: Course<'a>, index: u32, place: Place<'a>) -> Result<Next<'a>, Refusal>
-    ensures { IfOk result (λ n. (types : ℕ → Typ) (o : SourceNext) → next_of types n o ≡ coming types course.entry (index + 1) (place_of types place.entry) o) }
+pub fn goes_by<'a>(course: Course, index: u32, place: Place<'a>) -> Result<Next<'a>, Refusal>
+    ensures { IfOk result (λ n. (types : ℕ → Typ) (m : Meaning) (o : SourceNext) → next_of types m n o ≡ coming m course.entry (index + 1) (place_of types m place.entry) o) }
 {
     Ok(Next::Goes {
         course,
@@ -47,13 +47,13 @@ pub fn goes_by<'a>(course: Course<'a>, index: u32, place: Place<'a>) -> Result<N
 /// An instruction does this, goes on to the next index, and puts a word on these operands.
 pub fn pushes_by<'a>(
     arena: &'a Bump,
-    course: Course<'a>,
+    course: Course,
     index: u32,
     place: Place<'a>,
-    word: Term<'a>,
+    word: WordId,
     below: Terms<'a>,
 ) -> Result<Next<'a>, Refusal>
-    ensures { IfOk result (λ n. (types : ℕ → Typ) (o : SourceNext) → next_of types n o ≡ coming types course.entry (index + 1) (with_operands (place_of types place.entry) (term_of types word.entry ∷ terms_of types below.entry)) o) }
+    ensures { IfOk result (λ n. (types : ℕ → Typ) (m : Meaning) (o : SourceNext) → next_of types m n o ≡ coming m course.entry (index + 1) (with_operands (place_of types m place.entry) (word_of m word.entry ∷ words_of m below.entry)) o) }
 {
     let operands = pushed(arena, word, below)?;
     goes_by(course, index, Place { operands, ..place })
@@ -64,17 +64,17 @@ pub fn pushes<'a>(
     arena: &'a Bump,
     index: u32,
     place: Place<'a>,
-    word: Term<'a>,
+    word: WordId,
     below: Terms<'a>,
 ) -> Result<Next<'a>, Refusal>
-    ensures { IfOk result (λ n. (types : ℕ → Typ) (o : SourceNext) → next_of types n o ≡ pushes_word index (place_of types place.entry) o (term_of types word.entry) (terms_of types below.entry)) }
+    ensures { IfOk result (λ n. (types : ℕ → Typ) (m : Meaning) (o : SourceNext) → next_of types m n o ≡ pushes_word index (place_of types m place.entry) o (word_of m word.entry) (words_of m below.entry)) }
 {
     pushes_by(arena, Course::Quietly, index, place, word, below)
 }
 
 /// `dup`.
 pub fn duplicates<'a>(arena: &'a Bump, index: u32, place: Place<'a>) -> Result<Next<'a>, Refusal>
-    ensures { IfOk result (λ n. (types : ℕ → Typ) (o : SourceNext) → next_of types n o ≡ one_of (terms_of types place.entry.operands) (λ w ws. pushes_word index (place_of types place.entry) o w (w ∷ ws))) }
+    ensures { IfOk result (λ n. (types : ℕ → Typ) (m : Meaning) (o : SourceNext) → next_of types m n o ≡ one_of (words_of m place.entry.operands) (λ w ws. pushes_word index (place_of types m place.entry) o w (w ∷ ws))) }
 {
     match place.operands {
         Terms::Empty => Ok(Next::Refused),
@@ -84,7 +84,7 @@ pub fn duplicates<'a>(arena: &'a Bump, index: u32, place: Place<'a>) -> Result<N
 
 /// `drop`.
 pub fn drops<'a>(index: u32, place: Place<'a>) -> Result<Next<'a>, Refusal>
-    ensures { IfOk result (λ n. (types : ℕ → Typ) (o : SourceNext) → next_of types n o ≡ one_of (terms_of types place.entry.operands) (λ w ws. quietly (index + 1) (with_operands (place_of types place.entry) ws) o)) }
+    ensures { IfOk result (λ n. (types : ℕ → Typ) (m : Meaning) (o : SourceNext) → next_of types m n o ≡ one_of (words_of m place.entry.operands) (λ w ws. quietly (index + 1) (with_operands (place_of types m place.entry) ws) o)) }
 {
     match place.operands {
         Terms::Empty => Ok(Next::Refused),
@@ -100,7 +100,7 @@ pub fn drops<'a>(index: u32, place: Place<'a>) -> Result<Next<'a>, Refusal>
 
 /// `swap`.
 pub fn swaps<'a>(arena: &'a Bump, index: u32, place: Place<'a>) -> Result<Next<'a>, Refusal>
-    ensures { IfOk result (λ n. (types : ℕ → Typ) (o : SourceNext) → next_of types n o ≡ two_of (terms_of types place.entry.operands) (λ a b ws. pushes_word index (place_of types place.entry) o a (b ∷ ws))) }
+    ensures { IfOk result (λ n. (types : ℕ → Typ) (m : Meaning) (o : SourceNext) → next_of types m n o ≡ two_of (words_of m place.entry.operands) (λ a b ws. pushes_word index (place_of types m place.entry) o a (b ∷ ws))) }
 {
     match place.operands {
         Terms::Empty => Ok(Next::Refused),
@@ -114,7 +114,7 @@ pub fn swaps<'a>(arena: &'a Bump, index: u32, place: Place<'a>) -> Result<Next<'
 
 /// `over`.
 pub fn copies_lower<'a>(arena: &'a Bump, index: u32, place: Place<'a>) -> Result<Next<'a>, Refusal>
-    ensures { IfOk result (λ n. (types : ℕ → Typ) (o : SourceNext) → next_of types n o ≡ two_of (terms_of types place.entry.operands) (λ a b ws. pushes_word index (place_of types place.entry) o a (b ∷ (a ∷ ws)))) }
+    ensures { IfOk result (λ n. (types : ℕ → Typ) (m : Meaning) (o : SourceNext) → next_of types m n o ≡ two_of (words_of m place.entry.operands) (λ a b ws. pushes_word index (place_of types m place.entry) o a (b ∷ (a ∷ ws)))) }
 {
     match place.operands {
         Terms::Empty => Ok(Next::Refused),

@@ -6,10 +6,12 @@ use crate::terms::{bind_exception, bind_later, bind_term, has_come};
 use bumpalo::Bump;
 use std::alloc::Global;
 use symbolic_terms::arena::keep;
+use symbolic_terms::ids::WordId;
 use symbolic_terms::places::{Fact, Facts};
 use symbolic_terms::refusal::Refusal;
 use symbolic_terms::replacing::Replacing;
 use symbolic_terms::terms::{Exception, Term};
+use symbolic_terms::words::{Words, term};
 
 // Terms against terms.
 fn bind_terms<'a>(
@@ -88,25 +90,40 @@ pub struct Numbering<'a> {
     pub facts: Facts<'a>,
 }
 
+// Whether each variable of a word has come.
+fn word_has_come<'a>(
+    words: &Words<'a>,
+    bindings: &Bindings<'a>,
+    word: WordId,
+) -> Result<bool, Refusal> {
+    let whole = term(words, word)?;
+    Ok(has_come(bindings, &whole))
+}
+
 // Whether each variable of a fact has come.
-fn fact_has_come<'a>(bindings: &Bindings<'a>, fact: &Fact<'a>) -> bool {
+fn fact_has_come<'a>(
+    words: &Words<'a>,
+    bindings: &Bindings<'a>,
+    fact: Fact,
+) -> Result<bool, Refusal> {
     match fact {
-        Fact::NotZero(word) => has_come(bindings, word),
-        Fact::HasFunction { address, .. } => has_come(bindings, address),
+        Fact::NotZero(word) => word_has_come(words, bindings, word),
+        Fact::HasFunction { address, .. } => word_has_come(words, bindings, address),
     }
 }
 
 // The facts whose variables have come.
 fn facts_kept<'a>(
     arena: &'a Bump,
+    words: &Words<'a>,
     bindings: &Bindings<'a>,
     facts: Facts<'a>,
 ) -> Result<Facts<'a>, Refusal> {
     match facts {
         Facts::Empty => Ok(Facts::Empty),
         Facts::More(fact, rest) => {
-            let others = facts_kept(arena, bindings, *rest)?;
-            if fact_has_come(bindings, &fact) {
+            let others = facts_kept(arena, words, bindings, *rest)?;
+            if fact_has_come(words, bindings, fact)? {
                 Ok(Facts::More(fact, keep(arena, others)?))
             } else {
                 Ok(others)
@@ -118,13 +135,14 @@ fn facts_kept<'a>(
 // Other numbers for the variables of a form, where nothing has come yet.
 fn numbered<'a>(
     arena: &'a Bump,
+    words: &Words<'a>,
     alloc: Global,
     bindings: &mut Bindings<'a>,
     form: Form<'a>,
     facts: Facts<'a>,
 ) -> Result<Numbering<'a>, Refusal> {
     let _bound = bind_form(bindings, form, form)?;
-    let facts = facts_kept(arena, bindings, facts)?;
+    let facts = facts_kept(arena, words, bindings, facts)?;
     number_all(bindings);
     let with = replacing_by(arena, alloc, bindings)?;
     Ok(Numbering { with, facts })
@@ -133,10 +151,11 @@ fn numbered<'a>(
 /// Other numbers for the variables of a form.
 pub fn renumbered<'a>(
     arena: &'a Bump,
+    words: &Words<'a>,
     alloc: Global,
     form: Form<'a>,
     facts: Facts<'a>,
 ) -> Result<Numbering<'a>, Refusal> {
     let mut bindings = no_bindings(alloc);
-    numbered(arena, alloc, &mut bindings, form, facts)
+    numbered(arena, words, alloc, &mut bindings, form, facts)
 }
