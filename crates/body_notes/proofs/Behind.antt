@@ -5,6 +5,7 @@ use Rattle.symbolic_source.specs.Outcomes.{Outcome}
 use Rattle.symbolic_source.specs.Steps.{step_of, advanced}
 use Rattle.symbolic_code.specs.Facts.{Fact}
 use Rattle.symbolic_code.specs.Places.{Place}
+use Rattle.symbolic_terms.specs.Meanings.{Meaning}
 use Rattle.symbolic_terms.specs.declared.outcomes.Rest.{Rest}
 use Rattle.symbolic_leaving.specs.Shown.{left_in}
 use Rattle.body_check.specs.Notes.{no_answers}
@@ -17,24 +18,24 @@ use Rattle.body_notes.specs.declared.calls.Ends.{Ends}
 use Rattle.body_notes.specs.Fits.{RisesBy}
 use Rattle.body_notes.specs.Called.{given_back, place_back, facts_back, BackBy, BackWithBy, BehindBy}
 
-module _ (b : Compiled) (ns : Notes) where
+module _ (b : Compiled) (m : Meaning) (ns : Notes) where
   -- the caller goes on
   pub back_by : (known : List Fact) (index : ℕ) (q : Place) (o o1 o2 : Outcome) (lag n rank : ℕ) → o1 ≡ step_of (linked_by b) (func_by b) no_answers o → o2 ≡ advanced (linked_by b) (func_by b) no_answers lag o1 → n ≡ 1 + lag → n ≤ 512
-      → AgreesBy b ns known index q o2 rank → BackBy b ns known index q o
+      → AgreesBy b m ns known index q o2 rank → BackBy b m ns known index q o
   back_by known index q o o1 o2 lag n rank e1 e2 i h a =
-      let l = back_at (linked_by b) (func_by b) (notes_by b ns) (thrown_by b) known index q o o1 o2 lag n rank e1 e2 i h a in
+      let l = back_at (linked_by b) (func_by b) (notes_by b m ns) (thrown_by b) known index q o o1 o2 lag n rank e1 e2 i h a in
       record { lands = l.0; some = l.1; short = l.2 }
 
-  pub back_with_as : (gives : Bool) (known ks : List Fact) (index : ℕ) (q q2 : Place) (rest : Rest) (o2 : Outcome) → ks ≡ facts_back gives known → q2 ≡ place_back gives q → o2 ≡ given_back b gives rest → BackBy b ns ks index q2 o2 → BackWithBy b ns gives known index q rest
+  pub back_with_as : (gives : Bool) (known ks : List Fact) (index : ℕ) (q q2 : Place) (rest : Rest) (o2 : Outcome) → ks ≡ facts_back gives known → q2 ≡ place_back gives q → o2 ≡ given_back b m gives rest → BackBy b m ns ks index q2 o2 → BackWithBy b m ns gives known index q rest
   back_with_as gives known ks index q q2 rest o2 i j k w =
-      subst (λ z. BackBy b ns z index (place_back gives q) (given_back b gives rest)) i
-      (subst (λ z. BackBy b ns ks index z (given_back b gives rest)) j
-      (subst (λ z. BackBy b ns ks index q2 z) k w))
+      subst (λ z. BackBy b m ns z index (place_back gives q) (given_back b m gives rest)) i
+      (subst (λ z. BackBy b m ns ks index z (given_back b m gives rest)) j
+      (subst (λ z. BackBy b m ns ks index q2 z) k w))
 
-  pub left_behind : (ends : Ends) (known : List Fact) (index next : ℕ) (q : Place) (rest : Rest) → next ≡ index + 1 → BackWithBy b ns ends.gives known next q rest → (ends.stops ≡ false → RisesBy b ns known index q rest 63)
-      → q.opens ≡ blocks_in (left_in b.source rest) → first_of q.caught ≡ handled (left_in b.source rest) → AllThrown (thrown_by b) q.caught → BehindBy b ns ends known index q rest
+  pub left_behind : (ends : Ends) (known : List Fact) (index next : ℕ) (q : Place) (rest : Rest) → next ≡ index + 1 → BackWithBy b m ns ends.gives known next q rest → (ends.stops ≡ false → RisesBy b m ns known index q rest 63)
+      → q.opens ≡ blocks_in (left_in b.source m rest) → first_of q.caught ≡ handled (left_in b.source m rest) → AllThrown (thrown_by b) q.caught → BehindBy b m ns ends known index q rest
   left_behind ends known index next q rest i back thrown opens caught type = record {
-    back = subst (λ z. BackWithBy b ns ends.gives known z q rest) i back;
+    back = subst (λ z. BackWithBy b m ns ends.gives known z q rest) i back;
     thrown = thrown;
     opens = opens;
     caught = caught;

@@ -4,3 +4,4 @@ pub mod Called
 pub mod Noted
 pub mod Fitting
 pub mod Behind
+pub mod Agreeing

@@ -8,6 +8,7 @@ use Rattle.symbolic_code.specs.Facts.{Fact}
 use Rattle.symbolic_code.specs.Places.{Place}
 use Rattle.body_check.specs.Notes as checked
 use Rattle.body_check.specs.Calls.{StepFits, NoteFits, Entry, Checked}
+use Rattle.symbolic_terms.specs.Meanings.{Meaning}
 use Rattle.note_landing.specs.declared.notes.Note.{Note}
 use Rattle.note_landing.specs.declared.notes.Notes.{Notes}
 use Rattle.note_landing.specs.declared.compiled.Compiled.{Compiled}
@@ -28,20 +29,21 @@ is_plain (TCallIndirect ty words) = false
 is_plain (Ret n) = false
 is_plain a = true
 
-module _ (b : Compiled) (ns : Notes) where
+module _ (b : Compiled) (m : Meaning) (ns : Notes) where
   abbrev pub StepBy : List Fact → Pending → (index : ℕ) → Instr → Place → Outcome → Type 0
-  StepBy known g index a q o = (all : ℕ → Bool → List checked.Note) (types : ℕ → Bool → List Typ) → StepFits (linked_by b) bounds (book_by b all types) (held_by b ns) known g.lead g.rank index a q o
+  StepBy known g index a q o = (all : ℕ → Bool → List checked.Note) (types : ℕ → Bool → List Typ) → StepFits (linked_by b) bounds (book_by b all types) (held_by b m ns) known g.lead g.rank index a q o
 
   abbrev pub NoteBy : Note → Type 0
-  NoteBy n = (all : ℕ → Bool → List checked.Note) (types : ℕ → Bool → List Typ) → NoteFits (linked_by b) bounds (book_by b all types) (held_by b ns) (note_at b.source n)
+  NoteBy n = (all : ℕ → Bool → List checked.Note) (types : ℕ → Bool → List Typ) → NoteFits (linked_by b) bounds (book_by b all types) (held_by b m ns) (note_at b.source m n)
 
   abbrev pub EntryBy : Type 0
-  EntryBy = (all : ℕ → Bool → List checked.Note) (types : ℕ → Bool → List Typ) → Entry (linked_by b) bounds (book_by b all types) (held_by b ns)
+  EntryBy = (all : ℕ → Bool → List checked.Note) (types : ℕ → Bool → List Typ) → Entry (linked_by b) bounds (book_by b all types) (held_by b m ns)
 
   abbrev pub CheckedBy : Type 0
-  CheckedBy = (all : ℕ → Bool → List checked.Note) (types : ℕ → Bool → List Typ) → Checked (linked_by b) bounds (book_by b all types) (held_by b ns)
+  CheckedBy = (all : ℕ → Bool → List checked.Note) (types : ℕ → Bool → List Typ) → Checked (linked_by b) bounds (book_by b all types) (held_by b m ns)
 
--- there are notes with which it is checked
+-- there are notes with which it is checked, where numbers of words and of exceptions mean something
 pub record HasNotesBy (b : Compiled) : Type 0 where
+  pub meaning : Meaning
   pub notes : Notes
-  pub checked : CheckedBy b notes
+  pub checked : CheckedBy b meaning notes

@@ -13,6 +13,7 @@ use Rattle.code_follows.specs.declared.next.Next.{Next}
 use Rattle.code_follows.specs.declared.next.Course.{Course}
 use Rattle.code_follows.specs.Shown.{coming, next_of}
 use Rattle.body_check.specs.Notes.{no_answers, is_loud, IsThrown, Fits, Flies, in_place, rising}
+use Rattle.symbolic_terms.specs.Meanings.{Meaning}
 use Rattle.note_landing.specs.declared.notes.Notes.{Notes}
 use Rattle.note_landing.specs.declared.compiled.Compiled.{Compiled}
 use Rattle.note_landing.specs.Books.{bounds}
@@ -25,31 +26,31 @@ abbrev pub IsBelow : ℕ → Pending → Type 0
 IsBelow n g = (1 ≤ g.lead) ⊎ (n + 1 ≤ g.rank)
 
 -- what the source does where an exception comes from elsewhere
-abbrev pub left_rising : Compiled → Rest → Outcome
-left_rising b rest = left (in_waitings rising (waits_in b.source rest)) (throws (unknown 0)) (in_frames rising (left_in b.source rest))
+abbrev pub left_rising : Compiled → Meaning → Rest → Outcome
+left_rising b m rest = left (in_waitings rising (waits_in b.source m rest)) (throws (unknown 0)) (in_frames rising (left_in b.source m rest))
 
-module _ (b : Compiled) (ns : Notes) where
+module _ (b : Compiled) (m : Meaning) (ns : Notes) where
   abbrev pub FitsBy : List Fact → Pending → Next → Outcome → Type 0
-  FitsBy known g next o = Fits (linked_by b) (func_by b) bounds (notes_by b ns) (thrown_by b) (numbers_by b) (rows_by b) known g.lead g.rank (next_of (types_by b) next o)
+  FitsBy known g next o = Fits (linked_by b) (func_by b) bounds (notes_by b m ns) (thrown_by b) (numbers_by b) (rows_by b) known g.lead g.rank (next_of (types_by b) m next o)
 
   abbrev pub CourseBy : List Fact → Pending → Course → (index : ℕ) → Place → Outcome → Type 0
-  CourseBy known g course index q o = Fits (linked_by b) (func_by b) bounds (notes_by b ns) (thrown_by b) (numbers_by b) (rows_by b) known g.lead g.rank (coming (types_by b) course index q o)
+  CourseBy known g course index q o = Fits (linked_by b) (func_by b) bounds (notes_by b m ns) (thrown_by b) (numbers_by b) (rows_by b) known g.lead g.rank (coming m course index q o)
 
   -- an event
   abbrev pub LoudBy : List Fact → Doing → Rest → (index : ℕ) → Place → Type 0
-  LoudBy known doing rest index q = (is_loud doing ≡ true) × BehindBy b ns known index q rest
+  LoudBy known doing rest index q = (is_loud doing ≡ true) × BehindBy b m ns known index q rest
 
   -- a thread has been started, and the code goes on
   abbrev pub StartsBy : List Fact → Rest → (index : ℕ) → Place → Type 0
-  StartsBy known rest index q = LandsAtOnce b ns (in_facts later known) index q
-      (given (linked_by b) (func_by b) no_answers (in_waitings later (waits_in b.source rest)) (variable 0) (in_frames later (Replied ∷ left_in b.source rest)))
+  StartsBy known rest index q = LandsAtOnce b m ns (in_facts later known) index q
+      (given (linked_by b) (func_by b) no_answers (in_waitings later (waits_in b.source m rest)) (variable 0) (in_frames later (Replied ∷ left_in b.source m rest)))
 
   -- an exception comes from elsewhere
   abbrev pub RisesBy : List Fact → (index : ℕ) → Place → Rest → (rank : ℕ) → Type 0
-  RisesBy known index q rest rank = FliesBy b ns (in_facts rising known) index (in_place rising q) (unknown 0) (left_rising b rest) rank
+  RisesBy known index q rest rank = FliesBy b m ns (in_facts rising known) index (in_place rising q) (unknown 0) (left_rising b m rest) rank
 
   abbrev pub FlightBy : List Fact → (index : ℕ) → Place → Exception → Outcome → Type 0
-  FlightBy known index q e o = Flies (linked_by b) (func_by b) bounds (notes_by b ns) (thrown_by b) (numbers_by b) (rows_by b) known index q e o
+  FlightBy known index q e o = Flies (linked_by b) (func_by b) bounds (notes_by b m ns) (thrown_by b) (numbers_by b) (rows_by b) known index q e o
 
   -- an exception is thrown
   abbrev pub ThrowsBy : List Fact → Pending → Exception → (index : ℕ) → Place → Outcome → Type 0
@@ -57,4 +58,4 @@ module _ (b : Compiled) (ns : Notes) where
 
   -- what a caller's handler has is thrown again
   abbrev pub RethrowsBy : List Fact → Pending → Rest → (index : ℕ) → Place → Type 0
-  RethrowsBy known g rest index q = (t : FlightBy (in_facts rising known) index (in_place rising q) (unknown 0) (left_rising b rest)) × ((1 ≤ g.lead) ⊎ (t.rank + 1 ≤ g.rank))
+  RethrowsBy known g rest index q = (t : FlightBy (in_facts rising known) index (in_place rising q) (unknown 0) (left_rising b m rest)) × ((1 ≤ g.lead) ⊎ (t.rank + 1 ≤ g.rank))

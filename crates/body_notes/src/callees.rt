@@ -4,13 +4,13 @@ ghost use Rattle.std.specs.Prelude.{◌≡◌, ℕ, Bool, List, Some, None, true
 ghost use Rattle.cpp_tree.specs.cpp_types.Typ.{Typ};
 ghost use Rattle.cpp_tree.specs.declared.program.Program.{Program};
 ghost use Rattle.symbolic_source.specs.Frames.{known as known_func};
-ghost use Rattle.symbolic_terms.specs.Words.{term_of, terms_of};
+ghost use Rattle.symbolic_terms.specs.Meanings.{Meaning, word_of, words_of, Agrees};
 ghost use Rattle.symbolic_terms.specs.Shown.{facts_of, callee_of};
 ghost use Rattle.symbolic_leaving.specs.Source.{units_of};
 ghost use Rattle.body_check.specs.Notes.{Note};
 ghost use Rattle.body_check.specs.Calls.{taken_off};
 ghost use Rattle.note_landing.specs.declared.notes.Notes.{Notes};
-ghost use Rattle.note_landing.specs.Shown.{types_by, image_by, linked_by, place_by, facts_by, term_by, outcome_by, table_by};
+ghost use Rattle.note_landing.specs.Shown.{types_by, image_by, linked_by, place_by, facts_by, outcome_by, table_by};
 ghost use Rattle.image_links.specs.Books.{func_gives as gives_so, func_of as func_so};
 ghost use Rattle.body_notes.specs.Callees.{PointsTo, IsInSlot, IsSlotFunction, FoundBy, CallsBy, CallsFoundBy};
 
@@ -29,12 +29,14 @@ use symbolic_frames::known::is_among;
 use symbolic_frames::places::with_operands;
 use symbolic_leaving::source::number_of;
 use symbolic_terms::arena::keep;
-use symbolic_terms::comparison::{equal_lists, equal_terms};
+use symbolic_terms::comparison::{equal_lists, equal_words};
 use symbolic_terms::frames::Callee;
+use symbolic_terms::ids::{Terms, WordId};
+use symbolic_terms::made;
 use symbolic_terms::outcomes::{Leading, Outcome};
 use symbolic_terms::places::{Fact, Facts, Place};
 use symbolic_terms::refusal::Refusal;
-use symbolic_terms::terms::{Term, Terms};
+use symbolic_terms::words::Words;
 
 /// The words of a call, and what is under them.
 #[derive(Clone, Copy)]
@@ -49,20 +51,20 @@ fn taken_off<'a>(
     room: Room<'a>,
     count: u8,
     operands: Terms<'a>,
-    words: Terms<'a>,
+    taken: Terms<'a>,
 ) -> Result<Option<TakenOff<'a>>, Refusal>
-    ensures { IfOk result (λ o. IfSome o (λ t. (types : ℕ → Typ) → taken_off count (terms_of types operands.entry) (terms_of types words.entry) ≡ Some (terms_of types t.words, terms_of types t.under))) }
+    ensures { IfOk result (λ o. IfSome o (λ t. (types : ℕ → Typ) (m : Meaning) → taken_off count (words_of m operands.entry) (words_of m taken.entry) ≡ Some (words_of m t.words, words_of m t.under))) }
 {
     if count == 0 {
         return Ok(Some(TakenOff {
-            words,
+            words: taken,
             under: operands,
         }));
     }
     match operands {
         Terms::Empty => Ok(None),
         Terms::More(word, rest) => {
-            let more = Terms::More(word, keep(room.arena, words)?);
+            let more = Terms::More(word, keep(room.arena, taken)?);
             match taken_off(room, count - 1, *rest, more)? {
                 Some(taken) => Ok(Some(taken)),
                 None => Ok(None),
@@ -72,8 +74,8 @@ fn taken_off<'a>(
 }
 
 // Whether this is the function with the number.
-fn is_known<'a>(callee: Callee<'a>, number: u32) -> bool
-    ensures { IsTrue result → (types : ℕ → Typ) (p : Program) → callee_of types p callee.entry ≡ known_func number }
+fn is_known(callee: Callee, number: u32) -> bool
+    ensures { IsTrue result → (types : ℕ → Typ) (m : Meaning) (p : Program) → callee_of types m p callee ≡ known_func number }
 {
     match callee {
         Callee::Known(known) => known == number,
@@ -105,6 +107,7 @@ fn has_stops<'a>(body: &Compiled<'a>, number: u32) -> bool
 /// A call of a function of the unit by its name.
 pub(crate) fn calling<'a>(
     room: Room<'a>,
+    words: &mut Words<'a>,
     body: &Compiled<'a>,
     notes: &Notes<'a>,
     known: Facts<'a>,
@@ -114,13 +117,14 @@ pub(crate) fn calling<'a>(
     callee: u32,
     count: u8,
 ) -> Result<(), Unfit>
-    ensures { OnOk result ((name : ℕ) (all : ℕ → Bool → List Note) (types : ℕ → Bool → List Typ) → (table_by body.now).function_of name ≡ Some callee → CallsBy body.now notes.now (facts_by body.now known.entry) index (place_by body.now place.entry) (outcome_by body.now outcome.entry) name count callee all types) }
+    ensures is { OnOk result ((m : Meaning) → Agrees (types_by body.now) m words.new → (name : ℕ) (all : ℕ → Bool → List Note) (types : ℕ → Bool → List Typ) → (table_by body.now).function_of name ≡ Some callee → CallsBy body.now m notes.now (facts_by body.now m known.entry) index (place_by body.now m place.entry) (outcome_by body.now m outcome.entry) name count callee all types) }
+    ensures grows { OnOk result ((types : ℕ → Typ) (m : Meaning) → Agrees types m words.new → Agrees types m words.old) }
 {
     let number = number_of(&body.source, callee);
     let Outcome::Goes(
         Leading::Calls {
             callee: called,
-            words,
+            words: own,
         },
         rest,
     ) = outcome
@@ -136,12 +140,12 @@ pub(crate) fn calling<'a>(
     let Some(taken) = taken_off(room, count, place.operands, Terms::Empty)? else {
         return Err(Unfit::Never);
     };
-    if !equal_lists(&taken.words, &words) {
+    if !equal_lists(words, &taken.words, &own) {
         return Err(Unfit::Never);
     }
     let under = with_operands(place, taken.under);
     let ends = ends_of(body, number);
-    behind(room, body, notes, known, index, ends, under, rest)?;
+    behind(room, words, body, notes, known, index, ends, under, rest)?;
     Ok(())
 }
 
@@ -185,20 +189,18 @@ fn is_in_slot<'a>(
 // Whether it is known that the slot of the class at this address has a function, and the operand is its address.
 fn is_slot_function<'a>(
     room: Room<'a>,
+    words: &mut Words<'a>,
     known: Facts<'a>,
-    operand: Term<'a>,
+    operand: WordId,
     class: u32,
     slot: u32,
-    address: Term<'a>,
+    address: WordId,
 ) -> Result<bool, Refusal>
-    ensures { IfOk result (λ b. b ≡ true → (types : ℕ → Typ) → IsSlotFunction (facts_of types known.entry) (term_of types operand.entry) class slot (term_of types address.entry)) }
+    ensures is { IfOk result (λ b. b ≡ true → (types : ℕ → Typ) (m : Meaning) → Agrees types m words.new → IsSlotFunction (facts_of types m known.entry) (word_of m operand) class slot (word_of m address)) }
+    ensures grows { IfOk result (λ z. (types : ℕ → Typ) (m : Meaning) → Agrees types m words.new → Agrees types m words.old) }
 {
-    let function = Term::SlotFunction {
-        class,
-        slot,
-        address: keep(room.arena, address)?,
-    };
-    if !equal_terms(&operand, &function) {
+    let function = made::slot_function(room.arena, words, class, slot, address)?;
+    if !equal_words(words, operand, function) {
         return Ok(false);
     }
     let fact = Fact::HasFunction {
@@ -206,25 +208,27 @@ fn is_slot_function<'a>(
         slot,
         address,
     };
-    Ok(is_among(&fact, &known))
+    Ok(is_among(words, &fact, &known))
 }
 
 // Whether an operand finds functions that take so many words and hand one back or none.
 fn finds<'a>(
     room: Room<'a>,
+    words: &mut Words<'a>,
     body: &Compiled<'a>,
     known: Facts<'a>,
     name: u32,
     count: u8,
-    operand: Term<'a>,
-    callee: Callee<'a>,
+    operand: WordId,
+    callee: Callee,
     gives: bool,
 ) -> Result<bool, Refusal>
-    ensures { IfOk result (λ b. b ≡ true → (ns : Notes) → FoundBy body.now ns (facts_by body.now known.entry) name (term_by body.now operand.entry) (callee_of (types_by body.now) (units_of body.now.source) callee.entry) count gives) }
+    ensures is { IfOk result (λ b. b ≡ true → (m : Meaning) → Agrees (types_by body.now) m words.new → (ns : Notes) → FoundBy body.now m ns (facts_by body.now m known.entry) name (word_of m operand) (callee_of (types_by body.now) m (units_of body.now.source) callee) count gives) }
+    ensures grows { IfOk result (λ z. (types : ℕ → Typ) (m : Meaning) → Agrees types m words.new → Agrees types m words.old) }
 {
     match callee {
         Callee::Pointer { address, pointer } => {
-            if !equal_terms(&operand, &address) {
+            if !equal_words(words, operand, address) {
                 return Ok(false);
             }
             let points = points_to(room, body, name, count, pointer, gives)?;
@@ -235,7 +239,7 @@ fn finds<'a>(
             slot,
             address,
         } => {
-            if !is_slot_function(room, known, operand, class, slot, address)? {
+            if !is_slot_function(room, words, known, operand, class, slot, address)? {
                 return Ok(false);
             }
             let is_there = is_in_slot(body, name, count, class, slot, gives)?;
@@ -248,6 +252,7 @@ fn finds<'a>(
 /// A call by an address.
 pub(crate) fn calling_found<'a>(
     room: Room<'a>,
+    words: &mut Words<'a>,
     body: &Compiled<'a>,
     notes: &Notes<'a>,
     known: Facts<'a>,
@@ -257,22 +262,23 @@ pub(crate) fn calling_found<'a>(
     name: u32,
     count: u8,
 ) -> Result<(), Unfit>
-    ensures { OnOk result ((all : ℕ → Bool → List Note) (types : ℕ → Bool → List Typ) → CallsFoundBy body.now notes.now (facts_by body.now known.entry) index (place_by body.now place.entry) (outcome_by body.now outcome.entry) name count all types) }
+    ensures is { OnOk result ((m : Meaning) → Agrees (types_by body.now) m words.new → (all : ℕ → Bool → List Note) (types : ℕ → Bool → List Typ) → CallsFoundBy body.now m notes.now (facts_by body.now m known.entry) index (place_by body.now m place.entry) (outcome_by body.now m outcome.entry) name count all types) }
+    ensures grows { OnOk result ((types : ℕ → Typ) (m : Meaning) → Agrees types m words.new → Agrees types m words.old) }
 {
-    let Outcome::Goes(Leading::Calls { callee, words }, rest) = outcome else {
+    let Outcome::Goes(Leading::Calls { callee, words: own }, rest) = outcome else {
         return Err(Unfit::Never);
     };
     let Some(taken) = taken_off(room, count, place.operands, Terms::Empty)? else {
         return Err(Unfit::Never);
     };
-    if !equal_lists(&taken.words, &words) {
+    if !equal_lists(words, &taken.words, &own) {
         return Err(Unfit::Never);
     }
     let Terms::More(address, others) = taken.under else {
         return Err(Unfit::Never);
     };
     let gives = gives_of(text_at(body.image, name)) == 1;
-    if !finds(room, body, known, name, count, address, callee, gives)? {
+    if !finds(room, words, body, known, name, count, address, callee, gives)? {
         return Err(Unfit::Never);
     }
     let ends = Ends {
@@ -280,6 +286,6 @@ pub(crate) fn calling_found<'a>(
         stops: false,
     };
     let under = with_operands(place, *others);
-    behind(room, body, notes, known, index, ends, under, rest)?;
+    behind(room, words, body, notes, known, index, ends, under, rest)?;
     Ok(())
 }

@@ -6,11 +6,12 @@ ghost use Rattle.cpp_tree.specs.declared.program.Program.{Program};
 ghost use Rattle.src_mean.specs.Linked.{Func};
 ghost use Rattle.symbolic_source.specs.Frames.{Gives, handled as exception_handled, blocks_in as blocks_among};
 ghost use Rattle.symbolic_source.specs.Outcomes.{silent, goes};
+ghost use Rattle.symbolic_terms.specs.Meanings.{Meaning, word_of, Agrees};
 ghost use Rattle.symbolic_leaving.specs.Shown.{waiting_at, frames_at};
 ghost use Rattle.note_landing.specs.declared.compiled.Compiled.{Compiled as CompiledBody};
 ghost use Rattle.symbolic_terms.specs.Shown.{place_of, facts_of, frames_of};
 ghost use Rattle.body_check.specs.Calls.{first_of, AllThrown};
-ghost use Rattle.note_landing.specs.Shown.{place_by, facts_by, term_by, outcome_by, thrown_by};
+ghost use Rattle.note_landing.specs.Shown.{types_by, place_by, facts_by, outcome_by, thrown_by};
 ghost use Rattle.body_notes.specs.Called.{given_back, place_back, facts_back, BackBy, BackWithBy, BehindBy};
 
 use crate::fits::rises;
@@ -21,20 +22,21 @@ use note_landing::notes::Notes;
 use note_landing::spellings::is_thrown;
 use note_landing::steps::steps_within;
 use note_landing::unfit::Unfit;
-use std::alloc::AllocError;
 use symbolic_equality::outcomes::equal_open_lists;
 use symbolic_frames::outcomes::{replaced_facts, replaced_rest};
 use symbolic_frames::places::place_later;
 use symbolic_frames::stacks::{blocks_in, handled};
 use symbolic_steps::{CaseAnswers, step};
 use symbolic_terms::arena::keep;
-use symbolic_terms::comparison::equal_exceptions;
+use symbolic_terms::comparison::equal_thrown;
 use symbolic_terms::frames::{Frame, Frames, Waitings};
+use symbolic_terms::ids::{Exceptions, Terms, WordId};
+use symbolic_terms::made;
 use symbolic_terms::outcomes::{Doing, Leading, Outcome, Rest};
 use symbolic_terms::places::{Facts, Place};
 use symbolic_terms::refusal::Refusal;
-use symbolic_terms::replacing::{Replacing, replaced_terms};
-use symbolic_terms::terms::{Exceptions, Term, Terms};
+use symbolic_terms::replacing::{Replacing, replaced_words};
+use symbolic_terms::words::Words;
 
 /// The most steps on the way back to a caller.
 pub(crate) const HALF: u32 = 512;
@@ -42,6 +44,7 @@ pub(crate) const HALF: u32 = 512;
 // The caller goes on behind a call by at least one silent step.
 fn back<'a>(
     room: Room<'a>,
+    words: &mut Words<'a>,
     body: &Compiled<'a>,
     notes: &Notes<'a>,
     known: Facts<'a>,
@@ -49,24 +52,25 @@ fn back<'a>(
     place: Place<'a>,
     outcome: Outcome<'a>,
 ) -> Result<(), Unfit>
-    ensures { OnOk result (BackBy body.now notes.now (facts_by body.now known.entry) index (place_by body.now place.entry) (outcome_by body.now outcome.entry)) }
+    ensures is { OnOk result ((m : Meaning) → Agrees (types_by body.now) m words.new → BackBy body.now m notes.now (facts_by body.now m known.entry) index (place_by body.now m place.entry) (outcome_by body.now m outcome.entry)) }
+    ensures grows { OnOk result ((types : ℕ → Typ) (m : Meaning) → Agrees types m words.new → Agrees types m words.old) }
 {
     let answers = CaseAnswers::Unanswered;
-    let first = step(room.alloc, room.arena, &body.source, answers, outcome)?;
-    let ahead = advance(room, &body.source, answers, Pace::Plain, first)?;
+    let first = step(room.alloc, room.arena, words, &body.source, answers, outcome)?;
+    let ahead = advance(room, words, &body.source, answers, Pace::Plain, first)?;
     let _short = steps_within(1, ahead.steps, HALF)?;
-    let _rank = land(room, body, notes, known, index, place, ahead.outcome)?;
+    let _rank = land(room, words, body, notes, known, index, place, ahead.outcome)?;
     Ok(())
 }
 
 // A silent step that goes on with a word.
 fn giving<'a>(
     room: Room<'a>,
-    word: Term<'a>,
+    word: WordId,
     temporaries: Waitings<'a>,
     frames: Frames<'a>,
 ) -> Result<Outcome<'a>, Refusal>
-    ensures { IfOk result (λ o. (b : CompiledBody) → outcome_by b o ≡ goes silent (waiting_at b.source temporaries.entry) (Gives (term_by b word.entry) ∷ frames_at b.source frames.entry)) }
+    ensures { IfOk result (λ o. (b : CompiledBody) (m : Meaning) → outcome_by b m o ≡ goes silent (waiting_at b.source m temporaries.entry) (Gives (word_of m word) ∷ frames_at b.source m frames.entry)) }
 {
     let others = keep(room.arena, frames)?;
     let rest = Rest {
@@ -79,30 +83,36 @@ fn giving<'a>(
 // What the source does behind a call.
 fn outcome_back<'a>(
     room: Room<'a>,
+    words: &mut Words<'a>,
     body: &Compiled<'a>,
     gives: bool,
     rest: Rest<'a>,
 ) -> Result<Outcome<'a>, Refusal>
-    ensures { IfOk result (λ o. outcome_by body.now o ≡ given_back body.now gives rest.entry) }
+    ensures is { IfOk result (λ o. (m : Meaning) → Agrees (types_by body.now) m words.new → outcome_by body.now m o ≡ given_back body.now m gives rest.entry) }
+    ensures grows { IfOk result (λ z. (types : ℕ → Typ) (m : Meaning) → Agrees types m words.new → Agrees types m words.old) }
 {
     if gives {
-        let later = replaced_rest(room.arena, Replacing::Later, rest)?;
-        let outcome = giving(room, Term::Variable(0), later.temporaries, later.frames)?;
+        let later = replaced_rest(room.arena, words, Replacing::Later, rest)?;
+        let word = made::variable(words, 0)?;
+        let outcome = giving(room, word, later.temporaries, later.frames)?;
         Ok(outcome)
     } else {
-        let outcome = giving(room, Term::Number(0), rest.temporaries, rest.frames)?;
+        let word = made::number(words, 0)?;
+        let outcome = giving(room, word, rest.temporaries, rest.frames)?;
         Ok(outcome)
     }
 }
 
 // Where the operands are behind a call.
-fn place_back<'a>(room: Room<'a>, gives: bool, place: Place<'a>) -> Result<Place<'a>, Refusal>
-    ensures { IfOk result (λ q. (types : ℕ → Typ) → place_of types q ≡ place_back gives (place_of types place.entry)) }
+fn place_back<'a>(room: Room<'a>, words: &mut Words<'a>, gives: bool, place: Place<'a>) -> Result<Place<'a>, Refusal>
+    ensures is { IfOk result (λ q. (types : ℕ → Typ) (m : Meaning) → Agrees types m words.new → place_of types m q ≡ place_back gives (place_of types m place.entry)) }
+    ensures grows { IfOk result (λ z. (types : ℕ → Typ) (m : Meaning) → Agrees types m words.new → Agrees types m words.old) }
 {
     if gives {
-        let others = replaced_terms(room.arena, Replacing::Later, place.operands)?;
-        let operands = Terms::More(Term::Variable(0), keep(room.arena, others)?);
-        let later = place_later(room.arena, place, operands)?;
+        let others = replaced_words(room.arena, words, Replacing::Later, place.operands)?;
+        let word = made::variable(words, 0)?;
+        let operands = Terms::More(word, keep(room.arena, others)?);
+        let later = place_later(room.arena, words, place, operands)?;
         Ok(later)
     } else {
         Ok(place)
@@ -110,11 +120,12 @@ fn place_back<'a>(room: Room<'a>, gives: bool, place: Place<'a>) -> Result<Place
 }
 
 // What is known behind a call.
-fn facts_back<'a>(room: Room<'a>, gives: bool, known: Facts<'a>) -> Result<Facts<'a>, Refusal>
-    ensures { IfOk result (λ ks. (types : ℕ → Typ) → facts_of types ks ≡ facts_back gives (facts_of types known.entry)) }
+fn facts_back<'a>(room: Room<'a>, words: &mut Words<'a>, gives: bool, known: Facts<'a>) -> Result<Facts<'a>, Refusal>
+    ensures is { IfOk result (λ ks. (types : ℕ → Typ) (m : Meaning) → Agrees types m words.new → facts_of types m ks ≡ facts_back gives (facts_of types m known.entry)) }
+    ensures grows { IfOk result (λ z. (types : ℕ → Typ) (m : Meaning) → Agrees types m words.new → Agrees types m words.old) }
 {
     if gives {
-        let later = replaced_facts(room.arena, Replacing::Later, known)?;
+        let later = replaced_facts(room.arena, words, Replacing::Later, known)?;
         Ok(later)
     } else {
         Ok(known)
@@ -124,6 +135,7 @@ fn facts_back<'a>(room: Room<'a>, gives: bool, known: Facts<'a>) -> Result<Facts
 // The caller goes on with the word that is handed back, or with none.
 fn back_with<'a>(
     room: Room<'a>,
+    words: &mut Words<'a>,
     body: &Compiled<'a>,
     notes: &Notes<'a>,
     gives: bool,
@@ -132,12 +144,13 @@ fn back_with<'a>(
     place: Place<'a>,
     rest: Rest<'a>,
 ) -> Result<(), Unfit>
-    ensures { OnOk result (BackWithBy body.now notes.now gives (facts_by body.now known.entry) index (place_by body.now place.entry) rest.entry) }
+    ensures is { OnOk result ((m : Meaning) → Agrees (types_by body.now) m words.new → BackWithBy body.now m notes.now gives (facts_by body.now m known.entry) index (place_by body.now m place.entry) rest.entry) }
+    ensures grows { OnOk result ((types : ℕ → Typ) (m : Meaning) → Agrees types m words.new → Agrees types m words.old) }
 {
-    let facts = facts_back(room, gives, known)?;
-    let there = place_back(room, gives, place)?;
-    let outcome = outcome_back(room, body, gives, rest)?;
-    back(room, body, notes, facts, index, there, outcome)?;
+    let facts = facts_back(room, words, gives, known)?;
+    let there = place_back(room, words, gives, place)?;
+    let outcome = outcome_back(room, words, body, gives, rest)?;
+    back(room, words, body, notes, facts, index, there, outcome)?;
     Ok(())
 }
 
@@ -147,15 +160,15 @@ fn has_blocks<'a>(
     place: Place<'a>,
     frames: Frames<'a>,
 ) -> Result<bool, Refusal>
-    ensures { IfOk result (λ b. b ≡ true → (types : ℕ → Typ) (p : Program) (f : Func) → (place_of types place.entry).opens ≡ blocks_among (frames_of types p f frames.entry)) }
+    ensures { IfOk result (λ b. b ≡ true → (types : ℕ → Typ) (m : Meaning) (p : Program) (f : Func) → (place_of types m place.entry).opens ≡ blocks_among (frames_of types m p f frames.entry)) }
 {
     let blocks = blocks_in(room.arena, frames)?;
     Ok(equal_open_lists(&place.opens, &blocks))
 }
 
 // Whether the innermost exception of an entered handler is the source's.
-fn has_caught<'a>(place: Place<'a>, frames: Frames<'a>) -> bool
-    ensures { result ≡ true → (types : ℕ → Typ) (p : Program) (f : Func) → first_of (place_of types place.entry).caught ≡ exception_handled (frames_of types p f frames.entry) }
+fn has_caught<'a>(words: &Words<'a>, place: Place<'a>, frames: Frames<'a>) -> bool
+    ensures { result ≡ true → (types : ℕ → Typ) (m : Meaning) (p : Program) (f : Func) → Agrees types m words.now → first_of (place_of types m place.entry).caught ≡ exception_handled (frames_of types m p f frames.entry) }
 {
     match handled(frames) {
         None => match place.caught {
@@ -164,7 +177,7 @@ fn has_caught<'a>(place: Place<'a>, frames: Frames<'a>) -> bool
         },
         Some(exception) => match place.caught {
             Exceptions::Empty => false,
-            Exceptions::More(caught, _) => equal_exceptions(&caught, &exception),
+            Exceptions::More(caught, _) => equal_thrown(words, caught, exception),
         },
     }
 }
@@ -172,14 +185,15 @@ fn has_caught<'a>(place: Place<'a>, frames: Frames<'a>) -> bool
 // Whether the innermost exception of an entered handler is of a type that is thrown.
 fn has_thrown<'a>(
     room: Room<'a>,
+    words: &Words<'a>,
     body: &Compiled<'a>,
     place: Place<'a>,
-) -> Result<bool, AllocError>
-    ensures { IfOk result (λ b. b ≡ true → AllThrown (thrown_by body.now) (place_by body.now place.entry).caught) }
+) -> Result<bool, Refusal>
+    ensures { IfOk result (λ b. b ≡ true → (m : Meaning) → Agrees (types_by body.now) m words.now → AllThrown (thrown_by body.now) (place_by body.now m place.entry).caught) }
 {
     match place.caught {
         Exceptions::Empty => Ok(true),
-        Exceptions::More(caught, _) => is_thrown(room.alloc, body, &caught),
+        Exceptions::More(caught, _) => is_thrown(room.alloc, words, body, caught),
     }
 }
 
@@ -193,6 +207,7 @@ pub(crate) struct Ends {
 /// What a call leaves behind it, whose words have been taken off.
 pub(crate) fn behind<'a>(
     room: Room<'a>,
+    words: &mut Words<'a>,
     body: &Compiled<'a>,
     notes: &Notes<'a>,
     known: Facts<'a>,
@@ -201,7 +216,8 @@ pub(crate) fn behind<'a>(
     place: Place<'a>,
     rest: Rest<'a>,
 ) -> Result<(), Unfit>
-    ensures { OnOk result (BehindBy body.now notes.now ends (facts_by body.now known.entry) index (place_by body.now place.entry) rest.entry) }
+    ensures is { OnOk result ((m : Meaning) → Agrees (types_by body.now) m words.new → BehindBy body.now m notes.now ends (facts_by body.now m known.entry) index (place_by body.now m place.entry) rest.entry) }
+    ensures grows { OnOk result ((types : ℕ → Typ) (m : Meaning) → Agrees types m words.new → Agrees types m words.old) }
 {
     let Some(next) = index.checked_add(1) else {
         return Err(Unfit::Never);
@@ -209,16 +225,16 @@ pub(crate) fn behind<'a>(
     if !has_blocks(room, place, rest.frames)? {
         return Err(Unfit::Never);
     }
-    if !has_caught(place, rest.frames) {
+    if !has_caught(words, place, rest.frames) {
         return Err(Unfit::Never);
     }
-    if !has_thrown(room, body, place)? {
+    if !has_thrown(room, words, body, place)? {
         return Err(Unfit::Never);
     }
-    back_with(room, body, notes, ends.gives, known, next, place, rest)?;
+    back_with(room, words, body, notes, ends.gives, known, next, place, rest)?;
     if ends.stops {
         return Ok(());
     }
-    rises(room, body, notes, known, index, place, rest, MOST)?;
+    rises(room, words, body, notes, known, index, place, rest, MOST)?;
     Ok(())
 }

@@ -1,8 +1,10 @@
 //! A note of a body, tested.
 
-ghost use Rattle.std.specs.Prelude.{◌≡◌, true, OnOk};
+ghost use Rattle.std.specs.Prelude.{ℕ, ◌≡◌, true, OnOk};
+ghost use Rattle.cpp_tree.specs.cpp_types.Typ.{Typ};
+ghost use Rattle.symbolic_terms.specs.Meanings.{Meaning, Agrees};
 ghost use Rattle.tx_code.specs.declared.instr.Instr.TheVariants.{Call, TCall, CallIndirect, TCallIndirect};
-ghost use Rattle.note_landing.specs.Shown.{place_by, facts_by, outcome_by};
+ghost use Rattle.note_landing.specs.Shown.{types_by, place_by, facts_by, outcome_by};
 ghost use Rattle.body_notes.specs.Checked.{pending_of, is_plain, StepBy, NoteBy};
 
 use crate::callees::{calling, calling_found};
@@ -19,26 +21,29 @@ use symbolic_leaving::source::number_of;
 use symbolic_steps::{CaseAnswers, advanced};
 use symbolic_terms::outcomes::Outcome;
 use symbolic_terms::places::Place;
+use symbolic_terms::words::Words;
 use tx_code::Instr;
 
 // A call by a name.
 fn named<'a>(
     room: Room<'a>,
+    words: &mut Words<'a>,
     body: &Compiled<'a>,
     notes: &Notes<'a>,
     note: &Note<'a>,
     place: Place<'a>,
     outcome: Outcome<'a>,
     func: u32,
-    words: u8,
+    count: u8,
 ) -> Result<(), Unfit>
-    ensures { OnOk result (StepBy body.now notes.now (facts_by body.now note.now.facts) (pending_of note.now) note.now.index (Call func words) (place_by body.now place.entry) (outcome_by body.now outcome.entry)) }
+    ensures is { OnOk result ((m : Meaning) → Agrees (types_by body.now) m words.new → StepBy body.now m notes.now (facts_by body.now m note.now.facts) (pending_of note.now) note.now.index (Call func count) (place_by body.now m place.entry) (outcome_by body.now m outcome.entry)) }
+    ensures grows { OnOk result ((types : ℕ → Typ) (m : Meaning) → Agrees types m words.new → Agrees types m words.old) }
 {
     let Some(callee) = function_of(body, func)? else {
         return Err(Unfit::Never);
     };
     calling(
-        room, body, notes, note.facts, note.index, place, outcome, callee, words,
+        room, words, body, notes, note.facts, note.index, place, outcome, callee, count,
     )?;
     Ok(())
 }
@@ -46,15 +51,17 @@ fn named<'a>(
 // A call of a safe body by a name.
 fn named_safe<'a>(
     room: Room<'a>,
+    words: &mut Words<'a>,
     body: &Compiled<'a>,
     notes: &Notes<'a>,
     note: &Note<'a>,
     place: Place<'a>,
     outcome: Outcome<'a>,
     func: u32,
-    words: u8,
+    count: u8,
 ) -> Result<(), Unfit>
-    ensures { OnOk result (StepBy body.now notes.now (facts_by body.now note.now.facts) (pending_of note.now) note.now.index (TCall func words) (place_by body.now place.entry) (outcome_by body.now outcome.entry)) }
+    ensures is { OnOk result ((m : Meaning) → Agrees (types_by body.now) m words.new → StepBy body.now m notes.now (facts_by body.now m note.now.facts) (pending_of note.now) note.now.index (TCall func count) (place_by body.now m place.entry) (outcome_by body.now m outcome.entry)) }
+    ensures grows { OnOk result ((types : ℕ → Typ) (m : Meaning) → Agrees types m words.new → Agrees types m words.old) }
 {
     let Some(callee) = function_of(body, func)? else {
         return Err(Unfit::Never);
@@ -66,7 +73,7 @@ fn named_safe<'a>(
         return Err(Unfit::Never);
     }
     calling(
-        room, body, notes, note.facts, note.index, place, outcome, callee, words,
+        room, words, body, notes, note.facts, note.index, place, outcome, callee, count,
     )?;
     Ok(())
 }
@@ -74,18 +81,20 @@ fn named_safe<'a>(
 // A call by an address.
 fn pointed<'a>(
     room: Room<'a>,
+    words: &mut Words<'a>,
     body: &Compiled<'a>,
     notes: &Notes<'a>,
     note: &Note<'a>,
     place: Place<'a>,
     outcome: Outcome<'a>,
     ty: u32,
-    words: u8,
+    count: u8,
 ) -> Result<(), Unfit>
-    ensures { OnOk result (StepBy body.now notes.now (facts_by body.now note.now.facts) (pending_of note.now) note.now.index (CallIndirect ty words) (place_by body.now place.entry) (outcome_by body.now outcome.entry)) }
+    ensures is { OnOk result ((m : Meaning) → Agrees (types_by body.now) m words.new → StepBy body.now m notes.now (facts_by body.now m note.now.facts) (pending_of note.now) note.now.index (CallIndirect ty count) (place_by body.now m place.entry) (outcome_by body.now m outcome.entry)) }
+    ensures grows { OnOk result ((types : ℕ → Typ) (m : Meaning) → Agrees types m words.new → Agrees types m words.old) }
 {
     calling_found(
-        room, body, notes, note.facts, note.index, place, outcome, ty, words,
+        room, words, body, notes, note.facts, note.index, place, outcome, ty, count,
     )?;
     Ok(())
 }
@@ -93,21 +102,23 @@ fn pointed<'a>(
 // A call of a safe body by an address.
 fn pointed_safe<'a>(
     room: Room<'a>,
+    words: &mut Words<'a>,
     body: &Compiled<'a>,
     notes: &Notes<'a>,
     note: &Note<'a>,
     place: Place<'a>,
     outcome: Outcome<'a>,
     ty: u32,
-    words: u8,
+    count: u8,
 ) -> Result<(), Unfit>
-    ensures { OnOk result (StepBy body.now notes.now (facts_by body.now note.now.facts) (pending_of note.now) note.now.index (TCallIndirect ty words) (place_by body.now place.entry) (outcome_by body.now outcome.entry)) }
+    ensures is { OnOk result ((m : Meaning) → Agrees (types_by body.now) m words.new → StepBy body.now m notes.now (facts_by body.now m note.now.facts) (pending_of note.now) note.now.index (TCallIndirect ty count) (place_by body.now m place.entry) (outcome_by body.now m outcome.entry)) }
+    ensures grows { OnOk result ((types : ℕ → Typ) (m : Meaning) → Agrees types m words.new → Agrees types m words.old) }
 {
     if !is_covered(body, place) {
         return Err(Unfit::Never);
     }
     calling_found(
-        room, body, notes, note.facts, note.index, place, outcome, ty, words,
+        room, words, body, notes, note.facts, note.index, place, outcome, ty, count,
     )?;
     Ok(())
 }
@@ -128,6 +139,7 @@ fn is_plain(instr: Instr) -> bool
 // Another instruction.
 fn plain<'a>(
     room: Room<'a>,
+    words: &mut Words<'a>,
     body: &Compiled<'a>,
     notes: &Notes<'a>,
     note: &Note<'a>,
@@ -135,11 +147,13 @@ fn plain<'a>(
     place: Place<'a>,
     outcome: Outcome<'a>,
 ) -> Result<(), Unfit>
-    ensures { OnOk result (is_plain instr ≡ true → StepBy body.now notes.now (facts_by body.now note.now.facts) (pending_of note.now) note.now.index instr (place_by body.now place.entry) (outcome_by body.now outcome.entry)) }
+    ensures is { OnOk result ((m : Meaning) → Agrees (types_by body.now) m words.new → is_plain instr ≡ true → StepBy body.now m notes.now (facts_by body.now m note.now.facts) (pending_of note.now) note.now.index instr (place_by body.now m place.entry) (outcome_by body.now m outcome.entry)) }
+    ensures grows { OnOk result ((types : ℕ → Typ) (m : Meaning) → Agrees types m words.new → Agrees types m words.old) }
 {
     let table = names_of(room, body, instr)?;
     let next = follow(
         room.arena,
+        words,
         &table,
         note.facts,
         note.index,
@@ -151,13 +165,14 @@ fn plain<'a>(
         lead: note.lead,
         rank: note.rank,
     };
-    fits(room, body, notes, note.facts, pending, next, outcome)?;
+    fits(room, words, body, notes, note.facts, pending, next, outcome)?;
     Ok(())
 }
 
 // What an instruction asks.
 fn step_fits<'a>(
     room: Room<'a>,
+    words: &mut Words<'a>,
     body: &Compiled<'a>,
     notes: &Notes<'a>,
     note: &Note<'a>,
@@ -165,34 +180,35 @@ fn step_fits<'a>(
     place: Place<'a>,
     outcome: Outcome<'a>,
 ) -> Result<(), Unfit>
-    ensures { OnOk result (StepBy body.now notes.now (facts_by body.now note.now.facts) (pending_of note.now) note.now.index instr (place_by body.now place.entry) (outcome_by body.now outcome.entry)) }
+    ensures is { OnOk result ((m : Meaning) → Agrees (types_by body.now) m words.new → StepBy body.now m notes.now (facts_by body.now m note.now.facts) (pending_of note.now) note.now.index instr (place_by body.now m place.entry) (outcome_by body.now m outcome.entry)) }
+    ensures grows { OnOk result ((types : ℕ → Typ) (m : Meaning) → Agrees types m words.new → Agrees types m words.old) }
 {
     match instr {
-        Instr::Call { func, words } => {
-            named(room, body, notes, note, place, outcome, func, words)?;
+        Instr::Call { func, words: count } => {
+            named(room, words, body, notes, note, place, outcome, func, count)?;
             Ok(())
         }
-        Instr::TCall { func, words } => {
-            named_safe(room, body, notes, note, place, outcome, func, words)?;
+        Instr::TCall { func, words: count } => {
+            named_safe(room, words, body, notes, note, place, outcome, func, count)?;
             Ok(())
         }
-        Instr::CallIndirect { ty, words } => {
-            pointed(room, body, notes, note, place, outcome, ty, words)?;
+        Instr::CallIndirect { ty, words: count } => {
+            pointed(room, words, body, notes, note, place, outcome, ty, count)?;
             Ok(())
         }
-        Instr::TCallIndirect { ty, words } => {
-            pointed_safe(room, body, notes, note, place, outcome, ty, words)?;
+        Instr::TCallIndirect { ty, words: count } => {
+            pointed_safe(room, words, body, notes, note, place, outcome, ty, count)?;
             Ok(())
         }
         Instr::Ret(count) => {
-            returning(body, notes, note, place, outcome, count)?;
+            returning(words, body, notes, note, place, outcome, count)?;
             Ok(())
         }
         _ => {
             if !is_plain(instr) {
                 return Err(Unfit::Never);
             }
-            plain(room, body, notes, note, instr, place, outcome)?;
+            plain(room, words, body, notes, note, instr, place, outcome)?;
             Ok(())
         }
     }
@@ -201,11 +217,13 @@ fn step_fits<'a>(
 /// A note fits.
 pub(crate) fn note_fits<'a>(
     room: Room<'a>,
+    words: &mut Words<'a>,
     body: &Compiled<'a>,
     notes: &Notes<'a>,
     note: &Note<'a>,
 ) -> Result<(), Unfit>
-    ensures { OnOk result (NoteBy body.now notes.now note.now) }
+    ensures is { OnOk result ((m : Meaning) → Agrees (types_by body.now) m words.new → NoteBy body.now m notes.now note.now) }
+    ensures grows { OnOk result ((types : ℕ → Typ) (m : Meaning) → Agrees types m words.new → Agrees types m words.old) }
 {
     let Some(instr) = body.body.code.get(note.index as usize) else {
         return Err(Unfit::Never);
@@ -216,6 +234,7 @@ pub(crate) fn note_fits<'a>(
     let outcome = advanced(
         room.alloc,
         room.arena,
+        words,
         &body.source,
         CaseAnswers::Unanswered,
         note.lead,
@@ -224,6 +243,6 @@ pub(crate) fn note_fits<'a>(
     if is_stuck(outcome) {
         return Err(Unfit::Never);
     }
-    step_fits(room, body, notes, note, *instr, note.place, outcome)?;
+    step_fits(room, words, body, notes, note, *instr, note.place, outcome)?;
     Ok(())
 }

@@ -3,10 +3,10 @@
 ghost use Rattle.std.specs.Prelude.{ℕ, ◌≡◌, [], true, IfOk, OnOk, IsTrue};
 ghost use Rattle.symbolic_terms.specs.Shown.{facts_of};
 ghost use Rattle.cpp_tree.specs.cpp_types.Typ.{Typ};
-ghost use Rattle.symbolic_terms.specs.Words.{terms_of};
+ghost use Rattle.symbolic_terms.specs.Meanings.{Meaning, words_of, Agrees};
 ghost use Rattle.body_check.specs.Notes.{variables};
 ghost use Rattle.body_check.specs.Calls.{bare};
-ghost use Rattle.note_landing.specs.Shown.{place_by, outcome_by};
+ghost use Rattle.note_landing.specs.Shown.{types_by, place_by, outcome_by};
 ghost use Rattle.body_notes.specs.Checked.{EntryBy};
 ghost use Rattle.body_notes.specs.Entries.{entered_at, takes_by, IsEntry};
 
@@ -20,23 +20,27 @@ use symbolic_leaving::source::body_of;
 use symbolic_steps::{CaseAnswers, step};
 use symbolic_terms::arena::keep;
 use symbolic_terms::frames::{CallFrame, Frame, Frames, Waitings, Way};
+use symbolic_terms::ids::{Exceptions, Terms};
+use symbolic_terms::made;
 use symbolic_terms::outcomes::{Doing, Leading, Outcome, Rest};
 use symbolic_terms::places::{Facts, Hold, Opens, Place};
 use symbolic_terms::refusal::Refusal;
-use symbolic_terms::terms::{Exceptions, Term, Terms};
+use symbolic_terms::words::Words;
 
 // The variables from a number on, so many.
 #[tactic(auto, using(crate::proofs::Noted::variables_more))]
-fn variables<'a>(room: Room<'a>, from: u32, count: u32) -> Result<Terms<'a>, Refusal>
-    ensures { IfOk result (λ ws. (types : ℕ → Typ) → terms_of types ws ≡ variables from count) }
+fn variables<'a>(room: Room<'a>, words: &mut Words<'a>, from: u32, count: u32) -> Result<Terms<'a>, Refusal>
+    ensures is { IfOk result (λ ws. (types : ℕ → Typ) (m : Meaning) → Agrees types m words.new → words_of m ws ≡ variables from count) }
+    ensures grows { IfOk result (λ z. (types : ℕ → Typ) (m : Meaning) → Agrees types m words.new → Agrees types m words.old) }
 {
     if count == 0 {
         return Ok(Terms::Empty);
     }
     match from.checked_add(1) {
         Some(next) => {
-            let rest = variables(room, next, count - 1)?;
-            Ok(Terms::More(Term::Variable(from), keep(room.arena, rest)?))
+            let first = made::variable(words, from)?;
+            let rest = variables(room, words, next, count - 1)?;
+            Ok(Terms::More(first, keep(room.arena, rest)?))
         }
         None => Err(Refusal::Beyond),
     }
@@ -53,11 +57,13 @@ fn takes<'a>(body: &Compiled<'a>) -> Result<u32, Refusal>
 }
 
 /// Where the function is entered: its operands are the words of the call.
-pub(crate) fn entry_place<'a>(room: Room<'a>, body: &Compiled<'a>) -> Result<Place<'a>, Refusal>
-    ensures { IfOk result (λ q. place_by body.now q ≡ bare (takes_by body.now)) }
+pub(crate) fn entry_place<'a>(room: Room<'a>, words: &mut Words<'a>, body: &Compiled<'a>) -> Result<Place<'a>, Refusal>
+    ensures is { IfOk result (λ q. (m : Meaning) → Agrees (types_by body.now) m words.new → place_by body.now m q ≡ bare (takes_by body.now)) }
+    ensures grows { IfOk result (λ z. (types : ℕ → Typ) (m : Meaning) → Agrees types m words.new → Agrees types m words.old) }
 {
+    let operands = variables(room, words, 0, takes(body)?)?;
     Ok(Place {
-        operands: variables(room, 0, takes(body)?)?,
+        operands,
         opens: Opens::Empty,
         caught: Exceptions::Empty,
         hold: Hold::Nothing,
@@ -67,14 +73,19 @@ pub(crate) fn entry_place<'a>(room: Room<'a>, body: &Compiled<'a>) -> Result<Pla
 /// What the source does there: one silent step has been taken.
 pub(crate) fn entry_outcome<'a>(
     room: Room<'a>,
+    words: &mut Words<'a>,
     body: &Compiled<'a>,
 ) -> Result<Outcome<'a>, Refusal>
-    ensures { IfOk result (λ o. outcome_by body.now o ≡ entered_at body.now) }
+    ensures is { IfOk result (λ o. (m : Meaning) → Agrees (types_by body.now) m words.new → outcome_by body.now m o ≡ entered_at body.now) }
+    ensures grows { IfOk result (λ z. (types : ℕ → Typ) (m : Meaning) → Agrees types m words.new → Agrees types m words.old) }
 {
-    let words = variables(room, 0, takes(body)?)?;
+    let taken = variables(room, words, 0, takes(body)?)?;
     let none = keep(room.arena, Frames::Empty)?;
     let then = Frames::More(Frame::Then(Way::Value, body_of(&body.source)), none);
-    let passes = Frame::Call(CallFrame::Passes { words, from: 0 });
+    let passes = Frame::Call(CallFrame::Passes {
+        words: taken,
+        from: 0,
+    });
     let rest = Rest {
         temporaries: Waitings::Empty,
         frames: Frames::More(passes, keep(room.arena, then)?),
@@ -83,6 +94,7 @@ pub(crate) fn entry_outcome<'a>(
     let stepped = step(
         room.alloc,
         room.arena,
+        words,
         &body.source,
         CaseAnswers::Unanswered,
         outcome,
@@ -92,7 +104,7 @@ pub(crate) fn entry_outcome<'a>(
 
 // Whether nothing is known.
 fn has_none<'a>(facts: Facts<'a>) -> bool
-    ensures { IsTrue result → (types : ℕ → Typ) → facts_of types facts.entry ≡ [] }
+    ensures { IsTrue result → (types : ℕ → Typ) (m : Meaning) → facts_of types m facts.entry ≡ [] }
 {
     match facts {
         Facts::Empty => true,
@@ -101,8 +113,9 @@ fn has_none<'a>(facts: Facts<'a>) -> bool
 }
 
 // Whether a note is that of the entry.
-fn is_entry<'a>(room: Room<'a>, body: &Compiled<'a>, note: &Note<'a>) -> Result<bool, Refusal>
-    ensures { IfOk result (λ b. b ≡ true → IsEntry body.now note.now) }
+fn is_entry<'a>(room: Room<'a>, words: &mut Words<'a>, body: &Compiled<'a>, note: &Note<'a>) -> Result<bool, Refusal>
+    ensures is { IfOk result (λ b. b ≡ true → (m : Meaning) → Agrees (types_by body.now) m words.new → IsEntry body.now m note.now) }
+    ensures grows { IfOk result (λ z. (types : ℕ → Typ) (m : Meaning) → Agrees types m words.new → Agrees types m words.old) }
 {
     if note.index != 0 {
         return Ok(false);
@@ -116,26 +129,28 @@ fn is_entry<'a>(room: Room<'a>, body: &Compiled<'a>, note: &Note<'a>) -> Result<
     if is_stuck(note.outcome) {
         return Ok(false);
     }
-    let place = entry_place(room, body)?;
-    if !equal_places(&note.place, &place) {
+    let place = entry_place(room, words, body)?;
+    if !equal_places(words, &note.place, &place) {
         return Ok(false);
     }
-    let outcome = entry_outcome(room, body)?;
-    Ok(equal_outcomes(&note.outcome, &outcome))
+    let outcome = entry_outcome(room, words, body)?;
+    Ok(equal_outcomes(words, &note.outcome, &outcome))
 }
 
 /// The first note is that of the entry.
 pub(crate) fn entry_fits<'a>(
     room: Room<'a>,
+    words: &mut Words<'a>,
     body: &Compiled<'a>,
     notes: &Notes<'a>,
 ) -> Result<(), Unfit>
-    ensures { OnOk result (EntryBy body.now notes.now) }
+    ensures is { OnOk result ((m : Meaning) → Agrees (types_by body.now) m words.new → EntryBy body.now m notes.now) }
+    ensures grows { OnOk result ((types : ℕ → Typ) (m : Meaning) → Agrees types m words.new → Agrees types m words.old) }
 {
     let Some(note) = notes.list.get(0) else {
         return Err(Unfit::Never);
     };
-    if is_entry(room, body, note)? {
+    if is_entry(room, words, body, note)? {
         Ok(())
     } else {
         Err(Unfit::Never)

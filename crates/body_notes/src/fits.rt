@@ -4,12 +4,12 @@ ghost use Rattle.std.specs.Prelude.{ℕ, ◌≡◌, ◌∷◌, true, IfOk, OnOk,
 ghost use Rattle.cpp_tree.specs.cpp_types.Typ.{Typ};
 ghost use Rattle.cpp_tree.specs.declared.program.Program.{Program};
 ghost use Rattle.src_mean.specs.Linked.{Func};
-ghost use Rattle.symbolic_terms.specs.Words.{term_of};
+ghost use Rattle.symbolic_terms.specs.Meanings.{Meaning, word_of, thrown_of, Agrees};
 ghost use Rattle.symbolic_terms.specs.Shown.{facts_of, doing_of};
 ghost use Rattle.body_check.specs.Notes.{is_loud};
-ghost use Rattle.note_landing.specs.Shown.{types_by, place_by, facts_by, exception_by, outcome_by, LandsOnBy};
+ghost use Rattle.note_landing.specs.Shown.{types_by, place_by, facts_by, outcome_by, LandsOnBy};
 ghost use Rattle.symbolic_code.specs.Facts.{not_zero, has_function};
-ghost use Rattle.symbolic_terms.specs.declared.terms.Term.{Term as Word};
+ghost use Rattle.symbolic_terms.specs.declared.ids.WordId.{WordId as Word};
 ghost use Rattle.tx_ints.specs.declared.kinds.BinOp.{BinOp};
 ghost use Rattle.tx_ints.specs.declared.kinds.IntKind.{IntKind};
 ghost use Rattle.code_follows.specs.declared.next.Course.TheVariants.{EitherWay, Chosen, UnlessTrap, Finding, Loudly, Starting, Rethrowing};
@@ -27,11 +27,13 @@ use symbolic_frames::outcomes::{replaced_facts, replaced_place, replaced_rest};
 use symbolic_steps::leave;
 use symbolic_terms::arena::keep;
 use symbolic_terms::frames::{Exit, Frame, Frames, ValueFrame};
+use symbolic_terms::ids::{ExceptionId, WordId};
+use symbolic_terms::made;
 use symbolic_terms::outcomes::{Doing, Leading, Outcome, Rest};
 use symbolic_terms::places::{Fact, Facts, Place};
 use symbolic_terms::refusal::Refusal;
 use symbolic_terms::replacing::Replacing;
-use symbolic_terms::terms::{Exception, Term};
+use symbolic_terms::words::Words;
 
 /// How many silent steps the source took before the instruction, and the note's rank.
 #[derive(Clone, Copy)]
@@ -49,8 +51,8 @@ pub(crate) struct After<'a> {
 }
 
 // Whether it is an event, and a read is of a word at most.
-fn is_event<'a>(doing: Doing<'a>) -> bool
-    ensures { IsTrue result → (types : ℕ → Typ) (p : Program) (f : Func) → is_loud (doing_of types p f doing.entry) ≡ true }
+fn is_event(doing: Doing) -> bool
+    ensures { IsTrue result → (types : ℕ → Typ) (m : Meaning) (p : Program) (f : Func) → is_loud (doing_of types m p f doing) ≡ true }
 {
     match doing {
         Doing::Silent => false,
@@ -77,26 +79,29 @@ fn flight_rank(pending: Pending) -> Result<u32, Unfit>
 // An event.
 fn loudly<'a>(
     room: Room<'a>,
+    words: &mut Words<'a>,
     body: &Compiled<'a>,
     notes: &Notes<'a>,
     known: Facts<'a>,
-    doing: Doing<'a>,
+    doing: Doing,
     rest: Rest<'a>,
     index: u32,
     place: Place<'a>,
 ) -> Result<(), Unfit>
-    ensures { OnOk result ((p : Program) (f : Func) → LoudBy body.now notes.now (facts_by body.now known.entry) (doing_of (types_by body.now) p f doing.entry) rest.entry index (place_by body.now place.entry)) }
+    ensures is { OnOk result ((m : Meaning) → Agrees (types_by body.now) m words.new → (p : Program) (f : Func) → LoudBy body.now m notes.now (facts_by body.now m known.entry) (doing_of (types_by body.now) m p f doing) rest.entry index (place_by body.now m place.entry)) }
+    ensures grows { OnOk result ((types : ℕ → Typ) (m : Meaning) → Agrees types m words.new → Agrees types m words.old) }
 {
     if !is_event(doing) {
         return Err(Unfit::Never);
     }
-    land_behind(room, body, notes, known, index, place, rest)?;
+    land_behind(room, words, body, notes, known, index, place, rest)?;
     Ok(())
 }
 
 // A thread is started.
 fn starting<'a>(
     room: Room<'a>,
+    words: &mut Words<'a>,
     body: &Compiled<'a>,
     notes: &Notes<'a>,
     known: Facts<'a>,
@@ -104,53 +109,60 @@ fn starting<'a>(
     index: u32,
     place: Place<'a>,
 ) -> Result<(), Unfit>
-    ensures { OnOk result (StartsBy body.now notes.now (facts_by body.now known.entry) rest.entry index (place_by body.now place.entry)) }
+    ensures is { OnOk result ((m : Meaning) → Agrees (types_by body.now) m words.new → StartsBy body.now m notes.now (facts_by body.now m known.entry) rest.entry index (place_by body.now m place.entry)) }
+    ensures grows { OnOk result ((types : ℕ → Typ) (m : Meaning) → Agrees types m words.new → Agrees types m words.old) }
 {
     let others = keep(room.arena, rest.frames)?;
     let replied = Rest {
         temporaries: rest.temporaries,
         frames: Frames::More(Frame::Value(ValueFrame::Replied), others),
     };
-    land_behind(room, body, notes, known, index, place, replied)?;
+    land_behind(room, words, body, notes, known, index, place, replied)?;
     Ok(())
 }
 
 // An exception is thrown.
 fn throwing<'a>(
     room: Room<'a>,
+    words: &mut Words<'a>,
     body: &Compiled<'a>,
     notes: &Notes<'a>,
     known: Facts<'a>,
     pending: Pending,
-    exception: Exception<'a>,
+    exception: ExceptionId,
     index: u32,
     place: Place<'a>,
     outcome: Outcome<'a>,
 ) -> Result<(), Unfit>
-    ensures { OnOk result (ThrowsBy body.now notes.now (facts_by body.now known.entry) pending (exception_by body.now exception.entry) index (place_by body.now place.entry) (outcome_by body.now outcome.entry)) }
+    ensures is { OnOk result ((m : Meaning) → Agrees (types_by body.now) m words.new → ThrowsBy body.now m notes.now (facts_by body.now m known.entry) pending (thrown_of m exception) index (place_by body.now m place.entry) (outcome_by body.now m outcome.entry)) }
+    ensures grows { OnOk result ((types : ℕ → Typ) (m : Meaning) → Agrees types m words.new → Agrees types m words.old) }
 {
-    if !is_thrown(room.alloc, body, &exception)? {
+    if !is_thrown(room.alloc, words, body, exception)? {
         return Err(Unfit::Never);
     }
     let rank = flight_rank(pending)?;
-    flies(room, body, notes, known, index, place, exception, outcome, rank)?;
+    flies(room, words, body, notes, known, index, place, exception, outcome, rank)?;
     Ok(())
 }
 
 // What the source does where an exception comes from elsewhere: the first unknown one.
 fn risen<'a>(
     room: Room<'a>,
+    words: &mut Words<'a>,
     body: &Compiled<'a>,
     rest: Rest<'a>,
 ) -> Result<Outcome<'a>, Refusal>
-    ensures { IfOk result (λ o. outcome_by body.now o ≡ left_rising body.now rest.entry) }
+    ensures is { IfOk result (λ o. (m : Meaning) → Agrees (types_by body.now) m words.new → outcome_by body.now m o ≡ left_rising body.now m rest.entry) }
+    ensures grows { IfOk result (λ z. (types : ℕ → Typ) (m : Meaning) → Agrees types m words.new → Agrees types m words.old) }
 {
-    let others = replaced_rest(room.arena, Replacing::Rising, rest)?;
+    let others = replaced_rest(room.arena, words, Replacing::Rising, rest)?;
+    let unknown = made::unknown(words, 0)?;
     let outcome = leave(
         room.arena,
+        words,
         &body.source,
         others.temporaries,
-        Exit::Throws(Exception::Unknown(0)),
+        Exit::Throws(unknown),
         others.frames,
     )?;
     Ok(outcome)
@@ -159,6 +171,7 @@ fn risen<'a>(
 /// An exception comes from elsewhere: the first unknown one.
 pub(crate) fn rises<'a>(
     room: Room<'a>,
+    words: &mut Words<'a>,
     body: &Compiled<'a>,
     notes: &Notes<'a>,
     known: Facts<'a>,
@@ -167,18 +180,21 @@ pub(crate) fn rises<'a>(
     rest: Rest<'a>,
     rank: u32,
 ) -> Result<(), Unfit>
-    ensures { OnOk result (RisesBy body.now notes.now (facts_by body.now known.entry) index (place_by body.now place.entry) rest.entry rank) }
+    ensures is { OnOk result ((m : Meaning) → Agrees (types_by body.now) m words.new → RisesBy body.now m notes.now (facts_by body.now m known.entry) index (place_by body.now m place.entry) rest.entry rank) }
+    ensures grows { OnOk result ((types : ℕ → Typ) (m : Meaning) → Agrees types m words.new → Agrees types m words.old) }
 {
-    let facts = replaced_facts(room.arena, Replacing::Rising, known)?;
-    let place = replaced_place(room.arena, Replacing::Rising, place)?;
-    let outcome = risen(room, body, rest)?;
-    flies(room, body, notes, facts, index, place, Exception::Unknown(0), outcome, rank)?;
+    let facts = replaced_facts(room.arena, words, Replacing::Rising, known)?;
+    let place = replaced_place(room.arena, words, Replacing::Rising, place)?;
+    let outcome = risen(room, words, body, rest)?;
+    let unknown = made::unknown(words, 0)?;
+    flies(room, words, body, notes, facts, index, place, unknown, outcome, rank)?;
     Ok(())
 }
 
 // What a caller's handler has is thrown again.
 fn rethrowing<'a>(
     room: Room<'a>,
+    words: &mut Words<'a>,
     body: &Compiled<'a>,
     notes: &Notes<'a>,
     known: Facts<'a>,
@@ -187,16 +203,18 @@ fn rethrowing<'a>(
     index: u32,
     place: Place<'a>,
 ) -> Result<(), Unfit>
-    ensures { OnOk result (RethrowsBy body.now notes.now (facts_by body.now known.entry) pending rest.entry index (place_by body.now place.entry)) }
+    ensures is { OnOk result ((m : Meaning) → Agrees (types_by body.now) m words.new → RethrowsBy body.now m notes.now (facts_by body.now m known.entry) pending rest.entry index (place_by body.now m place.entry)) }
+    ensures grows { OnOk result ((types : ℕ → Typ) (m : Meaning) → Agrees types m words.new → Agrees types m words.old) }
 {
     let rank = flight_rank(pending)?;
-    rises(room, body, notes, known, index, place, rest, rank)?;
+    rises(room, words, body, notes, known, index, place, rest, rank)?;
     Ok(())
 }
 
 // A silent step.
 fn quietly<'a>(
     room: Room<'a>,
+    words: &mut Words<'a>,
     body: &Compiled<'a>,
     notes: &Notes<'a>,
     known: Facts<'a>,
@@ -205,10 +223,12 @@ fn quietly<'a>(
     place: Place<'a>,
     outcome: Outcome<'a>,
 ) -> Result<(), Unfit>
-    ensures { OnOk result (LandsOnBy body.now notes.now (facts_by body.now known.entry) pending.lead pending.rank index (place_by body.now place.entry) (outcome_by body.now outcome.entry)) }
+    ensures is { OnOk result ((m : Meaning) → Agrees (types_by body.now) m words.new → LandsOnBy body.now m notes.now (facts_by body.now m known.entry) pending.lead pending.rank index (place_by body.now m place.entry) (outcome_by body.now m outcome.entry)) }
+    ensures grows { OnOk result ((types : ℕ → Typ) (m : Meaning) → Agrees types m words.new → Agrees types m words.old) }
 {
     lands_on(
         room,
+        words,
         body,
         notes,
         known,
@@ -225,9 +245,9 @@ fn quietly<'a>(
 fn with_word<'a>(
     room: Room<'a>,
     known: Facts<'a>,
-    word: Term<'a>,
+    word: WordId,
 ) -> Result<Facts<'a>, Refusal>
-    ensures { IfOk result (λ ks. (types : ℕ → Typ) → facts_of types ks ≡ (not_zero (term_of types word.entry) ∷ facts_of types known.entry)) }
+    ensures { IfOk result (λ ks. (types : ℕ → Typ) (m : Meaning) → facts_of types m ks ≡ (not_zero (word_of m word) ∷ facts_of types m known.entry)) }
 {
     Ok(Facts::More(Fact::NotZero(word), keep(room.arena, known)?))
 }
@@ -235,40 +255,44 @@ fn with_word<'a>(
 // A word is 0 or not.
 fn either_way<'a>(
     room: Room<'a>,
+    words: &mut Words<'a>,
     body: &Compiled<'a>,
     notes: &Notes<'a>,
     known: Facts<'a>,
     pending: Pending,
-    word: Term<'a>,
+    word: WordId,
     target: u32,
     after: After<'a>,
 ) -> Result<(), Unfit>
-    ensures { OnOk result (CourseBy body.now notes.now (facts_by body.now known.entry) pending (EitherWay word.entry target) after.entry.index (place_by body.now after.entry.place) (outcome_by body.now after.entry.outcome)) }
+    ensures is { OnOk result ((m : Meaning) → Agrees (types_by body.now) m words.new → CourseBy body.now m notes.now (facts_by body.now m known.entry) pending (EitherWay word target) after.entry.index (place_by body.now m after.entry.place) (outcome_by body.now m after.entry.outcome)) }
+    ensures grows { OnOk result ((types : ℕ → Typ) (m : Meaning) → Agrees types m words.new → Agrees types m words.old) }
 {
-    quietly(room, body, notes, known, pending, target, after.place, after.outcome)?;
+    quietly(room, words, body, notes, known, pending, target, after.place, after.outcome)?;
     let more = with_word(room, known, word)?;
-    quietly(room, body, notes, more, pending, after.index, after.place, after.outcome)?;
+    quietly(room, words, body, notes, more, pending, after.index, after.place, after.outcome)?;
     Ok(())
 }
 
 // The same, where the source chooses by it.
 fn chosen<'a>(
     room: Room<'a>,
+    words: &mut Words<'a>,
     body: &Compiled<'a>,
     notes: &Notes<'a>,
     known: Facts<'a>,
     pending: Pending,
-    word: Term<'a>,
+    word: WordId,
     target: u32,
     after: After<'a>,
 ) -> Result<(), Unfit>
-    ensures { OnOk result (CourseBy body.now notes.now (facts_by body.now known.entry) pending (Chosen word.entry target) after.entry.index (place_by body.now after.entry.place) (outcome_by body.now after.entry.outcome)) }
+    ensures is { OnOk result ((m : Meaning) → Agrees (types_by body.now) m words.new → CourseBy body.now m notes.now (facts_by body.now m known.entry) pending (Chosen word target) after.entry.index (place_by body.now m after.entry.place) (outcome_by body.now m after.entry.outcome)) }
+    ensures grows { OnOk result ((types : ℕ → Typ) (m : Meaning) → Agrees types m words.new → Agrees types m words.old) }
 {
     match after.outcome {
         Outcome::Chooses { zero, other, .. } => {
-            quietly(room, body, notes, known, pending, target, after.place, *zero)?;
+            quietly(room, words, body, notes, known, pending, target, after.place, *zero)?;
             let more = with_word(room, known, word)?;
-            quietly(room, body, notes, more, pending, after.index, after.place, *other)?;
+            quietly(room, words, body, notes, more, pending, after.index, after.place, *other)?;
             Ok(())
         }
         _ => Err(Unfit::Never),
@@ -281,9 +305,9 @@ fn with_function<'a>(
     known: Facts<'a>,
     class: u32,
     slot: u32,
-    address: Term<'a>,
+    address: WordId,
 ) -> Result<Facts<'a>, Refusal>
-    ensures { IfOk result (λ ks. (types : ℕ → Typ) → facts_of types ks ≡ (has_function class slot (term_of types address.entry) ∷ facts_of types known.entry)) }
+    ensures { IfOk result (λ ks. (types : ℕ → Typ) (m : Meaning) → facts_of types m ks ≡ (has_function class slot (word_of m address) ∷ facts_of types m known.entry)) }
 {
     let fact = Fact::HasFunction {
         class,
@@ -296,21 +320,23 @@ fn with_function<'a>(
 // A slot has a function, where the source looks for it too.
 fn finding<'a>(
     room: Room<'a>,
+    words: &mut Words<'a>,
     body: &Compiled<'a>,
     notes: &Notes<'a>,
     known: Facts<'a>,
     pending: Pending,
     class: u32,
     slot: u32,
-    address: Term<'a>,
+    address: WordId,
     after: After<'a>,
 ) -> Result<(), Unfit>
-    ensures { OnOk result (CourseBy body.now notes.now (facts_by body.now known.entry) pending (Finding class slot address.entry) after.entry.index (place_by body.now after.entry.place) (outcome_by body.now after.entry.outcome)) }
+    ensures is { OnOk result ((m : Meaning) → Agrees (types_by body.now) m words.new → CourseBy body.now m notes.now (facts_by body.now m known.entry) pending (Finding class slot address) after.entry.index (place_by body.now m after.entry.place) (outcome_by body.now m after.entry.outcome)) }
+    ensures grows { OnOk result ((types : ℕ → Typ) (m : Meaning) → Agrees types m words.new → Agrees types m words.old) }
 {
     match after.outcome {
         Outcome::Finds { then, .. } => {
             let more = with_function(room, known, class, slot, address)?;
-            quietly(room, body, notes, more, pending, after.index, after.place, *then)?;
+            quietly(room, words, body, notes, more, pending, after.index, after.place, *then)?;
             Ok(())
         }
         _ => Err(Unfit::Never),
@@ -320,17 +346,19 @@ fn finding<'a>(
 // An operator that does not trap, where the source applies it too.
 fn unless_trap<'a>(
     room: Room<'a>,
+    words: &mut Words<'a>,
     body: &Compiled<'a>,
     notes: &Notes<'a>,
     known: Facts<'a>,
     pending: Pending,
     after: After<'a>,
 ) -> Result<(), Unfit>
-    ensures { OnOk result ((op : BinOp) (kind : IntKind) (left right : Word) → CourseBy body.now notes.now (facts_by body.now known.entry) pending (UnlessTrap op kind left right) after.entry.index (place_by body.now after.entry.place) (outcome_by body.now after.entry.outcome)) }
+    ensures is { OnOk result ((m : Meaning) → Agrees (types_by body.now) m words.new → (op : BinOp) (kind : IntKind) (left right : Word) → CourseBy body.now m notes.now (facts_by body.now m known.entry) pending (UnlessTrap op kind left right) after.entry.index (place_by body.now m after.entry.place) (outcome_by body.now m after.entry.outcome)) }
+    ensures grows { OnOk result ((types : ℕ → Typ) (m : Meaning) → Agrees types m words.new → Agrees types m words.old) }
 {
     match after.outcome {
         Outcome::Results { then, .. } => {
-            quietly(room, body, notes, known, pending, after.index, after.place, *then)?;
+            quietly(room, words, body, notes, known, pending, after.index, after.place, *then)?;
             Ok(())
         }
         _ => Err(Unfit::Never),
@@ -340,18 +368,20 @@ fn unless_trap<'a>(
 // An event, where the source has one.
 fn does<'a>(
     room: Room<'a>,
+    words: &mut Words<'a>,
     body: &Compiled<'a>,
     notes: &Notes<'a>,
     known: Facts<'a>,
     pending: Pending,
     after: After<'a>,
 ) -> Result<(), Unfit>
-    ensures { OnOk result (CourseBy body.now notes.now (facts_by body.now known.entry) pending Loudly after.entry.index (place_by body.now after.entry.place) (outcome_by body.now after.entry.outcome)) }
+    ensures is { OnOk result ((m : Meaning) → Agrees (types_by body.now) m words.new → CourseBy body.now m notes.now (facts_by body.now m known.entry) pending Loudly after.entry.index (place_by body.now m after.entry.place) (outcome_by body.now m after.entry.outcome)) }
+    ensures grows { OnOk result ((types : ℕ → Typ) (m : Meaning) → Agrees types m words.new → Agrees types m words.old) }
 {
     match after.outcome {
         Outcome::Goes(Leading::Does(doing), rest) => {
             let index = after.index;
-            loudly(room, body, notes, known, doing, rest, index, after.place)?;
+            loudly(room, words, body, notes, known, doing, rest, index, after.place)?;
             Ok(())
         }
         _ => Err(Unfit::Never),
@@ -361,17 +391,19 @@ fn does<'a>(
 // A thread, where the source starts one.
 fn starts<'a>(
     room: Room<'a>,
+    words: &mut Words<'a>,
     body: &Compiled<'a>,
     notes: &Notes<'a>,
     known: Facts<'a>,
     pending: Pending,
     after: After<'a>,
 ) -> Result<(), Unfit>
-    ensures { OnOk result (CourseBy body.now notes.now (facts_by body.now known.entry) pending Starting after.entry.index (place_by body.now after.entry.place) (outcome_by body.now after.entry.outcome)) }
+    ensures is { OnOk result ((m : Meaning) → Agrees (types_by body.now) m words.new → CourseBy body.now m notes.now (facts_by body.now m known.entry) pending Starting after.entry.index (place_by body.now m after.entry.place) (outcome_by body.now m after.entry.outcome)) }
+    ensures grows { OnOk result ((types : ℕ → Typ) (m : Meaning) → Agrees types m words.new → Agrees types m words.old) }
 {
     match after.outcome {
         Outcome::Goes(Leading::Spawns { .. }, rest) => {
-            starting(room, body, notes, known, rest, after.index, after.place)?;
+            starting(room, words, body, notes, known, rest, after.index, after.place)?;
             Ok(())
         }
         _ => Err(Unfit::Never),
@@ -381,18 +413,20 @@ fn starts<'a>(
 // What a caller's handler has, where the source asks for it.
 fn rethrows<'a>(
     room: Room<'a>,
+    words: &mut Words<'a>,
     body: &Compiled<'a>,
     notes: &Notes<'a>,
     known: Facts<'a>,
     pending: Pending,
     after: After<'a>,
 ) -> Result<(), Unfit>
-    ensures { OnOk result (CourseBy body.now notes.now (facts_by body.now known.entry) pending Rethrowing after.entry.index (place_by body.now after.entry.place) (outcome_by body.now after.entry.outcome)) }
+    ensures is { OnOk result ((m : Meaning) → Agrees (types_by body.now) m words.new → CourseBy body.now m notes.now (facts_by body.now m known.entry) pending Rethrowing after.entry.index (place_by body.now m after.entry.place) (outcome_by body.now m after.entry.outcome)) }
+    ensures grows { OnOk result ((types : ℕ → Typ) (m : Meaning) → Agrees types m words.new → Agrees types m words.old) }
 {
     match after.outcome {
         Outcome::Goes(Leading::Rethrows, rest) => {
             let index = after.index;
-            rethrowing(room, body, notes, known, pending, rest, index, after.place)?;
+            rethrowing(room, words, body, notes, known, pending, rest, index, after.place)?;
             Ok(())
         }
         _ => Err(Unfit::Never),
@@ -402,32 +436,34 @@ fn rethrows<'a>(
 // What an instruction does fits.
 fn course_fits<'a>(
     room: Room<'a>,
+    words: &mut Words<'a>,
     body: &Compiled<'a>,
     notes: &Notes<'a>,
     known: Facts<'a>,
     pending: Pending,
-    course: Course<'a>,
+    course: Course,
     after: After<'a>,
 ) -> Result<(), Unfit>
-    ensures { OnOk result (CourseBy body.now notes.now (facts_by body.now known.entry) pending course.entry after.entry.index (place_by body.now after.entry.place) (outcome_by body.now after.entry.outcome)) }
+    ensures is { OnOk result ((m : Meaning) → Agrees (types_by body.now) m words.new → CourseBy body.now m notes.now (facts_by body.now m known.entry) pending course after.entry.index (place_by body.now m after.entry.place) (outcome_by body.now m after.entry.outcome)) }
+    ensures grows { OnOk result ((types : ℕ → Typ) (m : Meaning) → Agrees types m words.new → Agrees types m words.old) }
 {
     match course {
         Course::Quietly => {
             let index = after.index;
             let place = after.place;
-            quietly(room, body, notes, known, pending, index, place, after.outcome)?;
+            quietly(room, words, body, notes, known, pending, index, place, after.outcome)?;
             Ok(())
         }
         Course::UnlessTrap { .. } => {
-            unless_trap(room, body, notes, known, pending, after)?;
+            unless_trap(room, words, body, notes, known, pending, after)?;
             Ok(())
         }
         Course::EitherWay { word, target } => {
-            either_way(room, body, notes, known, pending, word, target, after)?;
+            either_way(room, words, body, notes, known, pending, word, target, after)?;
             Ok(())
         }
         Course::Chosen { word, target } => {
-            chosen(room, body, notes, known, pending, word, target, after)?;
+            chosen(room, words, body, notes, known, pending, word, target, after)?;
             Ok(())
         }
         Course::Finding {
@@ -435,26 +471,26 @@ fn course_fits<'a>(
             slot,
             address,
         } => {
-            finding(room, body, notes, known, pending, class, slot, address, after)?;
+            finding(room, words, body, notes, known, pending, class, slot, address, after)?;
             Ok(())
         }
         Course::Throwing(exception) => {
             let index = after.index;
             let place = after.place;
             let outcome = after.outcome;
-            throwing(room, body, notes, known, pending, exception, index, place, outcome)?;
+            throwing(room, words, body, notes, known, pending, exception, index, place, outcome)?;
             Ok(())
         }
         Course::Loudly => {
-            does(room, body, notes, known, pending, after)?;
+            does(room, words, body, notes, known, pending, after)?;
             Ok(())
         }
         Course::Starting => {
-            starts(room, body, notes, known, pending, after)?;
+            starts(room, words, body, notes, known, pending, after)?;
             Ok(())
         }
         Course::Rethrowing => {
-            rethrows(room, body, notes, known, pending, after)?;
+            rethrows(room, words, body, notes, known, pending, after)?;
             Ok(())
         }
     }
@@ -463,6 +499,7 @@ fn course_fits<'a>(
 /// What comes of an instruction fits, where the source does this next.
 pub(crate) fn fits<'a>(
     room: Room<'a>,
+    words: &mut Words<'a>,
     body: &Compiled<'a>,
     notes: &Notes<'a>,
     known: Facts<'a>,
@@ -470,7 +507,8 @@ pub(crate) fn fits<'a>(
     next: Next<'a>,
     outcome: Outcome<'a>,
 ) -> Result<(), Unfit>
-    ensures { OnOk result (FitsBy body.now notes.now (facts_by body.now known.entry) pending next.entry (outcome_by body.now outcome.entry)) }
+    ensures is { OnOk result ((m : Meaning) → Agrees (types_by body.now) m words.new → FitsBy body.now m notes.now (facts_by body.now m known.entry) pending next.entry (outcome_by body.now m outcome.entry)) }
+    ensures grows { OnOk result ((types : ℕ → Typ) (m : Meaning) → Agrees types m words.new → Agrees types m words.old) }
 {
     match next {
         Next::Refused => Err(Unfit::Never),
@@ -484,7 +522,7 @@ pub(crate) fn fits<'a>(
                 place,
                 outcome,
             };
-            course_fits(room, body, notes, known, pending, course, after)?;
+            course_fits(room, words, body, notes, known, pending, course, after)?;
             Ok(())
         }
         Next::Ends(_) => Ok(()),

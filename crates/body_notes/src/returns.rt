@@ -1,14 +1,16 @@
 //! Returns, and whether a body may call a safe one.
 
-ghost use Rattle.std.specs.Prelude.{◌≡◌, true, OnOk, IsTrue};
+ghost use Rattle.std.specs.Prelude.{ℕ, ◌≡◌, true, OnOk, IsTrue};
+ghost use Rattle.cpp_tree.specs.cpp_types.Typ.{Typ};
 ghost use Rattle.tx_code.specs.declared.instr.Instr.TheVariants.{Ret};
 ghost use Rattle.tx_events.specs.Thread.{no_atomic};
 ghost use Rattle.src_mean.specs.Source.{is_safe};
 ghost use Rattle.body_check.specs.Calls.{Hands, covers};
+ghost use Rattle.symbolic_terms.specs.Meanings.{Meaning, word_of, Agrees};
 ghost use Rattle.symbolic_terms.specs.Shown.{opens_of};
 ghost use Rattle.image_links.specs.Books.{func_gives};
 ghost use Rattle.note_landing.specs.declared.compiled.Compiled.{Compiled as CompiledBody};
-ghost use Rattle.note_landing.specs.Shown.{image_by, place_by, facts_by, term_by, outcome_by, linked_by};
+ghost use Rattle.note_landing.specs.Shown.{types_by, image_by, place_by, facts_by, outcome_by, linked_by};
 ghost use Rattle.body_notes.specs.Checked.{pending_of, StepBy};
 
 use image_links::calls::func_gives;
@@ -16,19 +18,21 @@ use note_landing::compiled::Compiled;
 use note_landing::notes::{Note, Notes};
 use note_landing::unfit::Unfit;
 use src_frames::frames::Open;
-use symbolic_terms::comparison::equal_terms;
+use symbolic_terms::comparison::equal_words;
 use symbolic_terms::frames::Exit;
+use symbolic_terms::ids::{Terms, WordId};
+use symbolic_terms::made;
 use symbolic_terms::outcomes::Outcome;
 use symbolic_terms::places::{Opens, Place};
-use symbolic_terms::terms::{Term, Terms};
+use symbolic_terms::words::Words;
 
 // Whether a word is what the function hands back.
-fn hands<'a>(outcome: Outcome<'a>, word: Term<'a>) -> bool
-    ensures { IsTrue result → (b : CompiledBody) → Hands (term_by b word.entry) (outcome_by b outcome.entry) }
+fn hands<'a>(words: &Words<'a>, outcome: Outcome<'a>, word: WordId) -> bool
+    ensures { IsTrue result → (b : CompiledBody) (m : Meaning) → Agrees (types_by b) m words.now → Hands (word_of m word) (outcome_by b m outcome.entry) }
 {
     match outcome {
-        Outcome::Hands(other, _) => equal_terms(&other, &word),
-        Outcome::GoesOut(Exit::Returns(other), _) => equal_terms(&other, &word),
+        Outcome::Hands(other, _) => equal_words(words, other, word),
+        Outcome::GoesOut(Exit::Returns(other), _) => equal_words(words, other, word),
         _ => false,
     }
 }
@@ -42,6 +46,7 @@ fn gives<'a>(body: &Compiled<'a>) -> bool
 
 /// A return with so many words.
 pub(crate) fn returning<'a>(
+    words: &mut Words<'a>,
     body: &Compiled<'a>,
     notes: &Notes<'a>,
     note: &Note<'a>,
@@ -49,14 +54,16 @@ pub(crate) fn returning<'a>(
     outcome: Outcome<'a>,
     count: u8,
 ) -> Result<(), Unfit>
-    ensures { OnOk result (StepBy body.now notes.now (facts_by body.now note.now.facts) (pending_of note.now) note.now.index (Ret count) (place_by body.now place.entry) (outcome_by body.now outcome.entry)) }
+    ensures is { OnOk result ((m : Meaning) → Agrees (types_by body.now) m words.new → StepBy body.now m notes.now (facts_by body.now m note.now.facts) (pending_of note.now) note.now.index (Ret count) (place_by body.now m place.entry) (outcome_by body.now m outcome.entry)) }
+    ensures grows { OnOk result ((types : ℕ → Typ) (m : Meaning) → Agrees types m words.new → Agrees types m words.old) }
 {
     match count {
         0 => {
             if gives(body) {
                 return Err(Unfit::Never);
             }
-            if !hands(outcome, Term::Number(0)) {
+            let zero = made::number(words, 0)?;
+            if !hands(words, outcome, zero) {
                 return Err(Unfit::Never);
             }
             Ok(())
@@ -67,7 +74,7 @@ pub(crate) fn returning<'a>(
                 if !gives(body) {
                     return Err(Unfit::Never);
                 }
-                if !hands(outcome, word) {
+                if !hands(words, outcome, word) {
                     return Err(Unfit::Never);
                 }
                 Ok(())
@@ -90,7 +97,7 @@ fn has_no_atomic<'a>(opens: Opens<'a>) -> bool
 
 /// Whether the body is a safe one, or an atomic block is open.
 pub(crate) fn is_covered<'a>(body: &Compiled<'a>, place: Place<'a>) -> bool
-    ensures { result ≡ covers body.now.safe (place_by body.now place.entry).opens }
+    ensures { (m : Meaning) → result ≡ covers body.now.safe (place_by body.now m place.entry).opens }
 {
     body.safe || !has_no_atomic(place.opens)
 }

@@ -13,6 +13,7 @@ use symbolic_steps::CaseAnswers;
 use symbolic_terms::outcomes::Outcome;
 use symbolic_terms::places::{Facts, Place};
 use symbolic_terms::refusal::Refusal;
+use symbolic_terms::words::Words;
 
 /// How many notes an index may have.
 const MOST_AT: usize = 64;
@@ -23,6 +24,7 @@ const MOST_TRIES: u32 = 400;
 // A note, with the silent steps that the source takes from here on.
 fn note_of<'a>(
     room: Room<'a>,
+    words: &mut Words<'a>,
     body: &Compiled<'a>,
     index: u32,
     facts: Facts<'a>,
@@ -31,6 +33,7 @@ fn note_of<'a>(
 ) -> Result<Note<'a>, Refusal> {
     let ahead = advance(
         room,
+        words,
         &body.source,
         CaseAnswers::Unanswered,
         Pace::Plain,
@@ -43,7 +46,7 @@ fn note_of<'a>(
         outcome,
         lead: ahead.steps,
         rank: 0,
-        form: form_of(room.arena, room.alloc, place, outcome)?,
+        form: form_of(room.arena, words, room.alloc, place, outcome)?,
     })
 }
 
@@ -64,7 +67,7 @@ fn put<'a>(notes: &mut Notes<'a>, note: Note<'a>) -> Result<bool, Refusal> {
 }
 
 // The note of the entry alone.
-fn first_notes<'a>(room: Room<'a>, body: &Compiled<'a>) -> Result<Notes<'a>, Refusal> {
+fn first_notes<'a>(room: Room<'a>, words: &mut Words<'a>, body: &Compiled<'a>) -> Result<Notes<'a>, Refusal> {
     let mut places = Vec::new(room.alloc);
     for _instr in &body.body.code {
         places.push(Vec::new(room.alloc))?;
@@ -73,9 +76,9 @@ fn first_notes<'a>(room: Room<'a>, body: &Compiled<'a>) -> Result<Notes<'a>, Ref
         list: Vec::new(room.alloc),
         places,
     };
-    let place = entry_place(room, body)?;
-    let outcome = entry_outcome(room, body)?;
-    let note = note_of(room, body, 0, Facts::Empty, place, outcome)?;
+    let place = entry_place(room, words, body)?;
+    let outcome = entry_outcome(room, words, body)?;
+    let note = note_of(room, words, body, 0, Facts::Empty, place, outcome)?;
     let _put = put(&mut notes, note)?;
     Ok(notes)
 }
@@ -83,16 +86,17 @@ fn first_notes<'a>(room: Room<'a>, body: &Compiled<'a>) -> Result<Notes<'a>, Ref
 // Puts a note like a missing one among the others: its variables have their numbers in the order in which they come.
 fn put_missing<'a>(
     room: Room<'a>,
+    words: &mut Words<'a>,
     body: &Compiled<'a>,
     notes: &mut Notes<'a>,
     missing: Missing<'a>,
 ) -> Result<bool, Refusal> {
-    let form = form_of(room.arena, room.alloc, missing.place, missing.outcome)?;
-    let numbered = renumbered(room.arena, room.alloc, form, missing.known)?;
-    let place = replaced_place(room.arena, numbered.with, missing.place)?;
-    let outcome = replaced_outcome(room.arena, numbered.with, missing.outcome)?;
-    let facts = replaced_facts(room.arena, numbered.with, numbered.facts)?;
-    let note = note_of(room, body, missing.index, facts, place, outcome)?;
+    let form = form_of(room.arena, words, room.alloc, missing.place, missing.outcome)?;
+    let numbered = renumbered(room.arena, words, room.alloc, form, missing.known)?;
+    let place = replaced_place(room.arena, words, numbered.with, missing.place)?;
+    let outcome = replaced_outcome(room.arena, words, numbered.with, missing.outcome)?;
+    let facts = replaced_facts(room.arena, words, numbered.with, numbered.facts)?;
+    let note = note_of(room, words, body, missing.index, facts, place, outcome)?;
     put(notes, note)
 }
 
@@ -121,6 +125,7 @@ enum Looked {
 // What is done about a note that does not fit.
 fn mend<'a>(
     room: Room<'a>,
+    words: &mut Words<'a>,
     body: &Compiled<'a>,
     notes: &mut Notes<'a>,
     at: usize,
@@ -130,18 +135,20 @@ fn mend<'a>(
         Unfit::Never => Ok(false),
         Unfit::Rank(least) => Ok(raise(notes, at, least)),
         Unfit::Missing => match missing_in(room) {
-            Some(missing) => put_missing(room, body, notes, missing),
+            Some(missing) => put_missing(room, words, body, notes, missing),
             None => Ok(false),
         },
         Unfit::Memory => Err(Refusal::Memory),
         Unfit::Beyond => Err(Refusal::Beyond),
         Unfit::Untold => Err(Refusal::Untold),
+        Unfit::NotMade => Err(Refusal::NotMade),
     }
 }
 
 // Looks at a note: a note that is missing is put among the others, or its rank rises.
 fn look<'a>(
     room: Room<'a>,
+    words: &mut Words<'a>,
     body: &Compiled<'a>,
     notes: &mut Notes<'a>,
     at: usize,
@@ -150,10 +157,10 @@ fn look<'a>(
         return Ok(Looked::Never);
     };
     let note = *note;
-    match note_fits(room, body, notes, &note) {
+    match note_fits(room, words, body, notes, &note) {
         Ok(()) => Ok(Looked::Fits),
         Err(unfit) => {
-            if mend(room, body, notes, at, unfit)? {
+            if mend(room, words, body, notes, at, unfit)? {
                 Ok(Looked::Changed)
             } else {
                 Ok(Looked::Never)
@@ -165,13 +172,14 @@ fn look<'a>(
 // Looks at a note until it fits: whether anything has changed, or none where it never fits.
 fn settle<'a>(
     room: Room<'a>,
+    words: &mut Words<'a>,
     body: &Compiled<'a>,
     notes: &mut Notes<'a>,
     at: usize,
 ) -> Result<Option<bool>, Refusal> {
     let mut changed = false;
     for _ in 0..MOST_TRIES {
-        match look(room, body, notes, at)? {
+        match look(room, words, body, notes, at)? {
             Looked::Fits => return Ok(Some(changed)),
             Looked::Changed => changed = true,
             Looked::Never => return Ok(None),
@@ -181,13 +189,13 @@ fn settle<'a>(
 }
 
 // Notes of all that is reached.
-fn collect<'a>(room: Room<'a>, body: &Compiled<'a>, notes: &mut Notes<'a>) -> Result<bool, Refusal> {
+fn collect<'a>(room: Room<'a>, words: &mut Words<'a>, body: &Compiled<'a>, notes: &mut Notes<'a>) -> Result<bool, Refusal> {
     let most = notes.places.len().saturating_mul(MOST_AT);
     for at in 0..most {
         if notes.list.len() <= at {
             return Ok(true);
         }
-        if settle(room, body, notes, at)?.is_none() {
+        if settle(room, words, body, notes, at)?.is_none() {
             return Ok(false);
         }
     }
@@ -195,11 +203,11 @@ fn collect<'a>(room: Room<'a>, body: &Compiled<'a>, notes: &mut Notes<'a>) -> Re
 }
 
 // The ranks are raised from the last note on: whether all fit.
-fn rank<'a>(room: Room<'a>, body: &Compiled<'a>, notes: &mut Notes<'a>) -> Result<bool, Refusal> {
+fn rank<'a>(room: Room<'a>, words: &mut Words<'a>, body: &Compiled<'a>, notes: &mut Notes<'a>) -> Result<bool, Refusal> {
     for _ in 0..=MOST {
         let mut changed = false;
         for at in (0..notes.list.len()).rev() {
-            match settle(room, body, notes, at)? {
+            match settle(room, words, body, notes, at)? {
                 Some(risen) => changed = changed || risen,
                 None => return Ok(false),
             }
@@ -214,13 +222,14 @@ fn rank<'a>(room: Room<'a>, body: &Compiled<'a>, notes: &mut Notes<'a>) -> Resul
 /// Notes that are likely to fit.
 pub(crate) fn search<'a>(
     room: Room<'a>,
+    words: &mut Words<'a>,
     body: &Compiled<'a>,
 ) -> Result<Option<Notes<'a>>, Refusal> {
-    let mut notes = first_notes(room, body)?;
-    if !collect(room, body, &mut notes)? {
+    let mut notes = first_notes(room, words, body)?;
+    if !collect(room, words, body, &mut notes)? {
         return Ok(None);
     }
-    if !rank(room, body, &mut notes)? {
+    if !rank(room, words, body, &mut notes)? {
         return Ok(None);
     }
     Ok(Some(notes))

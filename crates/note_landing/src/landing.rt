@@ -172,7 +172,7 @@ fn rank_found<'a>(
     let Some(places) = notes.places.get(index as usize) else {
         return Ok(None);
     };
-    let form = form_of(room.arena, room.alloc, words, place, outcome)?;
+    let form = form_of(room.arena, words, room.alloc, place, outcome)?;
     rank_among(room, words, body, notes, places, form, known, index, place, outcome)
 }
 
