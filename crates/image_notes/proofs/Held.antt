@@ -35,10 +35,10 @@ module _ (b : Compiled) where
   pub noted : (linked_by b).func b.number ≡ Some (func_by b) → (names_of (image_by b)).body b.number b.safe ≡ Some (body_view b.body.now) → HasNotesBy b → HasNotes (image_by b) (given_by b) b.number b.safe
   noted f y h = record {
     typs = typs_by b;
-    notes = notes_by b h.notes;
+    notes = notes_by b h.meaning h.notes;
     checked = λ all types.
-        subst (λ z. Checked (linked_by b) bounds (linked_book (image_by b) (given_by b) all types) (held_as (notes_by b h.notes) (func_of (linked_by b) b.number) z)) (sym (ap (λ z. unwrap_or z no_body) y))
-        (subst (λ z. Checked (linked_by b) bounds (linked_book (image_by b) (given_by b) all types) (held_as (notes_by b h.notes) z (body_view b.body.now))) (sym (ap (λ z. unwrap_or z no_func) f))
+        subst (λ z. Checked (linked_by b) bounds (linked_book (image_by b) (given_by b) all types) (held_as (notes_by b h.meaning h.notes) (func_of (linked_by b) b.number) z)) (sym (ap (λ z. unwrap_or z no_body) y))
+        (subst (λ z. Checked (linked_by b) bounds (linked_book (image_by b) (given_by b) all types) (held_as (notes_by b h.meaning h.notes) z (body_view b.body.now))) (sym (ap (λ z. unwrap_or z no_func) f))
         (h.checked all types));
   }
 

@@ -19,6 +19,7 @@ use std::alloc::{AllocError, Global};
 use std::cell::Cell;
 use symbolic_leaving::Source;
 use symbolic_terms::refusal::Refusal;
+use symbolic_terms::words::Words;
 use tx_code::{Body, Image, ImageFunc};
 
 // The spellings of the types that a body's rows take.
@@ -64,7 +65,12 @@ fn arena_has_notes<'a>(
         alloc,
         missing,
     };
-    let found = has_notes(room, &compiled)?;
+    let mut words = Words {
+        terms: Vec::new(alloc),
+        exceptions: Vec::new(alloc),
+        puts: Vec::new(alloc),
+    };
+    let found = has_notes(room, &mut words, &compiled)?;
     Ok(found)
 }
 
