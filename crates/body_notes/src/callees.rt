@@ -182,7 +182,14 @@ fn is_in_slot<'a>(
     if !is_slot(body.image, body.source.bound, name, class, slot)? {
         return Ok(false);
     }
-    let all = slotted_pass(body.image, body.source.bound, class, slot, count as usize, gives)?;
+    let all = slotted_pass(
+        body.image,
+        body.source.bound,
+        class,
+        slot,
+        count as usize,
+        gives,
+    )?;
     Ok(all)
 }
 
@@ -278,7 +285,9 @@ pub(crate) fn calling_found<'a>(
         return Err(Unfit::Never);
     };
     let gives = gives_of(text_at(body.image, name)) == 1;
-    if !finds(room, words, body, known, name, count, address, callee, gives)? {
+    if !finds(
+        room, words, body, known, name, count, address, callee, gives,
+    )? {
         return Err(Unfit::Never);
     }
     let ends = Ends {

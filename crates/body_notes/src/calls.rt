@@ -56,7 +56,14 @@ fn back<'a>(
     ensures grows { OnOk result ((types : ℕ → Typ) (m : Meaning) → Agrees types m words.new → Agrees types m words.old) }
 {
     let answers = CaseAnswers::Unanswered;
-    let first = step(room.alloc, room.arena, words, &body.source, answers, outcome)?;
+    let first = step(
+        room.alloc,
+        room.arena,
+        words,
+        &body.source,
+        answers,
+        outcome,
+    )?;
     let ahead = advance(room, words, &body.source, answers, Pace::Plain, first)?;
     let _short = steps_within(1, ahead.steps, HALF)?;
     let _rank = land(room, words, body, notes, known, index, place, ahead.outcome)?;
@@ -104,7 +111,12 @@ fn outcome_back<'a>(
 }
 
 // Where the operands are behind a call.
-fn place_back<'a>(room: Room<'a>, words: &mut Words<'a>, gives: bool, place: Place<'a>) -> Result<Place<'a>, Refusal>
+fn place_back<'a>(
+    room: Room<'a>,
+    words: &mut Words<'a>,
+    gives: bool,
+    place: Place<'a>,
+) -> Result<Place<'a>, Refusal>
     ensures is { IfOk result (λ q. (types : ℕ → Typ) (m : Meaning) → Agrees types m words.new → place_of types m q ≡ place_back gives (place_of types m place.entry)) }
     ensures grows { IfOk result (λ z. (types : ℕ → Typ) (m : Meaning) → Agrees types m words.new → Agrees types m words.old) }
 {
@@ -120,7 +132,12 @@ fn place_back<'a>(room: Room<'a>, words: &mut Words<'a>, gives: bool, place: Pla
 }
 
 // What is known behind a call.
-fn facts_back<'a>(room: Room<'a>, words: &mut Words<'a>, gives: bool, known: Facts<'a>) -> Result<Facts<'a>, Refusal>
+fn facts_back<'a>(
+    room: Room<'a>,
+    words: &mut Words<'a>,
+    gives: bool,
+    known: Facts<'a>,
+) -> Result<Facts<'a>, Refusal>
     ensures is { IfOk result (λ ks. (types : ℕ → Typ) (m : Meaning) → Agrees types m words.new → facts_of types m ks ≡ facts_back gives (facts_of types m known.entry)) }
     ensures grows { IfOk result (λ z. (types : ℕ → Typ) (m : Meaning) → Agrees types m words.new → Agrees types m words.old) }
 {
@@ -155,11 +172,7 @@ fn back_with<'a>(
 }
 
 // Whether the open blocks of code are those of the source's frames.
-fn has_blocks<'a>(
-    room: Room<'a>,
-    place: Place<'a>,
-    frames: Frames<'a>,
-) -> Result<bool, Refusal>
+fn has_blocks<'a>(room: Room<'a>, place: Place<'a>, frames: Frames<'a>) -> Result<bool, Refusal>
     ensures { IfOk result (λ b. b ≡ true → (types : ℕ → Typ) (m : Meaning) (p : Program) (f : Func) → (place_of types m place.entry).opens ≡ blocks_among (frames_of types m p f frames.entry)) }
 {
     let blocks = blocks_in(room.arena, frames)?;
@@ -231,7 +244,9 @@ pub(crate) fn behind<'a>(
     if !has_thrown(room, words, body, place)? {
         return Err(Unfit::Never);
     }
-    back_with(room, words, body, notes, ends.gives, known, next, place, rest)?;
+    back_with(
+        room, words, body, notes, ends.gives, known, next, place, rest,
+    )?;
     if ends.stops {
         return Ok(());
     }

@@ -152,14 +152,7 @@ fn plain<'a>(
 {
     let table = names_of(room, body, instr)?;
     let next = follow(
-        room.arena,
-        words,
-        &table,
-        note.facts,
-        note.index,
-        &instr,
-        place,
-        &outcome,
+        room.arena, words, &table, note.facts, note.index, &instr, place, &outcome,
     )?;
     let pending = Pending {
         lead: note.lead,

@@ -29,7 +29,12 @@ use symbolic_terms::words::Words;
 
 // The variables from a number on, so many.
 #[tactic(auto, using(crate::proofs::Noted::variables_more))]
-fn variables<'a>(room: Room<'a>, words: &mut Words<'a>, from: u32, count: u32) -> Result<Terms<'a>, Refusal>
+fn variables<'a>(
+    room: Room<'a>,
+    words: &mut Words<'a>,
+    from: u32,
+    count: u32,
+) -> Result<Terms<'a>, Refusal>
     ensures is { IfOk result (λ ws. (types : ℕ → Typ) (m : Meaning) → Agrees types m words.new → words_of m ws ≡ variables from count) }
     ensures grows { IfOk result (λ z. (types : ℕ → Typ) (m : Meaning) → Agrees types m words.new → Agrees types m words.old) }
 {
@@ -57,7 +62,11 @@ fn takes<'a>(body: &Compiled<'a>) -> Result<u32, Refusal>
 }
 
 /// Where the function is entered: its operands are the words of the call.
-pub(crate) fn entry_place<'a>(room: Room<'a>, words: &mut Words<'a>, body: &Compiled<'a>) -> Result<Place<'a>, Refusal>
+pub(crate) fn entry_place<'a>(
+    room: Room<'a>,
+    words: &mut Words<'a>,
+    body: &Compiled<'a>,
+) -> Result<Place<'a>, Refusal>
     ensures is { IfOk result (λ q. (m : Meaning) → Agrees (types_by body.now) m words.new → place_by body.now m q ≡ bare (takes_by body.now)) }
     ensures grows { IfOk result (λ z. (types : ℕ → Typ) (m : Meaning) → Agrees types m words.new → Agrees types m words.old) }
 {
@@ -113,7 +122,12 @@ fn has_none<'a>(facts: Facts<'a>) -> bool
 }
 
 // Whether a note is that of the entry.
-fn is_entry<'a>(room: Room<'a>, words: &mut Words<'a>, body: &Compiled<'a>, note: &Note<'a>) -> Result<bool, Refusal>
+fn is_entry<'a>(
+    room: Room<'a>,
+    words: &mut Words<'a>,
+    body: &Compiled<'a>,
+    note: &Note<'a>,
+) -> Result<bool, Refusal>
     ensures is { IfOk result (λ b. b ≡ true → (m : Meaning) → Agrees (types_by body.now) m words.new → IsEntry body.now m note.now) }
     ensures grows { IfOk result (λ z. (types : ℕ → Typ) (m : Meaning) → Agrees types m words.new → Agrees types m words.old) }
 {

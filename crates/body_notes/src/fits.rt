@@ -141,7 +141,9 @@ fn throwing<'a>(
         return Err(Unfit::Never);
     }
     let rank = flight_rank(pending)?;
-    flies(room, words, body, notes, known, index, place, exception, outcome, rank)?;
+    flies(
+        room, words, body, notes, known, index, place, exception, outcome, rank,
+    )?;
     Ok(())
 }
 
@@ -187,7 +189,9 @@ pub(crate) fn rises<'a>(
     let place = replaced_place(room.arena, words, Replacing::Rising, place)?;
     let outcome = risen(room, words, body, rest)?;
     let unknown = made::unknown(words, 0)?;
-    flies(room, words, body, notes, facts, index, place, unknown, outcome, rank)?;
+    flies(
+        room, words, body, notes, facts, index, place, unknown, outcome, rank,
+    )?;
     Ok(())
 }
 
@@ -242,11 +246,7 @@ fn quietly<'a>(
 }
 
 // A word is not 0.
-fn with_word<'a>(
-    room: Room<'a>,
-    known: Facts<'a>,
-    word: WordId,
-) -> Result<Facts<'a>, Refusal>
+fn with_word<'a>(room: Room<'a>, known: Facts<'a>, word: WordId) -> Result<Facts<'a>, Refusal>
     ensures { IfOk result (λ ks. (types : ℕ → Typ) (m : Meaning) → facts_of types m ks ≡ (not_zero (word_of m word) ∷ facts_of types m known.entry)) }
 {
     Ok(Facts::More(Fact::NotZero(word), keep(room.arena, known)?))
@@ -267,9 +267,29 @@ fn either_way<'a>(
     ensures is { OnOk result ((m : Meaning) → Agrees (types_by body.now) m words.new → CourseBy body.now m notes.now (facts_by body.now m known.entry) pending (EitherWay word target) after.entry.index (place_by body.now m after.entry.place) (outcome_by body.now m after.entry.outcome)) }
     ensures grows { OnOk result ((types : ℕ → Typ) (m : Meaning) → Agrees types m words.new → Agrees types m words.old) }
 {
-    quietly(room, words, body, notes, known, pending, target, after.place, after.outcome)?;
+    quietly(
+        room,
+        words,
+        body,
+        notes,
+        known,
+        pending,
+        target,
+        after.place,
+        after.outcome,
+    )?;
     let more = with_word(room, known, word)?;
-    quietly(room, words, body, notes, more, pending, after.index, after.place, after.outcome)?;
+    quietly(
+        room,
+        words,
+        body,
+        notes,
+        more,
+        pending,
+        after.index,
+        after.place,
+        after.outcome,
+    )?;
     Ok(())
 }
 
@@ -290,9 +310,29 @@ fn chosen<'a>(
 {
     match after.outcome {
         Outcome::Chooses { zero, other, .. } => {
-            quietly(room, words, body, notes, known, pending, target, after.place, *zero)?;
+            quietly(
+                room,
+                words,
+                body,
+                notes,
+                known,
+                pending,
+                target,
+                after.place,
+                *zero,
+            )?;
             let more = with_word(room, known, word)?;
-            quietly(room, words, body, notes, more, pending, after.index, after.place, *other)?;
+            quietly(
+                room,
+                words,
+                body,
+                notes,
+                more,
+                pending,
+                after.index,
+                after.place,
+                *other,
+            )?;
             Ok(())
         }
         _ => Err(Unfit::Never),
@@ -336,7 +376,17 @@ fn finding<'a>(
     match after.outcome {
         Outcome::Finds { then, .. } => {
             let more = with_function(room, known, class, slot, address)?;
-            quietly(room, words, body, notes, more, pending, after.index, after.place, *then)?;
+            quietly(
+                room,
+                words,
+                body,
+                notes,
+                more,
+                pending,
+                after.index,
+                after.place,
+                *then,
+            )?;
             Ok(())
         }
         _ => Err(Unfit::Never),
@@ -358,7 +408,17 @@ fn unless_trap<'a>(
 {
     match after.outcome {
         Outcome::Results { then, .. } => {
-            quietly(room, words, body, notes, known, pending, after.index, after.place, *then)?;
+            quietly(
+                room,
+                words,
+                body,
+                notes,
+                known,
+                pending,
+                after.index,
+                after.place,
+                *then,
+            )?;
             Ok(())
         }
         _ => Err(Unfit::Never),
@@ -381,7 +441,17 @@ fn does<'a>(
     match after.outcome {
         Outcome::Goes(Leading::Does(doing), rest) => {
             let index = after.index;
-            loudly(room, words, body, notes, known, doing, rest, index, after.place)?;
+            loudly(
+                room,
+                words,
+                body,
+                notes,
+                known,
+                doing,
+                rest,
+                index,
+                after.place,
+            )?;
             Ok(())
         }
         _ => Err(Unfit::Never),
@@ -403,7 +473,16 @@ fn starts<'a>(
 {
     match after.outcome {
         Outcome::Goes(Leading::Spawns { .. }, rest) => {
-            starting(room, words, body, notes, known, rest, after.index, after.place)?;
+            starting(
+                room,
+                words,
+                body,
+                notes,
+                known,
+                rest,
+                after.index,
+                after.place,
+            )?;
             Ok(())
         }
         _ => Err(Unfit::Never),
@@ -426,7 +505,17 @@ fn rethrows<'a>(
     match after.outcome {
         Outcome::Goes(Leading::Rethrows, rest) => {
             let index = after.index;
-            rethrowing(room, words, body, notes, known, pending, rest, index, after.place)?;
+            rethrowing(
+                room,
+                words,
+                body,
+                notes,
+                known,
+                pending,
+                rest,
+                index,
+                after.place,
+            )?;
             Ok(())
         }
         _ => Err(Unfit::Never),
@@ -451,7 +540,17 @@ fn course_fits<'a>(
         Course::Quietly => {
             let index = after.index;
             let place = after.place;
-            quietly(room, words, body, notes, known, pending, index, place, after.outcome)?;
+            quietly(
+                room,
+                words,
+                body,
+                notes,
+                known,
+                pending,
+                index,
+                place,
+                after.outcome,
+            )?;
             Ok(())
         }
         Course::UnlessTrap { .. } => {
@@ -459,11 +558,15 @@ fn course_fits<'a>(
             Ok(())
         }
         Course::EitherWay { word, target } => {
-            either_way(room, words, body, notes, known, pending, word, target, after)?;
+            either_way(
+                room, words, body, notes, known, pending, word, target, after,
+            )?;
             Ok(())
         }
         Course::Chosen { word, target } => {
-            chosen(room, words, body, notes, known, pending, word, target, after)?;
+            chosen(
+                room, words, body, notes, known, pending, word, target, after,
+            )?;
             Ok(())
         }
         Course::Finding {
@@ -471,14 +574,18 @@ fn course_fits<'a>(
             slot,
             address,
         } => {
-            finding(room, words, body, notes, known, pending, class, slot, address, after)?;
+            finding(
+                room, words, body, notes, known, pending, class, slot, address, after,
+            )?;
             Ok(())
         }
         Course::Throwing(exception) => {
             let index = after.index;
             let place = after.place;
             let outcome = after.outcome;
-            throwing(room, words, body, notes, known, pending, exception, index, place, outcome)?;
+            throwing(
+                room, words, body, notes, known, pending, exception, index, place, outcome,
+            )?;
             Ok(())
         }
         Course::Loudly => {

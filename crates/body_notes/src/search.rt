@@ -67,7 +67,11 @@ fn put<'a>(notes: &mut Notes<'a>, note: Note<'a>) -> Result<bool, Refusal> {
 }
 
 // The note of the entry alone.
-fn first_notes<'a>(room: Room<'a>, words: &mut Words<'a>, body: &Compiled<'a>) -> Result<Notes<'a>, Refusal> {
+fn first_notes<'a>(
+    room: Room<'a>,
+    words: &mut Words<'a>,
+    body: &Compiled<'a>,
+) -> Result<Notes<'a>, Refusal> {
     let mut places = Vec::new(room.alloc);
     for _instr in &body.body.code {
         places.push(Vec::new(room.alloc))?;
@@ -91,7 +95,13 @@ fn put_missing<'a>(
     notes: &mut Notes<'a>,
     missing: Missing<'a>,
 ) -> Result<bool, Refusal> {
-    let form = form_of(room.arena, words, room.alloc, missing.place, missing.outcome)?;
+    let form = form_of(
+        room.arena,
+        words,
+        room.alloc,
+        missing.place,
+        missing.outcome,
+    )?;
     let numbered = renumbered(room.arena, words, room.alloc, form, missing.known)?;
     let place = replaced_place(room.arena, words, numbered.with, missing.place)?;
     let outcome = replaced_outcome(room.arena, words, numbered.with, missing.outcome)?;
@@ -189,7 +199,12 @@ fn settle<'a>(
 }
 
 // Notes of all that is reached.
-fn collect<'a>(room: Room<'a>, words: &mut Words<'a>, body: &Compiled<'a>, notes: &mut Notes<'a>) -> Result<bool, Refusal> {
+fn collect<'a>(
+    room: Room<'a>,
+    words: &mut Words<'a>,
+    body: &Compiled<'a>,
+    notes: &mut Notes<'a>,
+) -> Result<bool, Refusal> {
     let most = notes.places.len().saturating_mul(MOST_AT);
     for at in 0..most {
         if notes.list.len() <= at {
@@ -203,7 +218,12 @@ fn collect<'a>(room: Room<'a>, words: &mut Words<'a>, body: &Compiled<'a>, notes
 }
 
 // The ranks are raised from the last note on: whether all fit.
-fn rank<'a>(room: Room<'a>, words: &mut Words<'a>, body: &Compiled<'a>, notes: &mut Notes<'a>) -> Result<bool, Refusal> {
+fn rank<'a>(
+    room: Room<'a>,
+    words: &mut Words<'a>,
+    body: &Compiled<'a>,
+    notes: &mut Notes<'a>,
+) -> Result<bool, Refusal> {
     for _ in 0..=MOST {
         let mut changed = false;
         for at in (0..notes.list.len()).rev() {

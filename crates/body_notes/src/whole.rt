@@ -15,7 +15,12 @@ use symbolic_terms::refusal::Refusal;
 use symbolic_terms::words::Words;
 
 // Each note fits, and the first is that of the entry.
-fn all_fit<'a>(room: Room<'a>, words: &mut Words<'a>, body: &Compiled<'a>, notes: &Notes<'a>) -> Result<(), Unfit>
+fn all_fit<'a>(
+    room: Room<'a>,
+    words: &mut Words<'a>,
+    body: &Compiled<'a>,
+    notes: &Notes<'a>,
+) -> Result<(), Unfit>
     ensures { OnOk result ((m : Meaning) → Agrees (types_by body.now) m words.new → CheckedBy body.now m notes.now) }
 {
     for note in &notes.list {
@@ -26,7 +31,11 @@ fn all_fit<'a>(room: Room<'a>, words: &mut Words<'a>, body: &Compiled<'a>, notes
 }
 
 /// Whether there are notes with which the body is checked, as far as a search finds them.
-pub fn has_notes<'a>(room: Room<'a>, words: &mut Words<'a>, body: &Compiled<'a>) -> Result<bool, Refusal>
+pub fn has_notes<'a>(
+    room: Room<'a>,
+    words: &mut Words<'a>,
+    body: &Compiled<'a>,
+) -> Result<bool, Refusal>
     ensures { IfOk result (λ b. b ≡ true → HasNotesBy body.now) }
 {
     let Some(notes) = search(room, words, body)? else {

@@ -165,7 +165,9 @@ fn case_fits<'a>(
         rank: unknown.rank,
     };
     let exception = made::unknown(words, unknown.number)?;
-    found_fits(room, words, body, notes, flight, row, place, exception, outcome)?;
+    found_fits(
+        room, words, body, notes, flight, row, place, exception, outcome,
+    )?;
     Ok(())
 }
 
@@ -187,7 +189,16 @@ fn classes_fit<'a>(
         return Ok(());
     }
     let class = count - 1;
-    case_fits(room, words, body, notes, unknown, &Case::Class(class), place, outcome)?;
+    case_fits(
+        room,
+        words,
+        body,
+        notes,
+        unknown,
+        &Case::Class(class),
+        place,
+        outcome,
+    )?;
     classes_fit(room, words, body, notes, unknown, class, place, outcome)?;
     Ok(())
 }
@@ -259,6 +270,15 @@ pub(crate) fn cases_fit<'a>(
     classes_fit(room, words, body, notes, unknown, count, place, outcome)?;
     let known = body.spellings.len();
     spellings_fit(room, words, body, notes, unknown, known, place, outcome)?;
-    case_fits(room, words, body, notes, unknown, &Case::Others, place, outcome)?;
+    case_fits(
+        room,
+        words,
+        body,
+        notes,
+        unknown,
+        &Case::Others,
+        place,
+        outcome,
+    )?;
     Ok(())
 }

@@ -245,7 +245,14 @@ fn steps_out<'a>(
     if is_still(outcome) {
         return Err(Unfit::Never);
     }
-    let next = step(room.alloc, room.arena, words, &body.source, answers, outcome)?;
+    let next = step(
+        room.alloc,
+        room.arena,
+        words,
+        &body.source,
+        answers,
+        outcome,
+    )?;
     let steps = steps_out(room, words, body, answers, most - 1, exception, next)?;
     match steps.checked_add(1) {
         Some(more) => Ok(more),
@@ -304,7 +311,9 @@ fn cleans<'a>(
 {
     let pace = Pace::Cleanup(caught_count(place.caught));
     let held = holding(place, Hold::Flying(exception));
-    reaches(room, words, body, notes, flight, pace, target, held, outcome)?;
+    reaches(
+        room, words, body, notes, flight, pace, target, held, outcome,
+    )?;
     Ok(())
 }
 
@@ -318,8 +327,11 @@ fn forgets<'a>(
     before: Outcome<'a>,
     unfit: Unfit,
 ) -> Unfit {
-    match (exception_at(words, exception), unfit) {
-        (Ok(Exception::Made(typ, _)), Unfit::Missing) => {
+    match unfit {
+        Unfit::Missing => {
+            let Ok(Exception::Made(typ, _)) = exception_at(words, exception) else {
+                return unfit;
+            };
             let Some(missing) = missing_in(room) else {
                 return Unfit::Never;
             };
@@ -349,7 +361,9 @@ fn handles<'a>(
 {
     let caught = catching(room.arena, place, exception)?;
     let pace = Pace::Handler(caught_count(caught.caught));
-    match reaches(room, words, body, notes, flight, pace, target, caught, outcome) {
+    match reaches(
+        room, words, body, notes, flight, pace, target, caught, outcome,
+    ) {
         Ok(()) => Ok(()),
         Err(unfit) => Err(forgets(room, words, body, pace, exception, outcome, unfit)),
     }
@@ -372,35 +386,49 @@ fn row_fits<'a>(
 {
     match row.what {
         0 => {
-            cleans(room, words, body, notes, flight, row.target, place, exception, outcome)?;
+            cleans(
+                room, words, body, notes, flight, row.target, place, exception, outcome,
+            )?;
             Ok(())
         }
         1 => {
-            handles(room, words, body, notes, flight, row.target, place, exception, outcome)?;
+            handles(
+                room, words, body, notes, flight, row.target, place, exception, outcome,
+            )?;
             Ok(())
         }
         2 => {
-            handles(room, words, body, notes, flight, row.target, place, exception, outcome)?;
+            handles(
+                room, words, body, notes, flight, row.target, place, exception, outcome,
+            )?;
             Ok(())
         }
         3 => {
             let block = Open::Atomic(BlockKind::NoExcept);
-            edges(room, words, body, notes, flight, block, row.target, place, exception, outcome)?;
+            edges(
+                room, words, body, notes, flight, block, row.target, place, exception, outcome,
+            )?;
             Ok(())
         }
         4 => {
             let block = Open::Atomic(BlockKind::Commit);
-            edges(room, words, body, notes, flight, block, row.target, place, exception, outcome)?;
+            edges(
+                room, words, body, notes, flight, block, row.target, place, exception, outcome,
+            )?;
             Ok(())
         }
         5 => {
             let block = Open::Atomic(BlockKind::Cancel);
-            edges(room, words, body, notes, flight, block, row.target, place, exception, outcome)?;
+            edges(
+                room, words, body, notes, flight, block, row.target, place, exception, outcome,
+            )?;
             Ok(())
         }
         6 => {
             let block = Open::Sync;
-            edges(room, words, body, notes, flight, block, row.target, place, exception, outcome)?;
+            edges(
+                room, words, body, notes, flight, block, row.target, place, exception, outcome,
+            )?;
             Ok(())
         }
         _ => Err(Unfit::Never),
@@ -431,7 +459,9 @@ pub(crate) fn found_fits<'a>(
             let Some(cut) = cut_to(row.depth, place) else {
                 return Err(Unfit::Never);
             };
-            row_fits(room, words, body, notes, flight, row, cut, exception, outcome)?;
+            row_fits(
+                room, words, body, notes, flight, row, cut, exception, outcome,
+            )?;
             Ok(())
         }
     }
@@ -458,7 +488,9 @@ fn known_flies<'a>(
     };
     let number = number_of(room.alloc, body, ty)?;
     let row = find_row(&body.body.rows, index, number);
-    found_fits(room, words, body, notes, flight, row, place, exception, outcome)?;
+    found_fits(
+        room, words, body, notes, flight, row, place, exception, outcome,
+    )?;
     Ok(())
 }
 
@@ -479,7 +511,9 @@ fn all_fly<'a>(
 {
     match find_for_all(&body.body.rows, index) {
         Some(row) => {
-            found_fits(room, words, body, notes, flight, row, place, exception, outcome)?;
+            found_fits(
+                room, words, body, notes, flight, row, place, exception, outcome,
+            )?;
             Ok(())
         }
         None => Err(Unfit::Never),
@@ -520,7 +554,17 @@ fn unknown_flies<'a>(
         rank: unknown.rank,
     };
     let exception = made::unknown(words, unknown.number)?;
-    all_fly(room, words, body, notes, flight, unknown.index, place, exception, outcome)?;
+    all_fly(
+        room,
+        words,
+        body,
+        notes,
+        flight,
+        unknown.index,
+        place,
+        exception,
+        outcome,
+    )?;
     Ok(())
 }
 
@@ -550,7 +594,9 @@ pub fn flies<'a>(
                 answers: CaseAnswers::Unanswered,
                 rank,
             };
-            known_flies(room, words, body, notes, flight, index, place, typ, exception, outcome)?;
+            known_flies(
+                room, words, body, notes, flight, index, place, typ, exception, outcome,
+            )?;
             Ok(())
         }
         Exception::Unknown(number) => {

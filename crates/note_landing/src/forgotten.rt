@@ -56,11 +56,13 @@ fn unknown_in<'a>(words: &Words<'a>, frame: Frame<'a>, exchange: Exchange) -> Fr
         Frame::Leaves(Exit::Throws(thrown)) => {
             Frame::Leaves(Exit::Throws(fresh_for(words, thrown, exchange)))
         }
-        Frame::Exception(ExceptionFrame::Trying {
-            exception: thrown,
-            handler,
-            others,
-        }) => Frame::Exception(ExceptionFrame::Trying {
+        Frame::Exception(
+            ExceptionFrame::Trying {
+                exception: thrown,
+                handler,
+                others,
+            },
+        ) => Frame::Exception(ExceptionFrame::Trying {
             exception: fresh_for(words, thrown, exchange),
             handler,
             others,

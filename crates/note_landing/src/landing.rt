@@ -148,7 +148,9 @@ fn rank_among<'a>(
     ensures grows { IfOk result (λ z. (types : ℕ → Typ) (m : Meaning) → Agrees types m words.new → Agrees types m words.old) }
 {
     for at in places {
-        if let Some(rank) = rank_at(room, words, body, notes, *at, form, known, index, place, outcome)? {
+        if let Some(rank) = rank_at(
+            room, words, body, notes, *at, form, known, index, place, outcome,
+        )? {
             return Ok(Some(rank));
         }
     }
@@ -173,7 +175,9 @@ fn rank_found<'a>(
         return Ok(None);
     };
     let form = form_of(room.arena, words, room.alloc, place, outcome)?;
-    rank_among(room, words, body, notes, places, form, known, index, place, outcome)
+    rank_among(
+        room, words, body, notes, places, form, known, index, place, outcome,
+    )
 }
 
 /// Whether it is not foreseen.
