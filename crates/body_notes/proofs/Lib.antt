@@ -5,3 +5,4 @@ pub mod Noted
 pub mod Fitting
 pub mod Behind
 pub mod Agreeing
+pub mod Returned

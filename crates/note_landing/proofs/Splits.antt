@@ -151,9 +151,10 @@ same_length f [] = refl
 same_length f (x ∷ xs) = ap suc (same_length f xs)
 
 module _ (P : Case → Type 0) (ss : List (Vec ℕ)) where
-  pub spelling_more : (n last : ℕ) (s : Vec ℕ) → n ≡ last + 1 → slice_get ss last ≡ Some s → P (of_spelling s.items) → EachFirst last P (texts_of ss) → EachFirst n P (texts_of ss)
-  spelling_more n last s e there p before =
-      subst (λ z. EachFirst z P (texts_of ss)) (sym e) (more_each (λ t. P (of_spelling t)) (texts_of ss) last s.items (shown_at (λ (t : Vec ℕ). t.items) ss last s there) p before)
+  pub spelling_more : (n last : ℕ) (s : Vec ℕ) (t : List ℕ) → n ≡ last + 1 → slice_get ss last ≡ Some s → t ≡ s.items → P (of_spelling t) → EachFirst last P (texts_of ss) → EachFirst n P (texts_of ss)
+  spelling_more n last s t e there i p before =
+      let h : P (of_spelling s.items) = subst (λ z. P (of_spelling z)) i p in
+      subst (λ z. EachFirst z P (texts_of ss)) (sym e) (more_each (λ z. P (of_spelling z)) (texts_of ss) last s.items (shown_at (λ (v : Vec ℕ). v.items) ss last s there) h before)
 
   pub all_spellings : (n : ℕ) → n ≡ length ss → EachFirst n P (texts_of ss) → EachSpelling P (texts_of ss)
   all_spellings n e before =
