@@ -1,13 +1,15 @@
 -- From what was compared to what the definitions ask behind a call.
-use Rattle.std.proofs.Common.{ℕ, ◌≡◌, ◌+◌, ◌≤◌, refl, sym, subst, Bool, true, false, List}
-use Rattle.symbolic_source.specs.Frames.{handled, blocks_in}
-use Rattle.symbolic_source.specs.Outcomes.{Outcome}
+use Rattle.std.proofs.Common.{ℕ, ◌≡◌, ◌∙◌, ◌+◌, ◌≤◌, refl, ap, ap₂, sym, subst, Bool, true, false, List, ◌∷◌}
+use Rattle.symbolic_source.specs.Terms.{Term, variable, number}
+use Rattle.symbolic_source.specs.Frames.{Waiting, Frame, Gives, handled, blocks_in}
+use Rattle.symbolic_source.specs.Outcomes.{Outcome, silent, goes}
+use Rattle.symbolic_source.specs.Replacing.{in_terms, in_waitings, in_frames}
 use Rattle.symbolic_source.specs.Steps.{step_of, advanced}
 use Rattle.symbolic_code.specs.Facts.{Fact}
-use Rattle.symbolic_code.specs.Places.{Place}
+use Rattle.symbolic_code.specs.Places.{Place, later, place_later}
 use Rattle.symbolic_terms.specs.Meanings.{Meaning}
 use Rattle.symbolic_terms.specs.declared.outcomes.Rest.{Rest}
-use Rattle.symbolic_leaving.specs.Shown.{left_in}
+use Rattle.symbolic_leaving.specs.Shown.{waits_in, left_in}
 use Rattle.body_check.specs.Notes.{no_answers}
 use Rattle.body_check.specs.Calls.{first_of, AllThrown}
 use Rattle.note_landing.specs.declared.notes.Notes.{Notes}
@@ -17,6 +19,19 @@ use Rattle.note_landing.proofs.Lands.{back_at}
 use Rattle.body_notes.specs.declared.calls.Ends.{Ends}
 use Rattle.body_notes.specs.Fits.{RisesBy}
 use Rattle.body_notes.specs.Called.{given_back, place_back, facts_back, BackBy, BackWithBy, BehindBy}
+
+-- what the source does behind a call, with the word that is handed back, or with none
+pub given_word : (b : Compiled) (m : Meaning) (rest : Rest) (w : Term) (ws : List Waiting) (k : List Frame) (o : Outcome) → ws ≡ in_waitings later (waits_in b.source m rest) → k ≡ in_frames later (left_in b.source m rest) → w ≡ variable 0
+    → o ≡ goes silent ws (Gives w ∷ k) → o ≡ given_back b m true rest
+given_word b m rest w ws k o i j r e =
+    e ∙ ap (λ z. goes silent z (Gives w ∷ k)) i ∙ ap (λ z. goes silent (in_waitings later (waits_in b.source m rest)) (Gives z ∷ k)) r ∙ ap (λ z. goes silent (in_waitings later (waits_in b.source m rest)) (Gives (variable 0) ∷ z)) j
+
+pub given_none : (b : Compiled) (m : Meaning) (rest : Rest) (w : Term) (o : Outcome) → w ≡ number 0 → o ≡ goes silent (waits_in b.source m rest) (Gives w ∷ left_in b.source m rest) → o ≡ given_back b m false rest
+given_none b m rest w o i e = e ∙ ap (λ z. goes silent (waits_in b.source m rest) (Gives z ∷ left_in b.source m rest)) i
+
+-- where the operands are
+pub place_word : (q q2 : Place) (w : Term) (ws others : List Term) → ws ≡ in_terms later q.operands → w ≡ variable 0 → others ≡ w ∷ ws → q2 ≡ place_later q others → q2 ≡ place_back true q
+place_word q q2 w ws others i j k e = e ∙ ap (λ z. place_later q z) (k ∙ ap₂ (λ (x : Term) (xs : List Term). x ∷ xs) j i)
 
 module _ (b : Compiled) (m : Meaning) (ns : Notes) where
   -- the caller goes on

@@ -87,6 +87,37 @@ fn giving<'a>(
     Ok(Outcome::Goes(Leading::Does(Doing::Silent), rest))
 }
 
+// What the source does behind a call, with the word that is handed back.
+fn outcome_by_word<'a>(
+    room: Room<'a>,
+    words: &mut Words<'a>,
+    body: &Compiled<'a>,
+    rest: Rest<'a>,
+) -> Result<Outcome<'a>, Refusal>
+    ensures is { IfOk result (λ o. (m : Meaning) → Agrees (types_by body.now) m words.new → outcome_by body.now m o ≡ given_back body.now m true rest.entry) }
+    ensures grows { IfOk result (λ z. (types : ℕ → Typ) (m : Meaning) → Agrees types m words.new → Agrees types m words.old) }
+{
+    let later = replaced_rest(room.arena, words, Replacing::Later, rest)?;
+    let word = made::variable(words, 0)?;
+    let outcome = giving(room, word, later.temporaries, later.frames)?;
+    Ok(outcome)
+}
+
+// The same, where none is handed back.
+fn outcome_by_none<'a>(
+    room: Room<'a>,
+    words: &mut Words<'a>,
+    body: &Compiled<'a>,
+    rest: Rest<'a>,
+) -> Result<Outcome<'a>, Refusal>
+    ensures is { IfOk result (λ o. (m : Meaning) → Agrees (types_by body.now) m words.new → outcome_by body.now m o ≡ given_back body.now m false rest.entry) }
+    ensures grows { IfOk result (λ z. (types : ℕ → Typ) (m : Meaning) → Agrees types m words.new → Agrees types m words.old) }
+{
+    let word = made::number(words, 0)?;
+    let outcome = giving(room, word, rest.temporaries, rest.frames)?;
+    Ok(outcome)
+}
+
 // What the source does behind a call.
 fn outcome_back<'a>(
     room: Room<'a>,
@@ -99,15 +130,26 @@ fn outcome_back<'a>(
     ensures grows { IfOk result (λ z. (types : ℕ → Typ) (m : Meaning) → Agrees types m words.new → Agrees types m words.old) }
 {
     if gives {
-        let later = replaced_rest(room.arena, words, Replacing::Later, rest)?;
-        let word = made::variable(words, 0)?;
-        let outcome = giving(room, word, later.temporaries, later.frames)?;
-        Ok(outcome)
+        outcome_by_word(room, words, body, rest)
     } else {
-        let word = made::number(words, 0)?;
-        let outcome = giving(room, word, rest.temporaries, rest.frames)?;
-        Ok(outcome)
+        outcome_by_none(room, words, body, rest)
     }
+}
+
+// Where the operands are behind a call, with the word that is handed back.
+fn place_by_word<'a>(
+    room: Room<'a>,
+    words: &mut Words<'a>,
+    place: Place<'a>,
+) -> Result<Place<'a>, Refusal>
+    ensures is { IfOk result (λ q. (types : ℕ → Typ) (m : Meaning) → Agrees types m words.new → place_of types m q ≡ place_back true (place_of types m place.entry)) }
+    ensures grows { IfOk result (λ z. (types : ℕ → Typ) (m : Meaning) → Agrees types m words.new → Agrees types m words.old) }
+{
+    let others = replaced_words(room.arena, words, Replacing::Later, place.operands)?;
+    let word = made::variable(words, 0)?;
+    let kept = keep(room.arena, others)?;
+    let later = place_later(room.arena, words, place, Terms::More(word, kept))?;
+    Ok(later)
 }
 
 // Where the operands are behind a call.
@@ -121,11 +163,7 @@ fn place_back<'a>(
     ensures grows { IfOk result (λ z. (types : ℕ → Typ) (m : Meaning) → Agrees types m words.new → Agrees types m words.old) }
 {
     if gives {
-        let others = replaced_words(room.arena, words, Replacing::Later, place.operands)?;
-        let word = made::variable(words, 0)?;
-        let operands = Terms::More(word, keep(room.arena, others)?);
-        let later = place_later(room.arena, words, place, operands)?;
-        Ok(later)
+        place_by_word(room, words, place)
     } else {
         Ok(place)
     }
