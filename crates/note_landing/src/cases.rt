@@ -1,6 +1,6 @@
 //! An exception of which nothing is known, by the cases of its type.
 
-ghost use Rattle.std.specs.Prelude.{ℕ, ◌≡◌, ◌<◌, ◌||◌, ◌&&◌, not, nat_eq, List, Some, slice_get, IfOk, IsTrue, OnOk};
+ghost use Rattle.std.specs.Prelude.{ℕ, ◌≡◌, ◌||◌, ◌&&◌, not, nat_eq, IfOk, IsTrue, OnOk};
 ghost use Rattle.tx_code.specs.Meaning.{covers};
 ghost use Rattle.tx_code.specs.Views.{image_view};
 ghost use Rattle.cpp_tree.specs.cpp_types.Class.{classes_of};
