@@ -1,10 +1,6 @@
 -- What a function hands back, and the exception of its innermost entered handler.
-use Rattle.std.proofs.Common.{ℕ, ◌≡◌, ◌∙◌, ap, sym, subst, ◌∷◌, Option, Some, None}
-use Rattle.cpp_tree.specs.cpp_types.Typ.{Typ}
-use Rattle.cpp_tree.specs.declared.program.Program.{Program}
-use Rattle.src_mean.specs.Linked.{Func}
+use Rattle.std.proofs.Common.{◌≡◌, ◌∙◌, ap, sym, subst, List, ◌∷◌, Option, Some, None}
 use Rattle.symbolic_source.specs.Terms.{Term, Exception, number}
-use Rattle.symbolic_source.specs.Frames as frames
 use Rattle.symbolic_source.specs.Outcomes as outcomes
 use Rattle.symbolic_terms.specs.Meanings.{Meaning, word_of, thrown_of, all_thrown}
 use Rattle.symbolic_terms.specs.declared.ids.WordId.{WordId}
@@ -36,5 +32,5 @@ module _ (m : Meaning) (caught : Exceptions) (own : Option Exception) where
   pub none_caught : caught ≡ Empty → own ≡ None → first_of (all_thrown m caught) ≡ own
   none_caught is e = ap (λ z. first_of (all_thrown m z)) is ∙ sym e
 
-  pub one_caught : (e x : ExceptionId) (rest : Exceptions) → own ≡ Some (thrown_of m e) → thrown_of m x ≡ thrown_of m e → first_of (thrown_of m x ∷ all_thrown m rest) ≡ own
-  one_caught e x rest h i = ap (λ (z : Exception). Some z) i ∙ sym h
+  pub one_caught : (x e : ExceptionId) (others : List Exception) → all_thrown m caught ≡ thrown_of m x ∷ others → own ≡ Some (thrown_of m e) → thrown_of m x ≡ thrown_of m e → first_of (all_thrown m caught) ≡ own
+  one_caught x e others is h i = ap (λ z. first_of z) is ∙ ap (λ (z : Exception). Some z) i ∙ sym h

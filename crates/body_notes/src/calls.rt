@@ -218,6 +218,7 @@ fn has_blocks<'a>(room: Room<'a>, place: Place<'a>, frames: Frames<'a>) -> Resul
 }
 
 // Whether the innermost exception of an entered handler is the source's.
+#[tactic(auto, using(crate::proofs::Returned::none_caught, crate::proofs::Returned::one_caught))]
 fn has_caught<'a>(words: &Words<'a>, place: Place<'a>, frames: Frames<'a>) -> bool
     ensures { result ≡ true → (types : ℕ → Typ) (m : Meaning) (p : Program) (f : Func) → Agrees types m words.now → first_of (place_of types m place.entry).caught ≡ exception_handled (frames_of types m p f frames.entry) }
 {

@@ -27,6 +27,7 @@ use symbolic_terms::places::{Opens, Place};
 use symbolic_terms::words::Words;
 
 // Whether a word is what the function hands back.
+#[tactic(auto, using(crate::proofs::Returned::ends_as, crate::proofs::Returned::returns_as))]
 fn hands<'a>(words: &Words<'a>, outcome: Outcome<'a>, word: WordId) -> bool
     ensures { IsTrue result → (b : CompiledBody) (m : Meaning) → Agrees (types_by b) m words.now → Hands (word_of m word) (outcome_by b m outcome.entry) }
 {
@@ -45,6 +46,7 @@ fn gives<'a>(body: &Compiled<'a>) -> bool
 }
 
 /// A return with so many words.
+#[tactic(auto, using(crate::proofs::Returned::none_as))]
 pub(crate) fn returning<'a>(
     words: &mut Words<'a>,
     body: &Compiled<'a>,

@@ -370,6 +370,7 @@ fn handles<'a>(
 }
 
 // The row takes the exception to an index.
+#[tactic(auto, using(crate::proofs::Flown::row_as))]
 fn row_fits<'a>(
     room: Room<'a>,
     words: &mut Words<'a>,
