@@ -1,15 +1,19 @@
 //! Whether terms are the same.
 
-ghost use Rattle.std.specs.Prelude.{◌≡◌, IsTrue, ◌↔◌};
+ghost use Rattle.std.specs.Prelude.{ℕ, ◌≡◌, IfOk, IsTrue, ◌↔◌};
+ghost use Rattle.cpp_tree.specs.cpp_types.Typ.{Typ};
 ghost use Rattle.symbolic_code.specs.Same.{same_term as is_same_term, same_exception as is_same_exception};
-ghost use Rattle.symbolic_terms.specs.Words.{term_of, exception_of, puts_of, terms_of};
+ghost use Rattle.symbolic_terms.specs.Words.{numbered, term_of, exception_of, puts_of};
+ghost use Rattle.symbolic_terms.specs.Meanings.{Meaning, word_of, thrown_of, given_of, words_of, all_thrown, Agrees};
 
-use crate::terms::{Exception, Puts, Term, Terms};
-use cpp_types::same;
+use crate::ids::{ExceptionId, Exceptions, PutsId, Terms, WordId};
+use crate::refusal::Refusal;
+use crate::terms::{Exception, Puts, Term};
+use crate::words::{Words, term};
 
 /// Whether two exceptions are one unknown one. Exceptions that were made are not compared.
 pub fn same_exception(left: &Exception<'_>, right: &Exception<'_>) -> bool
-    ensures { result ≡ is_same_exception (exception_of left.now) (exception_of right.now) }
+    ensures { (types : ℕ → Typ) → result ≡ is_same_exception (exception_of types left.now) (exception_of types right.now) }
 {
     match (left, right) {
         (Exception::Unknown(m), Exception::Unknown(n)) => *m == *n,
@@ -19,7 +23,7 @@ pub fn same_exception(left: &Exception<'_>, right: &Exception<'_>) -> bool
 
 /// Whether two terms are the same, as the definitions of the checker compare them.
 pub fn same_term(left: &Term<'_>, right: &Term<'_>) -> bool
-    ensures { result ≡ is_same_term (term_of left.now) (term_of right.now) }
+    ensures { (types : ℕ → Typ) → result ≡ is_same_term (term_of types left.now) (term_of types right.now) }
 {
     match (left, right) {
         (Term::Number(m), Term::Number(n)) => *m == *n,
@@ -82,7 +86,8 @@ pub fn same_term(left: &Term<'_>, right: &Term<'_>) -> bool
 /// Whether two terms are one, with all that was put into exceptions.
 #[cycle(equal)]
 pub fn equal_terms(left: &Term<'_>, right: &Term<'_>) -> bool
-    ensures { IsTrue result ↔ (term_of left.now ≡ term_of right.now) }
+    ensures shows { IsTrue result → (types : ℕ → Typ) → term_of types left.now ≡ term_of types right.now }
+    ensures own { term_of numbered left.now ≡ term_of numbered right.now → IsTrue result }
 {
     match (left, right) {
         (Term::Number(m), Term::Number(n)) => *m == *n,
@@ -145,12 +150,13 @@ pub fn equal_terms(left: &Term<'_>, right: &Term<'_>) -> bool
 /// Whether two exceptions are one.
 #[cycle(equal)]
 pub fn equal_exceptions(left: &Exception<'_>, right: &Exception<'_>) -> bool
-    ensures { IsTrue result ↔ (exception_of left.now ≡ exception_of right.now) }
+    ensures shows { IsTrue result → (types : ℕ → Typ) → exception_of types left.now ≡ exception_of types right.now }
+    ensures own { exception_of numbered left.now ≡ exception_of numbered right.now → IsTrue result }
 {
     match (left, right) {
         (Exception::Unknown(m), Exception::Unknown(n)) => *m == *n,
-        (Exception::Made(ty, puts), Exception::Made(other_ty, other_puts)) => {
-            same(ty, other_ty) && equal_puts(puts, other_puts)
+        (Exception::Made(typ, puts), Exception::Made(other_typ, other_puts)) => {
+            *typ == *other_typ && equal_puts(puts, other_puts)
         }
         _ => false,
     }
@@ -159,7 +165,8 @@ pub fn equal_exceptions(left: &Exception<'_>, right: &Exception<'_>) -> bool
 /// Whether the same words were put at the same places in the same order.
 #[cycle(equal)]
 pub fn equal_puts(left: &Puts<'_>, right: &Puts<'_>) -> bool
-    ensures { IsTrue result ↔ (puts_of left.now ≡ puts_of right.now) }
+    ensures shows { IsTrue result → (types : ℕ → Typ) → puts_of types left.now ≡ puts_of types right.now }
+    ensures own { puts_of numbered left.now ≡ puts_of numbered right.now → IsTrue result }
 {
     match (left, right) {
         (Puts::Untouched, Puts::Untouched) => true,
@@ -186,14 +193,88 @@ pub fn equal_puts(left: &Puts<'_>, right: &Puts<'_>) -> bool
     }
 }
 
-/// Whether two lists of terms are one.
-pub fn equal_lists(left: &Terms<'_>, right: &Terms<'_>) -> bool
-    ensures { IsTrue result ↔ (terms_of left.now ≡ terms_of right.now) }
+/// Whether two words are the same, as the definitions of the checker compare them.
+pub fn same_word(words: &Words<'_>, left: WordId, right: WordId) -> Result<bool, Refusal>
+    ensures { IfOk result (λ yes. (types : ℕ → Typ) (m : Meaning) → Agrees types m words.now → yes ≡ is_same_term (word_of m left) (word_of m right)) }
+{
+    let left = term(words, left)?;
+    let right = term(words, right)?;
+    Ok(same_term(&left, &right))
+}
+
+/// Whether two words are one, with all that was put into exceptions.
+pub fn equal_words(words: &Words<'_>, left: WordId, right: WordId) -> bool
+    ensures shows { IsTrue result → (types : ℕ → Typ) (m : Meaning) → Agrees types m words.now → word_of m left ≡ word_of m right }
+{
+    if left.number == right.number {
+        return true;
+    }
+    match (
+        words.terms.get(left.number as usize),
+        words.terms.get(right.number as usize),
+    ) {
+        (Some(left), Some(right)) => equal_terms(left, right),
+        _ => false,
+    }
+}
+
+/// Whether two exceptions are one.
+pub fn equal_thrown(words: &Words<'_>, left: ExceptionId, right: ExceptionId) -> bool
+    ensures shows { IsTrue result → (types : ℕ → Typ) (m : Meaning) → Agrees types m words.now → thrown_of m left ≡ thrown_of m right }
+{
+    if left.number == right.number {
+        return true;
+    }
+    match (
+        words.exceptions.get(left.number as usize),
+        words.exceptions.get(right.number as usize),
+    ) {
+        (Some(left), Some(right)) => equal_exceptions(left, right),
+        _ => false,
+    }
+}
+
+/// Whether the same words were put at the same places in the same order.
+pub fn equal_given(words: &Words<'_>, left: PutsId, right: PutsId) -> bool
+    ensures shows { IsTrue result → (types : ℕ → Typ) (m : Meaning) → Agrees types m words.now → given_of m left ≡ given_of m right }
+{
+    if left.number == right.number {
+        return true;
+    }
+    match (
+        words.puts.get(left.number as usize),
+        words.puts.get(right.number as usize),
+    ) {
+        (Some(left), Some(right)) => equal_puts(left, right),
+        _ => false,
+    }
+}
+
+/// Whether two lists of words are one.
+pub fn equal_lists(words: &Words<'_>, left: &Terms<'_>, right: &Terms<'_>) -> bool
+    ensures shows { IsTrue result → (types : ℕ → Typ) (m : Meaning) → Agrees types m words.now → words_of m left.now ≡ words_of m right.now }
 {
     match (left, right) {
         (Terms::Empty, Terms::Empty) => true,
-        (Terms::More(term, rest), Terms::More(other, others)) => {
-            equal_terms(term, other) && equal_lists(rest, others)
+        (Terms::More(word, rest), Terms::More(other, others)) => {
+            equal_words(words, *word, *other) && equal_lists(words, rest, others)
+        }
+        _ => false,
+    }
+}
+
+/// Whether two lists of exceptions are one.
+pub fn equal_exception_lists(
+    words: &Words<'_>,
+    left: &Exceptions<'_>,
+    right: &Exceptions<'_>,
+) -> bool
+    ensures shows { IsTrue result → (types : ℕ → Typ) (m : Meaning) → Agrees types m words.now → all_thrown m left.now ≡ all_thrown m right.now }
+{
+    match (left, right) {
+        (Exceptions::Empty, Exceptions::Empty) => true,
+        (Exceptions::More(exception, rest), Exceptions::More(other, others)) => {
+            equal_thrown(words, *exception, *other) && equal_exception_lists(words, rest, others)
         }
         _ => false,
     }

@@ -1,22 +1,22 @@
 //! What a function that runs has left to do, with terms in the place of numbers.
 
-use crate::terms::{Exception, Puts, Term, Terms};
-use cpp_tree::below::{BinOp, IntKind, Ty};
+use crate::ids::{ExceptionId, PutsId, Terms, WordId};
+use cpp_tree::below::{BinOp, IntKind};
 use cpp_tree::{Builtin, TKind};
 use src_frames::frames::{Change, LoopParts, Open, Owner};
 use src_frames::trees::{KidsAt, TreeAt};
 
 /// The address of a waiting object: a word, or what a tree gives.
 #[derive(Clone, Copy)]
-pub enum Spot<'a> {
-    Word(Term<'a>),
+pub enum Spot {
+    Word(WordId),
     Tree(TreeAt),
 }
 
 /// Objects that wait for their destruction: what gives their address, and the destructions.
 #[derive(Clone, Copy)]
-pub struct Waiting<'a> {
-    pub address: Spot<'a>,
+pub struct Waiting {
+    pub address: Spot,
     pub destroys: KidsAt,
 }
 
@@ -24,37 +24,37 @@ pub struct Waiting<'a> {
 #[derive(Clone, Copy)]
 pub enum Waitings<'a> {
     Empty,
-    More(Waiting<'a>, &'a Waitings<'a>),
+    More(Waiting, &'a Waitings<'a>),
 }
 
 /// A node is run for its value, or into the object at `target`, where what is copied comes from `source`.
 #[derive(Clone, Copy)]
-pub enum Way<'a> {
+pub enum Way {
     Value,
-    Into { target: Term<'a>, source: Term<'a> },
+    Into { target: WordId, source: WordId },
 }
 
 /// What goes outward.
 #[derive(Clone, Copy)]
-pub enum Exit<'a> {
-    Throws(Exception<'a>),
-    Returns(Term<'a>),
+pub enum Exit {
+    Throws(ExceptionId),
+    Returns(WordId),
     Breaks,
     Continues,
 }
 
 /// What is called; the type of a pointer is that of the tree that gave it.
 #[derive(Clone, Copy)]
-pub enum Callee<'a> {
+pub enum Callee {
     Known(u32),
     /// The function in a slot, of the class at this address.
     Virtual {
         class: u32,
         slot: u32,
-        address: Term<'a>,
+        address: WordId,
     },
     Pointer {
-        address: Term<'a>,
+        address: WordId,
         pointer: TreeAt,
     },
     Builtin(Builtin),
@@ -64,21 +64,21 @@ pub enum Callee<'a> {
 #[derive(Clone, Copy)]
 pub enum Frame<'a> {
     /// Run the tree, whatever the value.
-    Run(Way<'a>, TreeAt),
+    Run(Way, TreeAt),
     /// A tree that is this word.
-    Address(Term<'a>),
+    Address(WordId),
     /// The value is dropped, and the tree is next.
-    Then(Way<'a>, TreeAt),
+    Then(Way, TreeAt),
     /// This value in place of it.
-    Gives(Term<'a>),
+    Gives(WordId),
     /// Go outward.
-    Leaves(Exit<'a>),
-    Value(ValueFrame<'a>),
+    Leaves(Exit),
+    Value(ValueFrame),
     Call(CallFrame<'a>),
     Object(ObjectFrame<'a>),
-    Statement(StatementFrame<'a>),
+    Statement(StatementFrame),
     Block(BlockFrame),
-    Exception(ExceptionFrame<'a>),
+    Exception(ExceptionFrame),
 }
 
 /// Frames, the innermost first.
@@ -90,7 +90,7 @@ pub enum Frames<'a> {
 
 /// What is done with the value of an operand.
 #[derive(Clone, Copy)]
-pub enum ValueFrame<'a> {
+pub enum ValueFrame {
     /// The value is the address.
     Loads(IntKind, bool),
     /// It is what was read.
@@ -98,17 +98,17 @@ pub enum ValueFrame<'a> {
     /// It is a reply, and goes on as it is.
     Replied,
     StoreTo {
-        address: Term<'a>,
+        address: WordId,
         kind: IntKind,
         volatile: bool,
-        answer: Term<'a>,
+        answer: WordId,
     },
     Converts(IntKind),
     /// The value is the left operand.
     Right(BinOp, IntKind, TreeAt),
-    Apply(BinOp, IntKind, Term<'a>),
+    Apply(BinOp, IntKind, WordId),
     Choose {
-        way: Way<'a>,
+        way: Way,
         chosen: TreeAt,
         other: TreeAt,
     },
@@ -117,12 +117,12 @@ pub enum ValueFrame<'a> {
     /// The value is the address.
     UpdateAt(Change, TreeAt),
     /// It is what was loaded.
-    UpdateOld(Change, Term<'a>, TreeAt),
+    UpdateOld(Change, WordId, TreeAt),
     /// It is the right operand.
     UpdateBy {
         change: Change,
-        address: Term<'a>,
-        old: Term<'a>,
+        address: WordId,
+        old: WordId,
     },
     /// The value is the target.
     CopyTo {
@@ -131,12 +131,12 @@ pub enum ValueFrame<'a> {
     },
     /// It is the source.
     CopyBy {
-        target: Term<'a>,
+        target: WordId,
         init: TreeAt,
     },
     /// It is the source, and nothing is given.
     From {
-        target: Term<'a>,
+        target: WordId,
         init: TreeAt,
     },
 }
@@ -146,7 +146,7 @@ pub enum ValueFrame<'a> {
 pub enum CallFrame<'a> {
     /// The value is the next word.
     Words {
-        callee: Callee<'a>,
+        callee: Callee,
         before: Terms<'a>,
         rest: KidsAt,
     },
@@ -186,7 +186,7 @@ pub enum ObjectFrame<'a> {
         outer: Waitings<'a>,
     },
     /// Put these among the temporaries that wait.
-    Keeps(Waiting<'a>),
+    Keeps(Waiting),
     /// The objects that wait are destroyed always, or only on an exception. The newest stands first.
     Scope {
         owner: Owner,
@@ -194,7 +194,7 @@ pub enum ObjectFrame<'a> {
         waiting: Waitings<'a>,
     },
     /// Put these among those that wait.
-    Waits(Owner, Waiting<'a>),
+    Waits(Owner, Waiting),
     /// The value is the address.
     InitAt {
         init: TreeAt,
@@ -206,28 +206,28 @@ pub enum ObjectFrame<'a> {
     Due(KidsAt),
     Destroys {
         number: u32,
-        address: Term<'a>,
+        address: WordId,
         stride: u32,
-        left: Term<'a>,
+        left: WordId,
     },
     Parts {
         kids: KidsAt,
-        target: Term<'a>,
-        source: Term<'a>,
+        target: WordId,
+        source: WordId,
     },
     Each {
         init: TreeAt,
         destroys: KidsAt,
         stride: u32,
-        left: Term<'a>,
-        target: Term<'a>,
-        source: Term<'a>,
+        left: WordId,
+        target: WordId,
+        source: WordId,
     },
 }
 
 /// What a statement is at.
 #[derive(Clone, Copy)]
-pub enum StatementFrame<'a> {
+pub enum StatementFrame {
     Items(KidsAt),
     /// The value is the loop's test.
     Test(LoopParts),
@@ -237,7 +237,7 @@ pub enum StatementFrame<'a> {
     Picks(KidsAt),
     /// The label is compared with the value.
     Compares {
-        word: Term<'a>,
+        word: WordId,
         label: TKind,
         behind: KidsAt,
         items: KidsAt,
@@ -258,46 +258,46 @@ pub enum BlockFrame {
     Closes(Open),
 }
 
-/// What an exception or a handler is at.
+/// What an exception or a handler is at. A type is its number in the list of types of exceptions.
 #[derive(Clone, Copy)]
-pub enum ExceptionFrame<'a> {
+pub enum ExceptionFrame {
     /// The value is what is thrown, or the address of it.
     Throws {
-        typ: &'a Ty,
+        typ: u32,
         fields: KidsAt,
     },
     Fills {
-        typ: &'a Ty,
-        from: Term<'a>,
+        typ: u32,
+        from: WordId,
         fields: KidsAt,
-        puts: Puts<'a>,
+        puts: PutsId,
     },
     /// The value is a field that was read.
     Filled {
-        typ: &'a Ty,
-        from: Term<'a>,
+        typ: u32,
+        from: WordId,
         offset: u32,
         kind: IntKind,
         fields: KidsAt,
-        puts: Puts<'a>,
+        puts: PutsId,
     },
     Tries(KidsAt),
     Trying {
-        exception: Exception<'a>,
+        exception: ExceptionId,
         handler: TreeAt,
         others: KidsAt,
     },
     Takes {
-        exception: Exception<'a>,
-        base: Term<'a>,
+        exception: ExceptionId,
+        base: WordId,
         fields: KidsAt,
     },
     /// A field is stored.
     Taking {
-        exception: Exception<'a>,
-        base: Term<'a>,
+        exception: ExceptionId,
+        base: WordId,
         offset: u32,
         kind: IntKind,
     },
-    Handling(Exception<'a>),
+    Handling(ExceptionId),
 }

@@ -6,9 +6,12 @@
 pub mod arena;
 pub mod comparison;
 pub mod frames;
+pub mod ids;
+pub mod made;
 pub mod outcomes;
 pub mod places;
 pub mod refusal;
 pub mod replacing;
 pub mod sums;
 pub mod terms;
+pub mod words;

@@ -1,32 +1,32 @@
 //! What can come of a step: a state, or what it depends on.
 
 use crate::frames::{Callee, Exit, Frames, Waitings};
-use crate::terms::{Term, Terms};
+use crate::ids::{Terms, WordId};
 use cpp_tree::below::{BinOp, BlockKind, End, IntKind};
 use src_frames::frames::Open;
 
 /// An event.
 #[derive(Clone, Copy)]
-pub enum Doing<'a> {
+pub enum Doing {
     Silent,
     Reads {
-        address: Term<'a>,
+        address: WordId,
         size: u32,
         volatile: bool,
     },
     Writes {
-        address: Term<'a>,
+        address: WordId,
         kind: IntKind,
-        word: Term<'a>,
+        word: WordId,
         volatile: bool,
     },
-    PutsOut(Term<'a>),
+    PutsOut(WordId),
     TakesIn,
-    Joins(Term<'a>),
+    Joins(WordId),
     BeginsAtomic(BlockKind),
     BeginsSync,
     EndsBlock(Open),
-    LeavesBlock(Open, Exit<'a>),
+    LeavesBlock(Open, Exit),
 }
 
 /// What the function at hand has left to do: the temporaries that wait, the newest first, and its frames, the innermost
@@ -41,15 +41,9 @@ pub struct Rest<'a> {
 #[derive(Clone, Copy)]
 pub enum Leading<'a> {
     /// This event.
-    Does(Doing<'a>),
-    Calls {
-        callee: Callee<'a>,
-        words: Terms<'a>,
-    },
-    Spawns {
-        address: Term<'a>,
-        argument: Term<'a>,
-    },
+    Does(Doing),
+    Calls { callee: Callee, words: Terms<'a> },
+    Spawns { address: WordId, argument: WordId },
     /// What a caller's handler has.
     Rethrows,
 }
@@ -62,12 +56,12 @@ pub enum Outcome<'a> {
     /// A state in which the function at hand has this left to do.
     Goes(Leading<'a>, Rest<'a>),
     /// The function is done, and its caller goes on with the value.
-    Hands(Term<'a>, Waitings<'a>),
+    Hands(WordId, Waitings<'a>),
     /// This leaves the function.
-    GoesOut(Exit<'a>, Waitings<'a>),
+    GoesOut(Exit, Waitings<'a>),
     /// Whether the word is 0.
     Chooses {
-        word: Term<'a>,
+        word: WordId,
         zero: &'a Outcome<'a>,
         other: &'a Outcome<'a>,
     },
@@ -75,15 +69,15 @@ pub enum Outcome<'a> {
     Results {
         op: BinOp,
         kind: IntKind,
-        left: Term<'a>,
-        right: Term<'a>,
+        left: WordId,
+        right: WordId,
         then: &'a Outcome<'a>,
     },
     /// Whether the slot has a function.
     Finds {
         class: u32,
         slot: u32,
-        address: Term<'a>,
+        address: WordId,
         then: &'a Outcome<'a>,
     },
     Halts(End),

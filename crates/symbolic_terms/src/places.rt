@@ -1,15 +1,15 @@
 //! A frame of code with terms as operands, and what is known of words.
 
-use crate::terms::{Exception, Exceptions, Puts, Term, Terms};
-use cpp_tree::below::Ty;
+use crate::ids::{ExceptionId, Exceptions, PutsId, Terms, WordId};
 use src_frames::frames::Open;
 
 /// A frame's exception: none, one that is made, or one in flight.
 #[derive(Clone, Copy)]
-pub enum Hold<'a> {
+pub enum Hold {
     Nothing,
-    Making(&'a Ty, Puts<'a>),
-    Flying(Exception<'a>),
+    /// Of the type with this number in the list of types of exceptions.
+    Making(u32, PutsId),
+    Flying(ExceptionId),
 }
 
 /// Open blocks, the innermost first.
@@ -25,18 +25,18 @@ pub struct Place<'a> {
     pub operands: Terms<'a>,
     pub opens: Opens<'a>,
     pub caught: Exceptions<'a>,
-    pub hold: Hold<'a>,
+    pub hold: Hold,
 }
 
 /// What is known of a word.
 #[derive(Clone, Copy)]
-pub enum Fact<'a> {
-    NotZero(Term<'a>),
+pub enum Fact {
+    NotZero(WordId),
     /// The slot of the class at this address has a function.
     HasFunction {
         class: u32,
         slot: u32,
-        address: Term<'a>,
+        address: WordId,
     },
 }
 
@@ -44,5 +44,5 @@ pub enum Fact<'a> {
 #[derive(Clone, Copy)]
 pub enum Facts<'a> {
     Empty,
-    More(Fact<'a>, &'a Facts<'a>),
+    More(Fact, &'a Facts<'a>),
 }

@@ -17,6 +17,9 @@ pub enum Refusal {
     /// A type of exceptions that is none of those that were told.
     #[error("a type of exceptions was not told")]
     Untold,
+    /// A number of a word or of an exception that was not given.
+    #[error("a word was not made")]
+    NotMade,
 }
 
 impl From<AllocError> for Refusal {

@@ -1,6 +1,6 @@
 //! Words as terms over variables, and exceptions.
 
-use cpp_tree::below::{BinOp, IntKind, Ty};
+use cpp_tree::below::{BinOp, IntKind};
 
 /// A word of a function that runs.
 #[derive(Clone, Copy)]
@@ -45,12 +45,13 @@ pub enum Term<'a> {
     },
 }
 
-/// An exception: one that is not known, or one of this type with these words.
+/// An exception: one that is not known, or one of the type with this number in the list of types of exceptions, with these
+/// words.
 #[derive(Clone, Copy)]
 #[cycle(terms)]
 pub enum Exception<'a> {
     Unknown(u32),
-    Made(&'a Ty, Puts<'a>),
+    Made(u32, Puts<'a>),
 }
 
 /// The words that were put into an exception, the last one first.
@@ -64,18 +65,4 @@ pub enum Puts<'a> {
         word: &'a Term<'a>,
         others: &'a Puts<'a>,
     },
-}
-
-/// Words: operands, the top first, or the words of a call in their order.
-#[derive(Clone, Copy)]
-pub enum Terms<'a> {
-    Empty,
-    More(Term<'a>, &'a Terms<'a>),
-}
-
-/// Exceptions, that of the innermost handler first.
-#[derive(Clone, Copy)]
-pub enum Exceptions<'a> {
-    Empty,
-    More(Exception<'a>, &'a Exceptions<'a>),
 }

@@ -1,0 +1,5 @@
+use Rattle.std.proofs.Common.{rules}
+use Rattle.body_notes.proofs.checked.pointed_safe.Goals as goal
+
+pub returns-clause-is : goal.returns-clause-is
+returns-clause-is c m a all types = (search rules, c.in_ok-calling_found.ensures.is m a all types)

@@ -1,0 +1,8 @@
+use Rattle.note_landing.specs.Shown.{linked_by, func_by, notes_by, thrown_by, types_by}
+use Rattle.note_landing.proofs.Lands.{at_once_at}
+use Rattle.note_landing.proofs.flights.land_behind.Goals as goal
+
+pub returns-clause-is : goal.returns-clause-is
+returns-clause-is c m a =
+    let there = c.in_ok-land.ensures.grows _ m a in
+    at_once_at (linked_by c.args.body.now) (func_by c.args.body.now) (notes_by c.args.body.now m c.args.notes.now) (thrown_by c.args.body.now) _ _ _ _ _ _ _ (c.in_ok-facts.ensures.is (types_by c.args.body.now) m (c.in_ok-outcome.ensures.grows _ m there)) (c.in_ok-outcome.ensures.is m there) (c.in_ok-land.ensures.is m a)

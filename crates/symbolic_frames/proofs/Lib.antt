@@ -1,0 +1,4 @@
+pub mod Scopes
+pub mod Below
+pub mod Settled
+pub mod InPlace

@@ -1,0 +1,5 @@
+pub mod Plain
+pub mod Skips
+pub mod Tries
+pub mod Known
+pub mod Zeros

@@ -1,0 +1,5 @@
+pub mod Source
+pub mod Answers
+pub mod Shown
+pub mod Kinds
+pub mod Left

@@ -1,0 +1,8 @@
+//! What a node of a function of a bound program does first, with terms in the place of numbers.
+//!
+//! "C++14" is ISO/IEC 14882:2014, and "the TS" is ISO/IEC TS 19841:2015.
+#![tactic(auto)]
+
+pub mod next;
+pub mod running;
+pub mod words;
