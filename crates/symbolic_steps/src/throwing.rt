@@ -382,7 +382,6 @@ fn take<'a>(
 #[tactic(auto, using(crate::proofs::Looks::take_some, crate::proofs::Looks::take_other))]
 fn take_field<'a>(
     arena: &'a Bump,
-    words: &mut Words<'a>,
     source: &Source<'a>,
     answers: CaseAnswers<'_>,
     rest: Rest<'a>,
