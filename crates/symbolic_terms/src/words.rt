@@ -48,7 +48,7 @@ pub fn given<'a>(words: &Words<'a>, id: PutsId) -> Result<Puts<'a>, Refusal>
 }
 
 /// A number for a term.
-#[tactic(auto, using(crate::proofs::Made::newest_term, crate::proofs::Made::earlier_term))]
+#[tactic(auto, using(crate::proofs::Pushed::newest_term, crate::proofs::Pushed::earlier_term))]
 pub fn made<'a>(words: &mut Words<'a>, term: Term<'a>) -> Result<WordId, Refusal>
     ensures is { IfOk result (λ w. (types : ℕ → Typ) (m : Meaning) → Agrees types m words.new → word_of m w ≡ term_of types term.entry) }
     ensures grows { (types : ℕ → Typ) (m : Meaning) → Agrees types m words.new → Agrees types m words.old }
@@ -64,7 +64,7 @@ pub fn made<'a>(words: &mut Words<'a>, term: Term<'a>) -> Result<WordId, Refusal
 }
 
 /// A number for an exception.
-#[tactic(auto, using(crate::proofs::Made::newest_exception, crate::proofs::Made::earlier_exception))]
+#[tactic(auto, using(crate::proofs::Pushed::newest_exception, crate::proofs::Pushed::earlier_exception))]
 pub fn made_exception<'a>(
     words: &mut Words<'a>,
     exception: Exception<'a>,
@@ -83,7 +83,7 @@ pub fn made_exception<'a>(
 }
 
 /// A number for what was put into an exception.
-#[tactic(auto, using(crate::proofs::Made::newest_puts, crate::proofs::Made::earlier_puts))]
+#[tactic(auto, using(crate::proofs::Pushed::newest_puts, crate::proofs::Pushed::earlier_puts))]
 pub fn made_puts<'a>(words: &mut Words<'a>, puts: Puts<'a>) -> Result<PutsId, Refusal>
     ensures is { IfOk result (λ w. (types : ℕ → Typ) (m : Meaning) → Agrees types m words.new → given_of m w ≡ puts_of types puts.entry) }
     ensures grows { (types : ℕ → Typ) (m : Meaning) → Agrees types m words.new → Agrees types m words.old }
