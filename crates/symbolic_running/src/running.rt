@@ -9,8 +9,8 @@ ghost use Rattle.src_mean.specs.Frames.{of_block, of_call, of_pieces};
 ghost use Rattle.src_mean.specs.Source.{called_signature};
 ghost use Rattle.src_frames.specs.Bounds.{tree_of, all_kids};
 ghost use Rattle.src_frames.specs.Shown.{open_shown};
-ghost use Rattle.symbolic_source.specs.Terms.{number as number_of_term, local as local_of, plus_number as plus_number_of};
-ghost use Rattle.symbolic_source.specs.Frames.{value as for_value, into, known, at_word, at_tree, handled as handled_in, Run as Runs, Gives as GivesWord, Opens as OpensSo, StoreTo as StoresTo, Loaded as LoadedSo, Choose as ChoosesSo, CopyTo as CopiesTo, Waits as WaitsIn, Keeps as KeepsSome, Full as FullOf, Scope as ScopeOf, Parts as PartsOf, Each as EachOf, InitAt as InitsAt, Pointer as PointsTo, Object as ObjectsOf, Items as ItemsOf, builtin, Throws as ThrowsSo};
+ghost use Rattle.symbolic_source.specs.Terms.{number as number_of_term, local as local_of, global as global_of, function as function_of, table as table_of, plus_number as plus_number_of};
+ghost use Rattle.symbolic_source.specs.Frames.{value as for_value, into, known, at_word, at_tree, handled as handled_in, Run as Runs, Gives as GivesWord, Opens as OpensSo, StoreTo as StoresTo, From as FromSo, Loaded as LoadedSo, Choose as ChoosesSo, CopyTo as CopiesTo, Waits as WaitsIn, Keeps as KeepsSome, Full as FullOf, Scope as ScopeOf, Parts as PartsOf, Each as EachOf, InitAt as InitsAt, Pointer as PointsTo, Object as ObjectsOf, Items as ItemsOf, builtin, Throws as ThrowsSo};
 ghost use Rattle.symbolic_source.specs.Outcomes.{silent, reads as reads_word, goes as goes_on, calls as calls_on};
 ghost use Rattle.symbolic_source.specs.Steps.{target_of, source_of, result_words as words_of_result, called as calls_so, next_word as goes_to_word, first_part as starts_loop, rethrown, return_value, if_word};
 ghost use Rattle.symbolic_terms.specs.Meanings.{Meaning, word_of, Agrees};
@@ -18,7 +18,7 @@ ghost use Rattle.symbolic_terms.specs.Shown.{way_of, spot_of, value_of, object_o
 ghost use Rattle.symbolic_leaving.specs.Source.{types_at, linked_to, units_of, func_of};
 ghost use Rattle.symbolic_leaving.specs.Answers.{answers_at};
 ghost use Rattle.symbolic_leaving.specs.Shown.{frame_at, left_in, waits_in};
-ghost use Rattle.symbolic_running.specs.Next.{next_of, runs_as};
+ghost use Rattle.symbolic_running.specs.Next.{next_of, given_at, runs_as};
 
 use crate::next::{Going, Next, When, coming, going, leaving, running, running_before};
 use crate::words::{
@@ -120,11 +120,11 @@ fn run_kind<'a>(
     ensures grows { (types : ℕ → Typ) (m : Meaning) → Agrees types m words.new → Agrees types m words.old }
 {
     match kind {
-        TKind::Literal { word } => Ok(Next::Gives(number(words, word)?)),
-        TKind::Local { place } => Ok(Next::Gives(local(words, source, place)?)),
-        TKind::Global { global: number } => Ok(Next::Gives(global(words, number)?)),
-        TKind::Function { func } => Ok(Next::Gives(function(words, func)?)),
-        TKind::ClassTable { class } => Ok(Next::Gives(table(words, class)?)),
+        TKind::Literal { word } => literal(words, source, answers, rest, word),
+        TKind::Local { place } => place_word(words, source, answers, rest, place),
+        TKind::Global { global } => global_word(words, source, answers, rest, global),
+        TKind::Function { func } => function_word(words, source, answers, rest, func),
+        TKind::ClassTable { class } => table_word(words, source, answers, rest, class),
         TKind::Load { kind, volatile } => {
             let then = ValueFrame::Loads(kind, volatile);
             run_operand(arena, source, answers, rest, kids, then)
@@ -189,8 +189,9 @@ fn run_kind<'a>(
         TKind::Throw => run_throw(alloc, arena, source, answers, rest, kids),
         TKind::Rethrow => rethrow(arena, words, source, answers, rest),
         TKind::Store { kind, volatile } => {
-            let then = stores(words, source, way, kind, volatile)?;
-            run_first(arena, source, answers, rest, kids, then)
+            run_store(
+                arena, words, source, answers, rest, way, kind, volatile, kids,
+            )
         }
         TKind::CopyScalar { kind, volatile } => {
             copy_scalar(arena, words, source, answers, rest, way, kind, volatile)
@@ -201,13 +202,7 @@ fn run_kind<'a>(
         TKind::CopyConstruct { func } => copy_construct(
             arena, words, source, answers, rest, way, func,
         ),
-        TKind::CopyFrom => {
-            let then = ValueFrame::From {
-                target: target_of_way(words, way)?,
-                init: second(source.bound, kids),
-            };
-            run_operand(arena, source, answers, rest, kids, then)
-        }
+        TKind::CopyFrom => run_from(arena, words, source, answers, rest, way, kids),
         TKind::Pieces => run_pieces(arena, words, source, answers, rest, way, kids),
         TKind::Piece { offset } => run_piece(
             arena, words, source, answers, rest, way, offset, kids,
@@ -225,8 +220,8 @@ fn run_kind<'a>(
             let then = Frame::Statement(StatementFrame::Picks(rest_of(source.bound, kids)));
             run_first(arena, source, answers, rest, kids, then)
         }
-        TKind::Case { word: _ } => Ok(Next::Gives(number(words, 0)?)),
-        TKind::Default => Ok(Next::Gives(number(words, 0)?)),
+        TKind::Case { word: _ } => zero(words, source, answers, rest),
+        TKind::Default => zero(words, source, answers, rest),
         TKind::Break => leaving(arena, words, source, answers, rest, Exit::Breaks),
         TKind::Continue => leaving(arena, words, source, answers, rest, Exit::Continues),
         TKind::Return => run_return(arena, words, source, answers, rest, kids),
@@ -234,7 +229,7 @@ fn run_kind<'a>(
             let then = Frame::Exception(ExceptionFrame::Tries(rest_of(source.bound, kids)));
             run_first(arena, source, answers, rest, kids, then)
         }
-        TKind::Handler { place: _ } => Ok(Next::Gives(number(words, 0)?)),
+        TKind::Handler { place: _ } => zero(words, source, answers, rest),
         TKind::Atomic { kind } => {
             let doing = Doing::BeginsAtomic(kind);
             open(
@@ -258,9 +253,149 @@ fn run_kind<'a>(
                 kids,
             )
         }
-        TKind::Destroy { .. } => Ok(Next::Gives(number(words, 0)?)),
-        TKind::Field { .. } => Ok(Next::Gives(number(words, 0)?)),
+        TKind::Destroy { .. } => zero(words, source, answers, rest),
+        TKind::Field { .. } => zero(words, source, answers, rest),
     }
+}
+
+// A number goes on.
+fn literal<'a>(
+    words: &mut Words<'a>,
+    source: &Source<'a>,
+    answers: CaseAnswers<'_>,
+    rest: Rest<'a>,
+    word: u64,
+) -> Going<'a>
+    ensures is { IfOk result (λ o. (m : Meaning) → Agrees (types_at source.now) m words.new → next_of source.now m answers.entry rest.entry o ≡ if_word word (given_at source.now m answers.entry rest.entry (number_of_term word))) }
+    ensures grows { (types : ℕ → Typ) (m : Meaning) → Agrees types m words.new → Agrees types m words.old }
+{
+    let _shown = source;
+    let _asked = answers;
+    let _left = rest;
+    Ok(Next::Gives(number(words, word)?))
+}
+
+// 0 goes on.
+fn zero<'a>(
+    words: &mut Words<'a>,
+    source: &Source<'a>,
+    answers: CaseAnswers<'_>,
+    rest: Rest<'a>,
+) -> Going<'a>
+    ensures is { IfOk result (λ o. (m : Meaning) → Agrees (types_at source.now) m words.new → next_of source.now m answers.entry rest.entry o ≡ given_at source.now m answers.entry rest.entry (number_of_term 0)) }
+    ensures grows { (types : ℕ → Typ) (m : Meaning) → Agrees types m words.new → Agrees types m words.old }
+{
+    let _shown = source;
+    let _asked = answers;
+    let _left = rest;
+    Ok(Next::Gives(number(words, 0)?))
+}
+
+// The address of a place of the frame goes on.
+fn place_word<'a>(
+    words: &mut Words<'a>,
+    source: &Source<'a>,
+    answers: CaseAnswers<'_>,
+    rest: Rest<'a>,
+    place: u32,
+) -> Going<'a>
+    ensures is { IfOk result (λ o. (m : Meaning) → Agrees (types_at source.now) m words.new → next_of source.now m answers.entry rest.entry o ≡ given_at source.now m answers.entry rest.entry (local_of (unwrap_or (slice_get (func_of source.now).places place) 0))) }
+    ensures grows { (types : ℕ → Typ) (m : Meaning) → Agrees types m words.new → Agrees types m words.old }
+{
+    let _shown = source;
+    let _asked = answers;
+    let _left = rest;
+    Ok(Next::Gives(local(words, source, place)?))
+}
+
+// The address of a global goes on.
+fn global_word<'a>(
+    words: &mut Words<'a>,
+    source: &Source<'a>,
+    answers: CaseAnswers<'_>,
+    rest: Rest<'a>,
+    number: u32,
+) -> Going<'a>
+    ensures is { IfOk result (λ o. (m : Meaning) → Agrees (types_at source.now) m words.new → next_of source.now m answers.entry rest.entry o ≡ given_at source.now m answers.entry rest.entry (global_of number)) }
+    ensures grows { (types : ℕ → Typ) (m : Meaning) → Agrees types m words.new → Agrees types m words.old }
+{
+    let _shown = source;
+    let _asked = answers;
+    let _left = rest;
+    Ok(Next::Gives(global(words, number)?))
+}
+
+// The address of a function goes on.
+fn function_word<'a>(
+    words: &mut Words<'a>,
+    source: &Source<'a>,
+    answers: CaseAnswers<'_>,
+    rest: Rest<'a>,
+    func: u32,
+) -> Going<'a>
+    ensures is { IfOk result (λ o. (m : Meaning) → Agrees (types_at source.now) m words.new → next_of source.now m answers.entry rest.entry o ≡ given_at source.now m answers.entry rest.entry (function_of func)) }
+    ensures grows { (types : ℕ → Typ) (m : Meaning) → Agrees types m words.new → Agrees types m words.old }
+{
+    let _shown = source;
+    let _asked = answers;
+    let _left = rest;
+    Ok(Next::Gives(function(words, func)?))
+}
+
+// A class address goes on.
+fn table_word<'a>(
+    words: &mut Words<'a>,
+    source: &Source<'a>,
+    answers: CaseAnswers<'_>,
+    rest: Rest<'a>,
+    class: u32,
+) -> Going<'a>
+    ensures is { IfOk result (λ o. (m : Meaning) → Agrees (types_at source.now) m words.new → next_of source.now m answers.entry rest.entry o ≡ given_at source.now m answers.entry rest.entry (table_of class)) }
+    ensures grows { (types : ℕ → Typ) (m : Meaning) → Agrees types m words.new → Agrees types m words.old }
+{
+    let _shown = source;
+    let _asked = answers;
+    let _left = rest;
+    Ok(Next::Gives(table(words, class)?))
+}
+
+// A scalar is stored into the object that is built.
+fn run_store<'a>(
+    arena: &'a Bump,
+    words: &mut Words<'a>,
+    source: &Source<'a>,
+    answers: CaseAnswers<'_>,
+    rest: Rest<'a>,
+    way: Way,
+    kind: IntKind,
+    volatile: bool,
+    kids: KidsAt,
+) -> Going<'a>
+    ensures is { IfOk result (λ o. (m : Meaning) → Agrees (types_at source.now) m words.new → next_of source.now m answers.entry rest.entry o ≡ goes_on silent (waits_in source.now m rest.entry) (Runs for_value (first_kid (all_kids source.now.bound.now kids)) ∷ StoresTo (target_of (way_of (types_at source.now) m way)) kind volatile (number_of_term 0) ∷ left_in source.now m rest.entry)) }
+    ensures grows { (types : ℕ → Typ) (m : Meaning) → Agrees types m words.new → Agrees types m words.old }
+{
+    let then = stores(words, source, way, kind, volatile)?;
+    run_first(arena, source, answers, rest, kids, then)
+}
+
+// An object is copied from another one.
+fn run_from<'a>(
+    arena: &'a Bump,
+    words: &mut Words<'a>,
+    source: &Source<'a>,
+    answers: CaseAnswers<'_>,
+    rest: Rest<'a>,
+    way: Way,
+    kids: KidsAt,
+) -> Going<'a>
+    ensures is { IfOk result (λ o. (m : Meaning) → Agrees (types_at source.now) m words.new → next_of source.now m answers.entry rest.entry o ≡ goes_on silent (waits_in source.now m rest.entry) (Runs for_value (first_kid (all_kids source.now.bound.now kids)) ∷ FromSo (target_of (way_of (types_at source.now) m way)) (second_kid (all_kids source.now.bound.now kids)) ∷ left_in source.now m rest.entry)) }
+    ensures grows { (types : ℕ → Typ) (m : Meaning) → Agrees types m words.new → Agrees types m words.old }
+{
+    let then = ValueFrame::From {
+        target: target_of_way(words, way)?,
+        init: second(source.bound, kids),
+    };
+    run_operand(arena, source, answers, rest, kids, then)
 }
 
 // The first kid is run for its value, and then this frame goes on.

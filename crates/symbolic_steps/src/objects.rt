@@ -381,7 +381,6 @@ fn destroy_next<'a>(
 #[tactic(auto, using(crate::proofs::Looks::parts_more, crate::proofs::Looks::parts_none))]
 fn build_part<'a>(
     arena: &'a Bump,
-    words: &mut Words<'a>,
     source: &Source<'a>,
     answers: CaseAnswers<'_>,
     rest: Rest<'a>,

@@ -29,7 +29,6 @@ use symbolic_leaving::source::Source;
 use symbolic_leaving::states::{Made, goes, local, number, reads, with_frame, writes};
 use symbolic_leaving::texts::is_object;
 use symbolic_running::next::{Going, Next, When};
-use symbolic_terms::arena::keep;
 use symbolic_terms::frames::{ExceptionFrame, Exit, Frame, Way};
 use symbolic_terms::ids::{ExceptionId, PutsId, WordId};
 use symbolic_terms::made::{self, field, made_of, plus_number, untouched};
@@ -382,7 +381,6 @@ fn take<'a>(
 #[tactic(auto, using(crate::proofs::Looks::take_some, crate::proofs::Looks::take_other))]
 fn take_field<'a>(
     arena: &'a Bump,
-    words: &mut Words<'a>,
     source: &Source<'a>,
     answers: CaseAnswers<'_>,
     rest: Rest<'a>,
