@@ -4,6 +4,7 @@ ghost use Rattle.std.specs.Prelude.{ℕ, ◌≡◌, IsTrue};
 ghost use Rattle.cpp_tree.specs.cpp_types.Typ.{Typ};
 ghost use Rattle.cpp_tree.specs.declared.program.Program.{Program};
 ghost use Rattle.src_mean.specs.Linked.{Func};
+ghost use Rattle.symbolic_terms.specs.Meanings.{Meaning, Agrees};
 ghost use Rattle.symbolic_terms.specs.Shown.{value_of, call_of, object_of, statement_of, block_of, throwing_of, frame_of, frames_of};
 
 use crate::kinds::equal_kinds;
@@ -11,15 +12,15 @@ use crate::parts::{
     equal_callees, equal_changes, equal_exits, equal_kids, equal_opens, equal_owners, equal_parts,
     equal_trees, equal_waiting, equal_waitings, equal_ways,
 };
-use symbolic_terms::comparison::{equal_exceptions, equal_lists, equal_puts, equal_terms};
+use symbolic_terms::comparison::{equal_given, equal_lists, equal_thrown, equal_words};
 use symbolic_terms::frames::{
     BlockFrame, CallFrame, ExceptionFrame, Frame, Frames, ObjectFrame, StatementFrame, ValueFrame,
 };
+use symbolic_terms::words::Words;
 
 /// Whether two are the same: what is done with the value of an operand.
-pub fn equal_values(left: &ValueFrame<'_>, right: &ValueFrame<'_>) -> bool
-    ensures shows { IsTrue result → (types : ℕ → Typ) (p : Program) → value_of types p left.now ≡ value_of types p right.now }
-    ensures own { left.now ≡ right.now → IsTrue result }
+pub fn equal_values(words: &Words<'_>, left: &ValueFrame, right: &ValueFrame) -> bool
+    ensures shows { IsTrue result → (types : ℕ → Typ) (m : Meaning) (p : Program) → Agrees types m words.now → value_of types m p left.now ≡ value_of types m p right.now }
 {
     match (left, right) {
         (ValueFrame::Loads(kind, volatile), ValueFrame::Loads(other_kind, other_volatile)) => *kind
@@ -40,15 +41,15 @@ pub fn equal_values(left: &ValueFrame<'_>, right: &ValueFrame<'_>) -> bool
                 volatile: other_volatile,
                 answer: other_answer,
             },
-        ) => equal_terms(address, other_address)
+        ) => equal_words(words, *address, *other_address)
             && *kind == *other_kind
             && *volatile == *other_volatile
-            && equal_terms(answer, other_answer),
+            && equal_words(words, *answer, *other_answer),
         (ValueFrame::Converts(kind), ValueFrame::Converts(other_kind)) => *kind == *other_kind,
         (ValueFrame::Right(op, kind, tree), ValueFrame::Right(other_op, other_kind, other_tree)) =>
             *op == *other_op && *kind == *other_kind && equal_trees(*tree, *other_tree),
         (ValueFrame::Apply(op, kind, left), ValueFrame::Apply(other_op, other_kind, other_left)) =>
-            *op == *other_op && *kind == *other_kind && equal_terms(left, other_left),
+            *op == *other_op && *kind == *other_kind && equal_words(words, *left, *other_left),
         (
             ValueFrame::Choose { way, chosen, other },
             ValueFrame::Choose {
@@ -56,7 +57,7 @@ pub fn equal_values(left: &ValueFrame<'_>, right: &ValueFrame<'_>) -> bool
                 chosen: other_chosen,
                 other: other_other,
             },
-        ) => equal_ways(way, other_way)
+        ) => equal_ways(words, way, other_way)
             && equal_trees(*chosen, *other_chosen)
             && equal_trees(*other, *other_other),
         (
@@ -71,7 +72,7 @@ pub fn equal_values(left: &ValueFrame<'_>, right: &ValueFrame<'_>) -> bool
             ValueFrame::UpdateOld(change, address, tree),
             ValueFrame::UpdateOld(other_change, other_address, other_tree),
         ) => equal_changes(*change, *other_change)
-            && equal_terms(address, other_address)
+            && equal_words(words, *address, *other_address)
             && equal_trees(*tree, *other_tree),
         (
             ValueFrame::UpdateBy {
@@ -85,8 +86,8 @@ pub fn equal_values(left: &ValueFrame<'_>, right: &ValueFrame<'_>) -> bool
                 old: other_old,
             },
         ) => equal_changes(*change, *other_change)
-            && equal_terms(address, other_address)
-            && equal_terms(old, other_old),
+            && equal_words(words, *address, *other_address)
+            && equal_words(words, *old, *other_old),
         (
             ValueFrame::CopyTo { source, init },
             ValueFrame::CopyTo {
@@ -100,22 +101,21 @@ pub fn equal_values(left: &ValueFrame<'_>, right: &ValueFrame<'_>) -> bool
                 target: other_target,
                 init: other_init,
             },
-        ) => equal_terms(target, other_target) && equal_trees(*init, *other_init),
+        ) => equal_words(words, *target, *other_target) && equal_trees(*init, *other_init),
         (
             ValueFrame::From { target, init },
             ValueFrame::From {
                 target: other_target,
                 init: other_init,
             },
-        ) => equal_terms(target, other_target) && equal_trees(*init, *other_init),
+        ) => equal_words(words, *target, *other_target) && equal_trees(*init, *other_init),
         _ => false,
     }
 }
 
 /// Whether two are the same: what a call is at.
-pub fn equal_calls(left: &CallFrame<'_>, right: &CallFrame<'_>) -> bool
-    ensures shows { IsTrue result → (types : ℕ → Typ) (p : Program) (f : Func) → call_of types p f left.now ≡ call_of types p f right.now }
-    ensures own { left.now ≡ right.now → IsTrue result }
+pub fn equal_calls(words: &Words<'_>, left: &CallFrame<'_>, right: &CallFrame<'_>) -> bool
+    ensures shows { IsTrue result → (types : ℕ → Typ) (m : Meaning) (p : Program) (f : Func) → Agrees types m words.now → call_of types m p f left.now ≡ call_of types m p f right.now }
 {
     match (left, right) {
         (
@@ -129,8 +129,8 @@ pub fn equal_calls(left: &CallFrame<'_>, right: &CallFrame<'_>) -> bool
                 before: other_before,
                 rest: other_rest,
             },
-        ) => equal_callees(callee, other_callee)
-            && equal_lists(before, other_before)
+        ) => equal_callees(words, callee, other_callee)
+            && equal_lists(words, before, other_before)
             && equal_kids(*rest, *other_rest),
         (
             CallFrame::Object {
@@ -147,7 +147,7 @@ pub fn equal_calls(left: &CallFrame<'_>, right: &CallFrame<'_>) -> bool
                 pointer: other_pointer,
                 rest: other_rest,
             },
-        ) => equal_lists(before, other_before)
+        ) => equal_lists(words, before, other_before)
             && *class == *other_class
             && *slot == *other_slot
             && *pointer == *other_pointer
@@ -165,7 +165,7 @@ pub fn equal_calls(left: &CallFrame<'_>, right: &CallFrame<'_>) -> bool
                 slot: other_slot,
                 rest: other_rest,
             },
-        ) => equal_lists(before, other_before)
+        ) => equal_lists(words, before, other_before)
             && *class == *other_class
             && *slot == *other_slot
             && equal_kids(*rest, *other_rest),
@@ -180,31 +180,35 @@ pub fn equal_calls(left: &CallFrame<'_>, right: &CallFrame<'_>) -> bool
                 pointer: other_pointer,
                 rest: other_rest,
             },
-        ) => equal_lists(before, other_before)
+        ) => equal_lists(words, before, other_before)
             && equal_trees(*pointer, *other_pointer)
             && equal_kids(*rest, *other_rest),
         (
-            CallFrame::Passes { words, from },
             CallFrame::Passes {
-                words: other_words,
+                words: passed,
+                from,
+            },
+            CallFrame::Passes {
+                words: other_passed,
                 from: other_from,
             },
-        ) => equal_lists(words, other_words) && *from == *other_from,
+        ) => equal_lists(words, passed, other_passed) && *from == *other_from,
         _ => false,
     }
 }
 
 /// Whether two are the same: what is done for objects.
-pub fn equal_objects(left: &ObjectFrame<'_>, right: &ObjectFrame<'_>) -> bool
-    ensures shows { IsTrue result → (types : ℕ → Typ) (p : Program) → object_of types p left.now ≡ object_of types p right.now }
-    ensures own { left.now ≡ right.now → IsTrue result }
+pub fn equal_objects(words: &Words<'_>, left: &ObjectFrame<'_>, right: &ObjectFrame<'_>) -> bool
+    ensures shows { IsTrue result → (types : ℕ → Typ) (m : Meaning) (p : Program) → Agrees types m words.now → object_of types m p left.now ≡ object_of types m p right.now }
 {
     match (left, right) {
         (ObjectFrame::Full { outer }, ObjectFrame::Full { outer: other_outer }) => equal_waitings(
+            words,
             outer,
             other_outer,
         ),
         (ObjectFrame::Keeps(waiting), ObjectFrame::Keeps(other_waiting)) => equal_waiting(
+            words,
             waiting,
             other_waiting,
         ),
@@ -221,9 +225,9 @@ pub fn equal_objects(left: &ObjectFrame<'_>, right: &ObjectFrame<'_>) -> bool
             },
         ) => equal_owners(*owner, *other_owner)
             && *always == *other_always
-            && equal_waitings(waiting, other_waiting),
+            && equal_waitings(words, waiting, other_waiting),
         (ObjectFrame::Waits(owner, waiting), ObjectFrame::Waits(other_owner, other_waiting)) =>
-            equal_owners(*owner, *other_owner) && equal_waiting(waiting, other_waiting),
+            equal_owners(*owner, *other_owner) && equal_waiting(words, waiting, other_waiting),
         (
             ObjectFrame::InitAt { init, destroys },
             ObjectFrame::InitAt {
@@ -232,6 +236,7 @@ pub fn equal_objects(left: &ObjectFrame<'_>, right: &ObjectFrame<'_>) -> bool
             },
         ) => equal_trees(*init, *other_init) && equal_kids(*destroys, *other_destroys),
         (ObjectFrame::Cleans(waiting), ObjectFrame::Cleans(other_waiting)) => equal_waitings(
+            words,
             waiting,
             other_waiting,
         ),
@@ -253,9 +258,9 @@ pub fn equal_objects(left: &ObjectFrame<'_>, right: &ObjectFrame<'_>) -> bool
                 left: other_left,
             },
         ) => *number == *other_number
-            && equal_terms(address, other_address)
+            && equal_words(words, *address, *other_address)
             && *stride == *other_stride
-            && equal_terms(left, other_left),
+            && equal_words(words, *left, *other_left),
         (
             ObjectFrame::Parts {
                 kids,
@@ -268,8 +273,8 @@ pub fn equal_objects(left: &ObjectFrame<'_>, right: &ObjectFrame<'_>) -> bool
                 source: other_source,
             },
         ) => equal_kids(*kids, *other_kids)
-            && equal_terms(target, other_target)
-            && equal_terms(source, other_source),
+            && equal_words(words, *target, *other_target)
+            && equal_words(words, *source, *other_source),
         (
             ObjectFrame::Each {
                 init,
@@ -290,17 +295,16 @@ pub fn equal_objects(left: &ObjectFrame<'_>, right: &ObjectFrame<'_>) -> bool
         ) => equal_trees(*init, *other_init)
             && equal_kids(*destroys, *other_destroys)
             && *stride == *other_stride
-            && equal_terms(left, other_left)
-            && equal_terms(target, other_target)
-            && equal_terms(source, other_source),
+            && equal_words(words, *left, *other_left)
+            && equal_words(words, *target, *other_target)
+            && equal_words(words, *source, *other_source),
         _ => false,
     }
 }
 
 /// Whether two are the same: what a statement is at.
-pub fn equal_statements(left: &StatementFrame<'_>, right: &StatementFrame<'_>) -> bool
-    ensures shows { IsTrue result → (types : ℕ → Typ) (p : Program) → statement_of types p left.now ≡ statement_of types p right.now }
-    ensures own { left.now ≡ right.now → IsTrue result }
+pub fn equal_statements(words: &Words<'_>, left: &StatementFrame, right: &StatementFrame) -> bool
+    ensures shows { IsTrue result → (types : ℕ → Typ) (m : Meaning) (p : Program) → Agrees types m words.now → statement_of types m p left.now ≡ statement_of types m p right.now }
 {
     match (left, right) {
         (StatementFrame::Items(items), StatementFrame::Items(other_items)) => equal_kids(
@@ -336,7 +340,7 @@ pub fn equal_statements(left: &StatementFrame<'_>, right: &StatementFrame<'_>) -
                 behind: other_behind,
                 items: other_items,
             },
-        ) => equal_terms(word, other_word)
+        ) => equal_words(words, *word, *other_word)
             && equal_kinds(*label, *other_label)
             && equal_kids(*behind, *other_behind)
             && equal_kids(*items, *other_items),
@@ -349,7 +353,6 @@ pub fn equal_statements(left: &StatementFrame<'_>, right: &StatementFrame<'_>) -
 /// Whether two are the same: what a block is at.
 pub fn equal_blocks(left: BlockFrame, right: BlockFrame) -> bool
     ensures shows { IsTrue result → (p : Program) → block_of left p ≡ block_of right p }
-    ensures own { left ≡ right → IsTrue result }
 {
     match (left, right) {
         (BlockFrame::Opens(block, tree), BlockFrame::Opens(other_block, other_tree)) => equal_opens(
@@ -369,9 +372,8 @@ pub fn equal_blocks(left: BlockFrame, right: BlockFrame) -> bool
 }
 
 /// Whether two are the same: what an exception or a handler is at.
-pub fn equal_throwings(left: &ExceptionFrame<'_>, right: &ExceptionFrame<'_>) -> bool
-    ensures shows { IsTrue result → (types : ℕ → Typ) (p : Program) → throwing_of types p left.now ≡ throwing_of types p right.now }
-    ensures own { left.now ≡ right.now → IsTrue result }
+pub fn equal_throwings(words: &Words<'_>, left: &ExceptionFrame, right: &ExceptionFrame) -> bool
+    ensures shows { IsTrue result → (types : ℕ → Typ) (m : Meaning) (p : Program) → Agrees types m words.now → throwing_of types m p left.now ≡ throwing_of types m p right.now }
 {
     match (left, right) {
         (
@@ -395,9 +397,9 @@ pub fn equal_throwings(left: &ExceptionFrame<'_>, right: &ExceptionFrame<'_>) ->
                 puts: other_puts,
             },
         ) => *typ == *other_typ
-            && equal_terms(from, other_from)
+            && equal_words(words, *from, *other_from)
             && equal_kids(*fields, *other_fields)
-            && equal_puts(puts, other_puts),
+            && equal_given(words, *puts, *other_puts),
         (
             ExceptionFrame::Filled {
                 typ,
@@ -416,11 +418,11 @@ pub fn equal_throwings(left: &ExceptionFrame<'_>, right: &ExceptionFrame<'_>) ->
                 puts: other_puts,
             },
         ) => *typ == *other_typ
-            && equal_terms(from, other_from)
+            && equal_words(words, *from, *other_from)
             && *offset == *other_offset
             && *kind == *other_kind
             && equal_kids(*fields, *other_fields)
-            && equal_puts(puts, other_puts),
+            && equal_given(words, *puts, *other_puts),
         (ExceptionFrame::Tries(handlers), ExceptionFrame::Tries(other_handlers)) => equal_kids(
             *handlers,
             *other_handlers,
@@ -436,7 +438,7 @@ pub fn equal_throwings(left: &ExceptionFrame<'_>, right: &ExceptionFrame<'_>) ->
                 handler: other_handler,
                 others: other_others,
             },
-        ) => equal_exceptions(exception, other_exception)
+        ) => equal_thrown(words, *exception, *other_exception)
             && equal_trees(*handler, *other_handler)
             && equal_kids(*others, *other_others),
         (
@@ -450,8 +452,8 @@ pub fn equal_throwings(left: &ExceptionFrame<'_>, right: &ExceptionFrame<'_>) ->
                 base: other_base,
                 fields: other_fields,
             },
-        ) => equal_exceptions(exception, other_exception)
-            && equal_terms(base, other_base)
+        ) => equal_thrown(words, *exception, *other_exception)
+            && equal_words(words, *base, *other_base)
             && equal_kids(*fields, *other_fields),
         (
             ExceptionFrame::Taking {
@@ -466,38 +468,49 @@ pub fn equal_throwings(left: &ExceptionFrame<'_>, right: &ExceptionFrame<'_>) ->
                 offset: other_offset,
                 kind: other_kind,
             },
-        ) => equal_exceptions(exception, other_exception)
-            && equal_terms(base, other_base)
+        ) => equal_thrown(words, *exception, *other_exception)
+            && equal_words(words, *base, *other_base)
             && *offset == *other_offset
             && *kind == *other_kind,
         (ExceptionFrame::Handling(exception), ExceptionFrame::Handling(other_exception)) =>
-            equal_exceptions(exception, other_exception),
+            equal_thrown(words, *exception, *other_exception),
         _ => false,
     }
 }
 
 /// Whether two frames are the same.
-pub fn equal_frame(left: &Frame<'_>, right: &Frame<'_>) -> bool
-    ensures shows { IsTrue result → (types : ℕ → Typ) (p : Program) (f : Func) → frame_of types p f left.now ≡ frame_of types p f right.now }
-    ensures own { left.now ≡ right.now → IsTrue result }
+pub fn equal_frame(words: &Words<'_>, left: &Frame<'_>, right: &Frame<'_>) -> bool
+    ensures shows { IsTrue result → (types : ℕ → Typ) (m : Meaning) (p : Program) (f : Func) → Agrees types m words.now → frame_of types m p f left.now ≡ frame_of types m p f right.now }
 {
     match (left, right) {
-        (Frame::Run(way, tree), Frame::Run(other_way, other_tree)) => equal_ways(way, other_way)
-            && equal_trees(*tree, *other_tree),
-        (Frame::Address(word), Frame::Address(other_word)) => equal_terms(word, other_word),
-        (Frame::Then(way, tree), Frame::Then(other_way, other_tree)) => equal_ways(way, other_way)
-            && equal_trees(*tree, *other_tree),
-        (Frame::Gives(word), Frame::Gives(other_word)) => equal_terms(word, other_word),
-        (Frame::Leaves(exit), Frame::Leaves(other_exit)) => equal_exits(exit, other_exit),
-        (Frame::Value(inner), Frame::Value(other_inner)) => equal_values(inner, other_inner),
-        (Frame::Call(inner), Frame::Call(other_inner)) => equal_calls(inner, other_inner),
-        (Frame::Object(inner), Frame::Object(other_inner)) => equal_objects(inner, other_inner),
+        (Frame::Run(way, tree), Frame::Run(other_way, other_tree)) => equal_ways(
+            words, way, other_way,
+        ) && equal_trees(*tree, *other_tree),
+        (Frame::Address(word), Frame::Address(other_word)) => equal_words(
+            words,
+            *word,
+            *other_word,
+        ),
+        (Frame::Then(way, tree), Frame::Then(other_way, other_tree)) => equal_ways(
+            words, way, other_way,
+        ) && equal_trees(*tree, *other_tree),
+        (Frame::Gives(word), Frame::Gives(other_word)) => equal_words(words, *word, *other_word),
+        (Frame::Leaves(exit), Frame::Leaves(other_exit)) => equal_exits(words, exit, other_exit),
+        (Frame::Value(inner), Frame::Value(other_inner)) => equal_values(words, inner, other_inner),
+        (Frame::Call(inner), Frame::Call(other_inner)) => equal_calls(words, inner, other_inner),
+        (Frame::Object(inner), Frame::Object(other_inner)) => equal_objects(
+            words,
+            inner,
+            other_inner,
+        ),
         (Frame::Statement(inner), Frame::Statement(other_inner)) => equal_statements(
+            words,
             inner,
             other_inner,
         ),
         (Frame::Block(inner), Frame::Block(other_inner)) => equal_blocks(*inner, *other_inner),
         (Frame::Exception(inner), Frame::Exception(other_inner)) => equal_throwings(
+            words,
             inner,
             other_inner,
         ),
@@ -506,14 +519,13 @@ pub fn equal_frame(left: &Frame<'_>, right: &Frame<'_>) -> bool
 }
 
 /// Whether two are the same: lists of frames.
-pub fn equal_frames(left: &Frames<'_>, right: &Frames<'_>) -> bool
-    ensures shows { IsTrue result → (types : ℕ → Typ) (p : Program) (f : Func) → frames_of types p f left.now ≡ frames_of types p f right.now }
-    ensures own { left.now ≡ right.now → IsTrue result }
+pub fn equal_frames(words: &Words<'_>, left: &Frames<'_>, right: &Frames<'_>) -> bool
+    ensures shows { IsTrue result → (types : ℕ → Typ) (m : Meaning) (p : Program) (f : Func) → Agrees types m words.now → frames_of types m p f left.now ≡ frames_of types m p f right.now }
 {
     match (left, right) {
         (Frames::Empty, Frames::Empty) => true,
         (Frames::More(frame, rest), Frames::More(other_frame, others)) => {
-            equal_frame(frame, other_frame) && equal_frames(rest, others)
+            equal_frame(words, frame, other_frame) && equal_frames(words, rest, others)
         }
         _ => false,
     }

@@ -1,17 +1,18 @@
 //! Whether parts of frames are the same: trees, blocks, owners and what is called.
 
 ghost use Rattle.std.specs.Prelude.{ℕ, ◌≡◌, ◌↔◌, IsTrue};
-ghost use Rattle.symbolic_terms.specs.Words.{numbered};
 ghost use Rattle.cpp_tree.specs.cpp_types.Typ.{Typ};
 ghost use Rattle.cpp_tree.specs.declared.program.Program.{Program};
 ghost use Rattle.src_frames.specs.Shown.{open_shown};
+ghost use Rattle.symbolic_terms.specs.Meanings.{Meaning, Agrees};
 ghost use Rattle.symbolic_terms.specs.Shown.{way_of, exit_of, spot_of, waiting_of, all_waiting, callee_of};
 
 use cpp_tree::below::{BinOp, End, IntKind};
 use src_frames::frames::{Change, LoopParts, Open, Owner};
 use src_frames::trees::{KidsAt, TreeAt};
-use symbolic_terms::comparison::{equal_exceptions, equal_terms};
+use symbolic_terms::comparison::{equal_thrown, equal_words};
 use symbolic_terms::frames::{Callee, Exit, Spot, Waiting, Waitings, Way};
+use symbolic_terms::words::Words;
 
 /// Whether two places of trees are one.
 pub fn equal_trees(left: TreeAt, right: TreeAt) -> bool
@@ -94,9 +95,8 @@ pub fn equal_ends(left: End, right: End) -> bool
 }
 
 /// Whether two are the same: how a node is run.
-pub fn equal_ways(left: &Way<'_>, right: &Way<'_>) -> bool
-    ensures shows { IsTrue result → (types : ℕ → Typ) → way_of types left.now ≡ way_of types right.now }
-    ensures own { way_of numbered left.now ≡ way_of numbered right.now → IsTrue result }
+pub fn equal_ways(words: &Words<'_>, left: &Way, right: &Way) -> bool
+    ensures shows { IsTrue result → (types : ℕ → Typ) (m : Meaning) → Agrees types m words.now → way_of types m left.now ≡ way_of types m right.now }
 {
     match (left, right) {
         (Way::Value, Way::Value) => true,
@@ -106,22 +106,23 @@ pub fn equal_ways(left: &Way<'_>, right: &Way<'_>) -> bool
                 target: other_target,
                 source: other_source,
             },
-        ) => equal_terms(target, other_target) && equal_terms(source, other_source),
+        ) => equal_words(words, *target, *other_target)
+            && equal_words(words, *source, *other_source),
         _ => false,
     }
 }
 
 /// Whether two are the same: what goes outward.
-pub fn equal_exits(left: &Exit<'_>, right: &Exit<'_>) -> bool
-    ensures shows { IsTrue result → (types : ℕ → Typ) → exit_of types left.now ≡ exit_of types right.now }
-    ensures own { exit_of numbered left.now ≡ exit_of numbered right.now → IsTrue result }
+pub fn equal_exits(words: &Words<'_>, left: &Exit, right: &Exit) -> bool
+    ensures shows { IsTrue result → (types : ℕ → Typ) (m : Meaning) → Agrees types m words.now → exit_of types m left.now ≡ exit_of types m right.now }
 {
     match (left, right) {
-        (Exit::Throws(exception), Exit::Throws(other_exception)) => equal_exceptions(
-            exception,
-            other_exception,
+        (Exit::Throws(exception), Exit::Throws(other_exception)) => equal_thrown(
+            words,
+            *exception,
+            *other_exception,
         ),
-        (Exit::Returns(word), Exit::Returns(other_word)) => equal_terms(word, other_word),
+        (Exit::Returns(word), Exit::Returns(other_word)) => equal_words(words, *word, *other_word),
         (Exit::Breaks, Exit::Breaks) => true,
         (Exit::Continues, Exit::Continues) => true,
         _ => false,
@@ -129,21 +130,19 @@ pub fn equal_exits(left: &Exit<'_>, right: &Exit<'_>) -> bool
 }
 
 /// Whether two are the same: what gives the address of a waiting object.
-pub fn equal_spots(left: &Spot<'_>, right: &Spot<'_>) -> bool
-    ensures shows { IsTrue result → (types : ℕ → Typ) (p : Program) → spot_of types p left.now ≡ spot_of types p right.now }
-    ensures own { left.now ≡ right.now → IsTrue result }
+pub fn equal_spots(words: &Words<'_>, left: &Spot, right: &Spot) -> bool
+    ensures shows { IsTrue result → (types : ℕ → Typ) (m : Meaning) (p : Program) → Agrees types m words.now → spot_of types m p left.now ≡ spot_of types m p right.now }
 {
     match (left, right) {
-        (Spot::Word(word), Spot::Word(other_word)) => equal_terms(word, other_word),
+        (Spot::Word(word), Spot::Word(other_word)) => equal_words(words, *word, *other_word),
         (Spot::Tree(tree), Spot::Tree(other_tree)) => equal_trees(*tree, *other_tree),
         _ => false,
     }
 }
 
 /// Whether two are the same: what is called.
-pub fn equal_callees(left: &Callee<'_>, right: &Callee<'_>) -> bool
-    ensures shows { IsTrue result → (types : ℕ → Typ) (p : Program) → callee_of types p left.now ≡ callee_of types p right.now }
-    ensures own { left.now ≡ right.now → IsTrue result }
+pub fn equal_callees(words: &Words<'_>, left: &Callee, right: &Callee) -> bool
+    ensures shows { IsTrue result → (types : ℕ → Typ) (m : Meaning) (p : Program) → Agrees types m words.now → callee_of types m p left.now ≡ callee_of types m p right.now }
 {
     match (left, right) {
         (Callee::Known(number), Callee::Known(other_number)) => *number == *other_number,
@@ -158,36 +157,36 @@ pub fn equal_callees(left: &Callee<'_>, right: &Callee<'_>) -> bool
                 slot: other_slot,
                 address: other_address,
             },
-        ) => *class == *other_class && *slot == *other_slot && equal_terms(address, other_address),
+        ) => *class == *other_class
+            && *slot == *other_slot
+            && equal_words(words, *address, *other_address),
         (
             Callee::Pointer { address, pointer },
             Callee::Pointer {
                 address: other_address,
                 pointer: other_pointer,
             },
-        ) => equal_terms(address, other_address) && equal_trees(*pointer, *other_pointer),
+        ) => equal_words(words, *address, *other_address) && equal_trees(*pointer, *other_pointer),
         (Callee::Builtin(which), Callee::Builtin(other_which)) => *which == *other_which,
         _ => false,
     }
 }
 
 /// Whether two are the same: objects that wait.
-pub fn equal_waiting(left: &Waiting<'_>, right: &Waiting<'_>) -> bool
-    ensures shows { IsTrue result → (types : ℕ → Typ) (p : Program) → waiting_of types p left.now ≡ waiting_of types p right.now }
-    ensures own { left.now ≡ right.now → IsTrue result }
+pub fn equal_waiting(words: &Words<'_>, left: &Waiting, right: &Waiting) -> bool
+    ensures shows { IsTrue result → (types : ℕ → Typ) (m : Meaning) (p : Program) → Agrees types m words.now → waiting_of types m p left.now ≡ waiting_of types m p right.now }
 {
-    equal_spots(&left.address, &right.address) && equal_kids(left.destroys, right.destroys)
+    equal_spots(words, &left.address, &right.address) && equal_kids(left.destroys, right.destroys)
 }
 
 /// Whether two are the same: lists of objects that wait.
-pub fn equal_waitings(left: &Waitings<'_>, right: &Waitings<'_>) -> bool
-    ensures shows { IsTrue result → (types : ℕ → Typ) (p : Program) → all_waiting types p left.now ≡ all_waiting types p right.now }
-    ensures own { left.now ≡ right.now → IsTrue result }
+pub fn equal_waitings(words: &Words<'_>, left: &Waitings<'_>, right: &Waitings<'_>) -> bool
+    ensures shows { IsTrue result → (types : ℕ → Typ) (m : Meaning) (p : Program) → Agrees types m words.now → all_waiting types m p left.now ≡ all_waiting types m p right.now }
 {
     match (left, right) {
         (Waitings::Empty, Waitings::Empty) => true,
         (Waitings::More(waiting, rest), Waitings::More(other_waiting, others)) => {
-            equal_waiting(waiting, other_waiting) && equal_waitings(rest, others)
+            equal_waiting(words, waiting, other_waiting) && equal_waitings(words, rest, others)
         }
         _ => false,
     }

@@ -6,7 +6,7 @@ use Rattle.src_frames.specs.declared.frames.Open.{Open}
 use Rattle.src_frames.specs.Shown.{owner_shown}
 use Rattle.symbolic_source.specs.Frames.{Scope as ScopeOf, Waiting}
 use Rattle.symbolic_source.specs.Frames as symbolic
-use Rattle.symbolic_terms.specs.declared.terms.Exception.{Exception}
+use Rattle.symbolic_terms.specs.declared.ids.ExceptionId.{ExceptionId}
 use Rattle.symbolic_terms.specs.declared.frames.Frame.{Frame}
 use Rattle.symbolic_terms.specs.declared.frames.Frame.TheVariants.{Object, Block, Exception as AtException}
 use Rattle.symbolic_terms.specs.declared.frames.ObjectFrame.{ObjectFrame}
@@ -31,11 +31,11 @@ waits_too w (ScopeOf o always ws) = ScopeOf o always (w ∷ ws)
 waits_too w g = g
 
 -- the exception of a handler that is entered in it
-abbrev pub handling_in : ExceptionFrame → Option Exception
+abbrev pub handling_in : ExceptionFrame → Option ExceptionId
 handling_in (Handling e) = Some e
 handling_in g = None
 
-abbrev pub handling_at : Frame → Option Exception
+abbrev pub handling_at : Frame → Option ExceptionId
 handling_at (AtException g) = handling_in g
 handling_at g = None
 

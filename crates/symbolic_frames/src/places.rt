@@ -4,19 +4,20 @@ ghost use Rattle.std.specs.Prelude.{ℕ, ◌≡◌, IfOk};
 ghost use Rattle.cpp_tree.specs.cpp_types.Typ.{Typ};
 ghost use Rattle.symbolic_code.specs.Places.{with_operands as operands_put, holding as held, all_later, hold_later as held_later, place_later as after_reply, opened_later as opened_after};
 ghost use Rattle.body_check.specs.Notes.{catching as caught_in};
-ghost use Rattle.symbolic_terms.specs.Words.{terms_of, exception_of, exceptions_of};
+ghost use Rattle.symbolic_terms.specs.Meanings.{Meaning, thrown_of, words_of, all_thrown, Agrees};
 ghost use Rattle.symbolic_terms.specs.Shown.{hold_of, opens_of, place_of};
 
 use bumpalo::Bump;
 use symbolic_terms::arena::keep;
+use symbolic_terms::ids::{ExceptionId, Exceptions, Terms};
 use symbolic_terms::places::{Hold, Opens, Place};
 use symbolic_terms::refusal::Refusal;
-use symbolic_terms::replacing::{Replacing, replaced_exception, replaced_puts, replaced_terms};
-use symbolic_terms::terms::{Exception, Exceptions, Terms};
+use symbolic_terms::replacing::{Replacing, replaced_given, replaced_thrown, replaced_words};
+use symbolic_terms::words::Words;
 
 /// The place with these operands.
 pub fn with_operands<'a>(place: Place<'a>, operands: Terms<'a>) -> Place<'a>
-    ensures { (types : ℕ → Typ) → place_of types result ≡ operands_put (place_of types place.entry) (terms_of types operands.entry) }
+    ensures { (types : ℕ → Typ) (m : Meaning) → place_of types m result ≡ operands_put (place_of types m place.entry) (words_of m operands.entry) }
 {
     Place {
         operands,
@@ -27,8 +28,8 @@ pub fn with_operands<'a>(place: Place<'a>, operands: Terms<'a>) -> Place<'a>
 }
 
 /// The place with this exception.
-pub fn holding<'a>(place: Place<'a>, hold: Hold<'a>) -> Place<'a>
-    ensures { (types : ℕ → Typ) → place_of types result ≡ held (place_of types place.entry) (hold_of types hold.entry) }
+pub fn holding<'a>(place: Place<'a>, hold: Hold) -> Place<'a>
+    ensures { (types : ℕ → Typ) (m : Meaning) → place_of types m result ≡ held (place_of types m place.entry) (hold_of types m hold) }
 {
     Place {
         operands: place.operands,
@@ -42,9 +43,9 @@ pub fn holding<'a>(place: Place<'a>, hold: Hold<'a>) -> Place<'a>
 pub fn catching<'a>(
     arena: &'a Bump,
     place: Place<'a>,
-    exception: Exception<'a>,
+    exception: ExceptionId,
 ) -> Result<Place<'a>, Refusal>
-    ensures { IfOk result (λ c. (types : ℕ → Typ) → place_of types c ≡ caught_in (place_of types place.entry) (exception_of types exception.entry)) }
+    ensures { IfOk result (λ c. (types : ℕ → Typ) (m : Meaning) → place_of types m c ≡ caught_in (place_of types m place.entry) (thrown_of m exception)) }
 {
     Ok(Place {
         operands: place.operands,
@@ -55,30 +56,36 @@ pub fn catching<'a>(
 }
 
 /// The exceptions of entered handlers after a reply.
-pub fn caught_later<'a>(arena: &'a Bump, caught: Exceptions<'a>) -> Result<Exceptions<'a>, Refusal>
-    ensures { IfOk result (λ c. (types : ℕ → Typ) → exceptions_of types c ≡ all_later (exceptions_of types caught.entry)) }
+pub fn caught_later<'a>(
+    arena: &'a Bump,
+    words: &mut Words<'a>,
+    caught: Exceptions<'a>,
+) -> Result<Exceptions<'a>, Refusal>
+    ensures is { IfOk result (λ c. (types : ℕ → Typ) (m : Meaning) → Agrees types m words.new → all_thrown m c ≡ all_later (all_thrown m caught.entry)) }
+    ensures grows { (types : ℕ → Typ) (m : Meaning) → Agrees types m words.new → Agrees types m words.old }
 {
     match caught {
         Exceptions::Empty => Ok(Exceptions::Empty),
         Exceptions::More(exception, rest) => {
-            let exception = replaced_exception(arena, Replacing::Later, exception)?;
-            let rest = keep(arena, caught_later(arena, *rest)?)?;
+            let exception = replaced_thrown(arena, words, Replacing::Later, exception)?;
+            let rest = keep(arena, caught_later(arena, words, *rest)?)?;
             Ok(Exceptions::More(exception, rest))
         }
     }
 }
 
 /// A frame's exception after a reply.
-pub fn hold_later<'a>(arena: &'a Bump, hold: Hold<'a>) -> Result<Hold<'a>, Refusal>
-    ensures { IfOk result (λ c. (types : ℕ → Typ) → hold_of types c ≡ held_later (hold_of types hold.entry)) }
+pub fn hold_later<'a>(arena: &'a Bump, words: &mut Words<'a>, hold: Hold) -> Result<Hold, Refusal>
+    ensures is { IfOk result (λ c. (types : ℕ → Typ) (m : Meaning) → Agrees types m words.new → hold_of types m c ≡ held_later (hold_of types m hold)) }
+    ensures grows { (types : ℕ → Typ) (m : Meaning) → Agrees types m words.new → Agrees types m words.old }
 {
     match hold {
         Hold::Nothing => Ok(Hold::Nothing),
         Hold::Making(typ, puts) => {
-            Ok(Hold::Making(typ, replaced_puts(arena, Replacing::Later, puts)?))
+            Ok(Hold::Making(typ, replaced_given(arena, words, Replacing::Later, puts)?))
         }
         Hold::Flying(exception) => {
-            Ok(Hold::Flying(replaced_exception(arena, Replacing::Later, exception)?))
+            Ok(Hold::Flying(replaced_thrown(arena, words, Replacing::Later, exception)?))
         }
     }
 }
@@ -86,31 +93,35 @@ pub fn hold_later<'a>(arena: &'a Bump, hold: Hold<'a>) -> Result<Hold<'a>, Refus
 /// The place after a reply, with these operands.
 pub fn place_later<'a>(
     arena: &'a Bump,
+    words: &mut Words<'a>,
     place: Place<'a>,
     operands: Terms<'a>,
 ) -> Result<Place<'a>, Refusal>
-    ensures { IfOk result (λ c. (types : ℕ → Typ) → place_of types c ≡ after_reply (place_of types place.entry) (terms_of types operands.entry)) }
+    ensures is { IfOk result (λ c. (types : ℕ → Typ) (m : Meaning) → Agrees types m words.new → place_of types m c ≡ after_reply (place_of types m place.entry) (words_of m operands.entry)) }
+    ensures grows { (types : ℕ → Typ) (m : Meaning) → Agrees types m words.new → Agrees types m words.old }
 {
     Ok(Place {
         operands,
         opens: place.opens,
-        caught: caught_later(arena, place.caught)?,
-        hold: hold_later(arena, place.hold)?,
+        caught: caught_later(arena, words, place.caught)?,
+        hold: hold_later(arena, words, place.hold)?,
     })
 }
 
 /// The place after a reply, with these open blocks.
 pub fn opened_later<'a>(
     arena: &'a Bump,
+    words: &mut Words<'a>,
     place: Place<'a>,
     opens: Opens<'a>,
 ) -> Result<Place<'a>, Refusal>
-    ensures { IfOk result (λ c. (types : ℕ → Typ) → place_of types c ≡ opened_after (place_of types place.entry) (opens_of opens.entry)) }
+    ensures is { IfOk result (λ c. (types : ℕ → Typ) (m : Meaning) → Agrees types m words.new → place_of types m c ≡ opened_after (place_of types m place.entry) (opens_of opens.entry)) }
+    ensures grows { (types : ℕ → Typ) (m : Meaning) → Agrees types m words.new → Agrees types m words.old }
 {
     Ok(Place {
-        operands: replaced_terms(arena, Replacing::Later, place.operands)?,
+        operands: replaced_words(arena, words, Replacing::Later, place.operands)?,
         opens,
-        caught: caught_later(arena, place.caught)?,
-        hold: hold_later(arena, place.hold)?,
+        caught: caught_later(arena, words, place.caught)?,
+        hold: hold_later(arena, words, place.hold)?,
     })
 }

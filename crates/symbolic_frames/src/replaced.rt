@@ -5,6 +5,7 @@ ghost use Rattle.cpp_tree.specs.cpp_types.Typ.{Typ};
 ghost use Rattle.cpp_tree.specs.declared.program.Program.{Program};
 ghost use Rattle.src_mean.specs.Linked.{Func};
 ghost use Rattle.symbolic_source.specs.Replacing.{in_way, in_exit, in_spot, in_waiting, in_waitings, in_callee, in_frame, in_frames};
+ghost use Rattle.symbolic_terms.specs.Meanings.{Meaning, Agrees};
 ghost use Rattle.symbolic_terms.specs.Replaced.{replacing_of};
 ghost use Rattle.symbolic_terms.specs.Shown.{way_of, exit_of, spot_of, waiting_of, all_waiting, callee_of, value_of, call_of, object_of, statement_of, throwing_of, frame_of, frames_of};
 
@@ -16,22 +17,25 @@ use symbolic_terms::frames::{
 };
 use symbolic_terms::refusal::Refusal;
 use symbolic_terms::replacing::{
-    Replacing, replaced_exception, replaced_puts, replaced_term, replaced_terms,
+    Replacing, replaced_given, replaced_thrown, replaced_word, replaced_words,
 };
+use symbolic_terms::words::Words;
 
 /// The same with these terms in the place of variables: how a node is run.
 pub fn replaced_way<'a>(
     arena: &'a Bump,
+    words: &mut Words<'a>,
     with: Replacing<'a>,
-    way: Way<'a>,
-) -> Result<Way<'a>, Refusal>
-    ensures { IfOk result (λ c. (types : ℕ → Typ) → way_of types c ≡ in_way (replacing_of types with.entry) (way_of types way.entry)) }
+    way: Way,
+) -> Result<Way, Refusal>
+    ensures is { IfOk result (λ c. (types : ℕ → Typ) (m : Meaning) → Agrees types m words.new → way_of types m c ≡ in_way (replacing_of types with.entry) (way_of types m way)) }
+    ensures grows { (types : ℕ → Typ) (m : Meaning) → Agrees types m words.new → Agrees types m words.old }
 {
     match way {
         Way::Value => Ok(Way::Value),
         Way::Into { target, source } => Ok(Way::Into {
-            target: replaced_term(arena, with, target)?,
-            source: replaced_term(arena, with, source)?,
+            target: replaced_word(arena, words, with, target)?,
+            source: replaced_word(arena, words, with, source)?,
         }),
     }
 }
@@ -39,14 +43,18 @@ pub fn replaced_way<'a>(
 /// The same with these terms in the place of variables: what goes outward.
 pub fn replaced_exit<'a>(
     arena: &'a Bump,
+    words: &mut Words<'a>,
     with: Replacing<'a>,
-    exit: Exit<'a>,
-) -> Result<Exit<'a>, Refusal>
-    ensures { IfOk result (λ c. (types : ℕ → Typ) → exit_of types c ≡ in_exit (replacing_of types with.entry) (exit_of types exit.entry)) }
+    exit: Exit,
+) -> Result<Exit, Refusal>
+    ensures is { IfOk result (λ c. (types : ℕ → Typ) (m : Meaning) → Agrees types m words.new → exit_of types m c ≡ in_exit (replacing_of types with.entry) (exit_of types m exit)) }
+    ensures grows { (types : ℕ → Typ) (m : Meaning) → Agrees types m words.new → Agrees types m words.old }
 {
     match exit {
-        Exit::Throws(exception) => Ok(Exit::Throws(replaced_exception(arena, with, exception)?)),
-        Exit::Returns(word) => Ok(Exit::Returns(replaced_term(arena, with, word)?)),
+        Exit::Throws(exception) => Ok(Exit::Throws(replaced_thrown(
+            arena, words, with, exception,
+        )?)),
+        Exit::Returns(word) => Ok(Exit::Returns(replaced_word(arena, words, with, word)?)),
         Exit::Breaks => Ok(Exit::Breaks),
         Exit::Continues => Ok(Exit::Continues),
     }
@@ -55,13 +63,15 @@ pub fn replaced_exit<'a>(
 /// The same with these terms in the place of variables: what gives the address of a waiting object.
 pub fn replaced_spot<'a>(
     arena: &'a Bump,
+    words: &mut Words<'a>,
     with: Replacing<'a>,
-    spot: Spot<'a>,
-) -> Result<Spot<'a>, Refusal>
-    ensures { IfOk result (λ c. (types : ℕ → Typ) (p : Program) → spot_of types p c ≡ in_spot (replacing_of types with.entry) (spot_of types p spot.entry)) }
+    spot: Spot,
+) -> Result<Spot, Refusal>
+    ensures is { IfOk result (λ c. (types : ℕ → Typ) (m : Meaning) (p : Program) → Agrees types m words.new → spot_of types m p c ≡ in_spot (replacing_of types with.entry) (spot_of types m p spot)) }
+    ensures grows { (types : ℕ → Typ) (m : Meaning) → Agrees types m words.new → Agrees types m words.old }
 {
     match spot {
-        Spot::Word(word) => Ok(Spot::Word(replaced_term(arena, with, word)?)),
+        Spot::Word(word) => Ok(Spot::Word(replaced_word(arena, words, with, word)?)),
         Spot::Tree(tree) => Ok(Spot::Tree(tree)),
     }
 }
@@ -69,13 +79,15 @@ pub fn replaced_spot<'a>(
 /// The same with these terms in the place of variables: objects that wait.
 pub fn replaced_waiting<'a>(
     arena: &'a Bump,
+    words: &mut Words<'a>,
     with: Replacing<'a>,
-    waiting: Waiting<'a>,
-) -> Result<Waiting<'a>, Refusal>
-    ensures { IfOk result (λ c. (types : ℕ → Typ) (p : Program) → waiting_of types p c ≡ in_waiting (replacing_of types with.entry) (waiting_of types p waiting.entry)) }
+    waiting: Waiting,
+) -> Result<Waiting, Refusal>
+    ensures is { IfOk result (λ c. (types : ℕ → Typ) (m : Meaning) (p : Program) → Agrees types m words.new → waiting_of types m p c ≡ in_waiting (replacing_of types with.entry) (waiting_of types m p waiting)) }
+    ensures grows { (types : ℕ → Typ) (m : Meaning) → Agrees types m words.new → Agrees types m words.old }
 {
     Ok(Waiting {
-        address: replaced_spot(arena, with, waiting.address)?,
+        address: replaced_spot(arena, words, with, waiting.address)?,
         destroys: waiting.destroys,
     })
 }
@@ -83,16 +95,18 @@ pub fn replaced_waiting<'a>(
 /// The same with these terms in the place of variables: a list of objects that wait.
 pub fn replaced_waitings<'a>(
     arena: &'a Bump,
+    words: &mut Words<'a>,
     with: Replacing<'a>,
     waitings: Waitings<'a>,
 ) -> Result<Waitings<'a>, Refusal>
-    ensures { IfOk result (λ c. (types : ℕ → Typ) (p : Program) → all_waiting types p c ≡ in_waitings (replacing_of types with.entry) (all_waiting types p waitings.entry)) }
+    ensures is { IfOk result (λ c. (types : ℕ → Typ) (m : Meaning) (p : Program) → Agrees types m words.new → all_waiting types m p c ≡ in_waitings (replacing_of types with.entry) (all_waiting types m p waitings.entry)) }
+    ensures grows { (types : ℕ → Typ) (m : Meaning) → Agrees types m words.new → Agrees types m words.old }
 {
     match waitings {
         Waitings::Empty => Ok(Waitings::Empty),
         Waitings::More(waiting, rest) => {
-            let waiting = replaced_waiting(arena, with, waiting)?;
-            let rest = keep(arena, replaced_waitings(arena, with, *rest)?)?;
+            let waiting = replaced_waiting(arena, words, with, waiting)?;
+            let rest = keep(arena, replaced_waitings(arena, words, with, *rest)?)?;
             Ok(Waitings::More(waiting, rest))
         }
     }
@@ -101,10 +115,12 @@ pub fn replaced_waitings<'a>(
 /// The same with these terms in the place of variables: what is called.
 pub fn replaced_callee<'a>(
     arena: &'a Bump,
+    words: &mut Words<'a>,
     with: Replacing<'a>,
-    callee: Callee<'a>,
-) -> Result<Callee<'a>, Refusal>
-    ensures { IfOk result (λ c. (types : ℕ → Typ) (p : Program) → callee_of types p c ≡ in_callee (replacing_of types with.entry) (callee_of types p callee.entry)) }
+    callee: Callee,
+) -> Result<Callee, Refusal>
+    ensures is { IfOk result (λ c. (types : ℕ → Typ) (m : Meaning) (p : Program) → Agrees types m words.new → callee_of types m p c ≡ in_callee (replacing_of types with.entry) (callee_of types m p callee)) }
+    ensures grows { (types : ℕ → Typ) (m : Meaning) → Agrees types m words.new → Agrees types m words.old }
 {
     match callee {
         Callee::Known(number) => Ok(Callee::Known(number)),
@@ -115,10 +131,10 @@ pub fn replaced_callee<'a>(
         } => Ok(Callee::Virtual {
             class,
             slot,
-            address: replaced_term(arena, with, address)?,
+            address: replaced_word(arena, words, with, address)?,
         }),
         Callee::Pointer { address, pointer } => Ok(Callee::Pointer {
-            address: replaced_term(arena, with, address)?,
+            address: replaced_word(arena, words, with, address)?,
             pointer,
         }),
         Callee::Builtin(which) => Ok(Callee::Builtin(which)),
@@ -128,10 +144,12 @@ pub fn replaced_callee<'a>(
 /// The same with these terms in the place of variables: what is done with the value of an operand.
 pub fn replaced_value<'a>(
     arena: &'a Bump,
+    words: &mut Words<'a>,
     with: Replacing<'a>,
-    value: ValueFrame<'a>,
-) -> Result<ValueFrame<'a>, Refusal>
-    ensures { IfOk result (λ c. (types : ℕ → Typ) (p : Program) → value_of types p c ≡ in_frame (replacing_of types with.entry) (value_of types p value.entry)) }
+    value: ValueFrame,
+) -> Result<ValueFrame, Refusal>
+    ensures is { IfOk result (λ c. (types : ℕ → Typ) (m : Meaning) (p : Program) → Agrees types m words.new → value_of types m p c ≡ in_frame (replacing_of types with.entry) (value_of types m p value)) }
+    ensures grows { (types : ℕ → Typ) (m : Meaning) → Agrees types m words.new → Agrees types m words.old }
 {
     match value {
         ValueFrame::Loads(kind, volatile) => Ok(ValueFrame::Loads(kind, volatile)),
@@ -143,20 +161,20 @@ pub fn replaced_value<'a>(
             volatile,
             answer,
         } => Ok(ValueFrame::StoreTo {
-            address: replaced_term(arena, with, address)?,
+            address: replaced_word(arena, words, with, address)?,
             kind,
             volatile,
-            answer: replaced_term(arena, with, answer)?,
+            answer: replaced_word(arena, words, with, answer)?,
         }),
         ValueFrame::Converts(kind) => Ok(ValueFrame::Converts(kind)),
         ValueFrame::Right(op, kind, tree) => Ok(ValueFrame::Right(op, kind, tree)),
         ValueFrame::Apply(op, kind, left) => Ok(ValueFrame::Apply(
             op,
             kind,
-            replaced_term(arena, with, left)?,
+            replaced_word(arena, words, with, left)?,
         )),
         ValueFrame::Choose { way, chosen, other } => Ok(ValueFrame::Choose {
-            way: replaced_way(arena, with, way)?,
+            way: replaced_way(arena, words, with, way)?,
             chosen,
             other,
         }),
@@ -166,7 +184,7 @@ pub fn replaced_value<'a>(
         ValueFrame::UpdateAt(change, tree) => Ok(ValueFrame::UpdateAt(change, tree)),
         ValueFrame::UpdateOld(change, address, tree) => Ok(ValueFrame::UpdateOld(
             change,
-            replaced_term(arena, with, address)?,
+            replaced_word(arena, words, with, address)?,
             tree,
         )),
         ValueFrame::UpdateBy {
@@ -175,16 +193,16 @@ pub fn replaced_value<'a>(
             old,
         } => Ok(ValueFrame::UpdateBy {
             change,
-            address: replaced_term(arena, with, address)?,
-            old: replaced_term(arena, with, old)?,
+            address: replaced_word(arena, words, with, address)?,
+            old: replaced_word(arena, words, with, old)?,
         }),
         ValueFrame::CopyTo { source, init } => Ok(ValueFrame::CopyTo { source, init }),
         ValueFrame::CopyBy { target, init } => Ok(ValueFrame::CopyBy {
-            target: replaced_term(arena, with, target)?,
+            target: replaced_word(arena, words, with, target)?,
             init,
         }),
         ValueFrame::From { target, init } => Ok(ValueFrame::From {
-            target: replaced_term(arena, with, target)?,
+            target: replaced_word(arena, words, with, target)?,
             init,
         }),
     }
@@ -193,10 +211,12 @@ pub fn replaced_value<'a>(
 /// The same with these terms in the place of variables: what a call is at.
 pub fn replaced_call<'a>(
     arena: &'a Bump,
+    words: &mut Words<'a>,
     with: Replacing<'a>,
     call: CallFrame<'a>,
 ) -> Result<CallFrame<'a>, Refusal>
-    ensures { IfOk result (λ c. (types : ℕ → Typ) (p : Program) (f : Func) → call_of types p f c ≡ in_frame (replacing_of types with.entry) (call_of types p f call.entry)) }
+    ensures is { IfOk result (λ c. (types : ℕ → Typ) (m : Meaning) (p : Program) (f : Func) → Agrees types m words.new → call_of types m p f c ≡ in_frame (replacing_of types with.entry) (call_of types m p f call.entry)) }
+    ensures grows { (types : ℕ → Typ) (m : Meaning) → Agrees types m words.new → Agrees types m words.old }
 {
     match call {
         CallFrame::Words {
@@ -204,8 +224,8 @@ pub fn replaced_call<'a>(
             before,
             rest,
         } => Ok(CallFrame::Words {
-            callee: replaced_callee(arena, with, callee)?,
-            before: replaced_terms(arena, with, before)?,
+            callee: replaced_callee(arena, words, with, callee)?,
+            before: replaced_words(arena, words, with, before)?,
             rest,
         }),
         CallFrame::Object {
@@ -215,7 +235,7 @@ pub fn replaced_call<'a>(
             pointer,
             rest,
         } => Ok(CallFrame::Object {
-            before: replaced_terms(arena, with, before)?,
+            before: replaced_words(arena, words, with, before)?,
             class,
             slot,
             pointer,
@@ -227,7 +247,7 @@ pub fn replaced_call<'a>(
             slot,
             rest,
         } => Ok(CallFrame::Slot {
-            before: replaced_terms(arena, with, before)?,
+            before: replaced_words(arena, words, with, before)?,
             class,
             slot,
             rest,
@@ -237,12 +257,15 @@ pub fn replaced_call<'a>(
             pointer,
             rest,
         } => Ok(CallFrame::Pointer {
-            before: replaced_terms(arena, with, before)?,
+            before: replaced_words(arena, words, with, before)?,
             pointer,
             rest,
         }),
-        CallFrame::Passes { words, from } => Ok(CallFrame::Passes {
-            words: replaced_terms(arena, with, words)?,
+        CallFrame::Passes {
+            words: passed,
+            from,
+        } => Ok(CallFrame::Passes {
+            words: replaced_words(arena, words, with, passed)?,
             from,
         }),
     }
@@ -251,17 +274,19 @@ pub fn replaced_call<'a>(
 /// The same with these terms in the place of variables: what is done for objects.
 pub fn replaced_object<'a>(
     arena: &'a Bump,
+    words: &mut Words<'a>,
     with: Replacing<'a>,
     object: ObjectFrame<'a>,
 ) -> Result<ObjectFrame<'a>, Refusal>
-    ensures { IfOk result (λ c. (types : ℕ → Typ) (p : Program) → object_of types p c ≡ in_frame (replacing_of types with.entry) (object_of types p object.entry)) }
+    ensures is { IfOk result (λ c. (types : ℕ → Typ) (m : Meaning) (p : Program) → Agrees types m words.new → object_of types m p c ≡ in_frame (replacing_of types with.entry) (object_of types m p object.entry)) }
+    ensures grows { (types : ℕ → Typ) (m : Meaning) → Agrees types m words.new → Agrees types m words.old }
 {
     match object {
         ObjectFrame::Full { outer } => Ok(ObjectFrame::Full {
-            outer: replaced_waitings(arena, with, outer)?,
+            outer: replaced_waitings(arena, words, with, outer)?,
         }),
         ObjectFrame::Keeps(waiting) => Ok(ObjectFrame::Keeps(replaced_waiting(
-            arena, with, waiting,
+            arena, words, with, waiting,
         )?)),
         ObjectFrame::Scope {
             owner,
@@ -270,15 +295,15 @@ pub fn replaced_object<'a>(
         } => Ok(ObjectFrame::Scope {
             owner,
             always,
-            waiting: replaced_waitings(arena, with, waiting)?,
+            waiting: replaced_waitings(arena, words, with, waiting)?,
         }),
         ObjectFrame::Waits(owner, waiting) => Ok(ObjectFrame::Waits(
             owner,
-            replaced_waiting(arena, with, waiting)?,
+            replaced_waiting(arena, words, with, waiting)?,
         )),
         ObjectFrame::InitAt { init, destroys } => Ok(ObjectFrame::InitAt { init, destroys }),
         ObjectFrame::Cleans(waiting) => Ok(ObjectFrame::Cleans(replaced_waitings(
-            arena, with, waiting,
+            arena, words, with, waiting,
         )?)),
         ObjectFrame::Due(destroys) => Ok(ObjectFrame::Due(destroys)),
         ObjectFrame::Destroys {
@@ -288,9 +313,9 @@ pub fn replaced_object<'a>(
             left,
         } => Ok(ObjectFrame::Destroys {
             number,
-            address: replaced_term(arena, with, address)?,
+            address: replaced_word(arena, words, with, address)?,
             stride,
-            left: replaced_term(arena, with, left)?,
+            left: replaced_word(arena, words, with, left)?,
         }),
         ObjectFrame::Parts {
             kids,
@@ -298,8 +323,8 @@ pub fn replaced_object<'a>(
             source,
         } => Ok(ObjectFrame::Parts {
             kids,
-            target: replaced_term(arena, with, target)?,
-            source: replaced_term(arena, with, source)?,
+            target: replaced_word(arena, words, with, target)?,
+            source: replaced_word(arena, words, with, source)?,
         }),
         ObjectFrame::Each {
             init,
@@ -312,9 +337,9 @@ pub fn replaced_object<'a>(
             init,
             destroys,
             stride,
-            left: replaced_term(arena, with, left)?,
-            target: replaced_term(arena, with, target)?,
-            source: replaced_term(arena, with, source)?,
+            left: replaced_word(arena, words, with, left)?,
+            target: replaced_word(arena, words, with, target)?,
+            source: replaced_word(arena, words, with, source)?,
         }),
     }
 }
@@ -322,10 +347,12 @@ pub fn replaced_object<'a>(
 /// The same with these terms in the place of variables: what a statement is at.
 pub fn replaced_statement<'a>(
     arena: &'a Bump,
+    words: &mut Words<'a>,
     with: Replacing<'a>,
-    statement: StatementFrame<'a>,
-) -> Result<StatementFrame<'a>, Refusal>
-    ensures { IfOk result (λ c. (types : ℕ → Typ) (p : Program) → statement_of types p c ≡ in_frame (replacing_of types with.entry) (statement_of types p statement.entry)) }
+    statement: StatementFrame,
+) -> Result<StatementFrame, Refusal>
+    ensures is { IfOk result (λ c. (types : ℕ → Typ) (m : Meaning) (p : Program) → Agrees types m words.new → statement_of types m p c ≡ in_frame (replacing_of types with.entry) (statement_of types m p statement)) }
+    ensures grows { (types : ℕ → Typ) (m : Meaning) → Agrees types m words.new → Agrees types m words.old }
 {
     match statement {
         StatementFrame::Items(items) => Ok(StatementFrame::Items(items)),
@@ -339,7 +366,7 @@ pub fn replaced_statement<'a>(
             behind,
             items,
         } => Ok(StatementFrame::Compares {
-            word: replaced_term(arena, with, word)?,
+            word: replaced_word(arena, words, with, word)?,
             label,
             behind,
             items,
@@ -352,10 +379,12 @@ pub fn replaced_statement<'a>(
 /// The same with these terms in the place of variables: what an exception or a handler is at.
 pub fn replaced_throwing<'a>(
     arena: &'a Bump,
+    words: &mut Words<'a>,
     with: Replacing<'a>,
-    throwing: ExceptionFrame<'a>,
-) -> Result<ExceptionFrame<'a>, Refusal>
-    ensures { IfOk result (λ c. (types : ℕ → Typ) (p : Program) → throwing_of types p c ≡ in_frame (replacing_of types with.entry) (throwing_of types p throwing.entry)) }
+    throwing: ExceptionFrame,
+) -> Result<ExceptionFrame, Refusal>
+    ensures is { IfOk result (λ c. (types : ℕ → Typ) (m : Meaning) (p : Program) → Agrees types m words.new → throwing_of types m p c ≡ in_frame (replacing_of types with.entry) (throwing_of types m p throwing)) }
+    ensures grows { (types : ℕ → Typ) (m : Meaning) → Agrees types m words.new → Agrees types m words.old }
 {
     match throwing {
         ExceptionFrame::Throws { typ, fields } => Ok(ExceptionFrame::Throws { typ, fields }),
@@ -366,9 +395,9 @@ pub fn replaced_throwing<'a>(
             puts,
         } => Ok(ExceptionFrame::Fills {
             typ,
-            from: replaced_term(arena, with, from)?,
+            from: replaced_word(arena, words, with, from)?,
             fields,
-            puts: replaced_puts(arena, with, puts)?,
+            puts: replaced_given(arena, words, with, puts)?,
         }),
         ExceptionFrame::Filled {
             typ,
@@ -379,11 +408,11 @@ pub fn replaced_throwing<'a>(
             puts,
         } => Ok(ExceptionFrame::Filled {
             typ,
-            from: replaced_term(arena, with, from)?,
+            from: replaced_word(arena, words, with, from)?,
             offset,
             kind,
             fields,
-            puts: replaced_puts(arena, with, puts)?,
+            puts: replaced_given(arena, words, with, puts)?,
         }),
         ExceptionFrame::Tries(handlers) => Ok(ExceptionFrame::Tries(handlers)),
         ExceptionFrame::Trying {
@@ -391,7 +420,7 @@ pub fn replaced_throwing<'a>(
             handler,
             others,
         } => Ok(ExceptionFrame::Trying {
-            exception: replaced_exception(arena, with, exception)?,
+            exception: replaced_thrown(arena, words, with, exception)?,
             handler,
             others,
         }),
@@ -400,8 +429,8 @@ pub fn replaced_throwing<'a>(
             base,
             fields,
         } => Ok(ExceptionFrame::Takes {
-            exception: replaced_exception(arena, with, exception)?,
-            base: replaced_term(arena, with, base)?,
+            exception: replaced_thrown(arena, words, with, exception)?,
+            base: replaced_word(arena, words, with, base)?,
             fields,
         }),
         ExceptionFrame::Taking {
@@ -410,13 +439,13 @@ pub fn replaced_throwing<'a>(
             offset,
             kind,
         } => Ok(ExceptionFrame::Taking {
-            exception: replaced_exception(arena, with, exception)?,
-            base: replaced_term(arena, with, base)?,
+            exception: replaced_thrown(arena, words, with, exception)?,
+            base: replaced_word(arena, words, with, base)?,
             offset,
             kind,
         }),
-        ExceptionFrame::Handling(exception) => Ok(ExceptionFrame::Handling(replaced_exception(
-            arena, with, exception,
+        ExceptionFrame::Handling(exception) => Ok(ExceptionFrame::Handling(replaced_thrown(
+            arena, words, with, exception,
         )?)),
     }
 }
@@ -424,23 +453,29 @@ pub fn replaced_throwing<'a>(
 /// The same with these terms in the place of variables: a frame.
 pub fn replaced_frame<'a>(
     arena: &'a Bump,
+    words: &mut Words<'a>,
     with: Replacing<'a>,
     frame: Frame<'a>,
 ) -> Result<Frame<'a>, Refusal>
-    ensures { IfOk result (λ c. (types : ℕ → Typ) (p : Program) (f : Func) → frame_of types p f c ≡ in_frame (replacing_of types with.entry) (frame_of types p f frame.entry)) }
+    ensures is { IfOk result (λ c. (types : ℕ → Typ) (m : Meaning) (p : Program) (f : Func) → Agrees types m words.new → frame_of types m p f c ≡ in_frame (replacing_of types with.entry) (frame_of types m p f frame.entry)) }
+    ensures grows { (types : ℕ → Typ) (m : Meaning) → Agrees types m words.new → Agrees types m words.old }
 {
     match frame {
-        Frame::Run(way, tree) => Ok(Frame::Run(replaced_way(arena, with, way)?, tree)),
-        Frame::Address(word) => Ok(Frame::Address(replaced_term(arena, with, word)?)),
-        Frame::Then(way, tree) => Ok(Frame::Then(replaced_way(arena, with, way)?, tree)),
-        Frame::Gives(word) => Ok(Frame::Gives(replaced_term(arena, with, word)?)),
-        Frame::Leaves(exit) => Ok(Frame::Leaves(replaced_exit(arena, with, exit)?)),
-        Frame::Value(inner) => Ok(Frame::Value(replaced_value(arena, with, inner)?)),
-        Frame::Call(inner) => Ok(Frame::Call(replaced_call(arena, with, inner)?)),
-        Frame::Object(inner) => Ok(Frame::Object(replaced_object(arena, with, inner)?)),
-        Frame::Statement(inner) => Ok(Frame::Statement(replaced_statement(arena, with, inner)?)),
+        Frame::Run(way, tree) => Ok(Frame::Run(replaced_way(arena, words, with, way)?, tree)),
+        Frame::Address(word) => Ok(Frame::Address(replaced_word(arena, words, with, word)?)),
+        Frame::Then(way, tree) => Ok(Frame::Then(replaced_way(arena, words, with, way)?, tree)),
+        Frame::Gives(word) => Ok(Frame::Gives(replaced_word(arena, words, with, word)?)),
+        Frame::Leaves(exit) => Ok(Frame::Leaves(replaced_exit(arena, words, with, exit)?)),
+        Frame::Value(inner) => Ok(Frame::Value(replaced_value(arena, words, with, inner)?)),
+        Frame::Call(inner) => Ok(Frame::Call(replaced_call(arena, words, with, inner)?)),
+        Frame::Object(inner) => Ok(Frame::Object(replaced_object(arena, words, with, inner)?)),
+        Frame::Statement(inner) => Ok(Frame::Statement(replaced_statement(
+            arena, words, with, inner,
+        )?)),
         Frame::Block(inner) => Ok(Frame::Block(inner)),
-        Frame::Exception(inner) => Ok(Frame::Exception(replaced_throwing(arena, with, inner)?)),
+        Frame::Exception(inner) => Ok(Frame::Exception(replaced_throwing(
+            arena, words, with, inner,
+        )?)),
     }
 }
 
@@ -448,16 +483,18 @@ pub fn replaced_frame<'a>(
 #[tactic(auto, using(crate::proofs::InPlace::frames_replaced))]
 pub fn replaced_frames<'a>(
     arena: &'a Bump,
+    words: &mut Words<'a>,
     with: Replacing<'a>,
     frames: Frames<'a>,
 ) -> Result<Frames<'a>, Refusal>
-    ensures { IfOk result (λ c. (types : ℕ → Typ) (p : Program) (f : Func) → frames_of types p f c ≡ in_frames (replacing_of types with.entry) (frames_of types p f frames.entry)) }
+    ensures is { IfOk result (λ c. (types : ℕ → Typ) (m : Meaning) (p : Program) (f : Func) → Agrees types m words.new → frames_of types m p f c ≡ in_frames (replacing_of types with.entry) (frames_of types m p f frames.entry)) }
+    ensures grows { (types : ℕ → Typ) (m : Meaning) → Agrees types m words.new → Agrees types m words.old }
 {
     match frames {
         Frames::Empty => Ok(Frames::Empty),
         Frames::More(frame, rest) => {
-            let frame = replaced_frame(arena, with, frame)?;
-            let rest = keep(arena, replaced_frames(arena, with, *rest)?)?;
+            let frame = replaced_frame(arena, words, with, frame)?;
+            let rest = keep(arena, replaced_frames(arena, words, with, *rest)?)?;
             Ok(Frames::More(frame, rest))
         }
     }

@@ -8,7 +8,7 @@ ghost use Rattle.src_mean.specs.Frames.{same_owner as is_same_owner};
 ghost use Rattle.src_frames.specs.Shown.{owner_shown};
 ghost use Rattle.src_frames.specs.Trees.{kids_shown};
 ghost use Rattle.symbolic_source.specs.Frames.{spot_frame as frame_of_spot, puts, puts_some, waiting as waits_with, handled as exception_handled, blocks_in as blocks_among};
-ghost use Rattle.symbolic_terms.specs.Words.{exception_of};
+ghost use Rattle.symbolic_terms.specs.Meanings.{Meaning, thrown_of};
 ghost use Rattle.symbolic_terms.specs.Shown.{spot_of, waiting_of, all_waiting, object_of, frame_of, frames_of, opens_of, program_in};
 ghost use Rattle.symbolic_frames.specs.Sorts.{is_scope_of, is_scope_in, waits_too, handling_at, handling_in, open_at, open_in as open_among};
 
@@ -20,13 +20,13 @@ use symbolic_terms::arena::keep;
 use symbolic_terms::frames::{
     BlockFrame, ExceptionFrame, Frame, Frames, ObjectFrame, Spot, Waiting, Waitings, Way,
 };
+use symbolic_terms::ids::ExceptionId;
 use symbolic_terms::places::Opens;
 use symbolic_terms::refusal::Refusal;
-use symbolic_terms::terms::Exception;
 
 /// The frame in which the address of a waiting object is found.
-pub fn spot_frame<'a>(spot: Spot<'a>) -> Frame<'a>
-    ensures { (types : ℕ → Typ) (p : Program) (f : Func) → frame_of types p f result ≡ frame_of_spot (spot_of types p spot.entry) }
+pub fn spot_frame<'a>(spot: Spot) -> Frame<'a>
+    ensures { (types : ℕ → Typ) (m : Meaning) (p : Program) (f : Func) → frame_of types m p f result ≡ frame_of_spot (spot_of types m p spot) }
 {
     match spot {
         Spot::Word(word) => Frame::Address(word),
@@ -70,11 +70,11 @@ fn is_scope_object(owner: Owner, frame: ObjectFrame<'_>) -> bool
 fn with_objects<'a>(
     arena: &'a Bump,
     owner: Owner,
-    waiting: Waiting<'a>,
+    waiting: Waiting,
     frame: Frame<'a>,
 ) -> Result<Frame<'a>, Refusal>
     requires { is_scope_of owner frame ≡ true }
-    ensures { IfOk result (λ g. (types : ℕ → Typ) (p : Program) (f : Func) → frame_of types p f g ≡ waits_too (waiting_of types p waiting.entry) (frame_of types p f frame.entry)) }
+    ensures { IfOk result (λ g. (types : ℕ → Typ) (m : Meaning) (p : Program) (f : Func) → frame_of types m p f g ≡ waits_too (waiting_of types m p waiting) (frame_of types m p f frame.entry)) }
 {
     match frame {
         Frame::Object(inner) => { Ok(Frame::Object(with_object(arena, owner, waiting, inner)?)) }
@@ -86,11 +86,11 @@ fn with_objects<'a>(
 fn with_object<'a>(
     arena: &'a Bump,
     owner: Owner,
-    waiting: Waiting<'a>,
+    waiting: Waiting,
     frame: ObjectFrame<'a>,
 ) -> Result<ObjectFrame<'a>, Refusal>
     requires { is_scope_in owner frame ≡ true }
-    ensures { IfOk result (λ g. (types : ℕ → Typ) (p : Program) → object_of types p g ≡ waits_too (waiting_of types p waiting.entry) (object_of types p frame.entry)) }
+    ensures { IfOk result (λ g. (types : ℕ → Typ) (m : Meaning) (p : Program) → object_of types m p g ≡ waits_too (waiting_of types m p waiting) (object_of types m p frame.entry)) }
 {
     match frame {
         ObjectFrame::Scope {
@@ -114,10 +114,10 @@ fn with_object<'a>(
 pub fn put_waiting<'a>(
     arena: &'a Bump,
     owner: Owner,
-    waiting: Waiting<'a>,
+    waiting: Waiting,
     frames: Frames<'a>,
 ) -> Result<Option<Frames<'a>>, Refusal>
-    ensures { IfOk result (λ o. (types : ℕ → Typ) (p : Program) (f : Func) → MatchOption o (puts (owner_shown owner) (waiting_of types p waiting.entry) (frames_of types p f frames.entry) ≡ None) (λ k. puts (owner_shown owner) (waiting_of types p waiting.entry) (frames_of types p f frames.entry) ≡ Some (frames_of types p f k))) }
+    ensures { IfOk result (λ o. (types : ℕ → Typ) (m : Meaning) (p : Program) (f : Func) → MatchOption o (puts (owner_shown owner) (waiting_of types m p waiting) (frames_of types m p f frames.entry) ≡ None) (λ k. puts (owner_shown owner) (waiting_of types m p waiting) (frames_of types m p f frames.entry) ≡ Some (frames_of types m p f k))) }
 {
     match frames {
         Frames::Empty => Ok(None),
@@ -139,10 +139,10 @@ pub fn put_some<'a>(
     arena: &'a Bump,
     bound: &Bound<'_>,
     owner: Owner,
-    waiting: Waiting<'a>,
+    waiting: Waiting,
     frames: Frames<'a>,
 ) -> Result<Option<Frames<'a>>, Refusal>
-    ensures { IfOk result (λ o. (types : ℕ → Typ) (f : Func) → MatchOption o (puts_some (owner_shown owner) (spot_of types (program_in bound.now) waiting.entry.address) (kids_shown (program_in bound.now) waiting.entry.destroys) (frames_of types (program_in bound.now) f frames.entry) ≡ None) (λ k. puts_some (owner_shown owner) (spot_of types (program_in bound.now) waiting.entry.address) (kids_shown (program_in bound.now) waiting.entry.destroys) (frames_of types (program_in bound.now) f frames.entry) ≡ Some (frames_of types (program_in bound.now) f k))) }
+    ensures { IfOk result (λ o. (types : ℕ → Typ) (m : Meaning) (f : Func) → MatchOption o (puts_some (owner_shown owner) (spot_of types m (program_in bound.now) waiting.address) (kids_shown (program_in bound.now) waiting.destroys) (frames_of types m (program_in bound.now) f frames.entry) ≡ None) (λ k. puts_some (owner_shown owner) (spot_of types m (program_in bound.now) waiting.address) (kids_shown (program_in bound.now) waiting.destroys) (frames_of types m (program_in bound.now) f frames.entry) ≡ Some (frames_of types m (program_in bound.now) f k))) }
 {
     if is_past(bound, waiting.destroys) {
         return Ok(Some(frames));
@@ -154,10 +154,10 @@ pub fn put_some<'a>(
 pub fn with_waiting<'a>(
     arena: &'a Bump,
     bound: &Bound<'_>,
-    waiting: Waiting<'a>,
+    waiting: Waiting,
     others: Waitings<'a>,
 ) -> Result<Waitings<'a>, Refusal>
-    ensures { IfOk result (λ c. (types : ℕ → Typ) → all_waiting types (program_in bound.now) c ≡ waits_with (spot_of types (program_in bound.now) waiting.entry.address) (kids_shown (program_in bound.now) waiting.entry.destroys) (all_waiting types (program_in bound.now) others.entry)) }
+    ensures { IfOk result (λ c. (types : ℕ → Typ) (m : Meaning) → all_waiting types m (program_in bound.now) c ≡ waits_with (spot_of types m (program_in bound.now) waiting.address) (kids_shown (program_in bound.now) waiting.destroys) (all_waiting types m (program_in bound.now) others.entry)) }
 {
     if is_past(bound, waiting.destroys) {
         return Ok(others);
@@ -166,7 +166,7 @@ pub fn with_waiting<'a>(
 }
 
 // The exception of the handler that is entered in a frame.
-fn handling<'a>(frame: Frame<'a>) -> Option<Exception<'a>>
+fn handling(frame: Frame<'_>) -> Option<ExceptionId>
     ensures { result ≡ handling_at frame.entry }
 {
     match frame {
@@ -175,8 +175,8 @@ fn handling<'a>(frame: Frame<'a>) -> Option<Exception<'a>>
     }
 }
 
-fn handling_exception<'a>(frame: ExceptionFrame<'a>) -> Option<Exception<'a>>
-    ensures { result ≡ handling_in frame.entry }
+fn handling_exception(frame: ExceptionFrame) -> Option<ExceptionId>
+    ensures { result ≡ handling_in frame }
 {
     match frame {
         ExceptionFrame::Handling(exception) => Some(exception),
@@ -186,8 +186,8 @@ fn handling_exception<'a>(frame: ExceptionFrame<'a>) -> Option<Exception<'a>>
 
 /// The exception of the innermost entered handler of this function.
 #[tactic(auto, using(crate::proofs::Below::handled_here, crate::proofs::Below::handled_below))]
-pub fn handled<'a>(frames: Frames<'a>) -> Option<Exception<'a>>
-    ensures { MatchOption result ((types : ℕ → Typ) (p : Program) (f : Func) → exception_handled (frames_of types p f frames.entry) ≡ None) (λ e. (types : ℕ → Typ) (p : Program) (f : Func) → exception_handled (frames_of types p f frames.entry) ≡ Some (exception_of types e)) }
+pub fn handled(frames: Frames<'_>) -> Option<ExceptionId>
+    ensures { MatchOption result ((types : ℕ → Typ) (m : Meaning) (p : Program) (f : Func) → exception_handled (frames_of types m p f frames.entry) ≡ None) (λ e. (types : ℕ → Typ) (m : Meaning) (p : Program) (f : Func) → exception_handled (frames_of types m p f frames.entry) ≡ Some (thrown_of m e)) }
 {
     match frames {
         Frames::Empty => None,
@@ -221,7 +221,7 @@ fn open_block(frame: BlockFrame) -> Option<Open>
 /// The open blocks of this function.
 #[tactic(auto, using(crate::proofs::Below::blocks_here, crate::proofs::Below::blocks_below))]
 pub fn blocks_in<'a>(arena: &'a Bump, frames: Frames<'a>) -> Result<Opens<'a>, Refusal>
-    ensures { IfOk result (λ c. (types : ℕ → Typ) (p : Program) (f : Func) → opens_of c ≡ blocks_among (frames_of types p f frames.entry)) }
+    ensures { IfOk result (λ c. (types : ℕ → Typ) (m : Meaning) (p : Program) (f : Func) → opens_of c ≡ blocks_among (frames_of types m p f frames.entry)) }
 {
     match frames {
         Frames::Empty => Ok(Opens::Empty),

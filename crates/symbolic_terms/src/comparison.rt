@@ -1,11 +1,15 @@
 //! Whether terms are the same.
 
-ghost use Rattle.std.specs.Prelude.{ℕ, ◌≡◌, IsTrue, ◌↔◌};
+ghost use Rattle.std.specs.Prelude.{ℕ, ◌≡◌, IfOk, IsTrue, ◌↔◌};
 ghost use Rattle.cpp_tree.specs.cpp_types.Typ.{Typ};
 ghost use Rattle.symbolic_code.specs.Same.{same_term as is_same_term, same_exception as is_same_exception};
-ghost use Rattle.symbolic_terms.specs.Words.{numbered, term_of, exception_of, puts_of, terms_of};
+ghost use Rattle.symbolic_terms.specs.Words.{numbered, term_of, exception_of, puts_of};
+ghost use Rattle.symbolic_terms.specs.Meanings.{Meaning, word_of, thrown_of, given_of, words_of, all_thrown, Agrees};
 
-use crate::terms::{Exception, Puts, Term, Terms};
+use crate::ids::{ExceptionId, Exceptions, PutsId, Terms, WordId};
+use crate::refusal::Refusal;
+use crate::terms::{Exception, Puts, Term};
+use crate::words::{Words, term};
 
 /// Whether two exceptions are one unknown one. Exceptions that were made are not compared.
 pub fn same_exception(left: &Exception<'_>, right: &Exception<'_>) -> bool
@@ -189,15 +193,88 @@ pub fn equal_puts(left: &Puts<'_>, right: &Puts<'_>) -> bool
     }
 }
 
-/// Whether two lists of terms are one.
-pub fn equal_lists(left: &Terms<'_>, right: &Terms<'_>) -> bool
-    ensures shows { IsTrue result → (types : ℕ → Typ) → terms_of types left.now ≡ terms_of types right.now }
-    ensures own { terms_of numbered left.now ≡ terms_of numbered right.now → IsTrue result }
+/// Whether two words are the same, as the definitions of the checker compare them.
+pub fn same_word(words: &Words<'_>, left: WordId, right: WordId) -> Result<bool, Refusal>
+    ensures { IfOk result (λ yes. (types : ℕ → Typ) (m : Meaning) → Agrees types m words.now → yes ≡ is_same_term (word_of m left) (word_of m right)) }
+{
+    let left = term(words, left)?;
+    let right = term(words, right)?;
+    Ok(same_term(&left, &right))
+}
+
+/// Whether two words are one, with all that was put into exceptions.
+pub fn equal_words(words: &Words<'_>, left: WordId, right: WordId) -> bool
+    ensures shows { IsTrue result → (types : ℕ → Typ) (m : Meaning) → Agrees types m words.now → word_of m left ≡ word_of m right }
+{
+    if left.number == right.number {
+        return true;
+    }
+    match (
+        words.terms.get(left.number as usize),
+        words.terms.get(right.number as usize),
+    ) {
+        (Some(left), Some(right)) => equal_terms(left, right),
+        _ => false,
+    }
+}
+
+/// Whether two exceptions are one.
+pub fn equal_thrown(words: &Words<'_>, left: ExceptionId, right: ExceptionId) -> bool
+    ensures shows { IsTrue result → (types : ℕ → Typ) (m : Meaning) → Agrees types m words.now → thrown_of m left ≡ thrown_of m right }
+{
+    if left.number == right.number {
+        return true;
+    }
+    match (
+        words.exceptions.get(left.number as usize),
+        words.exceptions.get(right.number as usize),
+    ) {
+        (Some(left), Some(right)) => equal_exceptions(left, right),
+        _ => false,
+    }
+}
+
+/// Whether the same words were put at the same places in the same order.
+pub fn equal_given(words: &Words<'_>, left: PutsId, right: PutsId) -> bool
+    ensures shows { IsTrue result → (types : ℕ → Typ) (m : Meaning) → Agrees types m words.now → given_of m left ≡ given_of m right }
+{
+    if left.number == right.number {
+        return true;
+    }
+    match (
+        words.puts.get(left.number as usize),
+        words.puts.get(right.number as usize),
+    ) {
+        (Some(left), Some(right)) => equal_puts(left, right),
+        _ => false,
+    }
+}
+
+/// Whether two lists of words are one.
+pub fn equal_lists(words: &Words<'_>, left: &Terms<'_>, right: &Terms<'_>) -> bool
+    ensures shows { IsTrue result → (types : ℕ → Typ) (m : Meaning) → Agrees types m words.now → words_of m left.now ≡ words_of m right.now }
 {
     match (left, right) {
         (Terms::Empty, Terms::Empty) => true,
-        (Terms::More(term, rest), Terms::More(other, others)) => {
-            equal_terms(term, other) && equal_lists(rest, others)
+        (Terms::More(word, rest), Terms::More(other, others)) => {
+            equal_words(words, *word, *other) && equal_lists(words, rest, others)
+        }
+        _ => false,
+    }
+}
+
+/// Whether two lists of exceptions are one.
+pub fn equal_exception_lists(
+    words: &Words<'_>,
+    left: &Exceptions<'_>,
+    right: &Exceptions<'_>,
+) -> bool
+    ensures shows { IsTrue result → (types : ℕ → Typ) (m : Meaning) → Agrees types m words.now → all_thrown m left.now ≡ all_thrown m right.now }
+{
+    match (left, right) {
+        (Exceptions::Empty, Exceptions::Empty) => true,
+        (Exceptions::More(exception, rest), Exceptions::More(other, others)) => {
+            equal_thrown(words, *exception, *other) && equal_exception_lists(words, rest, others)
         }
         _ => false,
     }

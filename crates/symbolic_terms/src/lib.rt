@@ -7,6 +7,7 @@ pub mod arena;
 pub mod comparison;
 pub mod frames;
 pub mod ids;
+pub mod made;
 pub mod outcomes;
 pub mod places;
 pub mod refusal;

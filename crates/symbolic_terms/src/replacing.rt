@@ -3,13 +3,16 @@
 ghost use Rattle.std.specs.Prelude.{ℕ, ◌≡◌, ◌+◌, IfOk};
 ghost use Rattle.cpp_tree.specs.cpp_types.Typ.{Typ};
 ghost use Rattle.symbolic_source.specs.Replacing.{in_term, in_exception, in_puts, in_terms};
-ghost use Rattle.symbolic_terms.specs.Words.{term_of, exception_of, puts_of, terms_of};
+ghost use Rattle.symbolic_terms.specs.Words.{term_of, exception_of, puts_of};
+ghost use Rattle.symbolic_terms.specs.Meanings.{Meaning, word_of, thrown_of, given_of, words_of, Agrees};
 ghost use Rattle.symbolic_terms.specs.Replaced.{replacing_of};
 
 use crate::arena::keep;
+use crate::ids::{ExceptionId, PutsId, Terms, WordId};
 use crate::refusal::Refusal;
 use crate::sums::{multiplied, one_less, summed};
-use crate::terms::{Exception, Puts, Term, Terms};
+use crate::terms::{Exception, Puts, Term};
+use crate::words::{self, Words, made, made_exception, made_puts, term};
 use bumpalo::Bump;
 
 /// What comes in the place of each variable.
@@ -180,20 +183,64 @@ pub fn replaced_puts<'a>(
     }
 }
 
-/// Words with terms in the place of their variables.
-pub fn replaced_terms<'a>(
+/// A word with terms in the place of its variables.
+pub fn replaced_word<'a>(
     arena: &'a Bump,
+    words: &mut Words<'a>,
     with: Replacing<'a>,
-    terms: Terms<'a>,
-) -> Result<Terms<'a>, Refusal>
-    ensures { IfOk result (λ c. (types : ℕ → Typ) → terms_of types c ≡ in_terms (replacing_of types with.entry) (terms_of types terms.entry)) }
+    word: WordId,
+) -> Result<WordId, Refusal>
+    ensures is { IfOk result (λ w. (types : ℕ → Typ) (m : Meaning) → Agrees types m words.new → word_of m w ≡ in_term (replacing_of types with.entry) (word_of m word)) }
+    ensures grows { (types : ℕ → Typ) (m : Meaning) → Agrees types m words.new → Agrees types m words.old }
 {
-    match terms {
+    let replaced = replaced_term(arena, with, term(words, word)?)?;
+    made(words, replaced)
+}
+
+/// An exception with terms in the place of its variables.
+pub fn replaced_thrown<'a>(
+    arena: &'a Bump,
+    words: &mut Words<'a>,
+    with: Replacing<'a>,
+    exception: ExceptionId,
+) -> Result<ExceptionId, Refusal>
+    ensures is { IfOk result (λ e. (types : ℕ → Typ) (m : Meaning) → Agrees types m words.new → thrown_of m e ≡ in_exception (replacing_of types with.entry) (thrown_of m exception)) }
+    ensures grows { (types : ℕ → Typ) (m : Meaning) → Agrees types m words.new → Agrees types m words.old }
+{
+    let replaced = replaced_exception(arena, with, words::exception(words, exception)?)?;
+    made_exception(words, replaced)
+}
+
+/// What was put into an exception, with terms in the place of its variables.
+pub fn replaced_given<'a>(
+    arena: &'a Bump,
+    words: &mut Words<'a>,
+    with: Replacing<'a>,
+    puts: PutsId,
+) -> Result<PutsId, Refusal>
+    ensures is { IfOk result (λ q. (types : ℕ → Typ) (m : Meaning) → Agrees types m words.new → given_of m q ≡ in_puts (replacing_of types with.entry) (given_of m puts)) }
+    ensures grows { (types : ℕ → Typ) (m : Meaning) → Agrees types m words.new → Agrees types m words.old }
+{
+    let replaced = replaced_puts(arena, with, words::given(words, puts)?)?;
+    made_puts(words, replaced)
+}
+
+/// Words with terms in the place of their variables.
+pub fn replaced_words<'a>(
+    arena: &'a Bump,
+    words: &mut Words<'a>,
+    with: Replacing<'a>,
+    list: Terms<'a>,
+) -> Result<Terms<'a>, Refusal>
+    ensures is { IfOk result (λ ws. (types : ℕ → Typ) (m : Meaning) → Agrees types m words.new → words_of m ws ≡ in_terms (replacing_of types with.entry) (words_of m list.entry)) }
+    ensures grows { (types : ℕ → Typ) (m : Meaning) → Agrees types m words.new → Agrees types m words.old }
+{
+    match list {
         Terms::Empty => Ok(Terms::Empty),
-        Terms::More(term, rest) => {
-            let term = replaced_term(arena, with, term)?;
-            let rest = keep(arena, replaced_terms(arena, with, *rest)?)?;
-            Ok(Terms::More(term, rest))
+        Terms::More(word, rest) => {
+            let word = replaced_word(arena, words, with, word)?;
+            let rest = keep(arena, replaced_words(arena, words, with, *rest)?)?;
+            Ok(Terms::More(word, rest))
         }
     }
 }

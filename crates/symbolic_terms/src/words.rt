@@ -3,7 +3,7 @@
 ghost use Rattle.std.specs.Prelude.{ℕ, ◌≡◌, IfOk};
 ghost use Rattle.cpp_tree.specs.cpp_types.Typ.{Typ};
 ghost use Rattle.symbolic_terms.specs.Words.{term_of, exception_of, puts_of};
-ghost use Rattle.symbolic_terms.specs.Meanings.{Meaning, Agrees};
+ghost use Rattle.symbolic_terms.specs.Meanings.{Meaning, word_of, thrown_of, given_of, Agrees};
 
 use crate::ids::{ExceptionId, PutsId, WordId};
 use crate::refusal::Refusal;
@@ -19,7 +19,7 @@ pub struct Words<'a> {
 
 /// The term with this number. A number that was not given is refused.
 pub fn term<'a>(words: &Words<'a>, id: WordId) -> Result<Term<'a>, Refusal>
-    ensures { IfOk result (λ t. (types : ℕ → Typ) (m : Meaning) → Agrees types m words.now → m.word id.number ≡ term_of types t) }
+    ensures { IfOk result (λ t. (types : ℕ → Typ) (m : Meaning) → Agrees types m words.now → word_of m id ≡ term_of types t) }
 {
     match words.terms.get(id.number as usize) {
         Some(term) => Ok(*term),
@@ -27,9 +27,30 @@ pub fn term<'a>(words: &Words<'a>, id: WordId) -> Result<Term<'a>, Refusal>
     }
 }
 
+/// The exception with this number. A number that was not given is refused.
+pub fn exception<'a>(words: &Words<'a>, id: ExceptionId) -> Result<Exception<'a>, Refusal>
+    ensures { IfOk result (λ t. (types : ℕ → Typ) (m : Meaning) → Agrees types m words.now → thrown_of m id ≡ exception_of types t) }
+{
+    match words.exceptions.get(id.number as usize) {
+        Some(exception) => Ok(*exception),
+        None => Err(Refusal::NotMade),
+    }
+}
+
+/// What was put into an exception, with this number. A number that was not given is refused.
+pub fn given<'a>(words: &Words<'a>, id: PutsId) -> Result<Puts<'a>, Refusal>
+    ensures { IfOk result (λ t. (types : ℕ → Typ) (m : Meaning) → Agrees types m words.now → given_of m id ≡ puts_of types t) }
+{
+    match words.puts.get(id.number as usize) {
+        Some(puts) => Ok(*puts),
+        None => Err(Refusal::NotMade),
+    }
+}
+
 /// A number for a term.
+#[tactic(auto, using(crate::proofs::Made::newest_term, crate::proofs::Made::earlier_term))]
 pub fn made<'a>(words: &mut Words<'a>, term: Term<'a>) -> Result<WordId, Refusal>
-    ensures is { IfOk result (λ w. (types : ℕ → Typ) (m : Meaning) → Agrees types m words.new → m.word w.number ≡ term_of types term.entry) }
+    ensures is { IfOk result (λ w. (types : ℕ → Typ) (m : Meaning) → Agrees types m words.new → word_of m w ≡ term_of types term.entry) }
     ensures grows { (types : ℕ → Typ) (m : Meaning) → Agrees types m words.new → Agrees types m words.old }
 {
     let number = words.terms.len();
@@ -38,6 +59,41 @@ pub fn made<'a>(words: &mut Words<'a>, term: Term<'a>) -> Result<WordId, Refusal
     }
     words.terms.push(term)?;
     Ok(WordId {
+        number: number as u32,
+    })
+}
+
+/// A number for an exception.
+#[tactic(auto, using(crate::proofs::Made::newest_exception, crate::proofs::Made::earlier_exception))]
+pub fn made_exception<'a>(
+    words: &mut Words<'a>,
+    exception: Exception<'a>,
+) -> Result<ExceptionId, Refusal>
+    ensures is { IfOk result (λ w. (types : ℕ → Typ) (m : Meaning) → Agrees types m words.new → thrown_of m w ≡ exception_of types exception.entry) }
+    ensures grows { (types : ℕ → Typ) (m : Meaning) → Agrees types m words.new → Agrees types m words.old }
+{
+    let number = words.exceptions.len();
+    if number > 0xffff_ffff {
+        return Err(Refusal::Beyond);
+    }
+    words.exceptions.push(exception)?;
+    Ok(ExceptionId {
+        number: number as u32,
+    })
+}
+
+/// A number for what was put into an exception.
+#[tactic(auto, using(crate::proofs::Made::newest_puts, crate::proofs::Made::earlier_puts))]
+pub fn made_puts<'a>(words: &mut Words<'a>, puts: Puts<'a>) -> Result<PutsId, Refusal>
+    ensures is { IfOk result (λ w. (types : ℕ → Typ) (m : Meaning) → Agrees types m words.new → given_of m w ≡ puts_of types puts.entry) }
+    ensures grows { (types : ℕ → Typ) (m : Meaning) → Agrees types m words.new → Agrees types m words.old }
+{
+    let number = words.puts.len();
+    if number > 0xffff_ffff {
+        return Err(Refusal::Beyond);
+    }
+    words.puts.push(puts)?;
+    Ok(PutsId {
         number: number as u32,
     })
 }
