@@ -19,6 +19,7 @@ use Rattle.symbolic_terms.specs.declared.outcomes.Outcome.TheVariants.{Stuck, Go
 use Rattle.symbolic_terms.specs.declared.outcomes.Leading.{Leading}
 use Rattle.symbolic_terms.specs.declared.outcomes.Leading.TheVariants.{Does, Calls, Spawns, Rethrows}
 use Rattle.symbolic_terms.specs.declared.outcomes.Rest.{Rest}
+use Rattle.symbolic_terms.specs.Meanings.{Meaning}
 use Rattle.symbolic_terms.specs.Words.{exception_of, type_in, type_or_void}
 use Rattle.symbolic_terms.specs.Shown.{outcome_of}
 use Rattle.symbolic_terms.specs.Replaced.{exception_or_first}
@@ -51,22 +52,22 @@ makes_as thrown note known ks q q2 o o2 r types made_q same_q made_o same_o made
   same_outcome = sym made_o ∙ same_o;
 }
 
-module _ (b : Compiled) (ns : Notes) (known : List Fact) (index : ℕ) (q : Place) where
-  pub found_as : (o : outcomes.Outcome) (at : ℕ) (note : Note) → slice_get ns.list.items at ≡ Some note → Same (thrown_by b) (note_at b.source note) known q o index → FoundBy b ns known index q o note.rank
-  found_as o at note e s = record { at = at; note = note_at b.source note; is = shown_at (note_at b.source) ns.list.items at note e; same = s; ranked = refl }
+module _ (b : Compiled) (m : Meaning) (ns : Notes) (known : List Fact) (index : ℕ) (q : Place) where
+  pub found_as : (o : outcomes.Outcome) (at : ℕ) (note : Note) → slice_get ns.list.items at ≡ Some note → Same (thrown_by b) (note_at b.source m note) known q o index → FoundBy b m ns known index q o note.rank
+  found_as o at note e s = record { at = at; note = note_at b.source m note; is = shown_at (note_at b.source m) ns.list.items at note e; same = s; ranked = refl }
 
-  pub agrees_as : (o o2 : outcomes.Outcome) (rank : ℕ) (stuck : Bool) → o2 ≡ settled known o → stuck ≡ is_stuck o → stuck ≡ false → FoundBy b ns known index q o2 rank → AgreesBy b ns known index q o rank
-  agrees_as o o2 rank stuck e is not_so f = record { found = subst (λ z. FoundBy b ns known index q z rank) e f; foreseen = sym is ∙ not_so }
+  pub agrees_as : (o o2 : outcomes.Outcome) (rank : ℕ) (stuck : Bool) → o2 ≡ settled known o → stuck ≡ is_stuck o → stuck ≡ false → FoundBy b m ns known index q o2 rank → AgreesBy b m ns known index q o rank
+  agrees_as o o2 rank stuck e is not_so f = record { found = subst (λ z. FoundBy b m ns known index q z rank) e f; foreseen = sym is ∙ not_so }
 
 -- what is foreseen
-module _ (types : ℕ → Typ) (p : program.Program) (f : Func) where
-  leads : (l : Leading) (r : Rest) → false ≡ is_stuck (outcome_of types p f (Goes l r))
+module _ (types : ℕ → Typ) (m : Meaning) (p : program.Program) (f : Func) where
+  leads : (l : Leading) (r : Rest) → false ≡ is_stuck (outcome_of types m p f (Goes l r))
   leads (Does doing) r = refl
   leads (Calls callee words) r = refl
   leads (Spawns address argument) r = refl
   leads Rethrows r = refl
 
-  pub not_stuck : (o : Outcome) → (o ≡ Stuck → ⊥) → false ≡ is_stuck (outcome_of types p f o)
+  pub not_stuck : (o : Outcome) → (o ≡ Stuck → ⊥) → false ≡ is_stuck (outcome_of types m p f o)
   not_stuck Stuck h = absurd (h refl)
   not_stuck (Goes l r) h = leads l r
   not_stuck (Hands w ws) h = refl

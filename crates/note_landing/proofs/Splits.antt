@@ -10,7 +10,8 @@ use Rattle.cpp_tree.specs.cpp_types.Class.{Class}
 use Rattle.cpp_tree.specs.cpp_types.Equal.{name_eq}
 use Rattle.src_mean.specs.Exceptions.{form_in}
 use Rattle.src_mean.specs.Linked.{Func, Program}
-use Rattle.symbolic_source.specs.Terms.{unknown}
+use Rattle.symbolic_source.specs.Terms.{Exception, unknown}
+use Rattle.symbolic_terms.specs.Meanings.{Meaning}
 use Rattle.symbolic_source.specs.Outcomes.{Outcome}
 use Rattle.symbolic_code.specs.Places.{Place}
 use Rattle.symbolic_leaving.specs.Answers.{texts_of}
@@ -99,14 +100,14 @@ module _ (classes : List Class) (known : List (List ℕ)) where
   each_spelling P [] f e = (e, tt)
   each_spelling P (s ∷ ss) f e = (f 0 s refl, each_spelling P ss (λ n t h. f (suc n) t h) e)
 
-pub all_cases : (b : Compiled) (ns : Notes) (u : Unknown) (q : Place) (o : Outcome) → u.rank ≤ 63 → CasesBy b ns u q o → FliesBy b ns (facts_by b u.known) u.index q (unknown u.number) o u.rank
-all_cases b ns u q o low c = record {
+pub all_cases : (b : Compiled) (m : Meaning) (ns : Notes) (u : Unknown) (q : Place) (o : Outcome) → u.rank ≤ 63 → CasesBy b m ns u q o → FliesBy b m ns (facts_by b m u.known) u.index q (unknown u.number) o u.rank
+all_cases b m ns u q o low c = record {
   flies = record {
     rank = u.rank;
     low = low;
-    fits = λ t is told. cases_fit (linked_by b) (func_by b) bounds (notes_by b ns) (thrown_by b) known (numbers_by b) (text_at (image_by b)) (rows_by b) (facts_by b u.known) u.rank u.index q u.number o
+    fits = λ t is told. cases_fit (linked_by b) (func_by b) bounds (notes_by b m ns) (thrown_by b) known (numbers_by b) (text_at (image_by b)) (rows_by b) (facts_by b m u.known) u.rank u.index q u.number o
       (spelled_rows classes known (image_by b) (rows_by b) c.spelled_rows)
-      (each_more classes known (CaseBy b ns u q o) (length classes) (spelling_cases classes known known) c.classes (each_spelling classes known (CaseBy b ns u q o) known c.spellings c.others)) t is;
+      (each_more classes known (CaseBy b m ns u q o) (length classes) (spelling_cases classes known known) c.classes (each_spelling classes known (CaseBy b m ns u q o) known c.spellings c.others)) t is;
   };
   rank_is = refl;
 }
@@ -119,24 +120,25 @@ all_cases b ns u q o low c = record {
 
 -- ---- the cases one by one
 
-module _ (b : Compiled) (ns : Notes) (u : Unknown) (q : Place) (o : Outcome) where
+module _ (b : Compiled) (m : Meaning) (ns : Notes) (u : Unknown) (q : Place) (o : Outcome) where
   -- the row of a case
-  pub case_as : (c : Case) (text : Option (Vec ℕ)) (row : Option Row) → IsTextOf (linked_by b).classes c text → row ≡ row_in (image_by b) text (rows_by b) u.index
-      → FoundFitsBy b ns (facts_by b u.known) (answers_in (linked_by b).classes (spellings_by b) u.number c) u.rank row q (unknown u.number) o → CaseBy b ns u q o c
-  case_as c text row is e w =
-      subst (λ z. FoundFitsBy b ns (facts_by b u.known) (answers_in (linked_by b).classes (spellings_by b) u.number c) u.rank z q (unknown u.number) o)
-      (e ∙ row_found (linked_by b).classes (spellings_by b) (image_by b) c text (rows_by b) u.index is) w
+  pub case_as : (c : Case) (text : Option (Vec ℕ)) (row : Option Row) (x : Exception) → x ≡ unknown u.number → IsTextOf (linked_by b).classes c text → row ≡ row_in (image_by b) text (rows_by b) u.index
+      → FoundFitsBy b m ns (facts_by b m u.known) (answers_in (linked_by b).classes (spellings_by b) u.number c) u.rank row q x o → CaseBy b m ns u q o c
+  case_as c text row x thrown is e w =
+      subst (λ z. FoundFitsBy b m ns (facts_by b m u.known) (answers_in (linked_by b).classes (spellings_by b) u.number c) u.rank z q (unknown u.number) o)
+      (e ∙ row_found (linked_by b).classes (spellings_by b) (image_by b) c text (rows_by b) u.index is)
+      (subst (λ z. FoundFitsBy b m ns (facts_by b m u.known) (answers_in (linked_by b).classes (spellings_by b) u.number c) u.rank row q z o) thrown w)
 
   -- all classes
-  pub cases_as : (n : ℕ) → n ≡ length (linked_by b).classes → SpelledBy (image_by b) (spellings_by b) (rows_by b) → Each (CaseBy b ns u q o) (class_cases (linked_by b).classes (spellings_by b) n) → EachSpelling (CaseBy b ns u q o) (spellings_by b)
-      → CaseBy b ns u q o of_others → CasesBy b ns u q o
+  pub cases_as : (n : ℕ) → n ≡ length (linked_by b).classes → SpelledBy (image_by b) (spellings_by b) (rows_by b) → Each (CaseBy b m ns u q o) (class_cases (linked_by b).classes (spellings_by b) n) → EachSpelling (CaseBy b m ns u q o) (spellings_by b)
+      → CaseBy b m ns u q o of_others → CasesBy b m ns u q o
   cases_as n e spelled classes spellings others = record {
     spelled_rows = spelled;
-    classes = subst (λ z. Each (CaseBy b ns u q o) (class_cases (linked_by b).classes (spellings_by b) z)) e classes;
+    classes = subst (λ z. Each (CaseBy b m ns u q o) (class_cases (linked_by b).classes (spellings_by b) z)) e classes;
     spellings = spellings;
     others = others;
   }
 
   -- a spelling
-  pub spelling_as : (s t : List ℕ) → s ≡ t → CaseBy b ns u q o (of_spelling s) → CaseBy b ns u q o (of_spelling t)
-  spelling_as s t e w = subst (λ z. CaseBy b ns u q o (of_spelling z)) e w
+  pub spelling_as : (s t : List ℕ) → s ≡ t → CaseBy b m ns u q o (of_spelling s) → CaseBy b m ns u q o (of_spelling t)
+  spelling_as s t e w = subst (λ z. CaseBy b m ns u q o (of_spelling z)) e w

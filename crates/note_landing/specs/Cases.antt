@@ -10,6 +10,7 @@ use Rattle.cpp_tree.specs.cpp_types.Equal.{name_eq}
 use Rattle.symbolic_source.specs.Terms.{unknown}
 use Rattle.symbolic_source.specs.Outcomes.{Outcome}
 use Rattle.symbolic_code.specs.Places.{Place}
+use Rattle.symbolic_terms.specs.Meanings.{Meaning}
 use Rattle.symbolic_leaving.specs.Answers.{texts_of}
 use Rattle.body_check.specs.Cases.{Case, of_class, of_spelling, of_others, spelled, is_known, answers_in, find_in, class_cases, Each}
 use Rattle.image_links.specs.Books.{spelling_place}
@@ -58,9 +59,9 @@ spellings_by b = texts_of b.spellings.now
 abbrev pub EachSpelling : (Case → Type 0) → List (List ℕ) → Type 0
 EachSpelling P ss = (n : ℕ) (s : List ℕ) → slice_get ss n ≡ Some s → P (of_spelling s)
 
-module _ (b : Compiled) (ns : Notes) (u : Unknown) (q : Place) (o : Outcome) where
+module _ (b : Compiled) (m : Meaning) (ns : Notes) (u : Unknown) (q : Place) (o : Outcome) where
   abbrev pub CaseBy : Case → Type 0
-  CaseBy c = FoundFitsBy b ns (facts_by b u.known) (answers_in (linked_by b).classes (spellings_by b) u.number c) u.rank
+  CaseBy c = FoundFitsBy b m ns (facts_by b m u.known) (answers_in (linked_by b).classes (spellings_by b) u.number c) u.rank
       (find_in (linked_by b).classes (spellings_by b) (text_at (image_by b)) c (rows_by b) u.index) q (unknown u.number) o
 
   pub record CasesBy : Type 0 where

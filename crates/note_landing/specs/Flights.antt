@@ -8,6 +8,7 @@ use Rattle.symbolic_source.specs.Steps.{given}
 use Rattle.symbolic_source.specs.Replacing.{in_waitings, in_frames}
 use Rattle.symbolic_code.specs.Facts.{Fact, in_facts}
 use Rattle.symbolic_code.specs.Places.{Place, flying, holding, later, opened_later}
+use Rattle.symbolic_terms.specs.Meanings.{Meaning}
 use Rattle.symbolic_terms.specs.declared.outcomes.Rest.{Rest}
 use Rattle.symbolic_leaving.specs.Shown.{waiting_at, frames_at}
 use Rattle.body_check.specs.Notes.{no_answers}
@@ -24,9 +25,9 @@ pub data IsOut : Outcome → Exception → Type 0 where
   out : {e : Exception} (temporaries : List Waiting) → IsOut (goes_out (throws e) temporaries) e
 
 -- what the source does behind an event whose reply is the first variable
-abbrev pub given_later : Compiled → Rest → Outcome
-given_later b rest = given (linked_by b) (func_by b) no_answers (in_waitings later (waiting_at b.source rest.temporaries)) (variable 0) (in_frames later (frames_at b.source rest.frames))
+abbrev pub given_later : Compiled → Meaning → Rest → Outcome
+given_later b m rest = given (linked_by b) (func_by b) no_answers (in_waitings later (waiting_at b.source m rest.temporaries)) (variable 0) (in_frames later (frames_at b.source m rest.frames))
 
 -- the source lands at once there
-abbrev pub BehindBy : Compiled → Notes → List Fact → (index : ℕ) → Place → Rest → Type 0
-BehindBy b ns known index q rest = LandsAtOnce b ns (in_facts later known) index q (given_later b rest)
+abbrev pub BehindBy : Compiled → Meaning → Notes → List Fact → (index : ℕ) → Place → Rest → Type 0
+BehindBy b m ns known index q rest = LandsAtOnce b m ns (in_facts later known) index q (given_later b m rest)

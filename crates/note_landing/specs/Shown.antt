@@ -20,6 +20,7 @@ use Rattle.symbolic_terms.specs.declared.outcomes.Outcome.{Outcome}
 use Rattle.symbolic_terms.specs.declared.places.Place.{Place}
 use Rattle.symbolic_terms.specs.declared.places.Facts.{Facts}
 use Rattle.symbolic_terms.specs.Words.{term_of, exception_of}
+use Rattle.symbolic_terms.specs.Meanings.{Meaning}
 use Rattle.symbolic_terms.specs.Shown.{place_of, facts_of}
 use Rattle.symbolic_leaving.specs.declared.source.Source.{Source}
 use Rattle.symbolic_leaving.specs.Source.{types_at, linked_to, func_of}
@@ -35,8 +36,8 @@ use Rattle.note_landing.specs.declared.compiled.Compiled.{Compiled}
 use Rattle.note_landing.specs.Books.{bounds}
 use Rattle.note_landing.specs.Landings.{Found, Agrees, LandsIn, FliesBelow}
 
-abbrev pub note_at : Source → Note → checked.Note
-note_at s n = record { index = n.index; place = place_of (types_at s) n.place; facts = facts_of (types_at s) n.facts; outcome = outcome_at s n.outcome; lead = n.lead; rank = n.rank }
+abbrev pub note_at : Source → Meaning → Note → checked.Note
+note_at s m n = record { index = n.index; place = place_of (types_at s) m n.place; facts = facts_of (types_at s) m n.facts; outcome = outcome_at s m n.outcome; lead = n.lead; rank = n.rank }
 
 -- ---- the parts of a compiled body
 
@@ -72,14 +73,14 @@ thrown_by b = cancels_alike (image_by b) (linked_by b) (typed (given_by b))
 abbrev pub numbers_by : Compiled → Typ → ℕ
 numbers_by b = type_number (image_by b) (linked_by b) (typed (given_by b))
 
-abbrev pub outcome_by : Compiled → Outcome → outcomes.Outcome
-outcome_by b o = outcome_at b.source o
+abbrev pub outcome_by : Compiled → Meaning → Outcome → outcomes.Outcome
+outcome_by b m o = outcome_at b.source m o
 
-abbrev pub place_by : Compiled → Place → places.Place
-place_by b q = place_of (types_by b) q
+abbrev pub place_by : Compiled → Meaning → Place → places.Place
+place_by b m q = place_of (types_by b) m q
 
-abbrev pub facts_by : Compiled → Facts → List facts.Fact
-facts_by b ks = facts_of (types_by b) ks
+abbrev pub facts_by : Compiled → Meaning → Facts → List facts.Fact
+facts_by b m ks = facts_of (types_by b) m ks
 
 abbrev pub term_by : Compiled → Term → words.Term
 term_by b w = term_of (types_by b) w
@@ -89,43 +90,43 @@ exception_by b e = exception_of (types_by b) e
 
 -- ---- with its notes
 
-abbrev pub notes_by : Compiled → Notes → List checked.Note
-notes_by b ns = map (note_at b.source) ns.list.items
+abbrev pub notes_by : Compiled → Meaning → Notes → List checked.Note
+notes_by b m ns = map (note_at b.source m) ns.list.items
 
-abbrev pub held_by : Compiled → Notes → Held
-held_by b ns = record { number = b.number; safe = b.safe; func = func_by b; body = body_view b.body.now; rows = rows_by b; notes = notes_by b ns; table = table_by b }
+abbrev pub held_by : Compiled → Meaning → Notes → Held
+held_by b m ns = record { number = b.number; safe = b.safe; func = func_by b; body = body_view b.body.now; rows = rows_by b; notes = notes_by b m ns; table = table_by b }
 
 -- the book, whoever holds the other bodies
 abbrev pub book_by : Compiled → (all : ℕ → Bool → List checked.Note) → (types : ℕ → Bool → List Typ) → Book
 book_by b all types = book_of (image_by b) (linked_by b) (typed (given_by b)) all types
 
-module _ (b : Compiled) (ns : Notes) where
+module _ (b : Compiled) (m : Meaning) (ns : Notes) where
   abbrev pub FoundBy : List facts.Fact → (index : ℕ) → places.Place → outcomes.Outcome → (rank : ℕ) → Type 0
-  FoundBy known index q o rank = Found (linked_by b) (func_by b) (notes_by b ns) (thrown_by b) known index q o rank
+  FoundBy known index q o rank = Found (linked_by b) (func_by b) (notes_by b m ns) (thrown_by b) known index q o rank
 
   abbrev pub AgreesBy : List facts.Fact → (index : ℕ) → places.Place → outcomes.Outcome → (rank : ℕ) → Type 0
-  AgreesBy known index q o rank = Agrees (linked_by b) (func_by b) (notes_by b ns) (thrown_by b) known index q o rank
+  AgreesBy known index q o rank = Agrees (linked_by b) (func_by b) (notes_by b m ns) (thrown_by b) known index q o rank
 
   abbrev pub LandsBy : List facts.Fact → Answers → (index : ℕ) → places.Place → outcomes.Outcome → (lag rank : ℕ) → Type 0
-  LandsBy known answers index q o lag rank = LandsIn (linked_by b) (func_by b) (notes_by b ns) (thrown_by b) known answers index q o lag rank
+  LandsBy known answers index q o lag rank = LandsIn (linked_by b) (func_by b) (notes_by b m ns) (thrown_by b) known answers index q o lag rank
 
   abbrev pub LandsOnBy : List facts.Fact → (lead rank : ℕ) → (index : ℕ) → places.Place → outcomes.Outcome → Type 0
-  LandsOnBy known lead rank index q o = LandsOn (linked_by b) (func_by b) bounds (notes_by b ns) (thrown_by b) known lead rank index q o
+  LandsOnBy known lead rank index q o = LandsOn (linked_by b) (func_by b) bounds (notes_by b m ns) (thrown_by b) known lead rank index q o
 
   -- the source lands at once
   abbrev pub LandsAtOnce : List facts.Fact → (index : ℕ) → places.Place → outcomes.Outcome → Type 0
-  LandsAtOnce known index q o = (l : Lands (linked_by b) (func_by b) bounds (notes_by b ns) (thrown_by b) known checked.no_answers index q o) × (l.lag ≡ 0)
+  LandsAtOnce known index q o = (l : Lands (linked_by b) (func_by b) bounds (notes_by b m ns) (thrown_by b) known checked.no_answers index q o) × (l.lag ≡ 0)
 
   -- ---- exceptions in flight
 
   abbrev pub ReachesBy : List facts.Fact → Answers → (rank : ℕ) → (index : ℕ) → places.Place → outcomes.Outcome → Type 0
-  ReachesBy known answers rank index q o = Reaches (linked_by b) (func_by b) bounds (notes_by b ns) (thrown_by b) known answers rank index q o
+  ReachesBy known answers rank index q o = Reaches (linked_by b) (func_by b) bounds (notes_by b m ns) (thrown_by b) known answers rank index q o
 
   abbrev pub RowFitsBy : List facts.Fact → Answers → (rank : ℕ) → (what target : ℕ) → places.Place → words.Exception → outcomes.Outcome → Type 0
-  RowFitsBy known answers rank what target q e o = RowFits (linked_by b) (func_by b) bounds (notes_by b ns) (thrown_by b) known answers rank what target q e o
+  RowFitsBy known answers rank what target q e o = RowFits (linked_by b) (func_by b) bounds (notes_by b m ns) (thrown_by b) known answers rank what target q e o
 
   abbrev pub FoundFitsBy : List facts.Fact → Answers → (rank : ℕ) → Option Row → places.Place → words.Exception → outcomes.Outcome → Type 0
-  FoundFitsBy known answers rank row q e o = FoundFits (linked_by b) (func_by b) bounds (notes_by b ns) (thrown_by b) known answers rank row q e o
+  FoundFitsBy known answers rank row q e o = FoundFits (linked_by b) (func_by b) bounds (notes_by b m ns) (thrown_by b) known answers rank row q e o
 
   abbrev pub FliesBy : List facts.Fact → (index : ℕ) → places.Place → words.Exception → outcomes.Outcome → (rank : ℕ) → Type 0
-  FliesBy known index q e o rank = FliesBelow (linked_by b) (func_by b) (notes_by b ns) (thrown_by b) (numbers_by b) (rows_by b) known index q e o rank
+  FliesBy known index q e o rank = FliesBelow (linked_by b) (func_by b) (notes_by b m ns) (thrown_by b) (numbers_by b) (rows_by b) known index q e o rank

@@ -1,8 +1,10 @@
 //! Silent steps of the source, as far as it may go.
 
-ghost use Rattle.std.specs.Prelude.{◌≡◌, ◌+◌, IfOk, IfSome};
+ghost use Rattle.std.specs.Prelude.{ℕ, ◌≡◌, ◌+◌, IfOk, IfSome};
 ghost use Rattle.symbolic_source.specs.Steps.{advanced, step_of};
-ghost use Rattle.symbolic_leaving.specs.Source.{linked_to, func_of};
+ghost use Rattle.cpp_tree.specs.cpp_types.Typ.{Typ};
+ghost use Rattle.symbolic_terms.specs.Meanings.{Meaning, Agrees};
+ghost use Rattle.symbolic_leaving.specs.Source.{types_at, linked_to, func_of};
 ghost use Rattle.symbolic_leaving.specs.Answers.{answers_at};
 ghost use Rattle.symbolic_leaving.specs.Shown.{outcome_at};
 
@@ -11,6 +13,7 @@ use symbolic_steps::{CaseAnswers, Source, step};
 use symbolic_terms::frames::{ExceptionFrame, Exit, Frame, Frames};
 use symbolic_terms::outcomes::{Doing, Leading, Outcome};
 use symbolic_terms::refusal::Refusal;
+use symbolic_terms::words::Words;
 
 /// How far the source goes: no handler is entered before the code enters it.
 #[derive(Clone, Copy)]
@@ -94,17 +97,19 @@ fn is_beyond<'a>(outcome: Outcome<'a>) -> bool {
 // A step, if one may be taken.
 fn next_step<'a>(
     room: Room<'a>,
+    words: &mut Words<'a>,
     source: &Source<'a>,
     answers: CaseAnswers<'_>,
     pace: Pace,
     outcome: Outcome<'a>,
 ) -> Result<Option<Outcome<'a>>, Refusal>
-    ensures { IfOk result (λ o. IfSome o (λ next. outcome_at source.now next ≡ step_of (linked_to source.now) (func_of source.now) (answers_at source.now answers.entry) (outcome_at source.now outcome.entry))) }
+    ensures is { IfOk result (λ o. IfSome o (λ next. (m : Meaning) → Agrees (types_at source.now) m words.new → outcome_at source.now m next ≡ step_of (linked_to source.now) (func_of source.now) (answers_at source.now answers.entry) (outcome_at source.now m outcome.entry))) }
+    ensures grows { (types : ℕ → Typ) (m : Meaning) → Agrees types m words.new → Agrees types m words.old }
 {
     if !may_step(pace, outcome) {
         return Ok(None);
     }
-    let next = step(room.alloc, room.arena, source, answers, outcome)?;
+    let next = step(room.alloc, room.arena, words, source, answers, outcome)?;
     if is_beyond(next) {
         Ok(None)
     } else {
@@ -116,21 +121,23 @@ fn next_step<'a>(
 #[tactic(auto, using(crate::proofs::Landed::further))]
 fn advance_within<'a>(
     room: Room<'a>,
+    words: &mut Words<'a>,
     source: &Source<'a>,
     answers: CaseAnswers<'_>,
     pace: Pace,
     most: u32,
     outcome: Outcome<'a>,
 ) -> Result<Ahead<'a>, Refusal>
-    ensures { IfOk result (λ a. outcome_at source.now a.outcome ≡ advanced (linked_to source.now) (func_of source.now) (answers_at source.now answers.entry) a.steps (outcome_at source.now outcome.entry)) }
+    ensures is { IfOk result (λ a. (m : Meaning) → Agrees (types_at source.now) m words.new → outcome_at source.now m a.outcome ≡ advanced (linked_to source.now) (func_of source.now) (answers_at source.now answers.entry) a.steps (outcome_at source.now m outcome.entry)) }
+    ensures grows { (types : ℕ → Typ) (m : Meaning) → Agrees types m words.new → Agrees types m words.old }
 {
     if most == 0 {
         return Ok(Ahead { outcome, steps: 0 });
     }
-    match next_step(room, source, answers, pace, outcome)? {
+    match next_step(room, words, source, answers, pace, outcome)? {
         None => Ok(Ahead { outcome, steps: 0 }),
         Some(next) => {
-            let ahead = advance_within(room, source, answers, pace, most - 1, next)?;
+            let ahead = advance_within(room, words, source, answers, pace, most - 1, next)?;
             Ok(Ahead {
                 outcome: ahead.outcome,
                 steps: one_more(ahead.steps)?,
@@ -152,12 +159,14 @@ fn one_more(steps: u32) -> Result<u32, Refusal>
 /// The source takes silent steps as far as it may.
 pub fn advance<'a>(
     room: Room<'a>,
+    words: &mut Words<'a>,
     source: &Source<'a>,
     answers: CaseAnswers<'_>,
     pace: Pace,
     outcome: Outcome<'a>,
 ) -> Result<Ahead<'a>, Refusal>
-    ensures { IfOk result (λ a. outcome_at source.now a.outcome ≡ advanced (linked_to source.now) (func_of source.now) (answers_at source.now answers.entry) a.steps (outcome_at source.now outcome.entry)) }
+    ensures is { IfOk result (λ a. (m : Meaning) → Agrees (types_at source.now) m words.new → outcome_at source.now m a.outcome ≡ advanced (linked_to source.now) (func_of source.now) (answers_at source.now answers.entry) a.steps (outcome_at source.now m outcome.entry)) }
+    ensures grows { (types : ℕ → Typ) (m : Meaning) → Agrees types m words.new → Agrees types m words.old }
 {
-    advance_within(room, source, answers, pace, MOST_STEPS, outcome)
+    advance_within(room, words, source, answers, pace, MOST_STEPS, outcome)
 }

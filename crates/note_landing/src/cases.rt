@@ -1,14 +1,16 @@
 //! An exception of which nothing is known, by the cases of its type.
 
-ghost use Rattle.std.specs.Prelude.{◌≡◌, ◌||◌, ◌&&◌, not, nat_eq, IfOk, IsTrue, OnOk};
+ghost use Rattle.std.specs.Prelude.{ℕ, List, Some, slice_get, ◌<◌, ◌≡◌, ◌||◌, ◌&&◌, not, nat_eq, IfOk, IsTrue, OnOk};
 ghost use Rattle.tx_code.specs.Meaning.{covers};
 ghost use Rattle.tx_code.specs.Views.{image_view};
 ghost use Rattle.cpp_tree.specs.cpp_types.Class.{classes_of};
 ghost use Rattle.cpp_tree.specs.cpp_types.Typ.{class as of_class};
 ghost use Rattle.body_check.specs.Cases.{spelled, is_known as known_so, of_spelling, class_cases, Each};
+ghost use Rattle.cpp_tree.specs.cpp_types.Typ.{Typ};
+ghost use Rattle.symbolic_terms.specs.Meanings.{Meaning, Agrees};
 ghost use Rattle.symbolic_leaving.specs.Answers.{case_of, texts_of};
 ghost use Rattle.note_landing.specs.Cases.{text_at as text_in, IsSpelledBy, SpelledBy, IsTextOf, is_that_text, row_in, spellings_by, EachSpelling, CaseBy, CasesBy};
-ghost use Rattle.note_landing.specs.Shown.{place_by, outcome_by, linked_by, image_by};
+ghost use Rattle.note_landing.specs.Shown.{types_by, place_by, outcome_by, linked_by, image_by};
 
 use crate::compiled::{Compiled, Room};
 use crate::flights::{Flight, found_fits};
@@ -19,8 +21,9 @@ use image_links::tables::spelling_place;
 use std::alloc::{AllocError, Global};
 use symbolic_steps::{Case, CaseAnswers};
 use symbolic_terms::outcomes::Outcome;
+use symbolic_terms::made::unknown;
 use symbolic_terms::places::{Facts, Place};
-use symbolic_terms::terms::Exception;
+use symbolic_terms::words::Words;
 use tx_code::{Image, Row};
 
 /// The spelling of a type of the image, or none.
@@ -139,97 +142,132 @@ pub(crate) struct Unknown<'a> {
 // A case of the type.
 fn case_fits<'a>(
     room: Room<'a>,
+    words: &mut Words<'a>,
     body: &Compiled<'a>,
     notes: &Notes<'a>,
-    unknown: Unknown<'a>,
+    flying: Unknown<'a>,
     case: &Case,
     place: Place<'a>,
     outcome: Outcome<'a>,
 ) -> Result<(), Unfit>
-    ensures { OnOk result (CaseBy body.now notes.now unknown.entry (place_by body.now place.entry) (outcome_by body.now outcome.entry) (case_of case.now)) }
+    ensures is { OnOk result ((m : Meaning) → Agrees (types_by body.now) m words.new → CaseBy body.now m notes.now flying.entry (place_by body.now m place.entry) (outcome_by body.now m outcome.entry) (case_of case.now)) }
+    ensures grows { (types : ℕ → Typ) (m : Meaning) → Agrees types m words.new → Agrees types m words.old }
 {
     let classes = body.source.bound.program().classes.as_slice();
     let text = case_text(room.alloc, case, classes)?;
-    let row = find_text(body.image, &body.body.rows, unknown.index, &text);
+    let row = find_text(body.image, &body.body.rows, flying.index, &text);
     let flight = Flight {
-        known: unknown.known,
+        known: flying.known,
         answers: CaseAnswers::InCase {
-            exception: unknown.number,
+            exception: flying.number,
             case,
             known: body.spellings,
         },
-        rank: unknown.rank,
+        rank: flying.rank,
     };
-    let exception = Exception::Unknown(unknown.number);
-    found_fits(room, body, notes, flight, row, place, exception, outcome)?;
+    let exception = unknown(words, flying.number)?;
+    found_fits(room, words, body, notes, flight, row, place, exception, outcome)?;
     Ok(())
 }
 
 // The cases of the first classes, so many.
 fn classes_fit<'a>(
     room: Room<'a>,
+    words: &mut Words<'a>,
     body: &Compiled<'a>,
     notes: &Notes<'a>,
-    unknown: Unknown<'a>,
+    flying: Unknown<'a>,
     count: u32,
     place: Place<'a>,
     outcome: Outcome<'a>,
 ) -> Result<(), Unfit>
-    ensures { OnOk result (Each (CaseBy body.now notes.now unknown.entry (place_by body.now place.entry) (outcome_by body.now outcome.entry)) (class_cases (linked_by body.now).classes (spellings_by body.now) count)) }
+    ensures is { OnOk result ((m : Meaning) → Agrees (types_by body.now) m words.new → Each (CaseBy body.now m notes.now flying.entry (place_by body.now m place.entry) (outcome_by body.now m outcome.entry)) (class_cases (linked_by body.now).classes (spellings_by body.now) count)) }
+    ensures grows { (types : ℕ → Typ) (m : Meaning) → Agrees types m words.new → Agrees types m words.old }
 {
     if count == 0 {
         return Ok(());
     }
     let class = count - 1;
-    case_fits(room, body, notes, unknown, &Case::Class(class), place, outcome)?;
-    classes_fit(room, body, notes, unknown, class, place, outcome)?;
+    case_fits(room, words, body, notes, flying, &Case::Class(class), place, outcome)?;
+    classes_fit(room, words, body, notes, flying, class, place, outcome)?;
     Ok(())
 }
 
 // The case of a spelling.
 fn spelling_fits<'a>(
     room: Room<'a>,
+    words: &mut Words<'a>,
     body: &Compiled<'a>,
     notes: &Notes<'a>,
-    unknown: Unknown<'a>,
+    flying: Unknown<'a>,
     text: &[u8],
     place: Place<'a>,
     outcome: Outcome<'a>,
 ) -> Result<(), Unfit>
-    ensures { OnOk result (CaseBy body.now notes.now unknown.entry (place_by body.now place.entry) (outcome_by body.now outcome.entry) (of_spelling text.now)) }
+    ensures is { OnOk result ((m : Meaning) → Agrees (types_by body.now) m words.new → CaseBy body.now m notes.now flying.entry (place_by body.now m place.entry) (outcome_by body.now m outcome.entry) (of_spelling text.now)) }
+    ensures grows { (types : ℕ → Typ) (m : Meaning) → Agrees types m words.new → Agrees types m words.old }
 {
     let case = Case::Spelling(Vec::from_slice(room.alloc, text)?);
-    case_fits(room, body, notes, unknown, &case, place, outcome)?;
+    case_fits(room, words, body, notes, flying, &case, place, outcome)?;
+    Ok(())
+}
+
+// The cases of the first spellings, so many.
+fn spellings_within<'a>(
+    room: Room<'a>,
+    words: &mut Words<'a>,
+    body: &Compiled<'a>,
+    notes: &Notes<'a>,
+    flying: Unknown<'a>,
+    count: usize,
+    place: Place<'a>,
+    outcome: Outcome<'a>,
+) -> Result<(), Unfit>
+    ensures is { OnOk result ((m : Meaning) → Agrees (types_by body.now) m words.new → (n : ℕ) (s : List ℕ) → n < count → slice_get (spellings_by body.now) n ≡ Some s → CaseBy body.now m notes.now flying.entry (place_by body.now m place.entry) (outcome_by body.now m outcome.entry) (of_spelling s)) }
+    ensures grows { (types : ℕ → Typ) (m : Meaning) → Agrees types m words.new → Agrees types m words.old }
+{
+    if count == 0 {
+        return Ok(());
+    }
+    let last = count - 1;
+    let Some(text) = body.spellings.get(last) else {
+        return Err(Unfit::Never);
+    };
+    spellings_within(room, words, body, notes, flying, last, place, outcome)?;
+    spelling_fits(room, words, body, notes, flying, text, place, outcome)?;
     Ok(())
 }
 
 // The cases of spellings.
 fn spellings_fit<'a>(
     room: Room<'a>,
+    words: &mut Words<'a>,
     body: &Compiled<'a>,
     notes: &Notes<'a>,
-    unknown: Unknown<'a>,
+    flying: Unknown<'a>,
     place: Place<'a>,
     outcome: Outcome<'a>,
 ) -> Result<(), Unfit>
-    ensures { OnOk result (EachSpelling (CaseBy body.now notes.now unknown.entry (place_by body.now place.entry) (outcome_by body.now outcome.entry)) (spellings_by body.now)) }
+    ensures is { OnOk result ((m : Meaning) → Agrees (types_by body.now) m words.new → EachSpelling (CaseBy body.now m notes.now flying.entry (place_by body.now m place.entry) (outcome_by body.now m outcome.entry)) (spellings_by body.now)) }
+    ensures grows { (types : ℕ → Typ) (m : Meaning) → Agrees types m words.new → Agrees types m words.old }
 {
-    for text in body.spellings {
-        spelling_fits(room, body, notes, unknown, text, place, outcome)?;
-    }
+    let count = body.spellings.len();
+    spellings_within(room, words, body, notes, flying, count, place, outcome)?;
     Ok(())
 }
 
 /// An exception of which nothing is known, in each case of its type.
 pub(crate) fn cases_fit<'a>(
     room: Room<'a>,
+    words: &mut Words<'a>,
     body: &Compiled<'a>,
     notes: &Notes<'a>,
-    unknown: Unknown<'a>,
+    flying: Unknown<'a>,
     place: Place<'a>,
     outcome: Outcome<'a>,
 ) -> Result<(), Unfit>
-    ensures { OnOk result (CasesBy body.now notes.now unknown.entry (place_by body.now place.entry) (outcome_by body.now outcome.entry)) }
+    ensures is { OnOk result ((m : Meaning) → Agrees (types_by body.now) m words.new → CasesBy body.now m notes.now flying.entry (place_by body.now m place.entry) (outcome_by body.now m outcome.entry)) }
+    ensures grows { (types : ℕ → Typ) (m : Meaning) → Agrees types m words.new → Agrees types m words.old }
 {
     if !are_spelled(body.image, body.spellings, &body.body.rows) {
         return Err(Unfit::Never);
@@ -237,8 +275,8 @@ pub(crate) fn cases_fit<'a>(
     let Ok(count) = u32::try_from(body.source.bound.program().classes.len()) else {
         return Err(Unfit::Never);
     };
-    classes_fit(room, body, notes, unknown, count, place, outcome)?;
-    spellings_fit(room, body, notes, unknown, place, outcome)?;
-    case_fits(room, body, notes, unknown, &Case::Others, place, outcome)?;
+    classes_fit(room, words, body, notes, flying, count, place, outcome)?;
+    spellings_fit(room, words, body, notes, flying, place, outcome)?;
+    case_fits(room, words, body, notes, flying, &Case::Others, place, outcome)?;
     Ok(())
 }

@@ -13,12 +13,12 @@ ghost use Rattle.symbolic_source.specs.Outcomes.{leaves_block};
 ghost use Rattle.symbolic_source.specs.Steps.{advanced};
 ghost use Rattle.body_check.specs.Notes.{Edges, Outward};
 ghost use Rattle.symbolic_leaving.specs.Answers.{answers_at};
-ghost use Rattle.symbolic_terms.specs.Words.{exception_of};
-ghost use Rattle.symbolic_terms.specs.Shown.{doing_of, opens_of};
+ghost use Rattle.symbolic_terms.specs.Meanings.{Meaning, Agrees, thrown_of};
+ghost use Rattle.symbolic_terms.specs.Shown.{doing_of, opens_of, place_of};
 ghost use Rattle.note_landing.specs.Books.{bounds};
 ghost use Rattle.note_landing.specs.declared.compiled.Compiled.{Compiled as CompiledBody};
 ghost use Rattle.note_landing.specs.Flights.{behind_edge, IsOut, BehindBy, given_later};
-ghost use Rattle.note_landing.specs.Shown.{linked_by, func_by, notes_by, thrown_by, numbers_by, rows_by, types_by, place_by, facts_by, exception_by, outcome_by, ReachesBy, RowFitsBy, FoundFitsBy, FliesBy};
+ghost use Rattle.note_landing.specs.Shown.{linked_by, func_by, notes_by, thrown_by, numbers_by, rows_by, types_by, place_by, facts_by, outcome_by, ReachesBy, RowFitsBy, FoundFitsBy, FliesBy};
 
 use crate::ahead::{Pace, advance, tries};
 use crate::cases::{Unknown, cases_fit};
@@ -37,13 +37,16 @@ use symbolic_equality::parts::equal_opens;
 use symbolic_frames::outcomes::{replaced_facts, replaced_rest};
 use symbolic_frames::places::{catching, holding, opened_later};
 use symbolic_steps::{CaseAnswers, give, step};
-use symbolic_terms::comparison::equal_exceptions;
+use symbolic_terms::comparison::equal_thrown;
 use symbolic_terms::frames::Exit;
+use symbolic_terms::ids::{ExceptionId, Exceptions};
+use symbolic_terms::made::{unknown, variable};
 use symbolic_terms::outcomes::{Doing, Leading, Outcome, Rest};
 use symbolic_terms::places::{Facts, Hold, Opens, Place};
 use symbolic_terms::refusal::Refusal;
 use symbolic_terms::replacing::Replacing;
-use symbolic_terms::terms::{Exception, Exceptions, Term};
+use symbolic_terms::terms::Exception;
+use symbolic_terms::words::{Words, exception as exception_at};
 use tx_code::Row;
 
 /// What is known in a flight, whose ranks lie below this one, with these answers.
@@ -57,6 +60,7 @@ pub(crate) struct Flight<'a, 'k> {
 // A row leads to an index.
 fn reaches<'a>(
     room: Room<'a>,
+    words: &mut Words<'a>,
     body: &Compiled<'a>,
     notes: &Notes<'a>,
     flight: Flight<'a, '_>,
@@ -65,10 +69,12 @@ fn reaches<'a>(
     place: Place<'a>,
     outcome: Outcome<'a>,
 ) -> Result<(), Unfit>
-    ensures { OnOk result (ReachesBy body.now notes.now (facts_by body.now flight.entry.known) (answers_at body.now.source flight.entry.answers) flight.entry.rank index (place_by body.now place.entry) (outcome_by body.now outcome.entry)) }
+    ensures is { OnOk result ((m : Meaning) → Agrees (types_by body.now) m words.new → ReachesBy body.now m notes.now (facts_by body.now m flight.entry.known) (answers_at body.now.source flight.entry.answers) flight.entry.rank index (place_by body.now m place.entry) (outcome_by body.now m outcome.entry)) }
+    ensures grows { (types : ℕ → Typ) (m : Meaning) → Agrees types m words.new → Agrees types m words.old }
 {
     let landing = land_ahead(
         room,
+words,
         body,
         notes,
         flight.known,
@@ -85,15 +91,15 @@ fn reaches<'a>(
 
 // Whether a block is left with this exception.
 #[tactic(auto, using(crate::proofs::Flown::left_as))]
-fn is_left<'a>(doing: Doing<'a>, block: Open, exception: Exception<'a>) -> bool
-    ensures { IsTrue result → (types : ℕ → Typ) (p : Program) (f : Func) → doing_of types p f doing.entry ≡ leaves_block (open_shown block) (throws (exception_of types exception.entry)) }
+fn is_left<'a>(words: &Words<'a>, doing: Doing, block: Open, exception: ExceptionId) -> bool
+    ensures { IsTrue result → (types : ℕ → Typ) (m : Meaning) (p : Program) (f : Func) → Agrees types m words.now → doing_of types m p f doing ≡ leaves_block (open_shown block) (throws (thrown_of m exception)) }
 {
     match doing {
         Doing::LeavesBlock(own, Exit::Throws(thrown)) => {
             if !equal_opens(own, block) {
                 return false;
             }
-            equal_exceptions(&thrown, &exception)
+            equal_thrown(words, thrown, exception)
         }
         _ => false,
     }
@@ -102,19 +108,23 @@ fn is_left<'a>(doing: Doing<'a>, block: Open, exception: Exception<'a>) -> bool
 // What the source does behind an event whose reply is the first variable.
 fn behind_reply<'a>(
     room: Room<'a>,
+    words: &mut Words<'a>,
     body: &Compiled<'a>,
     rest: Rest<'a>,
 ) -> Result<Outcome<'a>, Refusal>
-    ensures { IfOk result (λ o. outcome_by body.now o ≡ given_later body.now rest.entry) }
+    ensures is { IfOk result (λ o. (m : Meaning) → Agrees (types_by body.now) m words.new → outcome_by body.now m o ≡ given_later body.now m rest.entry) }
+    ensures grows { (types : ℕ → Typ) (m : Meaning) → Agrees types m words.new → Agrees types m words.old }
 {
-    let later = replaced_rest(room.arena, Replacing::Later, rest)?;
+    let later = replaced_rest(room.arena, words, Replacing::Later, rest)?;
+    let reply = variable(words, 0)?;
     let outcome = give(
         room.alloc,
         room.arena,
+        words,
         &body.source,
         CaseAnswers::Unanswered,
         later.temporaries,
-        Term::Variable(0),
+        reply,
         later.frames,
     )?;
     Ok(outcome)
@@ -123,6 +133,7 @@ fn behind_reply<'a>(
 /// Lands at once behind an event: its reply is the first variable.
 pub fn land_behind<'a>(
     room: Room<'a>,
+    words: &mut Words<'a>,
     body: &Compiled<'a>,
     notes: &Notes<'a>,
     known: Facts<'a>,
@@ -130,11 +141,12 @@ pub fn land_behind<'a>(
     place: Place<'a>,
     rest: Rest<'a>,
 ) -> Result<(), Unfit>
-    ensures { OnOk result (BehindBy body.now notes.now (facts_by body.now known.entry) index (place_by body.now place.entry) rest.entry) }
+    ensures is { OnOk result ((m : Meaning) → Agrees (types_by body.now) m words.new → BehindBy body.now m notes.now (facts_by body.now m known.entry) index (place_by body.now m place.entry) rest.entry) }
+    ensures grows { (types : ℕ → Typ) (m : Meaning) → Agrees types m words.new → Agrees types m words.old }
 {
-    let facts = replaced_facts(room.arena, Replacing::Later, known)?;
-    let outcome = behind_reply(room, body, rest)?;
-    land(room, body, notes, facts, index, place, outcome)?;
+    let facts = replaced_facts(room.arena, words, Replacing::Later, known)?;
+    let outcome = behind_reply(room, words, body, rest)?;
+    land(room, words, body, notes, facts, index, place, outcome)?;
     Ok(())
 }
 
@@ -151,32 +163,37 @@ fn outer<'a>(opens: Opens<'a>) -> Opens<'a>
 // The place behind the edge of a block.
 fn edge_place<'a>(
     room: Room<'a>,
+    words: &mut Words<'a>,
     place: Place<'a>,
-    exception: Exception<'a>,
+    exception: ExceptionId,
 ) -> Result<Place<'a>, Refusal>
-    ensures { IfOk result (λ q. (b : CompiledBody) → place_by b q ≡ behind_edge (place_by b place.entry) (exception_by b exception.entry)) }
+    ensures is { IfOk result (λ q. (types : ℕ → Typ) (m : Meaning) → Agrees types m words.new → place_of types m q ≡ behind_edge (place_of types m place.entry) (thrown_of m exception)) }
+    ensures grows { (types : ℕ → Typ) (m : Meaning) → Agrees types m words.new → Agrees types m words.old }
 {
     let held = holding(place, Hold::Flying(exception));
-    let opened = opened_later(room.arena, held, outer(place.opens))?;
+    let opened = opened_later(room.arena, words, held, outer(place.opens))?;
     Ok(opened)
 }
 
 // An exception leaves a block, and the code goes on behind this event.
 fn edges<'a>(
     room: Room<'a>,
+    words: &mut Words<'a>,
     body: &Compiled<'a>,
     notes: &Notes<'a>,
     flight: Flight<'a, '_>,
     block: Open,
     index: u32,
     place: Place<'a>,
-    exception: Exception<'a>,
+    exception: ExceptionId,
     outcome: Outcome<'a>,
 ) -> Result<(), Unfit>
-    ensures { OnOk result (Edges (linked_by body.now) (func_by body.now) bounds (notes_by body.now notes.now) (thrown_by body.now) (facts_by body.now flight.entry.known) (answers_at body.now.source flight.entry.answers) (open_shown block) index (place_by body.now place.entry) (exception_by body.now exception.entry) (outcome_by body.now outcome.entry)) }
+    ensures is { OnOk result ((m : Meaning) → Agrees (types_by body.now) m words.new → Edges (linked_by body.now) (func_by body.now) bounds (notes_by body.now m notes.now) (thrown_by body.now) (facts_by body.now m flight.entry.known) (answers_at body.now.source flight.entry.answers) (open_shown block) index (place_by body.now m place.entry) (thrown_of m exception) (outcome_by body.now m outcome.entry)) }
+    ensures grows { (types : ℕ → Typ) (m : Meaning) → Agrees types m words.new → Agrees types m words.old }
 {
     let ahead = advance(
         room,
+words,
         &body.source,
         flight.answers,
         Pace::Through,
@@ -185,11 +202,11 @@ fn edges<'a>(
     let _short = steps_within(0, ahead.steps, LONGEST)?;
     match ahead.outcome {
         Outcome::Goes(Leading::Does(doing), rest) => {
-            if !is_left(doing, block, exception) {
+            if !is_left(words, doing, block, exception) {
                 return Err(Unfit::Never);
             }
-            let place = edge_place(room, place, exception)?;
-            land_behind(room, body, notes, flight.known, index, place, rest)?;
+            let place = edge_place(room, words, place, exception)?;
+            land_behind(room, words, body, notes, flight.known, index, place, rest)?;
             Ok(())
         }
         _ => Err(Unfit::Never),
@@ -197,11 +214,11 @@ fn edges<'a>(
 }
 
 // Whether the exception has left the function.
-fn is_out<'a>(outcome: Outcome<'a>, exception: Exception<'a>) -> bool
-    ensures { IsTrue result → (b : CompiledBody) → IsOut (outcome_by b outcome.entry) (exception_by b exception.entry) }
+fn is_out<'a>(words: &Words<'a>, outcome: Outcome<'a>, exception: ExceptionId) -> bool
+    ensures { IsTrue result → (b : CompiledBody) (m : Meaning) → Agrees (types_by b) m words.now → IsOut (outcome_by b m outcome.entry) (thrown_of m exception) }
 {
     match outcome {
-        Outcome::GoesOut(Exit::Throws(thrown), _) => equal_exceptions(&thrown, &exception),
+        Outcome::GoesOut(Exit::Throws(thrown), _) => equal_thrown(words, thrown, exception),
         _ => false,
     }
 }
@@ -209,15 +226,17 @@ fn is_out<'a>(outcome: Outcome<'a>, exception: Exception<'a>) -> bool
 // How many silent steps the source takes until the exception has left the function.
 fn steps_out<'a>(
     room: Room<'a>,
+    words: &mut Words<'a>,
     body: &Compiled<'a>,
     answers: CaseAnswers<'_>,
     most: u32,
-    exception: Exception<'a>,
+    exception: ExceptionId,
     outcome: Outcome<'a>,
 ) -> Result<u32, Unfit>
-    ensures out { IfOk result (λ n. IsOut (advanced (linked_by body.now) (func_by body.now) (answers_at body.now.source answers.entry) n (outcome_by body.now outcome.entry)) (exception_by body.now exception.entry)) }
+    ensures is { IfOk result (λ n. (m : Meaning) → Agrees (types_by body.now) m words.new → IsOut (advanced (linked_by body.now) (func_by body.now) (answers_at body.now.source answers.entry) n (outcome_by body.now m outcome.entry)) (thrown_of m exception)) }
+    ensures grows { (types : ℕ → Typ) (m : Meaning) → Agrees types m words.new → Agrees types m words.old }
 {
-    if is_out(outcome, exception) {
+    if is_out(words, outcome, exception) {
         return Ok(0);
     }
     if most == 0 {
@@ -226,8 +245,8 @@ fn steps_out<'a>(
     if is_still(outcome) {
         return Err(Unfit::Never);
     }
-    let next = step(room.alloc, room.arena, &body.source, answers, outcome)?;
-    let steps = steps_out(room, body, answers, most - 1, exception, next)?;
+    let next = step(room.alloc, room.arena, words, &body.source, answers, outcome)?;
+    let steps = steps_out(room, words, body, answers, most - 1, exception, next)?;
     match steps.checked_add(1) {
         Some(more) => Ok(more),
         None => Err(Unfit::Never),
@@ -245,15 +264,17 @@ fn is_still<'a>(outcome: Outcome<'a>) -> bool {
 // The exception leaves the function.
 fn outward<'a>(
     room: Room<'a>,
+    words: &mut Words<'a>,
     body: &Compiled<'a>,
     notes: &Notes<'a>,
     answers: CaseAnswers<'_>,
-    exception: Exception<'a>,
+    exception: ExceptionId,
     outcome: Outcome<'a>,
 ) -> Result<(), Unfit>
-    ensures { OnOk result (Outward (linked_by body.now) (func_by body.now) bounds (notes_by body.now notes.now) (thrown_by body.now) (answers_at body.now.source answers.entry) (exception_by body.now exception.entry) (outcome_by body.now outcome.entry)) }
+    ensures is { OnOk result ((m : Meaning) → Agrees (types_by body.now) m words.new → Outward (linked_by body.now) (func_by body.now) bounds (notes_by body.now m notes.now) (thrown_by body.now) (answers_at body.now.source answers.entry) (thrown_of m exception) (outcome_by body.now m outcome.entry)) }
+    ensures grows { (types : ℕ → Typ) (m : Meaning) → Agrees types m words.new → Agrees types m words.old }
 {
-    let steps = steps_out(room, body, answers, LONGEST, exception, outcome)?;
+    let steps = steps_out(room, words, body, answers, LONGEST, exception, outcome)?;
     let _short = steps_within(steps, 1, LONGEST)?;
     Ok(())
 }
@@ -269,37 +290,42 @@ fn caught_count<'a>(caught: Exceptions<'a>) -> u32 {
 // The row leads to a cleanup.
 fn cleans<'a>(
     room: Room<'a>,
+    words: &mut Words<'a>,
     body: &Compiled<'a>,
     notes: &Notes<'a>,
     flight: Flight<'a, '_>,
     target: u32,
     place: Place<'a>,
-    exception: Exception<'a>,
+    exception: ExceptionId,
     outcome: Outcome<'a>,
 ) -> Result<(), Unfit>
-    ensures { OnOk result (RowFitsBy body.now notes.now (facts_by body.now flight.entry.known) (answers_at body.now.source flight.entry.answers) flight.entry.rank 0 target (place_by body.now place.entry) (exception_by body.now exception.entry) (outcome_by body.now outcome.entry)) }
+    ensures is { OnOk result ((m : Meaning) → Agrees (types_by body.now) m words.new → RowFitsBy body.now m notes.now (facts_by body.now m flight.entry.known) (answers_at body.now.source flight.entry.answers) flight.entry.rank 0 target (place_by body.now m place.entry) (thrown_of m exception) (outcome_by body.now m outcome.entry)) }
+    ensures grows { (types : ℕ → Typ) (m : Meaning) → Agrees types m words.new → Agrees types m words.old }
 {
     let pace = Pace::Cleanup(caught_count(place.caught));
     let held = holding(place, Hold::Flying(exception));
-    reaches(room, body, notes, flight, pace, target, held, outcome)?;
+    reaches(room, words, body, notes, flight, pace, target, held, outcome)?;
     Ok(())
 }
 
 // A note that is missing at a handler, with nothing known of an exception.
 fn forgets<'a>(
     room: Room<'a>,
+    words: &mut Words<'a>,
     body: &Compiled<'a>,
     pace: Pace,
-    exception: Exception<'a>,
+    exception: ExceptionId,
     before: Outcome<'a>,
     unfit: Unfit,
-) -> Unfit {
-    match (exception, unfit) {
-        (Exception::Made(typ, _), Unfit::Missing) => {
+) -> Unfit
+    ensures grows { (types : ℕ → Typ) (m : Meaning) → Agrees types m words.new → Agrees types m words.old }
+{
+    match (exception_at(words, exception), unfit) {
+        (Ok(Exception::Made(typ, _)), Unfit::Missing) => {
             let Some(missing) = missing_in(room) else {
                 return Unfit::Never;
             };
-            match forgotten(room, body, pace, typ, exception, before, missing) {
+            match forgotten(room, words, body, pace, typ, exception, before, missing) {
                 Ok(note) => missed(room, note),
                 Err(why) => Unfit::from(why),
             }
@@ -311,68 +337,72 @@ fn forgets<'a>(
 // The row leads to a handler. Where a note is missing, nothing is to be known there of the exception.
 fn handles<'a>(
     room: Room<'a>,
+    words: &mut Words<'a>,
     body: &Compiled<'a>,
     notes: &Notes<'a>,
     flight: Flight<'a, '_>,
     target: u32,
     place: Place<'a>,
-    exception: Exception<'a>,
+    exception: ExceptionId,
     outcome: Outcome<'a>,
 ) -> Result<(), Unfit>
-    ensures { OnOk result (RowFitsBy body.now notes.now (facts_by body.now flight.entry.known) (answers_at body.now.source flight.entry.answers) flight.entry.rank 1 target (place_by body.now place.entry) (exception_by body.now exception.entry) (outcome_by body.now outcome.entry)) }
+    ensures is { OnOk result ((m : Meaning) → Agrees (types_by body.now) m words.new → RowFitsBy body.now m notes.now (facts_by body.now m flight.entry.known) (answers_at body.now.source flight.entry.answers) flight.entry.rank 1 target (place_by body.now m place.entry) (thrown_of m exception) (outcome_by body.now m outcome.entry)) }
+    ensures grows { (types : ℕ → Typ) (m : Meaning) → Agrees types m words.new → Agrees types m words.old }
 {
     let caught = catching(room.arena, place, exception)?;
     let pace = Pace::Handler(caught_count(caught.caught));
-    match reaches(room, body, notes, flight, pace, target, caught, outcome) {
+    match reaches(room, words, body, notes, flight, pace, target, caught, outcome) {
         Ok(()) => Ok(()),
-        Err(unfit) => Err(forgets(room, body, pace, exception, outcome, unfit)),
+        Err(unfit) => Err(forgets(room, words, body, pace, exception, outcome, unfit)),
     }
 }
 
 // The row takes the exception to an index.
 fn row_fits<'a>(
     room: Room<'a>,
+    words: &mut Words<'a>,
     body: &Compiled<'a>,
     notes: &Notes<'a>,
     flight: Flight<'a, '_>,
     row: Row,
     place: Place<'a>,
-    exception: Exception<'a>,
+    exception: ExceptionId,
     outcome: Outcome<'a>,
 ) -> Result<(), Unfit>
-    ensures { OnOk result (RowFitsBy body.now notes.now (facts_by body.now flight.entry.known) (answers_at body.now.source flight.entry.answers) flight.entry.rank row.what row.target (place_by body.now place.entry) (exception_by body.now exception.entry) (outcome_by body.now outcome.entry)) }
+    ensures is { OnOk result ((m : Meaning) → Agrees (types_by body.now) m words.new → RowFitsBy body.now m notes.now (facts_by body.now m flight.entry.known) (answers_at body.now.source flight.entry.answers) flight.entry.rank row.what row.target (place_by body.now m place.entry) (thrown_of m exception) (outcome_by body.now m outcome.entry)) }
+    ensures grows { (types : ℕ → Typ) (m : Meaning) → Agrees types m words.new → Agrees types m words.old }
 {
     match row.what {
         0 => {
-            cleans(room, body, notes, flight, row.target, place, exception, outcome)?;
+            cleans(room, words, body, notes, flight, row.target, place, exception, outcome)?;
             Ok(())
         }
         1 => {
-            handles(room, body, notes, flight, row.target, place, exception, outcome)?;
+            handles(room, words, body, notes, flight, row.target, place, exception, outcome)?;
             Ok(())
         }
         2 => {
-            handles(room, body, notes, flight, row.target, place, exception, outcome)?;
+            handles(room, words, body, notes, flight, row.target, place, exception, outcome)?;
             Ok(())
         }
         3 => {
             let block = Open::Atomic(BlockKind::NoExcept);
-            edges(room, body, notes, flight, block, row.target, place, exception, outcome)?;
+            edges(room, words, body, notes, flight, block, row.target, place, exception, outcome)?;
             Ok(())
         }
         4 => {
             let block = Open::Atomic(BlockKind::Commit);
-            edges(room, body, notes, flight, block, row.target, place, exception, outcome)?;
+            edges(room, words, body, notes, flight, block, row.target, place, exception, outcome)?;
             Ok(())
         }
         5 => {
             let block = Open::Atomic(BlockKind::Cancel);
-            edges(room, body, notes, flight, block, row.target, place, exception, outcome)?;
+            edges(room, words, body, notes, flight, block, row.target, place, exception, outcome)?;
             Ok(())
         }
         6 => {
             let block = Open::Sync;
-            edges(room, body, notes, flight, block, row.target, place, exception, outcome)?;
+            edges(room, words, body, notes, flight, block, row.target, place, exception, outcome)?;
             Ok(())
         }
         _ => Err(Unfit::Never),
@@ -382,26 +412,28 @@ fn row_fits<'a>(
 /// The row that was found, or none, takes the exception where the source goes.
 pub(crate) fn found_fits<'a>(
     room: Room<'a>,
+    words: &mut Words<'a>,
     body: &Compiled<'a>,
     notes: &Notes<'a>,
     flight: Flight<'a, '_>,
     row: Option<Row>,
     place: Place<'a>,
-    exception: Exception<'a>,
+    exception: ExceptionId,
     outcome: Outcome<'a>,
 ) -> Result<(), Unfit>
-    ensures { OnOk result (FoundFitsBy body.now notes.now (facts_by body.now flight.entry.known) (answers_at body.now.source flight.entry.answers) flight.entry.rank row (place_by body.now place.entry) (exception_by body.now exception.entry) (outcome_by body.now outcome.entry)) }
+    ensures is { OnOk result ((m : Meaning) → Agrees (types_by body.now) m words.new → FoundFitsBy body.now m notes.now (facts_by body.now m flight.entry.known) (answers_at body.now.source flight.entry.answers) flight.entry.rank row (place_by body.now m place.entry) (thrown_of m exception) (outcome_by body.now m outcome.entry)) }
+    ensures grows { (types : ℕ → Typ) (m : Meaning) → Agrees types m words.new → Agrees types m words.old }
 {
     match row {
         None => {
-            outward(room, body, notes, flight.answers, exception, outcome)?;
+            outward(room, words, body, notes, flight.answers, exception, outcome)?;
             Ok(())
         }
         Some(row) => {
             let Some(cut) = cut_to(row.depth, place) else {
                 return Err(Unfit::Never);
             };
-            row_fits(room, body, notes, flight, row, cut, exception, outcome)?;
+            row_fits(room, words, body, notes, flight, row, cut, exception, outcome)?;
             Ok(())
         }
     }
@@ -410,42 +442,46 @@ pub(crate) fn found_fits<'a>(
 // An exception of the type with this number.
 fn known_flies<'a>(
     room: Room<'a>,
+    words: &mut Words<'a>,
     body: &Compiled<'a>,
     notes: &Notes<'a>,
     flight: Flight<'a, '_>,
     index: u32,
     place: Place<'a>,
     typ: u32,
-    exception: Exception<'a>,
+    exception: ExceptionId,
     outcome: Outcome<'a>,
 ) -> Result<(), Unfit>
-    ensures { OnOk result (FoundFitsBy body.now notes.now (facts_by body.now flight.entry.known) (answers_at body.now.source flight.entry.answers) flight.entry.rank (find (rows_by body.now) index (numbers_by body.now (types_by body.now typ))) (place_by body.now place.entry) (exception_by body.now exception.entry) (outcome_by body.now outcome.entry)) }
+    ensures is { OnOk result ((m : Meaning) → Agrees (types_by body.now) m words.new → FoundFitsBy body.now m notes.now (facts_by body.now m flight.entry.known) (answers_at body.now.source flight.entry.answers) flight.entry.rank (find (rows_by body.now) index (numbers_by body.now (types_by body.now typ))) (place_by body.now m place.entry) (thrown_of m exception) (outcome_by body.now m outcome.entry)) }
+    ensures grows { (types : ℕ → Typ) (m : Meaning) → Agrees types m words.new → Agrees types m words.old }
 {
     let Some(ty) = body.source.types.get(typ as usize) else {
         return Err(Unfit::Untold);
     };
     let number = number_of(room.alloc, body, ty)?;
     let row = find_row(&body.body.rows, index, number);
-    found_fits(room, body, notes, flight, row, place, exception, outcome)?;
+    found_fits(room, words, body, notes, flight, row, place, exception, outcome)?;
     Ok(())
 }
 
 // An exception of which nothing is known, where no row by type comes first.
 fn all_fly<'a>(
     room: Room<'a>,
+    words: &mut Words<'a>,
     body: &Compiled<'a>,
     notes: &Notes<'a>,
     flight: Flight<'a, '_>,
     index: u32,
     place: Place<'a>,
-    exception: Exception<'a>,
+    exception: ExceptionId,
     outcome: Outcome<'a>,
 ) -> Result<(), Unfit>
-    ensures { OnOk result ((number : ℕ) → FoundFitsBy body.now notes.now (facts_by body.now flight.entry.known) (answers_at body.now.source flight.entry.answers) flight.entry.rank (find (rows_by body.now) index number) (place_by body.now place.entry) (exception_by body.now exception.entry) (outcome_by body.now outcome.entry)) }
+    ensures is { OnOk result ((m : Meaning) → Agrees (types_by body.now) m words.new → (number : ℕ) → FoundFitsBy body.now m notes.now (facts_by body.now m flight.entry.known) (answers_at body.now.source flight.entry.answers) flight.entry.rank (find (rows_by body.now) index number) (place_by body.now m place.entry) (thrown_of m exception) (outcome_by body.now m outcome.entry)) }
+    ensures grows { (types : ℕ → Typ) (m : Meaning) → Agrees types m words.new → Agrees types m words.old }
 {
     match find_for_all(&body.body.rows, index) {
         Some(row) => {
-            found_fits(room, body, notes, flight, row, place, exception, outcome)?;
+            found_fits(room, words, body, notes, flight, row, place, exception, outcome)?;
             Ok(())
         }
         None => Err(Unfit::Never),
@@ -463,46 +499,50 @@ fn has_handlers<'a>(outcome: Outcome<'a>) -> bool {
 // An exception of which nothing is known.
 fn unknown_flies<'a>(
     room: Room<'a>,
+    words: &mut Words<'a>,
     body: &Compiled<'a>,
     notes: &Notes<'a>,
-    unknown: Unknown<'a>,
+    flying: Unknown<'a>,
     place: Place<'a>,
     outcome: Outcome<'a>,
 ) -> Result<(), Unfit>
-    ensures { OnOk result (FliesBy body.now notes.now (facts_by body.now unknown.entry.known) unknown.entry.index (place_by body.now place.entry) (unknown_one unknown.entry.number) (outcome_by body.now outcome.entry) unknown.entry.rank) }
+    ensures is { OnOk result ((m : Meaning) → Agrees (types_by body.now) m words.new → FliesBy body.now m notes.now (facts_by body.now m flying.entry.known) flying.entry.index (place_by body.now m place.entry) (unknown_one flying.entry.number) (outcome_by body.now m outcome.entry) flying.entry.rank) }
+    ensures grows { (types : ℕ → Typ) (m : Meaning) → Agrees types m words.new → Agrees types m words.old }
 {
-    if MOST < unknown.rank {
+    if MOST < flying.rank {
         return Err(Unfit::Never);
     }
     if has_handlers(outcome) {
-        cases_fit(room, body, notes, unknown, place, outcome)?;
+        cases_fit(room, words, body, notes, flying, place, outcome)?;
         return Ok(());
     }
     let flight = Flight {
-        known: unknown.known,
+        known: flying.known,
         answers: CaseAnswers::Unanswered,
-        rank: unknown.rank,
+        rank: flying.rank,
     };
-    let exception = Exception::Unknown(unknown.number);
-    all_fly(room, body, notes, flight, unknown.index, place, exception, outcome)?;
+    let exception = unknown(words, flying.number)?;
+    all_fly(room, words, body, notes, flight, flying.index, place, exception, outcome)?;
     Ok(())
 }
 
 /// An exception in flight at an index, where ranks lie below this one.
 pub fn flies<'a>(
     room: Room<'a>,
+    words: &mut Words<'a>,
     body: &Compiled<'a>,
     notes: &Notes<'a>,
     known: Facts<'a>,
     index: u32,
     place: Place<'a>,
-    exception: Exception<'a>,
+    exception: ExceptionId,
     outcome: Outcome<'a>,
     rank: u32,
 ) -> Result<(), Unfit>
-    ensures { OnOk result (FliesBy body.now notes.now (facts_by body.now known.entry) index (place_by body.now place.entry) (exception_by body.now exception.entry) (outcome_by body.now outcome.entry) rank) }
+    ensures is { OnOk result ((m : Meaning) → Agrees (types_by body.now) m words.new → FliesBy body.now m notes.now (facts_by body.now m known.entry) index (place_by body.now m place.entry) (thrown_of m exception) (outcome_by body.now m outcome.entry) rank) }
+    ensures grows { (types : ℕ → Typ) (m : Meaning) → Agrees types m words.new → Agrees types m words.old }
 {
-    match exception {
+    match exception_at(words, exception)? {
         Exception::Made(typ, _) => {
             if MOST < rank {
                 return Err(Unfit::Never);
@@ -512,17 +552,17 @@ pub fn flies<'a>(
                 answers: CaseAnswers::Unanswered,
                 rank,
             };
-            known_flies(room, body, notes, flight, index, place, typ, exception, outcome)?;
+            known_flies(room, words, body, notes, flight, index, place, typ, exception, outcome)?;
             Ok(())
         }
         Exception::Unknown(number) => {
-            let unknown = Unknown {
+            let flying = Unknown {
                 known,
                 index,
                 number,
                 rank,
             };
-            unknown_flies(room, body, notes, unknown, place, outcome)?;
+            unknown_flies(room, words, body, notes, flying, place, outcome)?;
             Ok(())
         }
     }

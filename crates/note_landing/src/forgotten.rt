@@ -2,6 +2,10 @@
 //!
 //! Nothing is claimed of it: it is what the search begins with.
 
+ghost use Rattle.std.specs.Prelude.{ℕ};
+ghost use Rattle.cpp_tree.specs.cpp_types.Typ.{Typ};
+ghost use Rattle.symbolic_terms.specs.Meanings.{Meaning, Agrees};
+
 use crate::ahead::{Pace, advance};
 use crate::compiled::{Compiled, Room};
 use crate::spellings::plain_text;
@@ -11,12 +15,14 @@ use std::alloc::{AllocError, Global};
 use symbolic_frames::places::catching;
 use symbolic_steps::{Case, CaseAnswers};
 use symbolic_terms::arena::keep;
-use symbolic_terms::comparison::equal_exceptions;
+use symbolic_terms::comparison::equal_thrown;
 use symbolic_terms::frames::{ExceptionFrame, Exit, Frame, Frames};
+use symbolic_terms::ids::{ExceptionId, Exceptions};
+use symbolic_terms::made::unknown;
 use symbolic_terms::outcomes::{Outcome, Rest};
 use symbolic_terms::places::Place;
 use symbolic_terms::refusal::Refusal;
-use symbolic_terms::terms::{Exception, Exceptions};
+use symbolic_terms::words::Words;
 
 /// A number that no other unknown exception has.
 const FRESH: u32 = 4000;
@@ -33,26 +39,36 @@ fn case_of<'a>(alloc: Global, body: &Compiled<'a>, ty: &Ty) -> Result<Case, Allo
 }
 
 // The unknown exception in the place of this one.
-fn fresh_for<'a>(thrown: Exception<'a>, exception: Exception<'a>) -> Exception<'a> {
-    if equal_exceptions(&thrown, &exception) {
-        Exception::Unknown(FRESH)
+fn fresh_for<'a>(
+    words: &Words<'a>,
+    thrown: ExceptionId,
+    exception: ExceptionId,
+    fresh: ExceptionId,
+) -> ExceptionId {
+    if equal_thrown(words, thrown, exception) {
+        fresh
     } else {
         thrown
     }
 }
 
 // The frame with the unknown exception in the place of this one.
-fn unknown_in<'a>(frame: Frame<'a>, exception: Exception<'a>) -> Frame<'a> {
+fn unknown_in<'a>(
+    words: &Words<'a>,
+    frame: Frame<'a>,
+    exception: ExceptionId,
+    fresh: ExceptionId,
+) -> Frame<'a> {
     match frame {
         Frame::Leaves(Exit::Throws(thrown)) => {
-            Frame::Leaves(Exit::Throws(fresh_for(thrown, exception)))
+            Frame::Leaves(Exit::Throws(fresh_for(words, thrown, exception, fresh)))
         }
         Frame::Exception(ExceptionFrame::Trying {
             exception: thrown,
             handler,
             others,
         }) => Frame::Exception(ExceptionFrame::Trying {
-            exception: fresh_for(thrown, exception),
+            exception: fresh_for(words, thrown, exception, fresh),
             handler,
             others,
         }),
@@ -63,14 +79,16 @@ fn unknown_in<'a>(frame: Frame<'a>, exception: Exception<'a>) -> Frame<'a> {
 // The frames with the unknown exception in the place of this one.
 fn forget_in<'a>(
     room: Room<'a>,
+    words: &Words<'a>,
     frames: Frames<'a>,
-    exception: Exception<'a>,
+    exception: ExceptionId,
+    fresh: ExceptionId,
 ) -> Result<Frames<'a>, Refusal> {
     match frames {
         Frames::Empty => Ok(Frames::Empty),
         Frames::More(frame, rest) => {
-            let others = forget_in(room, *rest, exception)?;
-            Ok(Frames::More(unknown_in(frame, exception), keep(room.arena, others)?))
+            let others = forget_in(room, words, *rest, exception, fresh)?;
+            Ok(Frames::More(unknown_in(words, frame, exception, fresh), keep(room.arena, others)?))
         }
     }
 }
@@ -78,15 +96,17 @@ fn forget_in<'a>(
 // What goes outward is unknown.
 fn forget<'a>(
     room: Room<'a>,
+    words: &Words<'a>,
     outcome: Outcome<'a>,
-    exception: Exception<'a>,
+    exception: ExceptionId,
+    fresh: ExceptionId,
 ) -> Result<Outcome<'a>, Refusal> {
     match outcome {
         Outcome::Goes(leading, rest) => Ok(Outcome::Goes(
             leading,
             Rest {
                 temporaries: rest.temporaries,
-                frames: forget_in(room, rest.frames, exception)?,
+                frames: forget_in(room, words, rest.frames, exception, fresh)?,
             },
         )),
         other => Ok(other),
@@ -94,7 +114,11 @@ fn forget<'a>(
 }
 
 // The place with the unknown exception in the place of the innermost handler's.
-fn place_with<'a>(room: Room<'a>, place: Place<'a>) -> Result<Place<'a>, Refusal> {
+fn place_with<'a>(
+    room: Room<'a>,
+    place: Place<'a>,
+    fresh: ExceptionId,
+) -> Result<Place<'a>, Refusal> {
     let caught = match place.caught {
         Exceptions::Empty => Exceptions::Empty,
         Exceptions::More(_, rest) => *rest,
@@ -105,19 +129,22 @@ fn place_with<'a>(room: Room<'a>, place: Place<'a>) -> Result<Place<'a>, Refusal
         caught,
         hold: place.hold,
     };
-    catching(room.arena, outer, Exception::Unknown(FRESH))
+    catching(room.arena, outer, fresh)
 }
 
 /// A note that is missing at a handler, with nothing known of the exception.
 pub(crate) fn forgotten<'a>(
     room: Room<'a>,
+    words: &mut Words<'a>,
     body: &Compiled<'a>,
     pace: Pace,
     typ: u32,
-    exception: Exception<'a>,
+    exception: ExceptionId,
     before: Outcome<'a>,
     missing: Missing<'a>,
-) -> Result<Missing<'a>, Refusal> {
+) -> Result<Missing<'a>, Refusal>
+    ensures grows { (types : ℕ → Typ) (m : Meaning) → Agrees types m words.new → Agrees types m words.old }
+{
     let Some(ty) = body.source.types.get(typ as usize) else {
         return Err(Refusal::Untold);
     };
@@ -127,12 +154,13 @@ pub(crate) fn forgotten<'a>(
         case: &case,
         known: body.spellings,
     };
-    let unknown = forget(room, before, exception)?;
-    let ahead = advance(room, &body.source, answers, pace, unknown)?;
+    let fresh = unknown(words, FRESH)?;
+    let forgotten = forget(room, words, before, exception, fresh)?;
+    let ahead = advance(room, words, &body.source, answers, pace, forgotten)?;
     Ok(Missing {
         index: missing.index,
         known: missing.known,
-        place: place_with(room, missing.place)?,
+        place: place_with(room, missing.place, fresh)?,
         outcome: ahead.outcome,
     })
 }

@@ -1,6 +1,8 @@
 //! Landings: a note of an index that agrees with what was computed.
 
 ghost use Rattle.std.specs.Prelude.{◌≡◌, ℕ, true, IfOk, IfSome};
+ghost use Rattle.cpp_tree.specs.cpp_types.Typ.{Typ};
+ghost use Rattle.symbolic_terms.specs.Meanings.{Meaning, Agrees};
 ghost use Rattle.symbolic_terms.specs.Replaced.{replacing_of};
 ghost use Rattle.symbolic_source.specs.Small.{is_stuck as stuck_so};
 ghost use Rattle.body_check.specs.Notes.{IsThrown};
@@ -21,6 +23,7 @@ use symbolic_terms::outcomes::Outcome;
 use symbolic_terms::places::{Facts, Place};
 use symbolic_terms::refusal::Refusal;
 use symbolic_terms::replacing::Replacing;
+use symbolic_terms::words::Words;
 
 /// The highest rank.
 pub const MOST: u32 = 63;
@@ -45,6 +48,7 @@ fn are_thrown<'a>(
 // Whether a note with these terms in the place of its variables is what was computed.
 fn is_made<'a>(
     room: Room<'a>,
+    words: &mut Words<'a>,
     body: &Compiled<'a>,
     note: &Note<'a>,
     with: Replacing<'a>,
@@ -52,18 +56,19 @@ fn is_made<'a>(
     place: Place<'a>,
     outcome: Outcome<'a>,
 ) -> Result<bool, Refusal>
-    ensures { IfOk result (λ b. b ≡ true → Makes (thrown_by body.now) (note_at body.now.source note.now) (facts_by body.now known.entry) (place_by body.now place.entry) (outcome_by body.now outcome.entry) (replacing_of (types_by body.now) with.entry)) }
+    ensures is { IfOk result (λ b. b ≡ true → (m : Meaning) → Agrees (types_by body.now) m words.new → Makes (thrown_by body.now) (note_at body.now.source m note.now) (facts_by body.now m known.entry) (place_by body.now m place.entry) (outcome_by body.now m outcome.entry) (replacing_of (types_by body.now) with.entry)) }
+    ensures grows { (types : ℕ → Typ) (m : Meaning) → Agrees types m words.new → Agrees types m words.old }
 {
-    let made_place = replaced_place(room.arena, with, note.place)?;
-    if !equal_places(&made_place, &place) {
+    let made_place = replaced_place(room.arena, words, with, note.place)?;
+    if !equal_places(words, &made_place, &place) {
         return Ok(false);
     }
-    let made = replaced_outcome(room.arena, with, note.outcome)?;
-    if !equal_outcomes(&made, &outcome) {
+    let made = replaced_outcome(room.arena, words, with, note.outcome)?;
+    if !equal_outcomes(words, &made, &outcome) {
         return Ok(false);
     }
-    let facts = replaced_facts(room.arena, with, note.facts)?;
-    if !are_among(&facts, &known) {
+    let facts = replaced_facts(room.arena, words, with, note.facts)?;
+    if !are_among(words, &facts, &known) {
         return Ok(false);
     }
     let thrown = are_thrown(room.alloc, body, with)?;
@@ -73,6 +78,7 @@ fn is_made<'a>(
 // Whether a note of this index is what was computed, with some terms in the place of its variables.
 fn agrees<'a>(
     room: Room<'a>,
+    words: &mut Words<'a>,
     body: &Compiled<'a>,
     note: &Note<'a>,
     form: Form<'a>,
@@ -81,7 +87,8 @@ fn agrees<'a>(
     place: Place<'a>,
     outcome: Outcome<'a>,
 ) -> Result<bool, Refusal>
-    ensures { IfOk result (λ b. b ≡ true → Same (thrown_by body.now) (note_at body.now.source note.now) (facts_by body.now known.entry) (place_by body.now place.entry) (outcome_by body.now outcome.entry) index) }
+    ensures is { IfOk result (λ b. b ≡ true → (m : Meaning) → Agrees (types_by body.now) m words.new → Same (thrown_by body.now) (note_at body.now.source m note.now) (facts_by body.now m known.entry) (place_by body.now m place.entry) (outcome_by body.now m outcome.entry) index) }
+    ensures grows { (types : ℕ → Typ) (m : Meaning) → Agrees types m words.new → Agrees types m words.old }
 {
     if note.index != index {
         return Ok(false);
@@ -91,7 +98,7 @@ fn agrees<'a>(
     }
     match terms_between(room.arena, room.alloc, note.form, form)? {
         Some(with) => {
-            let made = is_made(room, body, note, with, known, place, outcome)?;
+            let made = is_made(room, words, body, note, with, known, place, outcome)?;
             Ok(made)
         }
         None => Ok(false),
@@ -101,6 +108,7 @@ fn agrees<'a>(
 // The rank of the note at this place in the list, where it is what was computed.
 fn rank_at<'a>(
     room: Room<'a>,
+    words: &mut Words<'a>,
     body: &Compiled<'a>,
     notes: &Notes<'a>,
     at: u32,
@@ -110,43 +118,55 @@ fn rank_at<'a>(
     place: Place<'a>,
     outcome: Outcome<'a>,
 ) -> Result<Option<u32>, Refusal>
-    ensures { IfOk result (λ o. IfSome o (λ rank. FoundBy body.now notes.now (facts_by body.now known.entry) index (place_by body.now place.entry) (outcome_by body.now outcome.entry) rank)) }
+    ensures is { IfOk result (λ o. IfSome o (λ rank. (m : Meaning) → Agrees (types_by body.now) m words.new → FoundBy body.now m notes.now (facts_by body.now m known.entry) index (place_by body.now m place.entry) (outcome_by body.now m outcome.entry) rank)) }
+    ensures grows { (types : ℕ → Typ) (m : Meaning) → Agrees types m words.new → Agrees types m words.old }
 {
     let Some(note) = notes.list.get(at as usize) else {
         return Ok(None);
     };
-    if agrees(room, body, note, form, known, index, place, outcome)? {
+    if agrees(room, words, body, note, form, known, index, place, outcome)? {
         Ok(Some(note.rank))
     } else {
         Ok(None)
     }
 }
 
-// The rank of a note of the index that is what was computed, among those at these places.
+// The rank of a note of the index that is what was computed, among those at the first of these places, so many.
 fn rank_among<'a>(
     room: Room<'a>,
+    words: &mut Words<'a>,
     body: &Compiled<'a>,
     notes: &Notes<'a>,
     places: &[u32],
+    count: usize,
     form: Form<'a>,
     known: Facts<'a>,
     index: u32,
     place: Place<'a>,
     outcome: Outcome<'a>,
 ) -> Result<Option<u32>, Refusal>
-    ensures { IfOk result (λ o. IfSome o (λ rank. FoundBy body.now notes.now (facts_by body.now known.entry) index (place_by body.now place.entry) (outcome_by body.now outcome.entry) rank)) }
+    ensures is { IfOk result (λ o. IfSome o (λ rank. (m : Meaning) → Agrees (types_by body.now) m words.new → FoundBy body.now m notes.now (facts_by body.now m known.entry) index (place_by body.now m place.entry) (outcome_by body.now m outcome.entry) rank)) }
+    ensures grows { (types : ℕ → Typ) (m : Meaning) → Agrees types m words.new → Agrees types m words.old }
 {
-    for at in places {
-        if let Some(rank) = rank_at(room, body, notes, *at, form, known, index, place, outcome)? {
-            return Ok(Some(rank));
-        }
+    if count == 0 {
+        return Ok(None);
     }
-    Ok(None)
+    let last = count - 1;
+    let Some(at) = places.get(last) else {
+        return Ok(None);
+    };
+    match rank_at(room, words, body, notes, *at, form, known, index, place, outcome)? {
+        Some(rank) => Ok(Some(rank)),
+        None => rank_among(
+            room, words, body, notes, places, last, form, known, index, place, outcome,
+        ),
+    }
 }
 
 // The rank of a note of the index that is what was computed.
 fn rank_found<'a>(
     room: Room<'a>,
+    words: &mut Words<'a>,
     body: &Compiled<'a>,
     notes: &Notes<'a>,
     known: Facts<'a>,
@@ -154,19 +174,23 @@ fn rank_found<'a>(
     place: Place<'a>,
     outcome: Outcome<'a>,
 ) -> Result<Option<u32>, Refusal>
-    ensures { IfOk result (λ o. IfSome o (λ rank. FoundBy body.now notes.now (facts_by body.now known.entry) index (place_by body.now place.entry) (outcome_by body.now outcome.entry) rank)) }
+    ensures is { IfOk result (λ o. IfSome o (λ rank. (m : Meaning) → Agrees (types_by body.now) m words.new → FoundBy body.now m notes.now (facts_by body.now m known.entry) index (place_by body.now m place.entry) (outcome_by body.now m outcome.entry) rank)) }
+    ensures grows { (types : ℕ → Typ) (m : Meaning) → Agrees types m words.new → Agrees types m words.old }
 {
     let Some(places) = notes.places.get(index as usize) else {
         return Ok(None);
     };
-    let form = form_of(room.arena, room.alloc, place, outcome)?;
-    rank_among(room, body, notes, places, form, known, index, place, outcome)
+    let form = form_of(room.arena, words, room.alloc, place, outcome)?;
+    let count = places.len();
+    rank_among(
+        room, words, body, notes, places, count, form, known, index, place, outcome,
+    )
 }
 
 /// Whether it is not foreseen.
 #[tactic(auto, using(crate::proofs::Landed::not_stuck))]
 pub fn is_stuck<'a>(outcome: Outcome<'a>) -> bool
-    ensures { (b : CompiledBody) → result ≡ stuck_so (outcome_by b outcome.entry) }
+    ensures { (b : CompiledBody) (m : Meaning) → result ≡ stuck_so (outcome_by b m outcome.entry) }
 {
     match outcome {
         Outcome::Stuck => true,
@@ -177,6 +201,7 @@ pub fn is_stuck<'a>(outcome: Outcome<'a>) -> bool
 /// Lands at a note of the index: its rank.
 pub fn land<'a>(
     room: Room<'a>,
+    words: &mut Words<'a>,
     body: &Compiled<'a>,
     notes: &Notes<'a>,
     known: Facts<'a>,
@@ -184,13 +209,14 @@ pub fn land<'a>(
     place: Place<'a>,
     outcome: Outcome<'a>,
 ) -> Result<u32, Unfit>
-    ensures { IfOk result (λ rank. AgreesBy body.now notes.now (facts_by body.now known.entry) index (place_by body.now place.entry) (outcome_by body.now outcome.entry) rank) }
+    ensures is { IfOk result (λ rank. (m : Meaning) → Agrees (types_by body.now) m words.new → AgreesBy body.now m notes.now (facts_by body.now m known.entry) index (place_by body.now m place.entry) (outcome_by body.now m outcome.entry) rank) }
+    ensures grows { (types : ℕ → Typ) (m : Meaning) → Agrees types m words.new → Agrees types m words.old }
 {
     if is_stuck(outcome) {
         return Err(Unfit::Never);
     }
-    let outcome = settled(known, outcome);
-    match rank_found(room, body, notes, known, index, place, outcome)? {
+    let outcome = settled(words, known, outcome)?;
+    match rank_found(room, words, body, notes, known, index, place, outcome)? {
         Some(rank) => Ok(rank),
         None => {
             let missing = Missing {

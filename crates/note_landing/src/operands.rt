@@ -2,17 +2,17 @@
 
 ghost use Rattle.std.specs.Prelude.{ℕ, ◌≡◌, ◌+◌, length, drop, IfSome};
 ghost use Rattle.cpp_tree.specs.cpp_types.Typ.{Typ};
-ghost use Rattle.symbolic_terms.specs.Words.{terms_of};
+ghost use Rattle.symbolic_terms.specs.Meanings.{Meaning, words_of};
 ghost use Rattle.symbolic_terms.specs.Shown.{place_of};
 ghost use Rattle.body_check.specs.Notes.{cut_to as cut_so};
 
 use symbolic_frames::places::with_operands;
+use symbolic_terms::ids::Terms;
 use symbolic_terms::places::Place;
-use symbolic_terms::terms::Terms;
 
 // How many there are.
 fn count_of<'a>(terms: Terms<'a>) -> Option<u32>
-    ensures { IfSome result (λ n. (types : ℕ → Typ) → n ≡ length (terms_of types terms.entry)) }
+    ensures { IfSome result (λ n. (m : Meaning) → n ≡ length (words_of m terms.entry)) }
 {
     match terms {
         Terms::Empty => Some(0),
@@ -23,7 +23,7 @@ fn count_of<'a>(terms: Terms<'a>) -> Option<u32>
 // What is under so many.
 #[tactic(auto, using(crate::proofs::Shows::drop_more))]
 fn dropped<'a>(count: u32, terms: Terms<'a>) -> Terms<'a>
-    ensures { (types : ℕ → Typ) → terms_of types result ≡ drop count (terms_of types terms.entry) }
+    ensures { (m : Meaning) → words_of m result ≡ drop count (words_of m terms.entry) }
 {
     if count == 0 {
         return terms;
@@ -36,7 +36,7 @@ fn dropped<'a>(count: u32, terms: Terms<'a>) -> Terms<'a>
 
 /// The operands cut to a depth.
 pub(crate) fn cut_to<'a>(depth: u32, place: Place<'a>) -> Option<Place<'a>>
-    ensures { IfSome result (λ q. (types : ℕ → Typ) → place_of types q ≡ cut_so depth (place_of types place.entry)) }
+    ensures { IfSome result (λ q. (types : ℕ → Typ) (m : Meaning) → place_of types m q ≡ cut_so depth (place_of types m place.entry)) }
 {
     let count = count_of(place.operands)?;
     Some(with_operands(place, dropped(count.saturating_sub(depth), place.operands)))

@@ -1,8 +1,10 @@
 //! Landings of an instruction's ways on, where no exception flies.
 
-ghost use Rattle.std.specs.Prelude.{◌≡◌, ◌+◌, ◌≤◌, ◌⊎◌, IfOk, OnOk};
+ghost use Rattle.std.specs.Prelude.{ℕ, ◌≡◌, ◌+◌, ◌≤◌, ◌⊎◌, IfOk, OnOk};
+ghost use Rattle.cpp_tree.specs.cpp_types.Typ.{Typ};
+ghost use Rattle.symbolic_terms.specs.Meanings.{Meaning, Agrees};
 ghost use Rattle.symbolic_leaving.specs.Answers.{answers_at};
-ghost use Rattle.note_landing.specs.Shown.{place_by, facts_by, outcome_by, LandsBy, LandsOnBy};
+ghost use Rattle.note_landing.specs.Shown.{types_by, place_by, facts_by, outcome_by, LandsBy, LandsOnBy};
 
 use crate::ahead::{Pace, advance};
 use crate::compiled::{Compiled, Room};
@@ -12,6 +14,7 @@ use crate::unfit::Unfit;
 use symbolic_steps::CaseAnswers;
 use symbolic_terms::outcomes::Outcome;
 use symbolic_terms::places::{Facts, Place};
+use symbolic_terms::words::Words;
 
 /// How many silent steps the source takes in a move at most.
 pub const LONGEST: u32 = 1024;
@@ -26,6 +29,7 @@ pub struct Landing {
 /// The source goes on as far as it may, and lands at a note of the index.
 pub fn land_ahead<'a>(
     room: Room<'a>,
+    words: &mut Words<'a>,
     body: &Compiled<'a>,
     notes: &Notes<'a>,
     known: Facts<'a>,
@@ -35,10 +39,11 @@ pub fn land_ahead<'a>(
     place: Place<'a>,
     outcome: Outcome<'a>,
 ) -> Result<Landing, Unfit>
-    ensures { IfOk result (λ l. LandsBy body.now notes.now (facts_by body.now known.entry) (answers_at body.now.source answers.entry) index (place_by body.now place.entry) (outcome_by body.now outcome.entry) l.lag l.rank) }
+    ensures is { IfOk result (λ l. (m : Meaning) → Agrees (types_by body.now) m words.new → LandsBy body.now m notes.now (facts_by body.now m known.entry) (answers_at body.now.source answers.entry) index (place_by body.now m place.entry) (outcome_by body.now m outcome.entry) l.lag l.rank) }
+    ensures grows { (types : ℕ → Typ) (m : Meaning) → Agrees types m words.new → Agrees types m words.old }
 {
-    let ahead = advance(room, &body.source, answers, pace, outcome)?;
-    let rank = land(room, body, notes, known, index, place, ahead.outcome)?;
+    let ahead = advance(room, words, &body.source, answers, pace, outcome)?;
+    let rank = land(room, words, body, notes, known, index, place, ahead.outcome)?;
     Ok(Landing {
         lag: ahead.steps,
         rank,
@@ -78,6 +83,7 @@ pub fn goes_on(steps: u32, rank: u32, above: u32) -> Result<(), Unfit>
 /// One of both goes on, or the rank falls.
 pub fn lands_on<'a>(
     room: Room<'a>,
+    words: &mut Words<'a>,
     body: &Compiled<'a>,
     notes: &Notes<'a>,
     known: Facts<'a>,
@@ -87,10 +93,12 @@ pub fn lands_on<'a>(
     place: Place<'a>,
     outcome: Outcome<'a>,
 ) -> Result<(), Unfit>
-    ensures { OnOk result (LandsOnBy body.now notes.now (facts_by body.now known.entry) lead rank index (place_by body.now place.entry) (outcome_by body.now outcome.entry)) }
+    ensures is { OnOk result ((m : Meaning) → Agrees (types_by body.now) m words.new → LandsOnBy body.now m notes.now (facts_by body.now m known.entry) lead rank index (place_by body.now m place.entry) (outcome_by body.now m outcome.entry)) }
+    ensures grows { (types : ℕ → Typ) (m : Meaning) → Agrees types m words.new → Agrees types m words.old }
 {
     let landing = land_ahead(
         room,
+words,
         body,
         notes,
         known,

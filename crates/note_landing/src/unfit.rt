@@ -30,6 +30,8 @@ pub enum Unfit {
     Beyond,
     /// A type of exceptions was not told.
     Untold,
+    /// A word was not made.
+    NotMade,
 }
 
 // A list of one.
@@ -67,6 +69,7 @@ impl From<Refusal> for Unfit {
             Refusal::Memory => Unfit::Memory,
             Refusal::Beyond => Unfit::Beyond,
             Refusal::Untold => Unfit::Untold,
+            Refusal::NotMade => Unfit::NotMade,
         }
     }
 }

@@ -2,4 +2,4 @@ use Rattle.std.proofs.Common.{rules, arith}
 use Rattle.note_landing.proofs.landing.agrees.Goals as goal
 
 pub returns-in_ok-made-in-Some : goal.returns-in_ok-made-in-Some
-returns-in_ok-made-in-Some c told = record { there = omega arith; low = omega arith; terms = _; makes = c.in_ok-made-in-Some.ensures told }
+returns-in_ok-made-in-Some c told m a = record { there = omega arith; low = omega arith; terms = _; makes = c.in_ok-made-in-Some.ensures.is told m a }

@@ -5,5 +5,10 @@ use Rattle.note_landing.proofs.Landed.{makes_as}
 use Rattle.note_landing.proofs.landing.is_made.Goals as goal
 
 pub returns : goal.returns
-returns c told =
-    makes_as _ _ _ _ _ _ _ _ _ (c.in_ok-thrown.ensures told) (c.in_ok-made_place.ensures (types_by c.args.body.now)) (c.equal_places.ensures.shows (search rules) (types_by c.args.body.now)) (c.in_ok-made.ensures (types_by c.args.body.now) (units_of c.args.body.now.source) (func_by c.args.body.now)) (c.equal_outcomes.ensures.shows (search rules) (types_by c.args.body.now) (units_of c.args.body.now.source) (func_by c.args.body.now)) (c.in_ok-facts.ensures (types_by c.args.body.now)) (c.are_among.ensures.shows (search rules) (types_by c.args.body.now))
+returns c told m a =
+    let types = types_by c.args.body.now in
+    let units = units_of c.args.body.now.source in
+    let func = func_by c.args.body.now in
+    let b = c.in_ok-facts.ensures.grows types m a in
+    let d = c.in_ok-made.ensures.grows types m b in
+    makes_as _ _ _ _ _ _ _ _ _ (c.in_ok-thrown.ensures told) (c.in_ok-made_place.ensures.is types m d) (c.equal_places.ensures (search rules) types m d) (c.in_ok-made.ensures.is types m units func b) (c.equal_outcomes.ensures (search rules) types m units func b) (c.in_ok-facts.ensures.is types m a) (c.are_among.ensures (search rules) types m a)

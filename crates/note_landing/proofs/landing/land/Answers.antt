@@ -5,4 +5,4 @@ use Rattle.note_landing.proofs.Landed.{agrees_as}
 use Rattle.note_landing.proofs.landing.land.Goals as goal
 
 pub returns-in-Some : goal.returns-in-Some
-returns-in-Some c = agrees_as c.args.body.now c.args.notes.now _ _ _ _ _ _ _ (c.settled-outcome.ensures (types_by c.args.body.now) (units_of c.args.body.now.source) (func_by c.args.body.now)) (c.is_stuck.ensures c.args.body.now) (search rules) c.in-Some.ensures
+returns-in-Some c m a = agrees_as c.args.body.now m c.args.notes.now _ _ _ _ _ _ _ (c.in_ok-outcome.ensures (types_by c.args.body.now) m (units_of c.args.body.now.source) (func_by c.args.body.now) (c.in_ok-rank_found.ensures.grows (types_by c.args.body.now) m a)) (c.is_stuck.ensures c.args.body.now m) (search rules) (c.in-Some.ensures m a)
