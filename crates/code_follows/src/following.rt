@@ -275,14 +275,6 @@ fn bare_address<'a>(term: Term<'a>) -> Term<'a>
     }
 }
 
-// Whether a class address is the one at which the source looks.
-fn same_bare(words: &Words<'_>, address: WordId, other: WordId) -> Result<bool, Refusal>
-    ensures { IfOk result (λ b. (types : ℕ → Typ) (m : Meaning) → Agrees types m words.now → b ≡ is_same (bare_of (word_of m address.entry)) (word_of m other.entry)) }
-{
-    let bare = bare_address(term(words, address)?);
-    Ok(same_term(&bare, &term(words, other)?))
-}
-
 // Whether a slot is the one in which the source looks.
 fn finds_same(
     words: &Words<'_>,
@@ -293,9 +285,10 @@ fn finds_same(
     other_slot: u32,
     other_address: WordId,
 ) -> Result<bool, Refusal>
-    ensures { IfOk result (λ b. (types : ℕ → Typ) (m : Meaning) → Agrees types m words.now → b ≡ ((class == other_class) && (slot == other_slot) && is_same (bare_of (word_of m address.entry)) (word_of m other_address.entry))) }
+    ensures { IfOk result (λ b. (types : ℕ → Typ) (m : Meaning) → Agrees types m words.now → b ≡ ((class == other_class) && (slot == other_slot) && is_same (bare_of (word_of m address)) (word_of m other_address))) }
 {
-    let same_address = same_bare(words, address, other_address)?;
+    let bare = bare_address(term(words, address)?);
+    let same_address = same_term(&bare, &term(words, other_address)?);
     Ok(class == other_class && slot == other_slot && same_address)
 }
 
@@ -311,7 +304,7 @@ fn finds_at<'a>(
     below: Terms<'a>,
     outcome: &Outcome<'a>,
 ) -> Result<Next<'a>, Refusal>
-    ensures is { IfOk result (λ n. (types : ℕ → Typ) (m : Meaning) (p : Program) (f : Func) → Agrees types m words.new → next_of types m n (outcome_of types m p f outcome.now) ≡ slot_follows index class slot (place_of types m place.entry) (word_of m address.entry) (words_of m below.entry) (outcome_of types m p f outcome.now)) }
+    ensures is { IfOk result (λ n. (types : ℕ → Typ) (m : Meaning) (p : Program) (f : Func) → Agrees types m words.new → next_of types m n (outcome_of types m p f outcome.now) ≡ slot_follows index class slot (place_of types m place.entry) (word_of m address) (words_of m below.entry) (outcome_of types m p f outcome.now)) }
     ensures grows { (types : ℕ → Typ) (m : Meaning) → Agrees types m words.new → Agrees types m words.old }
 {
     match outcome {
