@@ -3,8 +3,8 @@ use Rattle.note_landing.specs.Shown.{types_by}
 use Rattle.note_landing.proofs.Flown.{made_flies, unknown_flies}
 use Rattle.note_landing.proofs.flights.flies.Goals as goal
 
-pub returns-in_ok-known_flies-in-Made : goal.returns-in_ok-known_flies-in-Made
-returns-in_ok-known_flies-in-Made c m a = made_flies c.args.body.now m c.args.notes.now _ _ _ _ _ _ _ _ _ c.in-Made.is (c.in_ok-exception_at.ensures (types_by c.args.body.now) m (c.in_ok-known_flies-in-Made.ensures.grows (types_by c.args.body.now) m a)) (omega arith) (c.in_ok-known_flies-in-Made.ensures.is m a)
+pub returns-in_ok-known_flies-in-Made-clause-is : goal.returns-in_ok-known_flies-in-Made-clause-is
+returns-in_ok-known_flies-in-Made-clause-is c m a = made_flies c.args.body.now m c.args.notes.now _ _ _ _ _ _ _ _ _ c.in-Made.is (c.in_ok-exception_at.ensures (types_by c.args.body.now) m (c.in_ok-known_flies-in-Made.ensures.grows (types_by c.args.body.now) m a)) (omega arith) (c.in_ok-known_flies-in-Made.ensures.is m a)
 
-pub returns-in_ok-unknown_flies-in-Unknown : goal.returns-in_ok-unknown_flies-in-Unknown
-returns-in_ok-unknown_flies-in-Unknown c m a = unknown_flies c.args.body.now m c.args.notes.now _ _ _ _ _ _ _ _ c.in-Unknown.is (c.in_ok-exception_at.ensures (types_by c.args.body.now) m (c.in_ok-unknown_flies-in-Unknown.ensures.grows (types_by c.args.body.now) m a)) (c.in_ok-unknown_flies-in-Unknown.ensures.is m a)
+pub returns-in_ok-unknown_flies-in-Unknown-clause-is : goal.returns-in_ok-unknown_flies-in-Unknown-clause-is
+returns-in_ok-unknown_flies-in-Unknown-clause-is c m a = unknown_flies c.args.body.now m c.args.notes.now _ _ _ _ _ _ _ _ c.in-Unknown.is (c.in_ok-exception_at.ensures (types_by c.args.body.now) m (c.in_ok-unknown_flies-in-Unknown.ensures.grows (types_by c.args.body.now) m a)) (c.in_ok-unknown_flies-in-Unknown.ensures.is m a)

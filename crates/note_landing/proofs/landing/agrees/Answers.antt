@@ -1,5 +1,5 @@
 use Rattle.std.proofs.Common.{rules, arith}
 use Rattle.note_landing.proofs.landing.agrees.Goals as goal
 
-pub returns-in_ok-made-in-Some : goal.returns-in_ok-made-in-Some
-returns-in_ok-made-in-Some c told m a = record { there = omega arith; low = omega arith; terms = _; makes = c.in_ok-made-in-Some.ensures.is told m a }
+pub returns-in_ok-made-in-Some-clause-is : goal.returns-in_ok-made-in-Some-clause-is
+returns-in_ok-made-in-Some-clause-is c told m a = record { there = omega arith; low = omega arith; terms = _; makes = c.in_ok-made-in-Some.ensures.is told m a }

@@ -4,8 +4,8 @@ use Rattle.note_landing.specs.Shown.{types_by, func_by}
 use Rattle.note_landing.proofs.Landed.{makes_as}
 use Rattle.note_landing.proofs.landing.is_made.Goals as goal
 
-pub returns : goal.returns
-returns c told m a =
+pub returns-clause-is : goal.returns-clause-is
+returns-clause-is c told m a =
     let types = types_by c.args.body.now in
     let units = units_of c.args.body.now.source in
     let func = func_by c.args.body.now in

@@ -4,5 +4,5 @@ use Rattle.note_landing.specs.Shown.{types_by, func_by}
 use Rattle.note_landing.proofs.Landed.{agrees_as}
 use Rattle.note_landing.proofs.landing.land.Goals as goal
 
-pub returns-in-Some : goal.returns-in-Some
-returns-in-Some c m a = agrees_as c.args.body.now m c.args.notes.now _ _ _ _ _ _ _ (c.in_ok-outcome.ensures (types_by c.args.body.now) m (units_of c.args.body.now.source) (func_by c.args.body.now) (c.in_ok-rank_found.ensures.grows (types_by c.args.body.now) m a)) (c.is_stuck.ensures c.args.body.now m) (search rules) (c.in-Some.ensures m a)
+pub returns-in-Some-clause-is : goal.returns-in-Some-clause-is
+returns-in-Some-clause-is c m a = agrees_as c.args.body.now m c.args.notes.now _ _ _ _ _ _ _ (c.in_ok-outcome.ensures (types_by c.args.body.now) m (units_of c.args.body.now.source) (func_by c.args.body.now) (c.in_ok-rank_found.ensures.grows (types_by c.args.body.now) m a)) (c.is_stuck.ensures c.args.body.now m) (search rules) (c.in-Some.ensures m a)
