@@ -379,7 +379,15 @@ pub fn inputs<'a>(
     match outcome {
         Outcome::Goes(Leading::Does(Doing::TakesIn), _) => {
             let reply = variable(words, 0)?;
-            answered_with(arena, words, Course::Loudly, index, place, reply, place.operands)
+            answered_with(
+                arena,
+                words,
+                Course::Loudly,
+                index,
+                place,
+                reply,
+                place.operands,
+            )
         }
         _ => Ok(Next::Refused),
     }
@@ -423,7 +431,9 @@ pub fn joins<'a>(
 {
     match place.operands {
         Terms::Empty => Ok(Next::Refused),
-        Terms::More(thread, below) => joins_thread(arena, words, index, place, thread, *below, outcome),
+        Terms::More(thread, below) => joins_thread(
+            arena, words, index, place, thread, *below, outcome,
+        ),
     }
 }
 
@@ -490,7 +500,9 @@ pub fn spawns<'a>(
         Terms::Empty => Ok(Next::Refused),
         Terms::More(_, Terms::Empty) => Ok(Next::Refused),
         Terms::More(argument, Terms::More(address, below)) => {
-            starts(arena, words, index, place, *address, argument, **below, outcome)
+            starts(
+                arena, words, index, place, *address, argument, **below, outcome,
+            )
         }
     }
 }

@@ -118,7 +118,11 @@ fn throws<'a>(index: u32, place: Place<'a>, exception: ExceptionId) -> Next<'a>
 }
 
 /// `throw`.
-pub fn throws_made<'a>(words: &mut Words<'a>, index: u32, place: Place<'a>) -> Result<Next<'a>, Refusal>
+pub fn throws_made<'a>(
+    words: &mut Words<'a>,
+    index: u32,
+    place: Place<'a>,
+) -> Result<Next<'a>, Refusal>
     ensures is { IfOk result (λ n. (types : ℕ → Typ) (m : Meaning) (o : SourceNext) → Agrees types m words.new → next_of types m n o ≡ throws_what index (place_of types m place.entry) o (hold_of types m place.entry.hold)) }
     ensures grows { (types : ℕ → Typ) (m : Meaning) → Agrees types m words.new → Agrees types m words.old }
 {

@@ -314,7 +314,15 @@ fn finds_at<'a>(
             address: found,
             ..
         } => {
-            if finds_same(words, class, slot, address, *other_class, *other_slot, *found)? {
+            if finds_same(
+                words,
+                class,
+                slot,
+                address,
+                *other_class,
+                *other_slot,
+                *found,
+            )? {
                 let word = slot_function(arena, words, *other_class, *other_slot, *found)?;
                 let course = Course::Finding {
                     class: *other_class,
@@ -346,7 +354,9 @@ fn finds<'a>(
     match place.operands {
         Terms::Empty => Ok(Next::Refused),
         Terms::More(address, below) => {
-            finds_at(arena, words, index, class, slot, place, address, *below, outcome)
+            finds_at(
+                arena, words, index, class, slot, place, address, *below, outcome,
+            )
         }
     }
 }
@@ -401,7 +411,9 @@ pub fn follow<'a>(
         Instr::Store(kind) => stores_kind(arena, words, index, kind, false, place, outcome),
         Instr::TStore(kind) => stores_kind(arena, words, index, kind, false, place, outcome),
         Instr::VStore(kind) => stores_kind(arena, words, index, kind, true, place, outcome),
-        Instr::Bin { op, kind } => operates_kind(arena, words, facts, index, op, kind, place, outcome),
+        Instr::Bin { op, kind } => operates_kind(
+            arena, words, facts, index, op, kind, place, outcome,
+        ),
         Instr::Conv { from, to } => converts_kind(arena, words, index, from, to, place),
         Instr::Jump(target) => Ok(Next::Goes {
             course: Course::Quietly,
@@ -419,10 +431,14 @@ pub fn follow<'a>(
         Instr::Join => joins(arena, words, index, place, outcome),
         Instr::Abort => Ok(aborts(outcome)),
         Instr::NewException(name) => makes_new(words, table, index, name, place),
-        Instr::PutException { offset, kind } => { puts_kind(arena, words, index, offset, kind, place) }
+        Instr::PutException { offset, kind } => {
+            puts_kind(arena, words, index, offset, kind, place)
+        }
         Instr::Throw => throws_made(words, index, place),
         Instr::Rethrow => Ok(rethrows_caught(index, place, outcome)),
-        Instr::GetException { offset, kind } => { gets_kind(arena, words, index, offset, kind, place) }
+        Instr::GetException { offset, kind } => {
+            gets_kind(arena, words, index, offset, kind, place)
+        }
         Instr::EndHandler => handler_ends(index, place),
         Instr::Resume => Ok(resumes(index, place)),
         Instr::Slot { class, slot } => {

@@ -320,10 +320,14 @@ fn operates_on<'a>(
             )? {
                 may_trap(arena, words, index, place, op, kind, left, right, below)
             } else {
-                gives(arena, words, facts, index, place, op, kind, left, right, below)
+                gives(
+                    arena, words, facts, index, place, op, kind, left, right, below,
+                )
             }
         }
-        _ => gives(arena, words, facts, index, place, op, kind, left, right, below),
+        _ => gives(
+            arena, words, facts, index, place, op, kind, left, right, below,
+        ),
     }
 }
 
@@ -371,7 +375,13 @@ pub fn converts<'a>(
 }
 
 // A jump at which the source decides nothing.
-fn jumps<'a>(words: &Words<'a>, index: u32, target: u32, place: Place<'a>, word: WordId) -> Result<Next<'a>, Refusal>
+fn jumps<'a>(
+    words: &Words<'a>,
+    index: u32,
+    target: u32,
+    place: Place<'a>,
+    word: WordId,
+) -> Result<Next<'a>, Refusal>
     ensures { IfOk result (λ n. (types : ℕ → Typ) (m : Meaning) (o : SourceNext) → Agrees types m words.now → next_of types m n o ≡ decided index target (place_of types m place.entry) (word_of m word) o) }
 {
     match term(words, word)? {

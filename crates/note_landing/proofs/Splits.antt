@@ -106,8 +106,8 @@ all_cases b m ns u q o low c = record {
     rank = u.rank;
     low = low;
     fits = λ t is told. cases_fit (linked_by b) (func_by b) bounds (notes_by b m ns) (thrown_by b) known (numbers_by b) (text_at (image_by b)) (rows_by b) (facts_by b m u.known) u.rank u.index q u.number o
-      (spelled_rows classes known (image_by b) (rows_by b) c.spelled_rows)
-      (each_more classes known (CaseBy b m ns u q o) (length classes) (spelling_cases classes known known) c.classes (each_spelling classes known (CaseBy b m ns u q o) known c.spellings c.others)) t is;
+        (spelled_rows classes known (image_by b) (rows_by b) c.spelled_rows)
+        (each_more classes known (CaseBy b m ns u q o) (length classes) (spelling_cases classes known known) c.classes (each_spelling classes known (CaseBy b m ns u q o) known c.spellings c.others)) t is;
   };
   rank_is = refl;
 }

@@ -80,7 +80,8 @@ fn is_trying<'a>(frames: Frames<'a>) -> bool {
 // Whether the source may take a step.
 fn may_step<'a>(pace: Pace, outcome: Outcome<'a>) -> bool {
     match outcome {
-        Outcome::Goes(Leading::Does(Doing::Silent), rest) => !is_trying(rest.frames) || may_try(pace, rest.frames),
+        Outcome::Goes(Leading::Does(Doing::Silent), rest) => !is_trying(rest.frames)
+            || may_try(pace, rest.frames),
         _ => false,
     }
 }

@@ -20,8 +20,8 @@ use cpp_tree::below::{ClassRec, Shape, Ty, is_name, spell};
 use image_links::tables::spelling_place;
 use std::alloc::{AllocError, Global};
 use symbolic_steps::{Case, CaseAnswers};
-use symbolic_terms::outcomes::Outcome;
 use symbolic_terms::made::unknown;
+use symbolic_terms::outcomes::Outcome;
 use symbolic_terms::places::{Facts, Place};
 use symbolic_terms::words::Words;
 use tx_code::{Image, Row};
@@ -166,7 +166,9 @@ fn case_fits<'a>(
         rank: flying.rank,
     };
     let exception = unknown(words, flying.number)?;
-    found_fits(room, words, body, notes, flight, row, place, exception, outcome)?;
+    found_fits(
+        room, words, body, notes, flight, row, place, exception, outcome,
+    )?;
     Ok(())
 }
 
@@ -188,7 +190,16 @@ fn classes_fit<'a>(
         return Ok(());
     }
     let class = count - 1;
-    case_fits(room, words, body, notes, flying, &Case::Class(class), place, outcome)?;
+    case_fits(
+        room,
+        words,
+        body,
+        notes,
+        flying,
+        &Case::Class(class),
+        place,
+        outcome,
+    )?;
     classes_fit(room, words, body, notes, flying, class, place, outcome)?;
     Ok(())
 }
@@ -277,6 +288,15 @@ pub(crate) fn cases_fit<'a>(
     };
     classes_fit(room, words, body, notes, flying, count, place, outcome)?;
     spellings_fit(room, words, body, notes, flying, place, outcome)?;
-    case_fits(room, words, body, notes, flying, &Case::Others, place, outcome)?;
+    case_fits(
+        room,
+        words,
+        body,
+        notes,
+        flying,
+        &Case::Others,
+        place,
+        outcome,
+    )?;
     Ok(())
 }

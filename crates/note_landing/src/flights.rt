@@ -74,7 +74,7 @@ fn reaches<'a>(
 {
     let landing = land_ahead(
         room,
-words,
+        words,
         body,
         notes,
         flight.known,
@@ -193,7 +193,7 @@ fn edges<'a>(
 {
     let ahead = advance(
         room,
-words,
+        words,
         &body.source,
         flight.answers,
         Pace::Through,
@@ -245,7 +245,14 @@ fn steps_out<'a>(
     if is_still(outcome) {
         return Err(Unfit::Never);
     }
-    let next = step(room.alloc, room.arena, words, &body.source, answers, outcome)?;
+    let next = step(
+        room.alloc,
+        room.arena,
+        words,
+        &body.source,
+        answers,
+        outcome,
+    )?;
     let steps = steps_out(room, words, body, answers, most - 1, exception, next)?;
     match steps.checked_add(1) {
         Some(more) => Ok(more),
@@ -304,7 +311,9 @@ fn cleans<'a>(
 {
     let pace = Pace::Cleanup(caught_count(place.caught));
     let held = holding(place, Hold::Flying(exception));
-    reaches(room, words, body, notes, flight, pace, target, held, outcome)?;
+    reaches(
+        room, words, body, notes, flight, pace, target, held, outcome,
+    )?;
     Ok(())
 }
 
@@ -351,7 +360,9 @@ fn handles<'a>(
 {
     let caught = catching(room.arena, place, exception)?;
     let pace = Pace::Handler(caught_count(caught.caught));
-    match reaches(room, words, body, notes, flight, pace, target, caught, outcome) {
+    match reaches(
+        room, words, body, notes, flight, pace, target, caught, outcome,
+    ) {
         Ok(()) => Ok(()),
         Err(unfit) => Err(forgets(room, words, body, pace, exception, outcome, unfit)),
     }
@@ -374,35 +385,49 @@ fn row_fits<'a>(
 {
     match row.what {
         0 => {
-            cleans(room, words, body, notes, flight, row.target, place, exception, outcome)?;
+            cleans(
+                room, words, body, notes, flight, row.target, place, exception, outcome,
+            )?;
             Ok(())
         }
         1 => {
-            handles(room, words, body, notes, flight, row.target, place, exception, outcome)?;
+            handles(
+                room, words, body, notes, flight, row.target, place, exception, outcome,
+            )?;
             Ok(())
         }
         2 => {
-            handles(room, words, body, notes, flight, row.target, place, exception, outcome)?;
+            handles(
+                room, words, body, notes, flight, row.target, place, exception, outcome,
+            )?;
             Ok(())
         }
         3 => {
             let block = Open::Atomic(BlockKind::NoExcept);
-            edges(room, words, body, notes, flight, block, row.target, place, exception, outcome)?;
+            edges(
+                room, words, body, notes, flight, block, row.target, place, exception, outcome,
+            )?;
             Ok(())
         }
         4 => {
             let block = Open::Atomic(BlockKind::Commit);
-            edges(room, words, body, notes, flight, block, row.target, place, exception, outcome)?;
+            edges(
+                room, words, body, notes, flight, block, row.target, place, exception, outcome,
+            )?;
             Ok(())
         }
         5 => {
             let block = Open::Atomic(BlockKind::Cancel);
-            edges(room, words, body, notes, flight, block, row.target, place, exception, outcome)?;
+            edges(
+                room, words, body, notes, flight, block, row.target, place, exception, outcome,
+            )?;
             Ok(())
         }
         6 => {
             let block = Open::Sync;
-            edges(room, words, body, notes, flight, block, row.target, place, exception, outcome)?;
+            edges(
+                room, words, body, notes, flight, block, row.target, place, exception, outcome,
+            )?;
             Ok(())
         }
         _ => Err(Unfit::Never),
@@ -433,7 +458,9 @@ pub(crate) fn found_fits<'a>(
             let Some(cut) = cut_to(row.depth, place) else {
                 return Err(Unfit::Never);
             };
-            row_fits(room, words, body, notes, flight, row, cut, exception, outcome)?;
+            row_fits(
+                room, words, body, notes, flight, row, cut, exception, outcome,
+            )?;
             Ok(())
         }
     }
@@ -460,7 +487,9 @@ fn known_flies<'a>(
     };
     let number = number_of(room.alloc, body, ty)?;
     let row = find_row(&body.body.rows, index, number);
-    found_fits(room, words, body, notes, flight, row, place, exception, outcome)?;
+    found_fits(
+        room, words, body, notes, flight, row, place, exception, outcome,
+    )?;
     Ok(())
 }
 
@@ -481,7 +510,9 @@ fn all_fly<'a>(
 {
     match find_for_all(&body.body.rows, index) {
         Some(row) => {
-            found_fits(room, words, body, notes, flight, row, place, exception, outcome)?;
+            found_fits(
+                room, words, body, notes, flight, row, place, exception, outcome,
+            )?;
             Ok(())
         }
         None => Err(Unfit::Never),
@@ -522,7 +553,17 @@ fn unknown_flies<'a>(
         rank: flying.rank,
     };
     let exception = unknown(words, flying.number)?;
-    all_fly(room, words, body, notes, flight, flying.index, place, exception, outcome)?;
+    all_fly(
+        room,
+        words,
+        body,
+        notes,
+        flight,
+        flying.index,
+        place,
+        exception,
+        outcome,
+    )?;
     Ok(())
 }
 
@@ -552,7 +593,9 @@ pub fn flies<'a>(
                 answers: CaseAnswers::Unanswered,
                 rank,
             };
-            known_flies(room, words, body, notes, flight, index, place, typ, exception, outcome)?;
+            known_flies(
+                room, words, body, notes, flight, index, place, typ, exception, outcome,
+            )?;
             Ok(())
         }
         Exception::Unknown(number) => {

@@ -63,11 +63,13 @@ fn unknown_in<'a>(
         Frame::Leaves(Exit::Throws(thrown)) => {
             Frame::Leaves(Exit::Throws(fresh_for(words, thrown, exception, fresh)))
         }
-        Frame::Exception(ExceptionFrame::Trying {
-            exception: thrown,
-            handler,
-            others,
-        }) => Frame::Exception(ExceptionFrame::Trying {
+        Frame::Exception(
+            ExceptionFrame::Trying {
+                exception: thrown,
+                handler,
+                others,
+            },
+        ) => Frame::Exception(ExceptionFrame::Trying {
             exception: fresh_for(words, thrown, exception, fresh),
             handler,
             others,
@@ -88,7 +90,10 @@ fn forget_in<'a>(
         Frames::Empty => Ok(Frames::Empty),
         Frames::More(frame, rest) => {
             let others = forget_in(room, words, *rest, exception, fresh)?;
-            Ok(Frames::More(unknown_in(words, frame, exception, fresh), keep(room.arena, others)?))
+            Ok(Frames::More(
+                unknown_in(words, frame, exception, fresh),
+                keep(room.arena, others)?,
+            ))
         }
     }
 }

@@ -155,7 +155,9 @@ fn rank_among<'a>(
     let Some(at) = places.get(last) else {
         return Ok(None);
     };
-    match rank_at(room, words, body, notes, *at, form, known, index, place, outcome)? {
+    match rank_at(
+        room, words, body, notes, *at, form, known, index, place, outcome,
+    )? {
         Some(rank) => Ok(Some(rank)),
         None => rank_among(
             room, words, body, notes, places, last, form, known, index, place, outcome,

@@ -98,7 +98,7 @@ pub fn lands_on<'a>(
 {
     let landing = land_ahead(
         room,
-words,
+        words,
         body,
         notes,
         known,
