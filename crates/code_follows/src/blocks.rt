@@ -60,7 +60,11 @@ fn opens_then<'a>(
     ensures is { IfOk result (λ n. (types : ℕ → Typ) (m : Meaning) (o : SourceNext) → Agrees types m words.new → next_of types m n o ≡ coming m Loudly (index + 1) (opened_after (place_of types m place.entry) (opens_of opens.entry)) o) }
     ensures grows { (types : ℕ → Typ) (m : Meaning) → Agrees types m words.new → Agrees types m words.old }
 {
-    goes_by(Course::Loudly, index, opened_later(arena, words, place, opens)?)
+    goes_by(
+        Course::Loudly,
+        index,
+        opened_later(arena, words, place, opens)?,
+    )
 }
 
 // A block is entered.
@@ -79,7 +83,12 @@ fn enters<'a>(
 }
 
 // The innermost block is left.
-fn leaves<'a>(arena: &'a Bump, words: &mut Words<'a>, index: u32, place: Place<'a>) -> Result<Next<'a>, Refusal>
+fn leaves<'a>(
+    arena: &'a Bump,
+    words: &mut Words<'a>,
+    index: u32,
+    place: Place<'a>,
+) -> Result<Next<'a>, Refusal>
     ensures is { IfOk result (λ n. (types : ℕ → Typ) (m : Meaning) (o : SourceNext) → Agrees types m words.new → next_of types m n o ≡ coming m Loudly (index + 1) (opened_after (place_of types m place.entry) (rest_of (opens_of place.entry.opens))) o) }
     ensures grows { (types : ℕ → Typ) (m : Meaning) → Agrees types m words.new → Agrees types m words.old }
 {
@@ -145,7 +154,9 @@ pub fn ends_atomic<'a>(
             leaves(arena, words, index, place)
         }
         Outcome::Goes(Leading::Does(Doing::LeavesBlock(Open::Atomic(_), exit)), _) => match exit {
-            Exit::Returns(_) | Exit::Breaks | Exit::Continues => { leaves(arena, words, index, place) }
+            Exit::Returns(_) | Exit::Breaks | Exit::Continues => {
+                leaves(arena, words, index, place)
+            }
             Exit::Throws(_) => Ok(Next::Refused),
         },
         _ => Ok(Next::Refused),

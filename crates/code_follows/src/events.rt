@@ -63,7 +63,7 @@ fn answered<'a>(
     place: Place<'a>,
     operands: Terms<'a>,
 ) -> Result<Next<'a>, Refusal>
-    ensures is { IfOk result (λ n. (types : ℕ → Typ) (m : Meaning) (o : SourceNext) → Agrees types m words.new → next_of types m n o ≡ coming m course.entry (index + 1) (after_reply (place_of types m place.entry) (in_terms later (words_of m operands.entry))) o) }
+    ensures is { IfOk result (λ n. (types : ℕ → Typ) (m : Meaning) (o : SourceNext) → Agrees types m words.new → next_of types m n o ≡ coming m course (index + 1) (after_reply (place_of types m place.entry) (in_terms later (words_of m operands.entry))) o) }
     ensures grows { (types : ℕ → Typ) (m : Meaning) → Agrees types m words.new → Agrees types m words.old }
 {
     let operands = replaced_words(arena, words, Replacing::Later, operands)?;
@@ -80,7 +80,7 @@ fn answered_with<'a>(
     word: WordId,
     operands: Terms<'a>,
 ) -> Result<Next<'a>, Refusal>
-    ensures is { IfOk result (λ n. (types : ℕ → Typ) (m : Meaning) (o : SourceNext) → Agrees types m words.new → next_of types m n o ≡ coming m course.entry (index + 1) (after_reply (place_of types m place.entry) (word_of m word.entry ∷ in_terms later (words_of m operands.entry))) o) }
+    ensures is { IfOk result (λ n. (types : ℕ → Typ) (m : Meaning) (o : SourceNext) → Agrees types m words.new → next_of types m n o ≡ coming m course (index + 1) (after_reply (place_of types m place.entry) (word_of m word ∷ in_terms later (words_of m operands.entry))) o) }
     ensures grows { (types : ℕ → Typ) (m : Meaning) → Agrees types m words.new → Agrees types m words.old }
 {
     let below = replaced_words(arena, words, Replacing::Later, operands)?;
@@ -98,7 +98,7 @@ fn reads_same(
     bytes: u32,
     marked: bool,
 ) -> Result<bool, Refusal>
-    ensures { IfOk result (λ b. (types : ℕ → Typ) (m : Meaning) → Agrees types m words.now → b ≡ (is_same (word_of m address.entry) (word_of m read.entry) && (bytes == size_of kind) && is_same_flag volatile marked)) }
+    ensures { IfOk result (λ b. (types : ℕ → Typ) (m : Meaning) → Agrees types m words.now → b ≡ (is_same (word_of m address) (word_of m read) && (bytes == size_of kind) && is_same_flag volatile marked)) }
 {
     let same = same_word(words, address, read)?;
     Ok(same && bytes == u32::from(size(kind)) && same_flag(volatile, marked))
@@ -125,7 +125,7 @@ fn loads_from<'a>(
     below: Terms<'a>,
     outcome: &Outcome<'a>,
 ) -> Result<Next<'a>, Refusal>
-    ensures is { IfOk result (λ n. (types : ℕ → Typ) (m : Meaning) (p : Program) (f : Func) → Agrees types m words.new → next_of types m n (outcome_of types m p f outcome.now) ≡ loads_at index (place_of types m place.entry) kind volatile (word_of m address.entry) (words_of m below.entry) (outcome_of types m p f outcome.now)) }
+    ensures is { IfOk result (λ n. (types : ℕ → Typ) (m : Meaning) (p : Program) (f : Func) → Agrees types m words.new → next_of types m n (outcome_of types m p f outcome.now) ≡ loads_at index (place_of types m place.entry) kind volatile (word_of m address) (words_of m below.entry) (outcome_of types m p f outcome.now)) }
     ensures grows { (types : ℕ → Typ) (m : Meaning) → Agrees types m words.new → Agrees types m words.old }
 {
     match outcome {
@@ -208,7 +208,7 @@ fn stores_same<'a>(
     word: WordId,
     written: WordId,
 ) -> Result<bool, Refusal>
-    ensures { IfOk result (λ b. (types : ℕ → Typ) (m : Meaning) → Agrees types m words.now → b ≡ is_same (kept_in (kind_size kind) (stored_as kind (word_of m word.entry))) (kept_in (kind_size kind) (word_of m written.entry))) }
+    ensures { IfOk result (λ b. (types : ℕ → Typ) (m : Meaning) → Agrees types m words.now → b ≡ is_same (kept_in (kind_size kind) (stored_as kind (word_of m word))) (kept_in (kind_size kind) (word_of m written))) }
 {
     let bytes = size_of_kind(kind);
     let value = stored(arena, kind, term(words, word)?)?;
@@ -229,7 +229,7 @@ fn writes_same<'a>(
     written: WordId,
     marked: bool,
 ) -> Result<bool, Refusal>
-    ensures { IfOk result (λ b. (types : ℕ → Typ) (m : Meaning) → Agrees types m words.now → b ≡ (is_same (word_of m address.entry) (word_of m written_at.entry) && (kind_size kind == kind_size written_as) && (is_same (kept_in (kind_size kind) (stored_as kind (word_of m word.entry))) (kept_in (kind_size kind) (word_of m written.entry)) && is_same_flag volatile marked))) }
+    ensures { IfOk result (λ b. (types : ℕ → Typ) (m : Meaning) → Agrees types m words.now → b ≡ (is_same (word_of m address) (word_of m written_at) && (kind_size kind == kind_size written_as) && (is_same (kept_in (kind_size kind) (stored_as kind (word_of m word))) (kept_in (kind_size kind) (word_of m written)) && is_same_flag volatile marked))) }
 {
     let same_place = same_word(words, address, written_at)?;
     let same_value = stores_same(arena, words, kind, word, written)?;
@@ -250,7 +250,7 @@ fn stores_at<'a>(
     below: Terms<'a>,
     outcome: &Outcome<'a>,
 ) -> Result<Next<'a>, Refusal>
-    ensures is { IfOk result (λ n. (types : ℕ → Typ) (m : Meaning) (p : Program) (f : Func) → Agrees types m words.new → next_of types m n (outcome_of types m p f outcome.now) ≡ stores_to index (place_of types m place.entry) kind volatile (word_of m address.entry) (word_of m word.entry) (words_of m below.entry) (outcome_of types m p f outcome.now)) }
+    ensures is { IfOk result (λ n. (types : ℕ → Typ) (m : Meaning) (p : Program) (f : Func) → Agrees types m words.new → next_of types m n (outcome_of types m p f outcome.now) ≡ stores_to index (place_of types m place.entry) kind volatile (word_of m address) (word_of m word) (words_of m below.entry) (outcome_of types m p f outcome.now)) }
     ensures grows { (types : ℕ → Typ) (m : Meaning) → Agrees types m words.new → Agrees types m words.old }
 {
     match outcome {
@@ -315,7 +315,7 @@ fn puts_same<'a>(
     word: WordId,
     byte: WordId,
 ) -> Result<bool, Refusal>
-    ensures { IfOk result (λ b. (types : ℕ → Typ) (m : Meaning) → Agrees types m words.now → b ≡ is_same (low_byte (word_of m word.entry)) (word_of m byte.entry)) }
+    ensures { IfOk result (λ b. (types : ℕ → Typ) (m : Meaning) → Agrees types m words.now → b ≡ is_same (low_byte (word_of m word)) (word_of m byte)) }
 {
     let low = Term::LowByte(keep(arena, term(words, word)?)?);
     let byte = term(words, byte)?;
@@ -332,7 +332,7 @@ fn outputs_word<'a>(
     below: Terms<'a>,
     outcome: &Outcome<'a>,
 ) -> Result<Next<'a>, Refusal>
-    ensures is { IfOk result (λ n. (types : ℕ → Typ) (m : Meaning) (p : Program) (f : Func) → Agrees types m words.new → next_of types m n (outcome_of types m p f outcome.now) ≡ puts_byte index (place_of types m place.entry) (word_of m word.entry) (words_of m below.entry) (outcome_of types m p f outcome.now)) }
+    ensures is { IfOk result (λ n. (types : ℕ → Typ) (m : Meaning) (p : Program) (f : Func) → Agrees types m words.new → next_of types m n (outcome_of types m p f outcome.now) ≡ puts_byte index (place_of types m place.entry) (word_of m word) (words_of m below.entry) (outcome_of types m p f outcome.now)) }
     ensures grows { (types : ℕ → Typ) (m : Meaning) → Agrees types m words.new → Agrees types m words.old }
 {
     match outcome {
@@ -379,7 +379,15 @@ pub fn inputs<'a>(
     match outcome {
         Outcome::Goes(Leading::Does(Doing::TakesIn), _) => {
             let reply = variable(words, 0)?;
-            answered_with(arena, words, Course::Loudly, index, place, reply, place.operands)
+            answered_with(
+                arena,
+                words,
+                Course::Loudly,
+                index,
+                place,
+                reply,
+                place.operands,
+            )
         }
         _ => Ok(Next::Refused),
     }
@@ -395,7 +403,7 @@ fn joins_thread<'a>(
     below: Terms<'a>,
     outcome: &Outcome<'a>,
 ) -> Result<Next<'a>, Refusal>
-    ensures is { IfOk result (λ n. (types : ℕ → Typ) (m : Meaning) (p : Program) (f : Func) → Agrees types m words.new → next_of types m n (outcome_of types m p f outcome.now) ≡ joining index (place_of types m place.entry) (word_of m thread.entry) (words_of m below.entry) (outcome_of types m p f outcome.now)) }
+    ensures is { IfOk result (λ n. (types : ℕ → Typ) (m : Meaning) (p : Program) (f : Func) → Agrees types m words.new → next_of types m n (outcome_of types m p f outcome.now) ≡ joining index (place_of types m place.entry) (word_of m thread) (words_of m below.entry) (outcome_of types m p f outcome.now)) }
     ensures grows { (types : ℕ → Typ) (m : Meaning) → Agrees types m words.new → Agrees types m words.old }
 {
     match outcome {
@@ -423,7 +431,9 @@ pub fn joins<'a>(
 {
     match place.operands {
         Terms::Empty => Ok(Next::Refused),
-        Terms::More(thread, below) => joins_thread(arena, words, index, place, thread, *below, outcome),
+        Terms::More(thread, below) => joins_thread(
+            arena, words, index, place, thread, *below, outcome,
+        ),
     }
 }
 
@@ -435,7 +445,7 @@ fn starts_same(
     called: WordId,
     passed: WordId,
 ) -> Result<bool, Refusal>
-    ensures { IfOk result (λ b. (types : ℕ → Typ) (m : Meaning) → Agrees types m words.now → b ≡ (is_same (word_of m address.entry) (word_of m called.entry) && is_same (word_of m argument.entry) (word_of m passed.entry))) }
+    ensures { IfOk result (λ b. (types : ℕ → Typ) (m : Meaning) → Agrees types m words.now → b ≡ (is_same (word_of m address) (word_of m called) && is_same (word_of m argument) (word_of m passed))) }
 {
     let same_function = same_word(words, address, called)?;
     let same_argument = same_word(words, argument, passed)?;
@@ -453,7 +463,7 @@ fn starts<'a>(
     below: Terms<'a>,
     outcome: &Outcome<'a>,
 ) -> Result<Next<'a>, Refusal>
-    ensures is { IfOk result (λ n. (types : ℕ → Typ) (m : Meaning) (p : Program) (f : Func) → Agrees types m words.new → next_of types m n (outcome_of types m p f outcome.now) ≡ spawning index (place_of types m place.entry) (word_of m address.entry) (word_of m argument.entry) (words_of m below.entry) (outcome_of types m p f outcome.now)) }
+    ensures is { IfOk result (λ n. (types : ℕ → Typ) (m : Meaning) (p : Program) (f : Func) → Agrees types m words.new → next_of types m n (outcome_of types m p f outcome.now) ≡ spawning index (place_of types m place.entry) (word_of m address) (word_of m argument) (words_of m below.entry) (outcome_of types m p f outcome.now)) }
     ensures grows { (types : ℕ → Typ) (m : Meaning) → Agrees types m words.new → Agrees types m words.old }
 {
     match outcome {
@@ -490,7 +500,9 @@ pub fn spawns<'a>(
         Terms::Empty => Ok(Next::Refused),
         Terms::More(_, Terms::Empty) => Ok(Next::Refused),
         Terms::More(argument, Terms::More(address, below)) => {
-            starts(arena, words, index, place, *address, argument, **below, outcome)
+            starts(
+                arena, words, index, place, *address, argument, **below, outcome,
+            )
         }
     }
 }

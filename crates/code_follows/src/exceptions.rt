@@ -62,7 +62,7 @@ fn puts_word<'a>(
     typ: u32,
     others: PutsId,
 ) -> Result<Next<'a>, Refusal>
-    ensures is { IfOk result (λ n. (types : ℕ → Typ) (m : Meaning) (o : SourceNext) → Agrees types m words.new → next_of types m n o ≡ puts_into index offset kind (place_of types m place.entry) o (makes (types typ) (given_of m others.entry))) }
+    ensures is { IfOk result (λ n. (types : ℕ → Typ) (m : Meaning) (o : SourceNext) → Agrees types m words.new → next_of types m n o ≡ puts_into index offset kind (place_of types m place.entry) o (makes (types typ) (given_of m others))) }
     ensures grows { (types : ℕ → Typ) (m : Meaning) → Agrees types m words.new → Agrees types m words.old }
 {
     if is_bool(kind) {
@@ -105,7 +105,7 @@ pub fn puts_in<'a>(
 
 // An exception is in flight, and the frame has none of its own.
 fn throws<'a>(index: u32, place: Place<'a>, exception: ExceptionId) -> Next<'a>
-    ensures { (types : ℕ → Typ) (m : Meaning) (o : SourceNext) → next_of types m result o ≡ throwing (thrown_of m exception.entry) index (held (place_of types m place.entry) nothing) o }
+    ensures { (types : ℕ → Typ) (m : Meaning) (o : SourceNext) → next_of types m result o ≡ throwing (thrown_of m exception) index (held (place_of types m place.entry) nothing) o }
 {
     Next::Goes {
         course: Course::Throwing(exception),
@@ -118,7 +118,11 @@ fn throws<'a>(index: u32, place: Place<'a>, exception: ExceptionId) -> Next<'a>
 }
 
 /// `throw`.
-pub fn throws_made<'a>(words: &mut Words<'a>, index: u32, place: Place<'a>) -> Result<Next<'a>, Refusal>
+pub fn throws_made<'a>(
+    words: &mut Words<'a>,
+    index: u32,
+    place: Place<'a>,
+) -> Result<Next<'a>, Refusal>
     ensures is { IfOk result (λ n. (types : ℕ → Typ) (m : Meaning) (o : SourceNext) → Agrees types m words.new → next_of types m n o ≡ throws_what index (place_of types m place.entry) o (hold_of types m place.entry.hold)) }
     ensures grows { (types : ℕ → Typ) (m : Meaning) → Agrees types m words.new → Agrees types m words.old }
 {
@@ -262,7 +266,7 @@ fn taken<'a>(
     offset: u8,
     from: ExceptionId,
 ) -> Result<WordId, Refusal>
-    ensures is { IfOk result (λ w. (types : ℕ → Typ) (m : Meaning) → Agrees types m words.new → word_of m w ≡ word_taken kind offset (thrown_of m from.entry) (found_put offset (size_of kind) (thrown_of m from.entry))) }
+    ensures is { IfOk result (λ w. (types : ℕ → Typ) (m : Meaning) → Agrees types m words.new → word_of m w ≡ word_taken kind offset (thrown_of m from) (found_put offset (size_of kind) (thrown_of m from))) }
     ensures grows { (types : ℕ → Typ) (m : Meaning) → Agrees types m words.new → Agrees types m words.old }
 {
     let word = taken_word(arena, kind, offset, exception(words, from)?)?;

@@ -275,14 +275,6 @@ fn bare_address<'a>(term: Term<'a>) -> Term<'a>
     }
 }
 
-// Whether a class address is the one at which the source looks.
-fn same_bare(words: &Words<'_>, address: WordId, other: WordId) -> Result<bool, Refusal>
-    ensures { IfOk result (λ b. (types : ℕ → Typ) (m : Meaning) → Agrees types m words.now → b ≡ is_same (bare_of (word_of m address.entry)) (word_of m other.entry)) }
-{
-    let bare = bare_address(term(words, address)?);
-    Ok(same_term(&bare, &term(words, other)?))
-}
-
 // Whether a slot is the one in which the source looks.
 fn finds_same(
     words: &Words<'_>,
@@ -293,9 +285,10 @@ fn finds_same(
     other_slot: u32,
     other_address: WordId,
 ) -> Result<bool, Refusal>
-    ensures { IfOk result (λ b. (types : ℕ → Typ) (m : Meaning) → Agrees types m words.now → b ≡ ((class == other_class) && (slot == other_slot) && is_same (bare_of (word_of m address.entry)) (word_of m other_address.entry))) }
+    ensures { IfOk result (λ b. (types : ℕ → Typ) (m : Meaning) → Agrees types m words.now → b ≡ ((class == other_class) && (slot == other_slot) && is_same (bare_of (word_of m address)) (word_of m other_address))) }
 {
-    let same_address = same_bare(words, address, other_address)?;
+    let bare = bare_address(term(words, address)?);
+    let same_address = same_term(&bare, &term(words, other_address)?);
     Ok(class == other_class && slot == other_slot && same_address)
 }
 
@@ -311,7 +304,7 @@ fn finds_at<'a>(
     below: Terms<'a>,
     outcome: &Outcome<'a>,
 ) -> Result<Next<'a>, Refusal>
-    ensures is { IfOk result (λ n. (types : ℕ → Typ) (m : Meaning) (p : Program) (f : Func) → Agrees types m words.new → next_of types m n (outcome_of types m p f outcome.now) ≡ slot_follows index class slot (place_of types m place.entry) (word_of m address.entry) (words_of m below.entry) (outcome_of types m p f outcome.now)) }
+    ensures is { IfOk result (λ n. (types : ℕ → Typ) (m : Meaning) (p : Program) (f : Func) → Agrees types m words.new → next_of types m n (outcome_of types m p f outcome.now) ≡ slot_follows index class slot (place_of types m place.entry) (word_of m address) (words_of m below.entry) (outcome_of types m p f outcome.now)) }
     ensures grows { (types : ℕ → Typ) (m : Meaning) → Agrees types m words.new → Agrees types m words.old }
 {
     match outcome {
@@ -321,7 +314,15 @@ fn finds_at<'a>(
             address: found,
             ..
         } => {
-            if finds_same(words, class, slot, address, *other_class, *other_slot, *found)? {
+            if finds_same(
+                words,
+                class,
+                slot,
+                address,
+                *other_class,
+                *other_slot,
+                *found,
+            )? {
                 let word = slot_function(arena, words, *other_class, *other_slot, *found)?;
                 let course = Course::Finding {
                     class: *other_class,
@@ -353,7 +354,9 @@ fn finds<'a>(
     match place.operands {
         Terms::Empty => Ok(Next::Refused),
         Terms::More(address, below) => {
-            finds_at(arena, words, index, class, slot, place, address, *below, outcome)
+            finds_at(
+                arena, words, index, class, slot, place, address, *below, outcome,
+            )
         }
     }
 }
@@ -408,7 +411,9 @@ pub fn follow<'a>(
         Instr::Store(kind) => stores_kind(arena, words, index, kind, false, place, outcome),
         Instr::TStore(kind) => stores_kind(arena, words, index, kind, false, place, outcome),
         Instr::VStore(kind) => stores_kind(arena, words, index, kind, true, place, outcome),
-        Instr::Bin { op, kind } => operates_kind(arena, words, facts, index, op, kind, place, outcome),
+        Instr::Bin { op, kind } => operates_kind(
+            arena, words, facts, index, op, kind, place, outcome,
+        ),
         Instr::Conv { from, to } => converts_kind(arena, words, index, from, to, place),
         Instr::Jump(target) => Ok(Next::Goes {
             course: Course::Quietly,
@@ -426,10 +431,14 @@ pub fn follow<'a>(
         Instr::Join => joins(arena, words, index, place, outcome),
         Instr::Abort => Ok(aborts(outcome)),
         Instr::NewException(name) => makes_new(words, table, index, name, place),
-        Instr::PutException { offset, kind } => { puts_kind(arena, words, index, offset, kind, place) }
+        Instr::PutException { offset, kind } => {
+            puts_kind(arena, words, index, offset, kind, place)
+        }
         Instr::Throw => throws_made(words, index, place),
         Instr::Rethrow => Ok(rethrows_caught(index, place, outcome)),
-        Instr::GetException { offset, kind } => { gets_kind(arena, words, index, offset, kind, place) }
+        Instr::GetException { offset, kind } => {
+            gets_kind(arena, words, index, offset, kind, place)
+        }
         Instr::EndHandler => handler_ends(index, place),
         Instr::Resume => Ok(resumes(index, place)),
         Instr::Slot { class, slot } => {

@@ -28,14 +28,14 @@ pub fn behind(index: u32) -> Result<u32, Refusal>
 
 /// A word on operands.
 pub fn pushed<'a>(arena: &'a Bump, word: WordId, below: Terms<'a>) -> Result<Terms<'a>, Refusal>
-    ensures { IfOk result (λ ws. (types : ℕ → Typ) (m : Meaning) → words_of m ws ≡ word_of m word.entry ∷ words_of m below.entry) }
+    ensures { IfOk result (λ ws. (types : ℕ → Typ) (m : Meaning) → words_of m ws ≡ word_of m word ∷ words_of m below.entry) }
 {
     Ok(Terms::More(word, keep(arena, below)?))
 }
 
 /// An instruction does this, and goes on to the next index.
 pub fn goes_by<'a>(course: Course, index: u32, place: Place<'a>) -> Result<Next<'a>, Refusal>
-    ensures { IfOk result (λ n. (types : ℕ → Typ) (m : Meaning) (o : SourceNext) → next_of types m n o ≡ coming m course.entry (index + 1) (place_of types m place.entry) o) }
+    ensures { IfOk result (λ n. (types : ℕ → Typ) (m : Meaning) (o : SourceNext) → next_of types m n o ≡ coming m course (index + 1) (place_of types m place.entry) o) }
 {
     Ok(Next::Goes {
         course,
@@ -53,7 +53,7 @@ pub fn pushes_by<'a>(
     word: WordId,
     below: Terms<'a>,
 ) -> Result<Next<'a>, Refusal>
-    ensures { IfOk result (λ n. (types : ℕ → Typ) (m : Meaning) (o : SourceNext) → next_of types m n o ≡ coming m course.entry (index + 1) (with_operands (place_of types m place.entry) (word_of m word.entry ∷ words_of m below.entry)) o) }
+    ensures { IfOk result (λ n. (types : ℕ → Typ) (m : Meaning) (o : SourceNext) → next_of types m n o ≡ coming m course (index + 1) (with_operands (place_of types m place.entry) (word_of m word ∷ words_of m below.entry)) o) }
 {
     let operands = pushed(arena, word, below)?;
     goes_by(course, index, Place { operands, ..place })
@@ -67,7 +67,7 @@ pub fn pushes<'a>(
     word: WordId,
     below: Terms<'a>,
 ) -> Result<Next<'a>, Refusal>
-    ensures { IfOk result (λ n. (types : ℕ → Typ) (m : Meaning) (o : SourceNext) → next_of types m n o ≡ pushes_word index (place_of types m place.entry) o (word_of m word.entry) (words_of m below.entry)) }
+    ensures { IfOk result (λ n. (types : ℕ → Typ) (m : Meaning) (o : SourceNext) → next_of types m n o ≡ pushes_word index (place_of types m place.entry) o (word_of m word) (words_of m below.entry)) }
 {
     pushes_by(arena, Course::Quietly, index, place, word, below)
 }

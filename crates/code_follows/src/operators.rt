@@ -3,7 +3,7 @@
 ghost use Rattle.std.specs.Prelude.{ℕ, ◌≡◌, ◌+◌, ◌==◌, ◌&&◌, option_map, List, IfOk};
 ghost use Rattle.cpp_tree.specs.cpp_types.Typ.{Typ};
 ghost use Rattle.cpp_tree.specs.declared.program.Program.{Program};
-ghost use Rattle.cpp_tree.specs.tx_ints.declared.kinds.BinOp.TheVariants.{Add, Sub, Mul};
+ghost use Rattle.cpp_tree.specs.tx_ints.declared.kinds.BinOp.TheVariants.{Add, Sub, Mul, Eq};
 ghost use Rattle.cpp_tree.specs.tx_ints.declared.kinds.IntKind.TheVariants.{ULong};
 ghost use Rattle.src_mean.specs.Linked.{Func};
 ghost use Rattle.cpp_tree.specs.tx_ints.declared.kinds.BinOp.{BinOp as BinOpOf};
@@ -77,7 +77,7 @@ fn less_one<'a>(
     word: WordId,
     number: u64,
 ) -> Result<Option<Term<'a>>, Refusal>
-    ensures { IfOk result (λ t. (types : ℕ → Typ) (m : Meaning) → Agrees types m words.now → option_map (term_of types) t ≡ one_less_of (facts_of types m facts.entry) (word_of m word.entry) number) }
+    ensures { IfOk result (λ t. (types : ℕ → Typ) (m : Meaning) → Agrees types m words.now → option_map (term_of types) t ≡ one_less_of (facts_of types m facts.entry) (word_of m word) number) }
 {
     if number == 1 && is_not_zero(words, &facts, word)? {
         Ok(Some(one_less(arena, term(words, word)?)?))
@@ -94,7 +94,7 @@ fn less<'a>(
     word: WordId,
     number: u64,
 ) -> Result<Option<Term<'a>>, Refusal>
-    ensures { IfOk result (λ t. (types : ℕ → Typ) (m : Meaning) → Agrees types m words.now → option_map (term_of types) t ≡ or_one_less_of (facts_of types m facts.entry) (word_of m word.entry) number (number_less (word_of m word.entry) number)) }
+    ensures { IfOk result (λ t. (types : ℕ → Typ) (m : Meaning) → Agrees types m words.now → option_map (term_of types) t ≡ or_one_less_of (facts_of types m facts.entry) (word_of m word) number (number_less (word_of m word) number)) }
 {
     let whole = term(words, word)?;
     match minus_number(arena, whole, number)? {
@@ -121,7 +121,7 @@ fn added<'a>(
     left: WordId,
     right: WordId,
 ) -> Result<Option<Term<'a>>, Refusal>
-    ensures { IfOk result (λ t. (types : ℕ → Typ) (m : Meaning) (ks : List KnownFact) → Agrees types m words.now → option_map (term_of types) t ≡ address_of ks Add ULong (word_of m left.entry) (word_of m right.entry)) }
+    ensures { IfOk result (λ t. (types : ℕ → Typ) (m : Meaning) (ks : List KnownFact) → Agrees types m words.now → option_map (term_of types) t ≡ address_of ks Add ULong (word_of m left) (word_of m right)) }
 {
     let left = term(words, left)?;
     match term(words, right)? {
@@ -138,7 +138,7 @@ fn subtracted<'a>(
     left: WordId,
     right: WordId,
 ) -> Result<Option<Term<'a>>, Refusal>
-    ensures { IfOk result (λ t. (types : ℕ → Typ) (m : Meaning) → Agrees types m words.now → option_map (term_of types) t ≡ address_of (facts_of types m facts.entry) Sub ULong (word_of m left.entry) (word_of m right.entry)) }
+    ensures { IfOk result (λ t. (types : ℕ → Typ) (m : Meaning) → Agrees types m words.now → option_map (term_of types) t ≡ address_of (facts_of types m facts.entry) Sub ULong (word_of m left) (word_of m right)) }
 {
     match term(words, right)? {
         Term::Number(number) => less(arena, words, facts, left, number),
@@ -153,7 +153,7 @@ fn multiplied<'a>(
     left: WordId,
     right: WordId,
 ) -> Result<Option<Term<'a>>, Refusal>
-    ensures { IfOk result (λ t. (types : ℕ → Typ) (m : Meaning) (ks : List KnownFact) → Agrees types m words.now → option_map (term_of types) t ≡ address_of ks Mul ULong (word_of m left.entry) (word_of m right.entry)) }
+    ensures { IfOk result (λ t. (types : ℕ → Typ) (m : Meaning) (ks : List KnownFact) → Agrees types m words.now → option_map (term_of types) t ≡ address_of ks Mul ULong (word_of m left) (word_of m right)) }
 {
     let right = term(words, right)?;
     match term(words, left)? {
@@ -169,7 +169,7 @@ fn compared<'a>(
     left: WordId,
     right: WordId,
 ) -> Result<Option<Term<'a>>, Refusal>
-    ensures { IfOk result (λ t. (types : ℕ → Typ) (m : Meaning) (ks : List KnownFact) → Agrees types m words.now → option_map (term_of types) t ≡ address_of ks Eq ULong (word_of m left.entry) (word_of m right.entry)) }
+    ensures { IfOk result (λ t. (types : ℕ → Typ) (m : Meaning) (ks : List KnownFact) → Agrees types m words.now → option_map (term_of types) t ≡ address_of ks Eq ULong (word_of m left) (word_of m right)) }
 {
     Ok(Some(Term::Applied {
         op: BinOp::Eq,
@@ -189,7 +189,7 @@ fn addresses<'a>(
     left: WordId,
     right: WordId,
 ) -> Result<Option<Term<'a>>, Refusal>
-    ensures { IfOk result (λ t. (types : ℕ → Typ) (m : Meaning) → Agrees types m words.now → option_map (term_of types) t ≡ address_of (facts_of types m facts.entry) op kind (word_of m left.entry) (word_of m right.entry)) }
+    ensures { IfOk result (λ t. (types : ℕ → Typ) (m : Meaning) → Agrees types m words.now → option_map (term_of types) t ≡ address_of (facts_of types m facts.entry) op kind (word_of m left) (word_of m right)) }
 {
     match (op, kind) {
         (BinOp::Add, IntKind::ULong) => added(arena, words, left, right),
@@ -229,7 +229,7 @@ fn gives<'a>(
     right: WordId,
     below: Terms<'a>,
 ) -> Result<Next<'a>, Refusal>
-    ensures is { IfOk result (λ n. (types : ℕ → Typ) (m : Meaning) (o : SourceNext) → Agrees types m words.new → next_of types m n o ≡ if_found (address_of (facts_of types m facts.entry) op kind (word_of m left.entry) (word_of m right.entry)) (λ w. pushes_word index (place_of types m place.entry) o w (words_of m below.entry))) }
+    ensures is { IfOk result (λ n. (types : ℕ → Typ) (m : Meaning) (o : SourceNext) → Agrees types m words.new → next_of types m n o ≡ if_found (address_of (facts_of types m facts.entry) op kind (word_of m left) (word_of m right)) (λ w. pushes_word index (place_of types m place.entry) o w (words_of m below.entry))) }
     ensures grows { (types : ℕ → Typ) (m : Meaning) → Agrees types m words.new → Agrees types m words.old }
 {
     match addresses(arena, words, facts, op, kind, left, right)? {
@@ -250,7 +250,7 @@ fn operates_same(
     other_left: WordId,
     other_right: WordId,
 ) -> Result<bool, Refusal>
-    ensures { IfOk result (λ b. (types : ℕ → Typ) (m : Meaning) → Agrees types m words.now → b ≡ (is_same_operator op other_op && is_same_kind kind other_kind && (is_same (word_of m left.entry) (word_of m other_left.entry) && is_same (word_of m right.entry) (word_of m other_right.entry)))) }
+    ensures { IfOk result (λ b. (types : ℕ → Typ) (m : Meaning) → Agrees types m words.now → b ≡ (is_same_operator op other_op && is_same_kind kind other_kind && (is_same (word_of m left) (word_of m other_left) && is_same (word_of m right) (word_of m other_right)))) }
 {
     let same_left = same_word(words, left, other_left)?;
     let same_right = same_word(words, right, other_right)?;
@@ -269,7 +269,7 @@ fn may_trap<'a>(
     right: WordId,
     below: Terms<'a>,
 ) -> Result<Next<'a>, Refusal>
-    ensures is { IfOk result (λ n. (types : ℕ → Typ) (m : Meaning) (oq : BinOpOf) (j : IntKindOf) (a b : SourceTerm) (o : SourceNext) → Agrees types m words.new → next_of types m n (results oq j a b o) ≡ unless_trap op kind (word_of m left.entry) (word_of m right.entry) (pushes_word index (place_of types m place.entry) o (result_of op kind (word_of m left.entry) (word_of m right.entry)) (words_of m below.entry))) }
+    ensures is { IfOk result (λ n. (types : ℕ → Typ) (m : Meaning) (oq : BinOpOf) (j : IntKindOf) (a b : SourceTerm) (o : SourceNext) → Agrees types m words.new → next_of types m n (results oq j a b o) ≡ unless_trap op kind (word_of m left) (word_of m right) (pushes_word index (place_of types m place.entry) o (result_of op kind (word_of m left) (word_of m right)) (words_of m below.entry))) }
     ensures grows { (types : ℕ → Typ) (m : Meaning) → Agrees types m words.new → Agrees types m words.old }
 {
     let word = applied(arena, words, op, kind, left, right)?;
@@ -296,7 +296,7 @@ fn operates_on<'a>(
     below: Terms<'a>,
     outcome: &Outcome<'a>,
 ) -> Result<Next<'a>, Refusal>
-    ensures is { IfOk result (λ n. (types : ℕ → Typ) (m : Meaning) (p : Program) (f : Func) → Agrees types m words.new → next_of types m n (outcome_of types m p f outcome.now) ≡ operates_with (facts_of types m facts.entry) index (place_of types m place.entry) op kind (word_of m left.entry) (word_of m right.entry) (words_of m below.entry) (outcome_of types m p f outcome.now)) }
+    ensures is { IfOk result (λ n. (types : ℕ → Typ) (m : Meaning) (p : Program) (f : Func) → Agrees types m words.new → next_of types m n (outcome_of types m p f outcome.now) ≡ operates_with (facts_of types m facts.entry) index (place_of types m place.entry) op kind (word_of m left) (word_of m right) (words_of m below.entry) (outcome_of types m p f outcome.now)) }
     ensures grows { (types : ℕ → Typ) (m : Meaning) → Agrees types m words.new → Agrees types m words.old }
 {
     match outcome {
@@ -320,10 +320,14 @@ fn operates_on<'a>(
             )? {
                 may_trap(arena, words, index, place, op, kind, left, right, below)
             } else {
-                gives(arena, words, facts, index, place, op, kind, left, right, below)
+                gives(
+                    arena, words, facts, index, place, op, kind, left, right, below,
+                )
             }
         }
-        _ => gives(arena, words, facts, index, place, op, kind, left, right, below),
+        _ => gives(
+            arena, words, facts, index, place, op, kind, left, right, below,
+        ),
     }
 }
 
@@ -371,8 +375,14 @@ pub fn converts<'a>(
 }
 
 // A jump at which the source decides nothing.
-fn jumps<'a>(words: &Words<'a>, index: u32, target: u32, place: Place<'a>, word: WordId) -> Result<Next<'a>, Refusal>
-    ensures { IfOk result (λ n. (types : ℕ → Typ) (m : Meaning) (o : SourceNext) → Agrees types m words.now → next_of types m n o ≡ decided index target (place_of types m place.entry) (word_of m word.entry) o) }
+fn jumps<'a>(
+    words: &Words<'a>,
+    index: u32,
+    target: u32,
+    place: Place<'a>,
+    word: WordId,
+) -> Result<Next<'a>, Refusal>
+    ensures { IfOk result (λ n. (types : ℕ → Typ) (m : Meaning) (o : SourceNext) → Agrees types m words.now → next_of types m n o ≡ decided index target (place_of types m place.entry) (word_of m word) o) }
 {
     match term(words, word)? {
         Term::Number(number) => {
@@ -400,7 +410,7 @@ fn jumps_where<'a>(
     below: Terms<'a>,
     outcome: &Outcome<'a>,
 ) -> Result<Next<'a>, Refusal>
-    ensures { IfOk result (λ n. (types : ℕ → Typ) (m : Meaning) (p : Program) (f : Func) → Agrees types m words.now → next_of types m n (outcome_of types m p f outcome.now) ≡ jumps_at index target (place_of types m place.entry) (word_of m word.entry) (words_of m below.entry) (outcome_of types m p f outcome.now)) }
+    ensures { IfOk result (λ n. (types : ℕ → Typ) (m : Meaning) (p : Program) (f : Func) → Agrees types m words.now → next_of types m n (outcome_of types m p f outcome.now) ≡ jumps_at index target (place_of types m place.entry) (word_of m word) (words_of m below.entry) (outcome_of types m p f outcome.now)) }
 {
     let under = Place {
         operands: below,

@@ -166,11 +166,7 @@ fn form_read<'a>(
 }
 
 // The words and exceptions of a place and an outcome.
-fn put_all<'a>(
-    found: &mut Found,
-    place: Place<'a>,
-    outcome: Outcome<'a>,
-) -> Result<(), Refusal> {
+fn put_all<'a>(found: &mut Found, place: Place<'a>, outcome: Outcome<'a>) -> Result<(), Refusal> {
     put_place(found, place)?;
     put_outcome(found, outcome)
 }

@@ -20,10 +20,7 @@ fn put_waiting(found: &mut Found, waiting: Waiting) -> Result<(), Refusal> {
 }
 
 /// Objects that wait.
-pub(crate) fn put_waitings<'a>(
-    found: &mut Found,
-    waitings: Waitings<'a>,
-) -> Result<(), Refusal> {
+pub(crate) fn put_waitings<'a>(found: &mut Found, waitings: Waitings<'a>) -> Result<(), Refusal> {
     match waitings {
         Waitings::Empty => Ok(()),
         Waitings::More(waiting, rest) => {
@@ -134,11 +131,7 @@ fn put_filling(found: &mut Found, from: WordId, puts: PutsId) -> Result<(), Refu
 }
 
 // What takes the fields of an exception.
-fn put_taking(
-    found: &mut Found,
-    exception: ExceptionId,
-    base: WordId,
-) -> Result<(), Refusal> {
+fn put_taking(found: &mut Found, exception: ExceptionId, base: WordId) -> Result<(), Refusal> {
     put_thrown(found, exception)?;
     put(found, base)
 }

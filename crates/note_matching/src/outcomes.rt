@@ -43,29 +43,17 @@ fn put_rest<'a>(found: &mut Found, rest: Rest<'a>) -> Result<(), Refusal> {
     put_frames(found, rest.frames)
 }
 
-fn put_going<'a>(
-    found: &mut Found,
-    leading: Leading<'a>,
-    rest: Rest<'a>,
-) -> Result<(), Refusal> {
+fn put_going<'a>(found: &mut Found, leading: Leading<'a>, rest: Rest<'a>) -> Result<(), Refusal> {
     put_leading(found, leading)?;
     put_rest(found, rest)
 }
 
-fn put_handed<'a>(
-    found: &mut Found,
-    word: WordId,
-    waiting: Waitings<'a>,
-) -> Result<(), Refusal> {
+fn put_handed<'a>(found: &mut Found, word: WordId, waiting: Waitings<'a>) -> Result<(), Refusal> {
     put(found, word)?;
     put_waitings(found, waiting)
 }
 
-fn put_leaving<'a>(
-    found: &mut Found,
-    exit: Exit,
-    waiting: Waitings<'a>,
-) -> Result<(), Refusal> {
+fn put_leaving<'a>(found: &mut Found, exit: Exit, waiting: Waitings<'a>) -> Result<(), Refusal> {
     put_exit(found, exit)?;
     put_waitings(found, waiting)
 }
