@@ -8,7 +8,7 @@ ghost use Rattle.tx_code.specs.Objects.{object_view};
 ghost use Rattle.tx_code.specs.Sound.{Sound};
 ghost use Rattle.tx_code.specs.Views.{image_view};
 ghost use Rattle.tx_code.specs.WellFormed.{IsObject};
-ghost use Rattle.exec_command.specs.Exec.{CanRun, Decides, DecidesTexts, DecidesObjects, DecidesImage, RunsImage, RunsObjects};
+ghost use Rattle.exec_command.specs.Exec.{CanRun, Decides, DecidesTexts, DecidesObjects, DecidesImage, RunsImage};
 ghost use Rattle.tx_events.specs.declared.TheConstants.{THREAD_LIMIT};
 
 use crate::files::{NoObjects, read_objects, schedule_name};
@@ -101,8 +101,8 @@ pub fn with_objects(
     }
 }
 
-// The image of compiled sources is verified, and run. Code that is not sound would be a fault of the compiler, none of the sources: it counts as want of memory.
-fn with_compiled_image(
+/// The image of compiled sources is verified, and run. Code that is not sound would be a fault of the compiler, none of the sources: it counts as want of memory.
+pub fn with_compiled_image(
     alloc: Global,
     options: &RunOptions,
     image: Image,
@@ -116,25 +116,6 @@ fn with_compiled_image(
     match verify(alloc, image) {
         Ok(good) => run(alloc, options, good.image(), input, entries),
         Err(_) => Err(AllocError),
-    }
-}
-
-/// What is decided on objects that sources were compiled to: they are linked, the image is verified, and it is run. No refusal comes but that they can't be linked.
-pub fn with_compiled(
-    alloc: Global,
-    options: &RunOptions,
-    objects: &[Object],
-    input: Vec<u8>,
-    entries: &[u8],
-) -> Result<Decision, AllocError>
-    requires objects { All (λ o. IsObject (object_view o)) objects.now }
-    requires options { CanRun options.now }
-    requires threads { list_all (λ t. nat_lt t THREAD_LIMIT) entries.now ≡ true }
-    ensures { IfOk result (λ d. RunsObjects options.now (map object_view objects.now) input.items entries.now d.answer (map written_of d.writes.items)) }
-{
-    match link(alloc, objects) {
-        Ok(image) => with_compiled_image(alloc, options, image, input, entries),
-        Err(fault) => bad_link(alloc, &fault),
     }
 }
 

@@ -13,7 +13,7 @@ ghost use Rattle.run_command.specs.Runs.{Compiled, CompilesAndRuns, DecidesTexts
 
 use crate::laws::runs_of_compiled;
 use cpp_tree::Program;
-use exec_command::steps::with_compiled;
+use held_runs::run_objects;
 use source_runs::is_of_source;
 use source_verdict::{Verdict, verdict_of};
 use src_bind::Choices;
@@ -55,7 +55,7 @@ pub fn held_against_source(
     Ok(decision)
 }
 
-// The objects of a program are run, and the run is held against the source, linked by these choices.
+// The objects of a program are run, and what was run is a run of the source, linked by these choices.
 fn run_program(
     alloc: Global,
     options: &RunOptions,
@@ -71,9 +71,15 @@ fn run_program(
     ensures { IfOk result (λ d. RunsLinked options.now (record { program = checked_in safe.now; choices = choices.now }) (map string_bytes names.now) input.items entries.now d.answer (map written_of d.writes.items)) }
 {
     let objects = unit_objects(alloc, safe, names, texts)?;
-    let given = Vec::from_slice(alloc, input.as_slice())?;
-    let decision = with_compiled(alloc, options, objects.as_slice(), given, entries)?;
-    held_against_source(alloc, safe.program(), choices, input.as_slice(), decision)
+    run_objects(
+        alloc,
+        options,
+        safe.program(),
+        choices,
+        objects.as_slice(),
+        input,
+        entries,
+    )
 }
 
 // A program that is accepted is compiled and run. A folded program is linked by the choices of the program that it was folded from.

@@ -1,37 +1,26 @@
-use Rattle.std.proofs.Common.{◌≡◌, ◌∙◌, ap, ℕ, List, map, subst, sym}
+use Rattle.std.proofs.Common.{◌≡◌, ap, List, map, subst}
 use Rattle.std.proofs.lemmas.Result.{IfOk-weaker}
 use Rattle.command_io.specs.Writes.{written_of}
 use Rattle.cpp_tree.specs.declared.program.Program.{Program}
 use Rattle.exec_command.specs.Exec.{RunsObjects}
 use Rattle.source_runs.specs.Sources.{IsOfLinked}
-use Rattle.tx_answers.specs.declared.ends.Decision.{Decision}
 use Rattle.tx_code.specs.Objects.{ObjectView, object_view}
 use Rattle.tx_code.specs.declared.object.Object.{Object}
 use Rattle.run_command.proofs.steps.run_program.Goals as goal
 
 pub returns : goal.returns
 returns c =
-    let bytes : c.in_ok-given.given.items ≡ c.args.input.items = c.in_ok-given.ensures.items ∙ c.as_slice.ensures.value in
     let objects = map object_view c.in_ok-objects.objects.items in
-    let views : map object_view c.as_slice-2.result.now ≡ objects = ap (λ (os : List Object). map object_view os) c.as_slice-2.ensures.value in
-    IfOk-weaker c.held_against_source.result _ _
+    let views : map object_view c.as_slice.result.now ≡ objects = ap (λ (os : List Object). map object_view os) c.as_slice.ensures.value in
+    IfOk-weaker c.run_objects.result _ _
     (λ d h. record {
       units = record {
         objects = objects;
         are_objects = c.in_ok-objects.ensures.units;
         decides = subst (λ (os : List ObjectView). RunsObjects c.args.options.now os c.args.input.items c.args.entries.now d.answer
-            (map written_of d.writes.items)) views
-            (subst (λ (input : List ℕ). RunsObjects c.args.options.now (map object_view c.as_slice-2.result.now) input c.args.entries.now d.answer
-            (map written_of d.writes.items)) bytes
-            (subst (λ (x : Decision). RunsObjects c.args.options.now
-            (map object_view c.as_slice-2.result.now) c.in_ok-given.given.items c.args.entries.now x.answer (map written_of x.writes.items))
-            (sym h.same) c.in_ok-decision.ensures));
+            (map written_of d.writes.items)) views h.decides;
       };
       source = subst (λ (p : Program). IsOfLinked (record { program = p; choices = c.args.choices.now }) c.args.input.items d.answer) c.program.ensures.program
-          (subst (λ (input : List ℕ). IsOfLinked (record {
-            program = c.program.result.now;
-            choices =
-                c.args.choices.now;
-          }) input d.answer) c.as_slice-3.ensures.value h.source);
+          h.source;
     })
-    c.held_against_source.ensures
+    c.run_objects.ensures
