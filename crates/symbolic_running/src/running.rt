@@ -781,7 +781,7 @@ fn run_call<'a>(
     ensures grows { (types : ℕ → Typ) (m : Meaning) → Agrees types m words.new → Agrees types m words.old }
 {
     let _shown = answers;
-    let before = result_words(arena, way)?;
+    let before = result_words(arena, source, way)?;
     let callee = Callee::Known(number_of(source, func));
     Ok(Next::Made(
         When::Always,
@@ -828,7 +828,7 @@ fn run_virtual<'a>(
     ensures { IfOk result (λ o. (m : Meaning) → next_of source.now m answers.entry rest.entry o ≡ goes_on silent (waits_in source.now m rest.entry) (Runs for_value (first_kid (all_kids source.now.bound.now kids)) ∷ ObjectsOf (words_of_result (way_of (types_at source.now) m way)) class slot pointer (kids_after (all_kids source.now.bound.now kids)) ∷ left_in source.now m rest.entry)) }
 {
     let then = CallFrame::Object {
-        before: result_words(arena, way)?,
+        before: result_words(arena, source, way)?,
         class,
         slot,
         pointer,
@@ -890,7 +890,7 @@ fn run_pointer<'a>(
 ) -> Going<'a>
     ensures { IfOk result (λ o. (m : Meaning) → next_of source.now m answers.entry rest.entry o ≡ goes_on silent (waits_in source.now m rest.entry) (Runs for_value (first_kid (all_kids source.now.bound.now kids)) ∷ PointsTo (words_of_result (way_of (types_at source.now) m way)) (called_signature (typ_in (first_kid (all_kids source.now.bound.now kids)))) (kids_after (all_kids source.now.bound.now kids)) ∷ left_in source.now m rest.entry)) }
 {
-    let before = result_words(arena, way)?;
+    let before = result_words(arena, source, way)?;
     let pointer = first(source.bound, kids);
     let then = CallFrame::Pointer {
         before,
@@ -1139,13 +1139,9 @@ fn run_return<'a>(
             let then = Frame::Statement(StatementFrame::Returning);
             running_before(arena, source, answers, rest, value, then)
         }
-        None => leaving(
-            arena,
-            words,
-            source,
-            answers,
-            rest,
-            Exit::Returns(number(words, 0)?),
-        ),
+        None => {
+            let zero = number(words, 0)?;
+            leaving(arena, words, source, answers, rest, Exit::Returns(zero))
+        }
     }
 }
