@@ -9,7 +9,7 @@ use Rattle.symbolic_frames.proofs.outcomes.+replaced_outcome.Goals as goal
 pub returns-in_ok-word-in-Chooses-clause-is : goal.returns-in_ok-word-in-Chooses-clause-is
 returns-in_ok-word-in-Chooses-clause-is t c types m p f agrees =
     let second = c.replaced_word-in-Chooses.ensures.grows types m agrees in
-    let first = c.replaced_outcome-in-Chooses-2.ensures.grows types m second in
+    let first = c.replaced_outcome-in-Chooses.ensures.grows types m second in
     chooses_replaced types m p f (replacing_of types c.args.with) c.args.outcome c.in-Chooses.word c.in-Chooses.zero c.in-Chooses.other
     (word_of m c.in_ok-word-in-Chooses.word) (outcome_of types m p f c.in_ok-zero-in-Chooses.zero.now) (outcome_of types m p f c.in_ok-other-in-Chooses.other.now)
     c.in-Chooses.is (c.in_ok-word-in-Chooses.ensures.is types m agrees)
