@@ -363,7 +363,7 @@ module _ (p : Program) (f : Func) (answers : Answers) where
   pub taken_some : (e : Exception) (kind : TKind) (fields : Trees) (k : List Frame) (n : ℕ) → place_in kind ≡ Some n → taken p f answers e kind fields k ≡ Takes e (place_of p f answers n) fields ∷ k
   taken_some e (Literal w) fields k n h = absurd cc
   taken_some e (Local place) fields k n h = absurd cc
-  taken_some e (Global n) fields k n h = absurd cc
+  taken_some e (Global g) fields k n h = absurd cc
   taken_some e (Function g) fields k n h = absurd cc
   taken_some e (ClassTable c) fields k n h = absurd cc
   taken_some e (Load kind volatile) fields k n h = absurd cc
