@@ -5,4 +5,5 @@ use Rattle.note_landing.proofs.cases.cases_fit.Goals as goal
 pub returns-clause-is : goal.returns-clause-is
 returns-clause-is c m a =
     let spelled = c.in_ok-case_fits.ensures.grows _ m a in
-    cases_as c.args.body.now m c.args.notes.now _ _ _ _ (search rules) (c.are_spelled.ensures (search rules)) (c.in_ok-classes_fit.ensures.is m (c.in_ok-spellings_fit.ensures.grows _ m spelled)) (all_spellings _ c.args.body.now.spellings.now _ (search rules) (c.in_ok-spellings_fit.ensures.is m spelled)) (c.in_ok-case_fits.ensures.is m a)
+    let rows = rw c.deref.ensures.value at (c.are_spelled.ensures (search rules)) in
+    cases_as c.args.body.now m c.args.notes.now _ _ _ _ (search rules) rows (c.in_ok-classes_fit.ensures.is m (c.in_ok-spellings_fit.ensures.grows _ m spelled)) (all_spellings _ c.args.body.now.spellings.now _ (search rules) (c.in_ok-spellings_fit.ensures.is m spelled)) (c.in_ok-case_fits.ensures.is m a)
