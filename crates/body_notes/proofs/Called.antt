@@ -31,7 +31,7 @@ module _ (b : Compiled) (m : Meaning) (ns : Notes) (known : List Fact) (index : 
       → Behind (linked_by b) bounds (book_by b all types) ends.gives ends.stops (held_by b m ns) known index q under (waits_in b.source m rest) (left_in b.source m rest)
   behind_as ends under rest r = record { back = back_as ends.gives under rest r.back; thrown = λ e. (r.thrown e).flies; opens = r.opens; caught = r.caught; type = r.type }
 
-  number : ℕ → ℕ
+  abbrev number : ℕ → ℕ
   number callee = (linked_by b).number (func_by b).unit callee
 
   pub calls_as : (o : Outcome) (name count callee : ℕ) (words under : List Term) (ends : Ends) (rest : Rest) → (table_by b).function_of name ≡ Some callee

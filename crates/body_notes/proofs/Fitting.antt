@@ -78,7 +78,7 @@ module _ (b : Compiled) (m : Meaning) (ns : Notes) where
           subst (λ z. CourseBy b m ns known g (Finding class slot address) index q z) (sym is) (subst (λ z. LandsOnBy b m ns z g.lead g.rank index q after) e lands)
 
       pub loudly_as : (o : outcomes.Outcome) (doing : outcomes.Doing) (rest : Rest) → o ≡ outcomes.goes doing (waits_in b.source m rest) (left_in b.source m rest) → LoudBy b m ns known doing rest index q → CourseBy b m ns known g Loudly index q o
-      loudly_as o doing rest is w = subst (λ z. CourseBy b m ns known g Loudly index q z) (sym is) w
+      loudly_as o doing rest is w = subst (λ z. CourseBy b m ns known g Loudly index q z) (sym is) (w.0, w.1.0, w.1.1)
 
       pub starting_as : (o : outcomes.Outcome) (address argument : Term) (rest : Rest) → o ≡ outcomes.spawns address argument (waits_in b.source m rest) (left_in b.source m rest) → StartsBy b m ns known rest index q → CourseBy b m ns known g Starting index q o
       starting_as o address argument rest is w = subst (λ z. CourseBy b m ns known g Starting index q z) (sym is) w

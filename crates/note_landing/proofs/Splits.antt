@@ -45,14 +45,14 @@ stands_there [] s h = absurd (none h)
   where
     none : 0 < 0 → ⊥
     none h = omega (arith, h)
-stands_there (t ∷ ts) s h = by_test (name_eq s t) refl
+stands_there (t ∷ ts) s h = by_test (λ k. stands_there ts s k) (name_eq s t) refl
   where
     less : (m n : ℕ) → suc m < suc n → m < n
     less m n h = omega (arith, h)
 
-    by_test : (b : Bool) → name_eq s t ≡ b → unwrap_or (slice_get (t ∷ ts) (cond b 0 (suc (spelling_place s ts)))) [] ≡ s
-    by_test true e = sym (name_same s t e)
-    by_test false e = stands_there ts s (less (spelling_place s ts) (length ts) (subst (λ z. cond z 0 (suc (spelling_place s ts)) < suc (length ts)) e h))
+    by_test : (spelling_place s ts < length ts → unwrap_or (slice_get ts (spelling_place s ts)) [] ≡ s) → (b : Bool) → name_eq s t ≡ b → unwrap_or (slice_get (t ∷ ts) (cond b 0 (suc (spelling_place s ts)))) [] ≡ s
+    by_test below true e = sym (name_same s t e)
+    by_test below false e = below (less (spelling_place s ts) (length ts) (subst (λ z. cond z 0 (suc (spelling_place s ts)) < suc (length ts)) e h))
 
 -- the number of a spelling is that of no other
 number_is : (ts : List (List ℕ)) (n : ℕ) (s : List ℕ) → spelling_place (unwrap_or (slice_get ts n) []) ts ≡ n → n < length ts → nat_eq n (spelling_place s ts) ≡ name_eq (unwrap_or (slice_get ts n) []) s
