@@ -1,6 +1,4 @@
-use Rattle.std.proofs.Common.{rules, ap, ◌∙◌}
-use Rattle.body_notes.proofs.Called.{calls_at}
 use Rattle.body_notes.proofs.callees.calling.Goals as goal
 
 pub returns-clause-is : goal.returns-clause-is
-returns-clause-is c m a name all types named = search (rules, calls_at)
+returns-clause-is c m a name all types named = ?

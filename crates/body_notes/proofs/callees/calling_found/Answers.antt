@@ -1,6 +1,4 @@
-use Rattle.std.proofs.Common.{rules}
-use Rattle.body_notes.proofs.Called.{found_at}
 use Rattle.body_notes.proofs.callees.calling_found.Goals as goal
 
 pub returns-clause-is : goal.returns-clause-is
-returns-clause-is c m a all types = search (rules, found_at)
+returns-clause-is c m a all types = ?

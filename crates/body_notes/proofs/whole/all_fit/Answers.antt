@@ -6,7 +6,7 @@ use Rattle.body_notes.proofs.Noted.{all_checked}
 use Rattle.body_notes.proofs.whole.all_fit.Goals as goal
 
 pub loop-note-preserved : goal.loop-note-preserved
-loop-note-preserved c m a = more_each (λ x. NoteBy c.args.body.now m c.args.notes.now x) c.args.notes.now.list.items c.loop-note.note-index c.note-item.result (search rules) (c.in_ok-note_fits.ensures.is m a) (c.loop-note.invariant m (c.in_ok-note_fits.ensures.grows _ m a))
+loop-note-preserved c = ?
 
 pub returns : goal.returns
 returns c m a = all_checked c.args.body.now m c.args.notes.now (c.in_ok-entry_fits.ensures.is m a) (each_all (λ x. NoteBy c.args.body.now m c.args.notes.now x) c.args.notes.now.list.items c.loop-note.note-index (search rules) (c.loop-note.invariant m (c.in_ok-entry_fits.ensures.grows _ m a)))
