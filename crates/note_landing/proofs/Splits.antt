@@ -5,17 +5,15 @@ use Rattle.std.specs.Global.{Vec}
 use Rattle.std.proofs.lemmas.Bool.{true≢false, and_parts, eqb-true, eq-eqb}
 use Rattle.tx_code.specs.declared.body.Row.{Row}
 use Rattle.tx_code.specs.Meaning.{covers}
-use Rattle.cpp_tree.specs.cpp_types.Typ.{Typ}
 use Rattle.cpp_tree.specs.cpp_types.Class.{Class}
 use Rattle.cpp_tree.specs.cpp_types.Equal.{name_eq}
 use Rattle.src_mean.specs.Exceptions.{form_in}
-use Rattle.src_mean.specs.Linked.{Func, Program}
 use Rattle.symbolic_source.specs.Terms.{Exception, unknown}
 use Rattle.symbolic_source.specs.Outcomes.{Outcome}
 use Rattle.symbolic_code.specs.Places.{Place}
 use Rattle.symbolic_terms.specs.Meanings.{Meaning}
 use Rattle.symbolic_leaving.specs.Answers.{texts_of}
-use Rattle.body_check.specs.Cases.{Case, of_class, of_spelling, of_others, spelled, is_known, is_that, answers_in, find_in, class_cases, spelling_cases, cases, AreSpelled, Each}
+use Rattle.body_check.specs.Cases.{Case, of_class, of_spelling, of_others, spelled, is_that, answers_in, find_in, class_cases, spelling_cases, AreSpelled, Each}
 use Rattle.body_check.proofs.Cases.{cases_fit}
 use Rattle.note_landing.specs.declared.cases.Unknown.{Unknown}
 use Rattle.note_landing.specs.declared.notes.Notes.{Notes}
@@ -23,7 +21,7 @@ use Rattle.note_landing.specs.declared.compiled.Compiled.{Compiled}
 use Rattle.tx_code.specs.Images.{ImageView}
 use Rattle.image_links.specs.Books.{spelling_place}
 use Rattle.note_landing.specs.Books.{bounds}
-use Rattle.note_landing.specs.Cases.{text_at, IsSpelledBy, SpelledBy, IsTextOf, is_that_text, row_in, spellings_by, EachFirst, EachSpelling, CaseBy, CasesBy}
+use Rattle.note_landing.specs.Cases.{text_at, SpelledBy, IsTextOf, is_that_text, row_in, spellings_by, EachFirst, EachSpelling, CaseBy, CasesBy}
 use Rattle.note_landing.proofs.Shows.{shown_at, more_each, each_all}
 use Rattle.note_landing.specs.Shown.{linked_by, func_by, image_by, rows_by, notes_by, thrown_by, numbers_by, facts_by, FoundFitsBy, FliesBy}
 

@@ -1,4 +1,4 @@
-use Rattle.std.proofs.Common.{rules, arith}
+use Rattle.std.proofs.Common.{arith}
 use Rattle.note_landing.proofs.Flown.{made_flies, unknown_flies}
 use Rattle.note_landing.proofs.flights.flies.Goals as goal
 

@@ -1,4 +1,4 @@
-use Rattle.std.proofs.Common.{rules, arith}
+use Rattle.std.proofs.Common.{arith}
 use Rattle.note_landing.proofs.Flown.{all_fly}
 use Rattle.note_landing.proofs.Splits.{all_cases}
 use Rattle.note_landing.proofs.flights.unknown_flies.Goals as goal
