@@ -1,9 +1,9 @@
 -- From what a call was compared with to what the definitions ask of it.
-use Rattle.std.proofs.Common.{ℕ, suc, arith, ◌≡◌, ◌+◌, ◌≤◌, refl, ap, sym, ◌∙◌, subst, Bool, true, false, List, [], ◌∷◌, Option, Some, None}
+use Rattle.std.proofs.Common.{ℕ, suc, arith, ◌≡◌, ◌+◌, refl, ap, sym, ◌∙◌, subst, Bool, true, false, List, [], ◌∷◌, Option, Some}
 use Rattle.cpp_tree.specs.cpp_types.Typ.{Typ}
 use Rattle.src_mean.specs.Source.{is_safe}
 use Rattle.symbolic_source.specs.Terms.{Term}
-use Rattle.symbolic_source.specs.Frames.{Waiting, Frame, Callee, known as known_func}
+use Rattle.symbolic_source.specs.Frames.{Callee, known as known_func}
 use Rattle.symbolic_source.specs.Outcomes.{Outcome, calls}
 use Rattle.symbolic_code.specs.Facts.{Fact}
 use Rattle.symbolic_code.specs.Places.{Place, with_operands}
@@ -17,15 +17,15 @@ use Rattle.symbolic_terms.specs.declared.outcomes.Outcome.TheVariants.{Goes}
 use Rattle.symbolic_terms.specs.declared.outcomes.Leading.TheVariants.{Calls}
 use Rattle.symbolic_leaving.specs.Source.{units_of}
 use Rattle.symbolic_leaving.specs.Shown.{waits_in, left_in}
-use Rattle.body_check.specs.Notes.{Note, Lands, no_answers}
-use Rattle.body_check.specs.Calls.{Back, BackWith, Behind, Calling, Found, CallingFound, taken_off}
+use Rattle.body_check.specs.Notes.{Note}
+use Rattle.body_check.specs.Calls.{BackWith, Behind, taken_off}
 use Rattle.image_links.specs.Books.{func_takes, func_gives, func_of}
 use Rattle.note_landing.specs.declared.notes.Notes.{Notes}
 use Rattle.note_landing.specs.declared.compiled.Compiled.{Compiled}
 use Rattle.note_landing.specs.Books.{bounds}
-use Rattle.note_landing.specs.Shown.{types_by, linked_by, func_by, image_by, table_by, notes_by, thrown_by, outcome_by, book_by, held_by}
+use Rattle.note_landing.specs.Shown.{types_by, linked_by, func_by, image_by, table_by, outcome_by, book_by, held_by}
 use Rattle.body_notes.specs.declared.calls.Ends.{Ends}
-use Rattle.body_notes.specs.Called.{BackBy, BackWithBy, BehindBy}
+use Rattle.body_notes.specs.Called.{BackWithBy, BehindBy}
 use Rattle.body_notes.specs.Callees.{CallsBy, CallsFoundBy, FoundBy}
 
 module _ (b : Compiled) (m : Meaning) (ns : Notes) (known : List Fact) (index : ℕ) (q : Place) (all : ℕ → Bool → List Note) (types : ℕ → Bool → List Typ) where

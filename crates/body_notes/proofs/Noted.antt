@@ -1,8 +1,7 @@
 -- All notes of a body.
-use Rattle.std.proofs.Common.{ℕ, suc, ◌≡◌, ◌∙◌, ◌∷◌, ◌+◌, ◌≤◌, Bool, true, false, refl, ap, ap₂, subst, sym, List, [], Some, Bor, arith}
+use Rattle.std.proofs.Common.{ℕ, suc, ◌≡◌, ◌∙◌, ◌∷◌, ◌+◌, ◌≤◌, true, false, ap, ap₂, subst, sym, List, [], Some, Bor, arith}
 use Rattle.std.specs.Prelude.{slice_get}
 use Rattle.tx_code.specs.declared.instr.Instr.{Instr}
-use Rattle.cpp_tree.specs.cpp_types.Typ.{Typ}
 use Rattle.symbolic_source.specs.Outcomes.{Outcome}
 use Rattle.symbolic_source.specs.Frames as frames
 use Rattle.symbolic_source.specs.Steps.{advanced, given}
@@ -19,7 +18,6 @@ use Rattle.symbolic_terms.specs.declared.frames.Frame.TheVariants.{Then}
 use Rattle.symbolic_terms.specs.declared.frames.Way.TheVariants.{Value as ForValue}
 use Rattle.symbolic_leaving.specs.Source.{units_of}
 use Rattle.symbolic_leaving.specs.Shown.{frames_at}
-use Rattle.body_check.specs.Notes as checked
 use Rattle.symbolic_source.specs.Terms.{Term, variable, number}
 use Rattle.body_check.specs.Notes.{Fits, no_answers, variables}
 use Rattle.body_check.specs.Calls.{NoteFits}

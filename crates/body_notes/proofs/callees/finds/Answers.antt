@@ -1,4 +1,4 @@
-use Rattle.std.proofs.Common.{◌≡◌, ℕ, Bool, true, List, ap, sym, subst}
+use Rattle.std.proofs.Common.{◌≡◌, ℕ, Bool, List, ap, sym, subst}
 use Rattle.cpp_tree.specs.Trees.{typ_in}
 use Rattle.src_mean.specs.Source.{called_signature}
 use Rattle.src_frames.specs.declared.trees.TreeAt.{TreeAt}
