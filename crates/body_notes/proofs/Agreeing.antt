@@ -1,5 +1,5 @@
 -- What was made has a meaning.
-use Rattle.std.proofs.Common.{ℕ, ◌≡◌, ap, Option, Some, None}
+use Rattle.std.proofs.Common.{ℕ, ap, Option, Some, None}
 use Rattle.std.specs.Prelude.{slice_get}
 use Rattle.cpp_tree.specs.cpp_types.Typ.{Typ}
 use Rattle.symbolic_source.specs.Terms.{number, unknown, untouched}

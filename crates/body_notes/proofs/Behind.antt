@@ -1,5 +1,5 @@
 -- From what was compared to what the definitions ask behind a call.
-use Rattle.std.proofs.Common.{ℕ, ◌≡◌, ◌∙◌, ◌+◌, ◌≤◌, refl, ap, ap₂, sym, subst, Bool, true, false, List, ◌∷◌}
+use Rattle.std.proofs.Common.{ℕ, ◌≡◌, ◌∙◌, ◌+◌, ◌≤◌, ap, ap₂, subst, Bool, true, false, List, ◌∷◌}
 use Rattle.symbolic_source.specs.Terms.{Term, variable, number}
 use Rattle.symbolic_source.specs.Frames.{Waiting, Frame, Gives, handled, blocks_in}
 use Rattle.symbolic_source.specs.Outcomes.{Outcome, silent, goes}

@@ -1,24 +1,31 @@
 -- From what a call was compared with to what the definitions ask of it.
-use Rattle.std.proofs.Common.{ℕ, suc, arith, ◌≡◌, ◌+◌, ◌≤◌, refl, ap, sym, ◌∙◌, subst, Bool, true, false, List, [], ◌∷◌, Option, Some, None}
+use Rattle.std.proofs.Common.{ℕ, suc, arith, ◌≡◌, ◌+◌, refl, ap, sym, ◌∙◌, subst, Bool, true, false, List, [], ◌∷◌, Option, Some}
 use Rattle.cpp_tree.specs.cpp_types.Typ.{Typ}
 use Rattle.src_mean.specs.Source.{is_safe}
 use Rattle.symbolic_source.specs.Terms.{Term}
-use Rattle.symbolic_source.specs.Frames.{Waiting, Frame, Callee, known as known_func}
+use Rattle.symbolic_source.specs.Frames.{Callee, known as known_func}
 use Rattle.symbolic_source.specs.Outcomes.{Outcome, calls}
 use Rattle.symbolic_code.specs.Facts.{Fact}
 use Rattle.symbolic_code.specs.Places.{Place, with_operands}
-use Rattle.symbolic_terms.specs.Meanings.{Meaning}
+use Rattle.symbolic_terms.specs.Meanings.{Meaning, words_of}
+use Rattle.symbolic_terms.specs.Shown.{callee_of}
+use Rattle.symbolic_terms.specs.declared.ids.Terms.{Terms}
+use Rattle.symbolic_terms.specs.declared.frames.Callee.{Callee as SourceCallee}
 use Rattle.symbolic_terms.specs.declared.outcomes.Rest.{Rest}
+use Rattle.symbolic_terms.specs.declared.outcomes.Outcome.{Outcome as SourceOutcome}
+use Rattle.symbolic_terms.specs.declared.outcomes.Outcome.TheVariants.{Goes}
+use Rattle.symbolic_terms.specs.declared.outcomes.Leading.TheVariants.{Calls}
+use Rattle.symbolic_leaving.specs.Source.{units_of}
 use Rattle.symbolic_leaving.specs.Shown.{waits_in, left_in}
-use Rattle.body_check.specs.Notes.{Note, Lands, no_answers}
-use Rattle.body_check.specs.Calls.{Back, BackWith, Behind, Calling, Found, CallingFound, taken_off}
+use Rattle.body_check.specs.Notes.{Note}
+use Rattle.body_check.specs.Calls.{BackWith, Behind, taken_off}
 use Rattle.image_links.specs.Books.{func_takes, func_gives, func_of}
 use Rattle.note_landing.specs.declared.notes.Notes.{Notes}
 use Rattle.note_landing.specs.declared.compiled.Compiled.{Compiled}
 use Rattle.note_landing.specs.Books.{bounds}
-use Rattle.note_landing.specs.Shown.{linked_by, func_by, image_by, table_by, notes_by, thrown_by, book_by, held_by}
+use Rattle.note_landing.specs.Shown.{types_by, linked_by, func_by, image_by, table_by, outcome_by, book_by, held_by}
 use Rattle.body_notes.specs.declared.calls.Ends.{Ends}
-use Rattle.body_notes.specs.Called.{BackBy, BackWithBy, BehindBy}
+use Rattle.body_notes.specs.Called.{BackWithBy, BehindBy}
 use Rattle.body_notes.specs.Callees.{CallsBy, CallsFoundBy, FoundBy}
 
 module _ (b : Compiled) (m : Meaning) (ns : Notes) (known : List Fact) (index : ℕ) (q : Place) (all : ℕ → Bool → List Note) (types : ℕ → Bool → List Typ) where
@@ -31,7 +38,7 @@ module _ (b : Compiled) (m : Meaning) (ns : Notes) (known : List Fact) (index : 
       → Behind (linked_by b) bounds (book_by b all types) ends.gives ends.stops (held_by b m ns) known index q under (waits_in b.source m rest) (left_in b.source m rest)
   behind_as ends under rest r = record { back = back_as ends.gives under rest r.back; thrown = λ e. (r.thrown e).flies; opens = r.opens; caught = r.caught; type = r.type }
 
-  number : ℕ → ℕ
+  abbrev number : ℕ → ℕ
   number callee = (linked_by b).number (func_by b).unit callee
 
   pub calls_as : (o : Outcome) (name count callee : ℕ) (words under : List Term) (ends : Ends) (rest : Rest) → (table_by b).function_of name ≡ Some callee
@@ -99,6 +106,11 @@ module _ (b : Compiled) (m : Meaning) (ns : Notes) (known : List Fact) (index : 
       (off ∙ ap (λ (z : List Term). Some (words, z)) above)
       found
       (subst (λ z. BehindBy b m ns z known index (with_operands q under) rest) e (subst (λ z. BehindBy b m ns ends known index z rest) there r))
+
+-- the function that the source calls is known
+pub calls_from : (b : Compiled) (m : Meaning) (o : SourceOutcome) (called : SourceCallee) (own : Terms) (rest : Rest) (n : ℕ) → o ≡ Goes (Calls called own) rest → callee_of (types_by b) m (units_of b.source) called ≡ known_func n
+    → outcome_by b m o ≡ calls (known_func n) (words_of m own) (waits_in b.source m rest) (left_in b.source m rest)
+calls_from b m o called own rest n is known = ap (λ z. outcome_by b m z) is ∙ ap (λ z. calls z (words_of m own) (waits_in b.source m rest) (left_in b.source m rest)) known
 
 -- a safe body is called
 pub safe_as : (b : Compiled) (callee own n : ℕ) (safe : Bool) → own ≡ callee → n ≡ (linked_by b).number (func_by b).unit callee → safe ≡ is_safe ((linked_by b).func n) → safe ≡ true → is_safe ((linked_by b).func ((linked_by b).number (func_by b).unit own)) ≡ true

@@ -1,5 +1,5 @@
 -- From what was compared to what the definitions ask of an instruction that is no call and no return.
-use Rattle.std.proofs.Common.{ℕ, ◌≡◌, ◌+◌, ◌≤◌, ◌⊎◌, refl, ap, ap₂, sym, ◌∙◌, subst, true, List, [], ◌∷◌}
+use Rattle.std.proofs.Common.{ℕ, ◌≡◌, ◌+◌, ◌≤◌, ◌⊎◌, ap, sym, ◌∙◌, subst, List, ◌∷◌}
 use Rattle.tx_ints.specs.declared.kinds.BinOp.{BinOp}
 use Rattle.tx_ints.specs.declared.kinds.IntKind.{IntKind}
 use Rattle.symbolic_source.specs.Terms.{Term, Exception, unknown, variable}
@@ -17,8 +17,8 @@ use Rattle.symbolic_leaving.specs.Shown.{waits_in, left_in}
 use Rattle.code_follows.specs.declared.next.Next.{Next}
 use Rattle.code_follows.specs.declared.next.Next.TheVariants.{Goes}
 use Rattle.code_follows.specs.declared.next.Course.{Course}
-use Rattle.code_follows.specs.declared.next.Course.TheVariants.{EitherWay, Chosen, UnlessTrap, Finding, Throwing, Loudly, Starting, Rethrowing}
-use Rattle.body_check.specs.Notes.{is_loud, IsThrown, no_answers, in_place, rising}
+use Rattle.code_follows.specs.declared.next.Course.TheVariants.{EitherWay, Chosen, UnlessTrap, Finding, Loudly, Starting, Rethrowing}
+use Rattle.body_check.specs.Notes.{IsThrown, no_answers, in_place, rising}
 use Rattle.note_landing.specs.declared.notes.Notes.{Notes}
 use Rattle.note_landing.specs.declared.compiled.Compiled.{Compiled}
 use Rattle.note_landing.specs.Shown.{linked_by, func_by, thrown_by, place_by, FliesBy, LandsOnBy, LandsAtOnce}
@@ -78,7 +78,7 @@ module _ (b : Compiled) (m : Meaning) (ns : Notes) where
           subst (λ z. CourseBy b m ns known g (Finding class slot address) index q z) (sym is) (subst (λ z. LandsOnBy b m ns z g.lead g.rank index q after) e lands)
 
       pub loudly_as : (o : outcomes.Outcome) (doing : outcomes.Doing) (rest : Rest) → o ≡ outcomes.goes doing (waits_in b.source m rest) (left_in b.source m rest) → LoudBy b m ns known doing rest index q → CourseBy b m ns known g Loudly index q o
-      loudly_as o doing rest is w = subst (λ z. CourseBy b m ns known g Loudly index q z) (sym is) w
+      loudly_as o doing rest is w = subst (λ z. CourseBy b m ns known g Loudly index q z) (sym is) (w.0, w.1.0, w.1.1)
 
       pub starting_as : (o : outcomes.Outcome) (address argument : Term) (rest : Rest) → o ≡ outcomes.spawns address argument (waits_in b.source m rest) (left_in b.source m rest) → StartsBy b m ns known rest index q → CourseBy b m ns known g Starting index q o
       starting_as o address argument rest is w = subst (λ z. CourseBy b m ns known g Starting index q z) (sym is) w

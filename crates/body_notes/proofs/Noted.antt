@@ -1,17 +1,24 @@
 -- All notes of a body.
-use Rattle.std.proofs.Common.{ℕ, suc, ◌≡◌, ◌∙◌, ◌∷◌, ◌+◌, ◌≤◌, Bool, true, false, refl, ap, ap₂, subst, sym, List, Some, arith}
+use Rattle.std.proofs.Common.{ℕ, suc, ◌≡◌, ◌∙◌, ◌∷◌, ◌+◌, ◌≤◌, true, false, ap, ap₂, subst, sym, List, [], Some, Bor, arith}
 use Rattle.std.specs.Prelude.{slice_get}
 use Rattle.tx_code.specs.declared.instr.Instr.{Instr}
-use Rattle.cpp_tree.specs.cpp_types.Typ.{Typ}
 use Rattle.symbolic_source.specs.Outcomes.{Outcome}
-use Rattle.symbolic_source.specs.Steps.{advanced}
+use Rattle.symbolic_source.specs.Frames as frames
+use Rattle.symbolic_source.specs.Steps.{advanced, given}
+use Rattle.src_frames.specs.declared.trees.TreeAt.{TreeAt}
+use Rattle.src_frames.specs.Trees.{tree_shown}
 use Rattle.symbolic_source.specs.Small.{is_stuck}
 use Rattle.symbolic_code.specs.Facts.{Fact}
 use Rattle.symbolic_code.specs.Following.{Table, Next, followed}
 use Rattle.symbolic_code.specs.Places.{Place}
 use Rattle.symbolic_terms.specs.Meanings.{Meaning}
-use Rattle.body_check.specs.Notes as checked
-use Rattle.symbolic_source.specs.Terms.{Term, variable}
+use Rattle.symbolic_terms.specs.declared.frames.Frames.{Frames}
+use Rattle.symbolic_terms.specs.declared.frames.Frames.TheVariants.{Empty, More}
+use Rattle.symbolic_terms.specs.declared.frames.Frame.TheVariants.{Then}
+use Rattle.symbolic_terms.specs.declared.frames.Way.TheVariants.{Value as ForValue}
+use Rattle.symbolic_leaving.specs.Source.{units_of}
+use Rattle.symbolic_leaving.specs.Shown.{frames_at}
+use Rattle.symbolic_source.specs.Terms.{Term, variable, number}
 use Rattle.body_check.specs.Notes.{Fits, no_answers, variables}
 use Rattle.body_check.specs.Calls.{NoteFits}
 use Rattle.note_landing.specs.declared.notes.Note.{Note}
@@ -22,7 +29,7 @@ use Rattle.note_landing.specs.Shown.{linked_by, func_by, table_by, notes_by, thr
 use Rattle.note_landing.proofs.Shows.{shown_at, shown_from}
 use Rattle.body_notes.specs.declared.fits.Pending.{Pending}
 use Rattle.body_notes.specs.Checked.{pending_of, is_plain, StepBy, NoteBy, EntryBy, CheckedBy}
-use Rattle.body_notes.specs.Entries.{IsEntry}
+use Rattle.body_notes.specs.Entries.{IsEntry, takes_by, entered_at}
 use Rattle.body_notes.specs.Named.{AgreeAt}
 use Rattle.body_notes.proofs.Plain.{plain_step}
 use Rattle.body_notes.proofs.Tables.{followed_so}
@@ -74,3 +81,13 @@ variables_more from next count n w ws h i j e =
     let a : next ≡ suc from = omega (arith, i) in
     let b : count ≡ suc n = omega (arith, j) in
     ap₂ (λ (x : Term) (xs : List Term). x ∷ xs) h (e ∙ ap (λ z. variables z n) a) ∙ ap (λ z. variables from z) (sym b)
+
+-- one silent step leads to where a function is entered
+pub entry_step : (b : Compiled) (m : Meaning) (o : Outcome) (ws : List Term) (n : ℕ) (then : Frames) (none : Bor Frames) (body : TreeAt)
+    → o ≡ given (linked_by b) (func_by b) no_answers [] (number 0) (frames.Passes ws (func_by b).words ∷ frames_at b.source m then) → ws ≡ variables 0 n → n ≡ takes_by b
+    → then ≡ More (Then ForValue body) none → none.now ≡ Empty → tree_shown (units_of b.source) body ≡ (func_by b).body → o ≡ entered_at b
+entry_step b m o ws n then none body is taken count e last tree =
+    is ∙ ap (λ z. given (linked_by b) (func_by b) no_answers [] (number 0) (frames.Passes z (func_by b).words ∷ frames_at b.source m then)) (taken ∙ ap (λ z. variables 0 z) count)
+    ∙ ap (λ z. given (linked_by b) (func_by b) no_answers [] (number 0) (frames.Passes (variables 0 (takes_by b)) (func_by b).words ∷ frames_at b.source m z)) e
+    ∙ ap (λ z. given (linked_by b) (func_by b) no_answers [] (number 0) (frames.Passes (variables 0 (takes_by b)) (func_by b).words ∷ frames.Then frames.value (tree_shown (units_of b.source) body) ∷ frames_at b.source m z)) last
+    ∙ ap (λ z. given (linked_by b) (func_by b) no_answers [] (number 0) (frames.Passes (variables 0 (takes_by b)) (func_by b).words ∷ frames.Then frames.value z ∷ [])) tree

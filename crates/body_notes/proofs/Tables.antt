@@ -1,20 +1,19 @@
 -- What comes of an instruction depends on what a table says of its names alone; and what names stand for.
-use Rattle.std.proofs.Common.{ℕ, zero, suc, ◌+◌, ◌≡◌, ◌==◌, ◌∙◌, cond, refl, ap, sym, subst, Bool, true, List, [], ◌∷◌, Option, Some, None}
+use Rattle.std.proofs.Common.{ℕ, suc, ◌+◌, ◌≡◌, ◌∙◌, cond, refl, ap, sym, subst, Bool, true, List, [], ◌∷◌, Option, Some, None}
 use Rattle.std.specs.Prelude.{slice_get, map, drop, unwrap_or}
 use Rattle.std.specs.Option.{option_map, option_map_or}
-use Rattle.std.proofs.lemmas.Bool.{eq-eqb}
 use Rattle.tx_code.specs.declared.instr.Instr.{Instr}
 use Rattle.tx_code.specs.declared.instr.Instr.TheVariants.{Push, Dup, Pop, Swap, FrameAddr, GlobalAddr, FuncAddr, ClassAddr, Load, Store, TLoad, TStore, VLoad, VStore, Bin, Neg, Conv, Jump, JumpZero, Slot, Begin, End, BeginSync, EndSync, Out, Inp, Spawn, Join, Abort, NewException, PutException, Throw, Rethrow, GetException, EndHandler, Resume, Over, Call, TCall, CallIndirect, TCallIndirect, Ret}
 use Rattle.cpp_types.specs.declared.types.Ty.{Ty}
 use Rattle.cpp_tree.specs.cpp_types.Typ.{Typ, typ_of}
 use Rattle.cpp_tree.specs.declared.program.Program.{Program}
 use Rattle.cpp_tree.specs.declared.program.UnitTree.{UnitTree}
-use Rattle.cpp_tree.specs.Units.{Unit as TypedUnit, TypedProgram, Definition, unit_of, func_of, global_of, definition_of, program_of}
+use Rattle.cpp_tree.specs.Units.{Unit as TypedUnit, unit_of, func_of, global_of, definition_of, program_of}
 use Rattle.cpp_tree.specs.Arena.{trees_of}
 use Rattle.src_mean.specs.Links.{globals_in, funcs_in}
 use Rattle.symbolic_source.specs.Outcomes.{Outcome}
 use Rattle.symbolic_code.specs.Facts.{Fact}
-use Rattle.symbolic_code.specs.Following.{Table, Next, followed, if_found, pushes, quietly, one_of, slots_follow}
+use Rattle.symbolic_code.specs.Following.{Table, followed, if_found, pushes, quietly, one_of, slots_follow}
 use Rattle.symbolic_code.specs.Places.{Place, holding, making}
 use Rattle.symbolic_source.specs.Terms.{global, function, table, untouched}
 use Rattle.symbolic_terms.specs.Words.{type_in, type_or_void}

@@ -1,5 +1,5 @@
 -- Calls of a body under test.
-use Rattle.std.specs.Prelude.{ℕ, Bool, true, false, ◌≡◌, ◌+◌, ◌≤◌, List, [], ◌∷◌}
+use Rattle.std.specs.Prelude.{ℕ, Bool, true, false, ◌≡◌, ◌+◌, ◌≤◌, List, ◌∷◌}
 use Rattle.symbolic_source.specs.Terms.{number, variable}
 use Rattle.symbolic_source.specs.Frames.{Gives, handled, blocks_in}
 use Rattle.symbolic_source.specs.Outcomes.{silent, goes, Outcome}

@@ -1,5 +1,5 @@
 -- What is called, with its words.
-use Rattle.std.specs.Prelude.{ℕ, Bool, true, ◌≡◌, List, [], ◌∷◌, Some}
+use Rattle.std.specs.Prelude.{ℕ, Bool, true, ◌≡◌, List}
 use Rattle.cpp_tree.specs.cpp_types.Typ.{Typ}
 use Rattle.cpp_tree.specs.Trees.{typ_in}
 use Rattle.src_mean.specs.Source.{called_signature}

@@ -1,6 +1,5 @@
 -- Where a function is entered.
 use Rattle.std.specs.Prelude.{ℕ, false, ◌≡◌, ◌≤◌, [], ◌∷◌}
-use Rattle.src_bind.specs.Tables.{typed}
 use Rattle.symbolic_source.specs.Frames.{value, Passes, Then}
 use Rattle.symbolic_source.specs.Outcomes.{Outcome, silent, goes}
 use Rattle.symbolic_source.specs.Steps.{step_of}

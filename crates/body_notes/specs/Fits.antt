@@ -1,5 +1,5 @@
 -- What comes of an instruction fits.
-use Rattle.std.specs.Prelude.{ℕ, ◌≡◌, ◌+◌, ◌≤◌, ◌⊎◌, true, List, [], ◌∷◌}
+use Rattle.std.specs.Prelude.{ℕ, ◌≡◌, ◌+◌, ◌≤◌, ◌⊎◌, true, List, ◌∷◌}
 use Rattle.symbolic_source.specs.Terms.{Exception, unknown, variable}
 use Rattle.symbolic_source.specs.Frames.{throws, Replied}
 use Rattle.symbolic_source.specs.Outcomes.{Doing, Outcome}

@@ -28,7 +28,7 @@ pub fn behind(index: u32) -> Result<u32, Refusal>
 
 /// A word on operands.
 pub fn pushed<'a>(arena: &'a Bump, word: WordId, below: Terms<'a>) -> Result<Terms<'a>, Refusal>
-    ensures { IfOk result (λ ws. (types : ℕ → Typ) (m : Meaning) → words_of m ws ≡ word_of m word ∷ words_of m below.entry) }
+    ensures { IfOk result (λ ws. (m : Meaning) → words_of m ws ≡ word_of m word ∷ words_of m below.entry) }
 {
     Ok(Terms::More(word, keep(arena, below)?))
 }

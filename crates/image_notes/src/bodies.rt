@@ -8,7 +8,7 @@ ghost use Rattle.src_bind.specs.Bounds.{given};
 ghost use Rattle.note_landing.specs.Books.{HasNotes};
 ghost use Rattle.image_notes.specs.Noted.{BothHaveNotes, AllHaveNotes};
 
-use crate::thrown::thrown_types;
+use crate::thrown::exception_types;
 use body_notes::has_notes;
 use bumpalo::Bump;
 use cpp_tree::below::Ty;
@@ -74,7 +74,7 @@ fn arena_has_notes<'a>(
     Ok(found)
 }
 
-/// Whether a body of an image, plain or safe, has notes, where the types of exceptions that the program throws are told.
+/// Whether a body of an image, plain or safe, has notes, where the types of exceptions that the code makes are told.
 pub fn body_has_notes(
     alloc: Global,
     image: &Image,
@@ -120,7 +120,7 @@ fn func_has_notes(
 pub fn all_have_notes(alloc: Global, image: &Image, bound: &Bound<'_>) -> Result<bool, Refusal>
     ensures { IfOk result (λ b. b ≡ true → AllHaveNotes (image_view image.now) (given bound.now)) }
 {
-    let types = thrown_types(alloc, bound.program())?;
+    let types = exception_types(alloc, bound.program())?;
     for (n, func) in image.funcs.iter().enumerate() {
         let Ok(number) = u32::try_from(n) else {
             return Err(Refusal::Beyond);

@@ -5,4 +5,4 @@ mod bodies;
 mod thrown;
 
 pub use bodies::{all_have_notes, body_has_notes};
-pub use thrown::thrown_types;
+pub use thrown::exception_types;

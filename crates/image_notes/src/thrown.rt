@@ -1,6 +1,6 @@
-//! The types of exceptions that a program throws.
+//! The types of exceptions that the code of a program makes.
 
-use cpp_tree::below::{Ty, copy, same};
+use cpp_tree::below::{IntKind, Shape, Ty, copy, same};
 use cpp_tree::{Program, TKind, TNode, UnitTree};
 use std::alloc::{AllocError, Global};
 
@@ -55,9 +55,15 @@ fn put_unit(alloc: Global, types: &mut Vec<Ty>, unit: &UnitTree) -> Result<(), A
     Ok(())
 }
 
-/// The types of exceptions that a program throws, without qualifiers of their own, and one of each.
-pub fn thrown_types(alloc: Global, program: &Program) -> Result<Vec<Ty>, AllocError> {
+/// The types of exceptions that the code of a program makes, without qualifiers of their own, and one of each: those that the program
+/// throws, and `int`, in an exception of which the compiler holds the addresses while an array is copied element by element.
+pub fn exception_types(alloc: Global, program: &Program) -> Result<Vec<Ty>, AllocError> {
     let mut types: Vec<Ty> = Vec::new(alloc);
+    types.push(Ty {
+        shape: Shape::Int(IntKind::Int),
+        is_const: false,
+        is_volatile: false,
+    })?;
     for unit in &program.units {
         put_unit(alloc, &mut types, unit)?;
     }

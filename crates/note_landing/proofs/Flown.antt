@@ -1,7 +1,7 @@
 -- Exceptions in flight: from what was compared to what the definitions ask for.
-use Rattle.std.proofs.Common.{ℕ, ◌≡◌, ◌+◌, ◌≤◌, refl, ap, ap₂, sym, ◌∙◌, subst, Bool, true, List, Option, Some, None, arith}
+use Rattle.std.proofs.Common.{ℕ, ◌≡◌, ◌+◌, ◌≤◌, ap, ap₂, sym, ◌∙◌, subst, List, Option, Some, None, arith}
 use Rattle.std.specs.Prelude.{slice_get}
-use Rattle.tx_events.specs.Thread.{Open, rest_of}
+use Rattle.tx_events.specs.Thread.{Open}
 use Rattle.tx_code.specs.declared.body.Row.{Row}
 use Rattle.tx_code.specs.Meaning.{find}
 use Rattle.cpp_types.specs.declared.types.Ty.{Ty}
@@ -16,7 +16,7 @@ use Rattle.symbolic_source.specs.Outcomes as outcomes
 use Rattle.symbolic_source.specs.Steps.{Answers, given, advanced}
 use Rattle.symbolic_source.specs.Replacing.{in_waitings, in_frames}
 use Rattle.symbolic_code.specs.Facts.{Fact, in_facts}
-use Rattle.symbolic_code.specs.Places.{Place, flying, holding, later, opened_later}
+use Rattle.symbolic_code.specs.Places.{Place, later}
 use Rattle.symbolic_terms.specs.Meanings.{Meaning, thrown_of}
 use Rattle.symbolic_terms.specs.declared.ids.ExceptionId.{ExceptionId}
 use Rattle.symbolic_terms.specs.declared.terms.Exception as declared
@@ -28,15 +28,15 @@ use Rattle.symbolic_terms.specs.declared.outcomes.Doing.{Doing}
 use Rattle.symbolic_terms.specs.declared.outcomes.Doing.TheVariants.{LeavesBlock}
 use Rattle.symbolic_terms.specs.declared.outcomes.Outcome.{Outcome}
 use Rattle.symbolic_terms.specs.declared.outcomes.Outcome.TheVariants.{GoesOut}
-use Rattle.symbolic_terms.specs.Words.{exception_of, puts_of, type_in, type_or_void}
+use Rattle.symbolic_terms.specs.Words.{puts_of, type_in, type_or_void}
 use Rattle.symbolic_terms.specs.Shown.{doing_of}
 use Rattle.symbolic_terms.specs.declared.outcomes.Rest.{Rest}
 use Rattle.symbolic_leaving.specs.Shown.{waiting_at, frames_at}
-use Rattle.body_check.specs.Notes.{Lands, Edges, Outward, RowFits, FoundFits, Reaches, no_answers, cut_to, catching}
+use Rattle.body_check.specs.Notes.{Lands, Edges, Outward, no_answers, cut_to}
 use Rattle.note_landing.specs.declared.notes.Notes.{Notes}
 use Rattle.note_landing.specs.declared.compiled.Compiled.{Compiled}
 use Rattle.note_landing.specs.Books.{bounds}
-use Rattle.note_landing.specs.Flights.{IsOut, out, behind_edge, BehindBy, given_later}
+use Rattle.note_landing.specs.Flights.{IsOut, out, behind_edge, given_later}
 use Rattle.note_landing.specs.Shown.{linked_by, func_by, types_by, notes_by, thrown_by, numbers_by, rows_by, outcome_by, exception_by, ReachesBy, RowFitsBy, FoundFitsBy, FliesBy}
 use Rattle.note_landing.proofs.Flying.{known_flies, any_flies}
 

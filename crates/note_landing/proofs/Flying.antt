@@ -1,5 +1,5 @@
 -- Exceptions in flight: of a known type, or of any.
-use Rattle.std.proofs.Common.{ℕ, ◌≡◌, ◌≤◌, refl, subst, List}
+use Rattle.std.proofs.Common.{ℕ, ◌≤◌, refl, subst, List}
 use Rattle.tx_code.specs.declared.body.Row.{Row}
 use Rattle.tx_code.specs.Meaning.{find}
 use Rattle.cpp_tree.specs.cpp_types.Typ.{Typ}

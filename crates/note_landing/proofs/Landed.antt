@@ -1,5 +1,5 @@
 -- From what was compared to notes that agree.
-use Rattle.std.proofs.Common.{ℕ, suc, ◌≡◌, ◌+◌, ◌≤◌, ◌<◌, ◌⊎◌, Bool, true, false, refl, ap, sym, ◌∙◌, subst, List, Option, Some, None, arith}
+use Rattle.std.proofs.Common.{ℕ, suc, ◌≡◌, ◌+◌, ◌≤◌, Bool, true, false, refl, ap, sym, ◌∙◌, subst, List, Option, Some, None, arith}
 use Rattle.std.specs.Prelude.{slice_get}
 use Rattle.cpp_types.specs.declared.types.Ty.{Ty}
 use Rattle.cpp_tree.specs.cpp_types.Typ.{Typ, typ_of}
@@ -9,7 +9,6 @@ use Rattle.symbolic_source.specs.Outcomes as outcomes
 use Rattle.symbolic_source.specs.Steps.{Answers, advanced, step_of}
 use Rattle.symbolic_source.specs.Small.{is_stuck}
 use Rattle.symbolic_source.specs.Replacing.{Replacing, in_outcome}
-use Rattle.symbolic_source.specs.Frames.{throws}
 use Rattle.symbolic_source.specs.Terms.{Exception}
 use Rattle.symbolic_code.specs.Facts.{Fact, in_facts, AllAmong, settled}
 use Rattle.symbolic_code.specs.Places.{Place}
@@ -29,8 +28,8 @@ use Rattle.note_landing.specs.declared.notes.Note.{Note}
 use Rattle.note_landing.specs.declared.notes.Notes.{Notes}
 use Rattle.note_landing.specs.declared.compiled.Compiled.{Compiled}
 use Rattle.note_landing.specs.Books.{bounds}
-use Rattle.note_landing.specs.Landings.{Makes, Same, Found, Agrees}
-use Rattle.note_landing.specs.Shown.{note_at, linked_by, func_by, notes_by, thrown_by, FoundBy, AgreesBy}
+use Rattle.note_landing.specs.Landings.{Makes, Same}
+use Rattle.note_landing.specs.Shown.{note_at, thrown_by, FoundBy, AgreesBy}
 use Rattle.note_landing.specs.Flights.{IsOut, out}
 use Rattle.note_landing.proofs.Shows.{shown_at}
 

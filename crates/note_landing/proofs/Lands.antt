@@ -1,5 +1,5 @@
 -- From what was compared to what notes ask for.
-use Rattle.std.proofs.Common.{ℕ, zero, suc, ◌≡◌, ◌+◌, ◌<◌, ◌≤◌, ◌⊎◌, inl, inr, refl, ap, sym, ◌∙◌, subst, Bool, true, false, List, [], ◌∷◌, Option, Some, None, arith}
+use Rattle.std.proofs.Common.{ℕ, zero, suc, ◌≡◌, ◌+◌, ◌<◌, ◌≤◌, ◌⊎◌, refl, ap, sym, ◌∙◌, subst, Bool, List, arith}
 use Rattle.cpp_tree.specs.cpp_types.Typ.{Typ}
 use Rattle.src_mean.specs.Linked.{Func, Program}
 use Rattle.symbolic_source.specs.Outcomes.{Outcome}

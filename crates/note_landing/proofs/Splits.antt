@@ -5,17 +5,15 @@ use Rattle.std.specs.Global.{Vec}
 use Rattle.std.proofs.lemmas.Bool.{true≢false, and_parts, eqb-true, eq-eqb}
 use Rattle.tx_code.specs.declared.body.Row.{Row}
 use Rattle.tx_code.specs.Meaning.{covers}
-use Rattle.cpp_tree.specs.cpp_types.Typ.{Typ}
 use Rattle.cpp_tree.specs.cpp_types.Class.{Class}
 use Rattle.cpp_tree.specs.cpp_types.Equal.{name_eq}
 use Rattle.src_mean.specs.Exceptions.{form_in}
-use Rattle.src_mean.specs.Linked.{Func, Program}
 use Rattle.symbolic_source.specs.Terms.{Exception, unknown}
 use Rattle.symbolic_source.specs.Outcomes.{Outcome}
 use Rattle.symbolic_code.specs.Places.{Place}
 use Rattle.symbolic_terms.specs.Meanings.{Meaning}
 use Rattle.symbolic_leaving.specs.Answers.{texts_of}
-use Rattle.body_check.specs.Cases.{Case, of_class, of_spelling, of_others, spelled, is_known, is_that, answers_in, find_in, class_cases, spelling_cases, cases, AreSpelled, Each}
+use Rattle.body_check.specs.Cases.{Case, of_class, of_spelling, of_others, spelled, is_that, answers_in, find_in, class_cases, spelling_cases, AreSpelled, Each}
 use Rattle.body_check.proofs.Cases.{cases_fit}
 use Rattle.note_landing.specs.declared.cases.Unknown.{Unknown}
 use Rattle.note_landing.specs.declared.notes.Notes.{Notes}
@@ -23,7 +21,7 @@ use Rattle.note_landing.specs.declared.compiled.Compiled.{Compiled}
 use Rattle.tx_code.specs.Images.{ImageView}
 use Rattle.image_links.specs.Books.{spelling_place}
 use Rattle.note_landing.specs.Books.{bounds}
-use Rattle.note_landing.specs.Cases.{text_at, IsSpelledBy, SpelledBy, IsTextOf, is_that_text, row_in, spellings_by, EachFirst, EachSpelling, CaseBy, CasesBy}
+use Rattle.note_landing.specs.Cases.{text_at, SpelledBy, IsTextOf, is_that_text, row_in, spellings_by, EachFirst, EachSpelling, CaseBy, CasesBy}
 use Rattle.note_landing.proofs.Shows.{shown_at, more_each, each_all}
 use Rattle.note_landing.specs.Shown.{linked_by, func_by, image_by, rows_by, notes_by, thrown_by, numbers_by, facts_by, FoundFitsBy, FliesBy}
 
@@ -45,14 +43,14 @@ stands_there [] s h = absurd (none h)
   where
     none : 0 < 0 → ⊥
     none h = omega (arith, h)
-stands_there (t ∷ ts) s h = by_test (name_eq s t) refl
+stands_there (t ∷ ts) s h = by_test (λ k. stands_there ts s k) (name_eq s t) refl
   where
     less : (m n : ℕ) → suc m < suc n → m < n
     less m n h = omega (arith, h)
 
-    by_test : (b : Bool) → name_eq s t ≡ b → unwrap_or (slice_get (t ∷ ts) (cond b 0 (suc (spelling_place s ts)))) [] ≡ s
-    by_test true e = sym (name_same s t e)
-    by_test false e = stands_there ts s (less (spelling_place s ts) (length ts) (subst (λ z. cond z 0 (suc (spelling_place s ts)) < suc (length ts)) e h))
+    by_test : (spelling_place s ts < length ts → unwrap_or (slice_get ts (spelling_place s ts)) [] ≡ s) → (b : Bool) → name_eq s t ≡ b → unwrap_or (slice_get (t ∷ ts) (cond b 0 (suc (spelling_place s ts)))) [] ≡ s
+    by_test below true e = sym (name_same s t e)
+    by_test below false e = below (less (spelling_place s ts) (length ts) (subst (λ z. cond z 0 (suc (spelling_place s ts)) < suc (length ts)) e h))
 
 -- the number of a spelling is that of no other
 number_is : (ts : List (List ℕ)) (n : ℕ) (s : List ℕ) → spelling_place (unwrap_or (slice_get ts n) []) ts ≡ n → n < length ts → nat_eq n (spelling_place s ts) ≡ name_eq (unwrap_or (slice_get ts n) []) s

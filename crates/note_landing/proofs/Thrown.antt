@@ -1,5 +1,5 @@
 -- Exceptions of types that are thrown.
-use Rattle.std.proofs.Common.{ℕ, ◌≡◌, Bool, true, sym, subst, List, Option, Some, None, Bor}
+use Rattle.std.proofs.Common.{ℕ, ◌≡◌, Bool, true, sym, subst, List, Some, Bor}
 use Rattle.std.specs.Prelude.{slice_get}
 use Rattle.cpp_types.specs.declared.types.Ty.{Ty}
 use Rattle.cpp_tree.specs.cpp_types.Typ.{typ_of}

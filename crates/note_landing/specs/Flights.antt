@@ -1,5 +1,5 @@
 -- Exceptions in flight.
-use Rattle.std.specs.Prelude.{ℕ, ◌≡◌, List}
+use Rattle.std.specs.Prelude.{ℕ, List}
 use Rattle.tx_events.specs.Thread.{rest_of}
 use Rattle.symbolic_source.specs.Terms.{Exception, variable}
 use Rattle.symbolic_source.specs.Frames.{Waiting, throws}

@@ -1,9 +1,9 @@
 -- What the tests of a note say, with the numbers that the next test needs beside it.
-use Rattle.std.specs.Prelude.{ℕ, zero, suc, ◌≡◌, ◌+◌, ◌≤◌, ◌⊎◌, Bool, false, List, Some, slice_get}
+use Rattle.std.specs.Prelude.{ℕ, ◌≡◌, ◌≤◌, Bool, false, List, Some, slice_get}
 use Rattle.cpp_tree.specs.cpp_types.Typ.{Typ}
 use Rattle.src_mean.specs.Linked.{Func, Program}
 use Rattle.symbolic_source.specs.Outcomes.{Outcome}
-use Rattle.symbolic_source.specs.Steps.{Answers, advanced}
+use Rattle.symbolic_source.specs.Steps.{Answers}
 use Rattle.symbolic_source.specs.Small.{is_stuck}
 use Rattle.symbolic_source.specs.Replacing.{Replacing, in_outcome}
 use Rattle.symbolic_source.specs.Terms.{Exception}

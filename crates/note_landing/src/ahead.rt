@@ -147,8 +147,8 @@ fn advance_within<'a>(
     }
 }
 
-// One more.
-fn one_more(steps: u32) -> Result<u32, Refusal>
+/// One more.
+pub(crate) fn one_more(steps: u32) -> Result<u32, Refusal>
     ensures { IfOk result (λ n. n ≡ steps + 1) }
 {
     match steps.checked_add(1) {

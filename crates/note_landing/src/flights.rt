@@ -20,7 +20,7 @@ ghost use Rattle.note_landing.specs.declared.compiled.Compiled.{Compiled as Comp
 ghost use Rattle.note_landing.specs.Flights.{behind_edge, IsOut, BehindBy, given_later};
 ghost use Rattle.note_landing.specs.Shown.{linked_by, func_by, notes_by, thrown_by, numbers_by, rows_by, types_by, place_by, facts_by, outcome_by, ReachesBy, RowFitsBy, FoundFitsBy, FliesBy};
 
-use crate::ahead::{Pace, advance, tries};
+use crate::ahead::{Pace, advance, one_more, tries};
 use crate::cases::{Unknown, cases_fit};
 use crate::compiled::{Compiled, Room};
 use crate::forgotten::forgotten;
@@ -254,10 +254,8 @@ fn steps_out<'a>(
         outcome,
     )?;
     let steps = steps_out(room, words, body, answers, most - 1, exception, next)?;
-    match steps.checked_add(1) {
-        Some(more) => Ok(more),
-        None => Err(Unfit::Never),
-    }
+    let more = one_more(steps)?;
+    Ok(more)
 }
 
 // Whether no silent step is next.

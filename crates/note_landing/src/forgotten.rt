@@ -126,7 +126,40 @@ fn place_with<'a>(
     catching(room.arena, outer, fresh)
 }
 
-/// A note that is missing at a handler, with nothing known of the exception.
+// Whether the exception leaves this frame, or is offered to its handlers.
+fn is_leaving<'a>(words: &Words<'a>, frame: Frame<'a>, exception: ExceptionId) -> bool {
+    match frame {
+        Frame::Leaves(Exit::Throws(thrown)) => equal_thrown(words, thrown, exception),
+        Frame::Exception(
+            ExceptionFrame::Trying {
+                exception: thrown,
+                handler: _,
+                others: _,
+            },
+        ) => equal_thrown(words, thrown, exception),
+        _ => false,
+    }
+}
+
+// Whether the exception leaves one of these frames.
+fn is_in_flight<'a>(words: &Words<'a>, frames: Frames<'a>, exception: ExceptionId) -> bool {
+    match frames {
+        Frames::Empty => false,
+        Frames::More(frame, rest) => {
+            is_leaving(words, frame, exception) || is_in_flight(words, *rest, exception)
+        }
+    }
+}
+
+// Whether the source has thrown the exception: that in which code holds words is of no source.
+fn is_of_source<'a>(words: &Words<'a>, outcome: Outcome<'a>, exception: ExceptionId) -> bool {
+    match outcome {
+        Outcome::Goes(_, rest) => is_in_flight(words, rest.frames, exception),
+        _ => false,
+    }
+}
+
+/// A note that is missing at a handler, with nothing known of the exception, where the source has thrown it.
 pub(crate) fn forgotten<'a>(
     room: Room<'a>,
     words: &mut Words<'a>,
@@ -137,6 +170,9 @@ pub(crate) fn forgotten<'a>(
     before: Outcome<'a>,
     missing: Missing<'a>,
 ) -> Result<Missing<'a>, Refusal> {
+    if !is_of_source(words, before, exception) {
+        return Ok(missing);
+    }
     let Some(ty) = body.source.types.get(typ as usize) else {
         return Err(Refusal::Untold);
     };

@@ -14,7 +14,7 @@ use symbolic_terms::outcomes::Outcome;
 use symbolic_terms::places::{Fact, Facts};
 use symbolic_terms::refusal::Refusal;
 use symbolic_terms::terms::Term;
-use symbolic_terms::words::Words;
+use symbolic_terms::words::{Words, term};
 
 /// Whether two facts are one.
 pub fn equal_fact(words: &Words<'_>, left: &Fact, right: &Fact) -> bool
@@ -58,8 +58,8 @@ pub fn is_evident(words: &Words<'_>, fact: &Fact) -> bool
     ensures shows { IsTrue result → (types : ℕ → Typ) (m : Meaning) → Agrees types m words.now → Evident (fact_of types m fact.now) }
 {
     match fact {
-        Fact::NotZero(word) => match words.terms.get(word.number as usize) {
-            Some(Term::Number(number)) => *number != 0,
+        Fact::NotZero(word) => match term(words, *word) {
+            Ok(Term::Number(number)) => number != 0,
             _ => false,
         },
         Fact::HasFunction { .. } => false,

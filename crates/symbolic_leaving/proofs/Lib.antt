@@ -3,3 +3,4 @@ pub mod Skips
 pub mod Tries
 pub mod Known
 pub mod Zeros
+pub mod Scopes

@@ -3,19 +3,20 @@
 ghost use Rattle.std.specs.Prelude.{ℕ, ◌≡◌, ◌∷◌, IfOk};
 ghost use Rattle.cpp_tree.specs.cpp_types.Typ.{Typ};
 ghost use Rattle.src_frames.specs.Bounds.{tree_of, all_kids};
-ghost use Rattle.symbolic_source.specs.Frames.{Cleans as CleansAll, Body as Bodies, Tries as TriesAll};
+ghost use Rattle.src_frames.specs.Shown.{owner_shown};
+ghost use Rattle.symbolic_source.specs.Frames.{Cleans as CleansAll, Scope as ScopeOf, Body as Bodies, Tries as TriesAll};
 ghost use Rattle.symbolic_source.specs.Outcomes.{silent, goes as goes_on};
-ghost use Rattle.symbolic_source.specs.Steps.{is_throw as is_thrown, left as leaves};
+ghost use Rattle.symbolic_source.specs.Steps.{left as leaves};
 ghost use Rattle.symbolic_terms.specs.Meanings.{Meaning, Agrees};
 ghost use Rattle.symbolic_terms.specs.Shown.{exit_of, object_of, statement_of, block_of, throwing_of};
 ghost use Rattle.symbolic_leaving.specs.Source.{types_at, units_of};
 ghost use Rattle.symbolic_leaving.specs.Shown.{frame_at, frames_at, left_in, waits_in, waiting_at, outcome_at};
-ghost use Rattle.symbolic_leaving.specs.Left.{past};
+ghost use Rattle.symbolic_leaving.specs.Left.{past, throws_in, cleans_in};
 
 use crate::source::Source;
 use crate::states::{Made, comes, gives, goes, number, run_step, with_frame};
 use bumpalo::Bump;
-use src_frames::frames::LoopParts;
+use src_frames::frames::{LoopParts, Owner};
 use src_frames::trees::{KidsAt, head, rest as rest_of};
 use symbolic_terms::frames::{
     BlockFrame, ExceptionFrame, Exit, Frame, Frames, ObjectFrame, StatementFrame, Waitings,
@@ -29,12 +30,19 @@ type Minding<'a> = Result<Option<Outcome<'a>>, Refusal>;
 
 // Whether it is an exception.
 fn is_throw(exit: Exit) -> bool
-    ensures { (types : ℕ → Typ) (m : Meaning) → result ≡ is_thrown (exit_of types m exit) }
+    ensures { result ≡ throws_in exit }
 {
     match exit {
         Exit::Throws(_) => true,
         Exit::Returns(_) | Exit::Breaks | Exit::Continues => false,
     }
+}
+
+// Whether the objects of a scope are destroyed.
+fn is_cleaned(always: bool, exit: Exit) -> bool
+    ensures { result ≡ cleans_in always exit }
+{
+    if always { true } else { is_throw(exit) }
 }
 
 /// What goes outward comes to the next frame that minds it.
@@ -136,22 +144,37 @@ fn leave_objects<'a>(
 {
     match frame {
         ObjectFrame::Scope {
-            owner: _,
+            owner,
             always,
             waiting,
-        } => {
-            if always || is_throw(exit) {
-                Ok(Some(clean(arena, source, rest, waiting, Frame::Leaves(exit))?))
-            } else {
-                Ok(None)
-            }
-        }
+        } => leave_scope(arena, source, rest, exit, owner, always, waiting),
         ObjectFrame::Full { outer } => {
             Ok(Some(end_full(arena, source, rest, outer, Frame::Leaves(exit))?))
         }
         ObjectFrame::Keeps(_) | ObjectFrame::Waits(..) | ObjectFrame::InitAt { .. } => Ok(None),
         ObjectFrame::Cleans(_) | ObjectFrame::Due(_) | ObjectFrame::Destroys { .. } => Ok(None),
         ObjectFrame::Parts { .. } | ObjectFrame::Each { .. } => Ok(None),
+    }
+}
+
+// A scope is left.
+#[tactic(auto, using(crate::proofs::Scopes::scope_cleaned, crate::proofs::Scopes::scope_passed))]
+fn leave_scope<'a>(
+    arena: &'a Bump,
+    source: &Source<'a>,
+    rest: Rest<'a>,
+    exit: Exit,
+    owner: Owner,
+    always: bool,
+    waiting: Waitings<'a>,
+) -> Minding<'a>
+    ensures { IfOk result (λ b. (m : Meaning) → past source.now m rest.entry exit b ≡ leaves (waits_in source.now m rest.entry) (exit_of (types_at source.now) m exit) (ScopeOf (owner_shown owner) always (waiting_at source.now m waiting.entry) ∷ left_in source.now m rest.entry)) }
+{
+    let _shown = owner;
+    if is_cleaned(always, exit) {
+        Ok(Some(clean(arena, source, rest, waiting, Frame::Leaves(exit))?))
+    } else {
+        Ok(None)
     }
 }
 

@@ -1,5 +1,5 @@
 -- What a frame does, with what is left to do behind it.
-use Rattle.std.specs.Prelude.{List, ◌∷◌}
+use Rattle.std.specs.Prelude.{◌∷◌}
 use Rattle.cpp_tree.specs.declared.kinds.TKind.{TKind}
 use Rattle.cpp_tree.specs.Trees.{Trees}
 use Rattle.symbolic_source.specs.Terms as words

@@ -120,11 +120,102 @@ fn run_kind<'a>(
     ensures grows { (types : ℕ → Typ) (m : Meaning) → Agrees types m words.new → Agrees types m words.old }
 {
     match kind {
+        TKind::Literal { .. }
+        | TKind::Local { .. }
+        | TKind::Global { .. }
+        | TKind::Function { .. }
+        | TKind::ClassTable { .. }
+        | TKind::Case { .. }
+        | TKind::Default
+        | TKind::Handler { .. }
+        | TKind::Destroy { .. }
+        | TKind::Field { .. } => run_leaf(words, source, answers, rest, way, kind, kids),
+        TKind::Load { .. }
+        | TKind::Convert { .. }
+        | TKind::Retype
+        | TKind::Binary { .. }
+        | TKind::Conditional
+        | TKind::Comma
+        | TKind::Assign { .. }
+        | TKind::Update { .. }
+        | TKind::CopyAssign
+        | TKind::FullExpression => run_operation(arena, source, answers, rest, way, kind, kids),
+        TKind::Materialize { .. }
+        | TKind::Call { .. }
+        | TKind::VirtualCall { .. }
+        | TKind::PointerCall
+        | TKind::Builtin { .. }
+        | TKind::Throw
+        | TKind::Rethrow
+        | TKind::Construct { .. }
+        | TKind::CopyConstruct { .. } => run_invocation(
+            alloc, arena, words, source, answers, rest, way, kind, kids,
+        ),
+        TKind::Store { .. }
+        | TKind::CopyScalar { .. }
+        | TKind::CopyFrom
+        | TKind::Pieces
+        | TKind::Piece { .. }
+        | TKind::Elements { .. }
+        | TKind::Init
+        | TKind::Defer => run_building(arena, words, source, answers, rest, way, kind, kids),
+        TKind::Block { .. }
+        | TKind::Loop { .. }
+        | TKind::Switch
+        | TKind::Break
+        | TKind::Continue
+        | TKind::Return
+        | TKind::Try
+        | TKind::Atomic { .. }
+        | TKind::Synchronized => run_statement(
+            arena, words, source, answers, rest, way, kind, kids,
+        ),
+    }
+}
+
+// What a leaf does first, and what a node does that is run nowhere but by the one above it. No other kinds are asked for.
+fn run_leaf<'a>(
+    words: &mut Words<'a>,
+    source: &Source<'a>,
+    answers: CaseAnswers<'_>,
+    rest: Rest<'a>,
+    way: Way,
+    kind: TKind,
+    kids: KidsAt,
+) -> Going<'a>
+    ensures is { IfOk result (λ o. (m : Meaning) → Agrees (types_at source.now) m words.new → next_of source.now m answers.entry rest.entry o ≡ runs_as source.now m answers.entry rest.entry (way_of (types_at source.now) m way) kind (all_kids source.now.bound.now kids)) }
+    ensures grows { (types : ℕ → Typ) (m : Meaning) → Agrees types m words.new → Agrees types m words.old }
+{
+    let _way = way;
+    let _kids = kids;
+    match kind {
         TKind::Literal { word } => literal(words, source, answers, rest, word),
         TKind::Local { place } => place_word(words, source, answers, rest, place),
         TKind::Global { global } => global_word(words, source, answers, rest, global),
         TKind::Function { func } => function_word(words, source, answers, rest, func),
         TKind::ClassTable { class } => table_word(words, source, answers, rest, class),
+        TKind::Case { word: _ } => zero(words, source, answers, rest),
+        TKind::Default => zero(words, source, answers, rest),
+        TKind::Handler { place: _ } => zero(words, source, answers, rest),
+        TKind::Destroy { .. } => zero(words, source, answers, rest),
+        TKind::Field { .. } => zero(words, source, answers, rest),
+        _ => Err(Refusal::Beyond),
+    }
+}
+
+// What an operation on values does first. No other kinds are asked for.
+fn run_operation<'a>(
+    arena: &'a Bump,
+    source: &Source<'a>,
+    answers: CaseAnswers<'_>,
+    rest: Rest<'a>,
+    way: Way,
+    kind: TKind,
+    kids: KidsAt,
+) -> Going<'a>
+    ensures { IfOk result (λ o. (m : Meaning) → next_of source.now m answers.entry rest.entry o ≡ runs_as source.now m answers.entry rest.entry (way_of (types_at source.now) m way) kind (all_kids source.now.bound.now kids)) }
+{
+    match kind {
         TKind::Load { kind, volatile } => {
             let then = ValueFrame::Loads(kind, volatile);
             run_operand(arena, source, answers, rest, kids, then)
@@ -167,6 +258,27 @@ fn run_kind<'a>(
             run_operand(arena, source, answers, rest, kids, then)
         }
         TKind::CopyAssign => run_copy(arena, source, answers, rest, kids),
+        TKind::FullExpression => run_full(arena, source, answers, rest, way, kids),
+        _ => Err(Refusal::Beyond),
+    }
+}
+
+// What a call, a temporary or a `throw` does first. No other kinds are asked for.
+fn run_invocation<'a>(
+    alloc: Global,
+    arena: &'a Bump,
+    words: &mut Words<'a>,
+    source: &Source<'a>,
+    answers: CaseAnswers<'_>,
+    rest: Rest<'a>,
+    way: Way,
+    kind: TKind,
+    kids: KidsAt,
+) -> Going<'a>
+    ensures is { IfOk result (λ o. (m : Meaning) → Agrees (types_at source.now) m words.new → next_of source.now m answers.entry rest.entry o ≡ runs_as source.now m answers.entry rest.entry (way_of (types_at source.now) m way) kind (all_kids source.now.bound.now kids)) }
+    ensures grows { (types : ℕ → Typ) (m : Meaning) → Agrees types m words.new → Agrees types m words.old }
+{
+    match kind {
         TKind::Materialize { place, argument } => {
             if argument {
                 run_argument(arena, words, source, answers, rest, place, kids)
@@ -174,7 +286,6 @@ fn run_kind<'a>(
                 run_temporary(arena, words, source, answers, rest, place, kids)
             }
         }
-        TKind::FullExpression => run_full(arena, source, answers, rest, way, kids),
         TKind::Call { func } => run_call(arena, words, source, answers, rest, way, func, kids),
         TKind::VirtualCall {
             func: _,
@@ -188,6 +299,31 @@ fn run_kind<'a>(
         TKind::Builtin { which } => run_builtin(arena, words, source, answers, rest, which, kids),
         TKind::Throw => run_throw(alloc, arena, source, answers, rest, kids),
         TKind::Rethrow => rethrow(arena, words, source, answers, rest),
+        TKind::Construct { func } => construct(
+            arena, words, source, answers, rest, way, func, kids,
+        ),
+        TKind::CopyConstruct { func } => copy_construct(
+            arena, words, source, answers, rest, way, func,
+        ),
+        _ => Err(Refusal::Beyond),
+    }
+}
+
+// What the building of an object does first. No other kinds are asked for.
+fn run_building<'a>(
+    arena: &'a Bump,
+    words: &mut Words<'a>,
+    source: &Source<'a>,
+    answers: CaseAnswers<'_>,
+    rest: Rest<'a>,
+    way: Way,
+    kind: TKind,
+    kids: KidsAt,
+) -> Going<'a>
+    ensures is { IfOk result (λ o. (m : Meaning) → Agrees (types_at source.now) m words.new → next_of source.now m answers.entry rest.entry o ≡ runs_as source.now m answers.entry rest.entry (way_of (types_at source.now) m way) kind (all_kids source.now.bound.now kids)) }
+    ensures grows { (types : ℕ → Typ) (m : Meaning) → Agrees types m words.new → Agrees types m words.old }
+{
+    match kind {
         TKind::Store { kind, volatile } => {
             run_store(
                 arena, words, source, answers, rest, way, kind, volatile, kids,
@@ -196,12 +332,6 @@ fn run_kind<'a>(
         TKind::CopyScalar { kind, volatile } => {
             copy_scalar(arena, words, source, answers, rest, way, kind, volatile)
         }
-        TKind::Construct { func } => construct(
-            arena, words, source, answers, rest, way, func, kids,
-        ),
-        TKind::CopyConstruct { func } => copy_construct(
-            arena, words, source, answers, rest, way, func,
-        ),
         TKind::CopyFrom => run_from(arena, words, source, answers, rest, way, kids),
         TKind::Pieces => run_pieces(arena, words, source, answers, rest, way, kids),
         TKind::Piece { offset } => run_piece(
@@ -212,16 +342,34 @@ fn run_kind<'a>(
                 arena, words, source, answers, rest, way, count, stride, kids,
             )
         }
-        TKind::Block { subobjects } => run_block(arena, source, answers, rest, subobjects, kids),
         TKind::Init => run_init(arena, source, answers, rest, kids),
         TKind::Defer => run_defer(arena, source, answers, rest, kids),
+        _ => Err(Refusal::Beyond),
+    }
+}
+
+// What a statement does first. No other kinds are asked for.
+fn run_statement<'a>(
+    arena: &'a Bump,
+    words: &mut Words<'a>,
+    source: &Source<'a>,
+    answers: CaseAnswers<'_>,
+    rest: Rest<'a>,
+    way: Way,
+    kind: TKind,
+    kids: KidsAt,
+) -> Going<'a>
+    ensures is { IfOk result (λ o. (m : Meaning) → Agrees (types_at source.now) m words.new → next_of source.now m answers.entry rest.entry o ≡ runs_as source.now m answers.entry rest.entry (way_of (types_at source.now) m way) kind (all_kids source.now.bound.now kids)) }
+    ensures grows { (types : ℕ → Typ) (m : Meaning) → Agrees types m words.new → Agrees types m words.old }
+{
+    let _way = way;
+    match kind {
+        TKind::Block { subobjects } => run_block(arena, source, answers, rest, subobjects, kids),
         TKind::Loop { test_first } => run_loop(arena, source, answers, rest, test_first, kids),
         TKind::Switch => {
             let then = Frame::Statement(StatementFrame::Picks(rest_of(source.bound, kids)));
             run_first(arena, source, answers, rest, kids, then)
         }
-        TKind::Case { word: _ } => zero(words, source, answers, rest),
-        TKind::Default => zero(words, source, answers, rest),
         TKind::Break => leaving(arena, words, source, answers, rest, Exit::Breaks),
         TKind::Continue => leaving(arena, words, source, answers, rest, Exit::Continues),
         TKind::Return => run_return(arena, words, source, answers, rest, kids),
@@ -229,7 +377,6 @@ fn run_kind<'a>(
             let then = Frame::Exception(ExceptionFrame::Tries(rest_of(source.bound, kids)));
             run_first(arena, source, answers, rest, kids, then)
         }
-        TKind::Handler { place: _ } => zero(words, source, answers, rest),
         TKind::Atomic { kind } => {
             let doing = Doing::BeginsAtomic(kind);
             open(
@@ -253,8 +400,7 @@ fn run_kind<'a>(
                 kids,
             )
         }
-        TKind::Destroy { .. } => zero(words, source, answers, rest),
-        TKind::Field { .. } => zero(words, source, answers, rest),
+        _ => Err(Refusal::Beyond),
     }
 }
 
@@ -635,7 +781,7 @@ fn run_call<'a>(
     ensures grows { (types : ℕ → Typ) (m : Meaning) → Agrees types m words.new → Agrees types m words.old }
 {
     let _shown = answers;
-    let before = result_words(arena, way)?;
+    let before = result_words(arena, source, way)?;
     let callee = Callee::Known(number_of(source, func));
     Ok(Next::Made(
         When::Always,
@@ -682,7 +828,7 @@ fn run_virtual<'a>(
     ensures { IfOk result (λ o. (m : Meaning) → next_of source.now m answers.entry rest.entry o ≡ goes_on silent (waits_in source.now m rest.entry) (Runs for_value (first_kid (all_kids source.now.bound.now kids)) ∷ ObjectsOf (words_of_result (way_of (types_at source.now) m way)) class slot pointer (kids_after (all_kids source.now.bound.now kids)) ∷ left_in source.now m rest.entry)) }
 {
     let then = CallFrame::Object {
-        before: result_words(arena, way)?,
+        before: result_words(arena, source, way)?,
         class,
         slot,
         pointer,
@@ -744,7 +890,7 @@ fn run_pointer<'a>(
 ) -> Going<'a>
     ensures { IfOk result (λ o. (m : Meaning) → next_of source.now m answers.entry rest.entry o ≡ goes_on silent (waits_in source.now m rest.entry) (Runs for_value (first_kid (all_kids source.now.bound.now kids)) ∷ PointsTo (words_of_result (way_of (types_at source.now) m way)) (called_signature (typ_in (first_kid (all_kids source.now.bound.now kids)))) (kids_after (all_kids source.now.bound.now kids)) ∷ left_in source.now m rest.entry)) }
 {
-    let before = result_words(arena, way)?;
+    let before = result_words(arena, source, way)?;
     let pointer = first(source.bound, kids);
     let then = CallFrame::Pointer {
         before,
@@ -993,13 +1139,9 @@ fn run_return<'a>(
             let then = Frame::Statement(StatementFrame::Returning);
             running_before(arena, source, answers, rest, value, then)
         }
-        None => leaving(
-            arena,
-            words,
-            source,
-            answers,
-            rest,
-            Exit::Returns(number(words, 0)?),
-        ),
+        None => {
+            let zero = number(words, 0)?;
+            leaving(arena, words, source, answers, rest, Exit::Returns(zero))
+        }
     }
 }

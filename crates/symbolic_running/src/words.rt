@@ -62,9 +62,14 @@ pub fn two_words<'a>(arena: &'a Bump, word: WordId, other: WordId) -> Result<Ter
 }
 
 /// The words before those of a call: the address of a class result.
-pub fn result_words<'a>(arena: &'a Bump, way: Way) -> Result<Terms<'a>, Refusal>
-    ensures { IfOk result (λ v. (types : ℕ → Typ) (m : Meaning) → words_of m v ≡ words_of_result (way_of types m way)) }
+pub fn result_words<'a>(
+    arena: &'a Bump,
+    source: &Source<'a>,
+    way: Way,
+) -> Result<Terms<'a>, Refusal>
+    ensures { IfOk result (λ v. (m : Meaning) → words_of m v ≡ words_of_result (way_of (types_at source.now) m way)) }
 {
+    let _shown = source;
     match way {
         Way::Value => Ok(Terms::Empty),
         Way::Into { target, source: _ } => one_word(arena, target),

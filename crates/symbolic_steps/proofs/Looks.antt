@@ -6,13 +6,12 @@ use Rattle.cpp_tree.specs.declared.kinds.TKind.{TKind}
 use Rattle.cpp_tree.specs.declared.kinds.TKind.TheVariants.{Literal, Local, Global, Function, ClassTable, Load, Convert, Retype, Binary, Conditional, Comma, Assign, Update, CopyAssign, Materialize, FullExpression, Call, VirtualCall, PointerCall, Builtin, Throw, Rethrow, Store, CopyScalar, Construct, CopyConstruct, CopyFrom, Pieces, Piece, Elements, Block, Init, Defer, Loop, Switch, Case, Default, Break, Continue, Return, Try, Handler, Atomic, Synchronized, Destroy, Field}
 use Rattle.cpp_tree.specs.Trees.{Tree, node, Trees, none, more, first, rest, kind_of, kids_of}
 use Rattle.src_mean.specs.Linked.{Func, Program}
-use Rattle.src_mean.specs.Frames.{Owner}
 use Rattle.src_mean.specs.Source.{from_label, is_default}
 use Rattle.src_frames.specs.Trees.{are_none}
 use Rattle.symbolic_source.specs.Terms.{Term, number, Exception, made, Puts}
-use Rattle.symbolic_source.specs.Frames.{Spot, Waiting, Way, value, into, throws, returns, Callee, Frame, Run, Then, Gives, Due, Parts, Items, Fills, Takes, Handling, Words, Compares, Returning, waiting, puts, puts_some}
+use Rattle.symbolic_source.specs.Frames.{Waiting, Way, value, into, throws, Frame, Run, Then, Gives, Due, Parts, Items, Fills, Takes, Handling, Compares}
 use Rattle.symbolic_source.specs.Outcomes.{silent, goes}
-use Rattle.symbolic_source.specs.Steps.{Answers, left, given, ran, next_word, invoked, compared, run_items, destroyed, fill_field, take_field, taken, handling, place_of, return_value}
+use Rattle.symbolic_source.specs.Steps.{Answers, left, given, ran, compared, run_items, destroyed, fill_field, take_field, taken, handling, place_of}
 use Rattle.symbolic_leaving.specs.declared.roots.FieldAt.{FieldAt}
 use Rattle.symbolic_leaving.specs.declared.roots.Destruction.{Destruction}
 use Rattle.symbolic_leaving.specs.Kinds.{destroy_in, field_in, place_in}
@@ -363,7 +362,7 @@ module _ (p : Program) (f : Func) (answers : Answers) where
   pub taken_some : (e : Exception) (kind : TKind) (fields : Trees) (k : List Frame) (n : ℕ) → place_in kind ≡ Some n → taken p f answers e kind fields k ≡ Takes e (place_of p f answers n) fields ∷ k
   taken_some e (Literal w) fields k n h = absurd cc
   taken_some e (Local place) fields k n h = absurd cc
-  taken_some e (Global n) fields k n h = absurd cc
+  taken_some e (Global g) fields k n h = absurd cc
   taken_some e (Function g) fields k n h = absurd cc
   taken_some e (ClassTable c) fields k n h = absurd cc
   taken_some e (Load kind volatile) fields k n h = absurd cc

@@ -136,7 +136,6 @@ fn results<'a>(
 }
 
 // Goes on with a value for a frame, behind which this is left.
-#[tactic(auto, using(crate::proofs::Looks::run_tree))]
 fn give_to<'a>(
     alloc: Global,
     arena: &'a Bump,

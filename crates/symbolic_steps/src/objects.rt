@@ -286,14 +286,16 @@ fn destroy<'a>(
     ensures grows { (types : ℕ → Typ) (m : Meaning) → Agrees types m words.new → Agrees types m words.old }
 {
     let _shown = answers;
-    let rest = with_frame(arena, source, rest, Frame::Object(ObjectFrame::Due(others)))?;
     match destruction_of(kind) {
-        Some(found) => destroy_found(arena, words, source, rest, address, found),
-        None => gives(arena, source, rest, address),
+        Some(found) => destroy_found(arena, words, source, rest, address, found, others),
+        None => {
+            let rest = with_frame(arena, source, rest, Frame::Object(ObjectFrame::Due(others)))?;
+            gives(arena, source, rest, address)
+        }
     }
 }
 
-// A destruction at an address, which is given then.
+// A destruction at an address, which is given then, for the others.
 fn destroy_found<'a>(
     arena: &'a Bump,
     words: &mut Words<'a>,
@@ -301,11 +303,13 @@ fn destroy_found<'a>(
     rest: Rest<'a>,
     address: WordId,
     found: Destruction,
+    others: KidsAt,
 ) -> Made<'a>
-    ensures is { IfOk result (λ o. (m : Meaning) → Agrees (types_at source.now) m words.new → outcome_at source.now m o ≡ if_word found.count (goes_on silent (waits_in source.now m rest.entry) (DestroysSome ((linked_to source.now).number (func_of source.now).unit found.func) (plus_number_of (word_of m address) found.offset) found.stride (number_of_term found.count) ∷ GivesWord (word_of m address) ∷ left_in source.now m rest.entry))) }
+    ensures is { IfOk result (λ o. (m : Meaning) → Agrees (types_at source.now) m words.new → outcome_at source.now m o ≡ if_word found.count (goes_on silent (waits_in source.now m rest.entry) (DestroysSome ((linked_to source.now).number (func_of source.now).unit found.func) (plus_number_of (word_of m address) found.offset) found.stride (number_of_term found.count) ∷ GivesWord (word_of m address) ∷ DueAt (all_kids source.now.bound.now others) ∷ left_in source.now m rest.entry))) }
     ensures grows { (types : ℕ → Typ) (m : Meaning) → Agrees types m words.new → Agrees types m words.old }
 {
     let first = plus_number(arena, words, address, u64::from(found.offset))?;
+    let rest = with_frame(arena, source, rest, Frame::Object(ObjectFrame::Due(others)))?;
     let rest = with_frame(arena, source, rest, Frame::Gives(address))?;
     let frame = ObjectFrame::Destroys {
         number: number_of(source, found.func),

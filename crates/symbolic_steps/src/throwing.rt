@@ -6,7 +6,7 @@ ghost use Rattle.cpp_tree.specs.cpp_types.Typ.{Typ};
 ghost use Rattle.cpp_tree.specs.Trees.{rest as kids_after};
 ghost use Rattle.cpp_tree.specs.cpp_layout.Layout.{kind_size};
 ghost use Rattle.symbolic_source.specs.Terms.{put as put_on};
-ghost use Rattle.symbolic_source.specs.Frames.{Fills as FillsIn, Trying as TryingOne, Takes as TakesOf};
+ghost use Rattle.symbolic_source.specs.Frames.{Fills as FillsIn, Trying as TryingOne, Takes as TakesOf, Taking as TakingOne};
 ghost use Rattle.symbolic_source.specs.Outcomes.{silent, goes as goes_on};
 ghost use Rattle.symbolic_source.specs.Steps.{handling as handles, fill_field as fills_field, take_field as takes_field, take_bytes as takes_bytes};
 ghost use Rattle.symbolic_terms.specs.Meanings.{Meaning, word_of, thrown_of, given_of, Agrees};
@@ -393,19 +393,32 @@ fn take_field<'a>(
 {
     let _shown = answers;
     match field_of(kind) {
-        Some(field) => {
-            let frame = ExceptionFrame::Taking {
-                exception,
-                base,
-                offset: field.offset,
-                kind: field.kind,
-            };
-            let behind = takes(source, exception, base, others);
-            let rest = with_frame(arena, source, rest, behind)?;
-            goes(arena, source, rest, Frame::Exception(frame))
-        }
+        Some(field) => take_found(arena, source, rest, exception, base, field, others),
         None => goes(arena, source, rest, takes(source, exception, base, others)),
     }
+}
+
+// Stores this field of an exception, and then the others.
+fn take_found<'a>(
+    arena: &'a Bump,
+    source: &Source<'a>,
+    rest: Rest<'a>,
+    exception: ExceptionId,
+    base: WordId,
+    field: FieldAt,
+    others: KidsAt,
+) -> Made<'a>
+    ensures { IfOk result (λ o. (m : Meaning) → outcome_at source.now m o ≡ goes_on silent (waits_in source.now m rest.entry) (TakingOne (thrown_of m exception) (word_of m base) field.offset field.kind ∷ TakesOf (thrown_of m exception) (word_of m base) (all_kids source.now.bound.now others) ∷ left_in source.now m rest.entry)) }
+{
+    let frame = ExceptionFrame::Taking {
+        exception,
+        base,
+        offset: field.offset,
+        kind: field.kind,
+    };
+    let behind = takes(source, exception, base, others);
+    let rest = with_frame(arena, source, rest, behind)?;
+    goes(arena, source, rest, Frame::Exception(frame))
 }
 
 // Stores these fields of an exception.

@@ -1,5 +1,5 @@
 -- The terms and exceptions that data show, at the types that numbers of types mean.
-use Rattle.std.specs.Prelude.{ℕ, List, [], ◌∷◌, Option, Some, None, slice_get, false}
+use Rattle.std.specs.Prelude.{ℕ, List, Option, Some, None, slice_get, false}
 use Rattle.cpp_types.specs.declared.types.Ty.{Ty}
 use Rattle.cpp_tree.specs.cpp_types.Typ.{Typ, typ, void, class as of_class, typ_of}
 use Rattle.symbolic_source.specs.Terms as symbolic

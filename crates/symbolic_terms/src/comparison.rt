@@ -9,7 +9,7 @@ ghost use Rattle.symbolic_terms.specs.Meanings.{Meaning, word_of, thrown_of, giv
 use crate::ids::{ExceptionId, Exceptions, PutsId, Terms, WordId};
 use crate::refusal::Refusal;
 use crate::terms::{Exception, Puts, Term};
-use crate::words::{Words, term};
+use crate::words::{Words, exception, given, term};
 
 /// Whether two exceptions are one unknown one. Exceptions that were made are not compared.
 pub fn same_exception(left: &Exception<'_>, right: &Exception<'_>) -> bool
@@ -209,11 +209,8 @@ pub fn equal_words(words: &Words<'_>, left: WordId, right: WordId) -> bool
     if left.number == right.number {
         return true;
     }
-    match (
-        words.terms.get(left.number as usize),
-        words.terms.get(right.number as usize),
-    ) {
-        (Some(left), Some(right)) => equal_terms(left, right),
+    match (term(words, left), term(words, right)) {
+        (Ok(left), Ok(right)) => equal_terms(&left, &right),
         _ => false,
     }
 }
@@ -225,11 +222,8 @@ pub fn equal_thrown(words: &Words<'_>, left: ExceptionId, right: ExceptionId) ->
     if left.number == right.number {
         return true;
     }
-    match (
-        words.exceptions.get(left.number as usize),
-        words.exceptions.get(right.number as usize),
-    ) {
-        (Some(left), Some(right)) => equal_exceptions(left, right),
+    match (exception(words, left), exception(words, right)) {
+        (Ok(left), Ok(right)) => equal_exceptions(&left, &right),
         _ => false,
     }
 }
@@ -241,11 +235,8 @@ pub fn equal_given(words: &Words<'_>, left: PutsId, right: PutsId) -> bool
     if left.number == right.number {
         return true;
     }
-    match (
-        words.puts.get(left.number as usize),
-        words.puts.get(right.number as usize),
-    ) {
-        (Some(left), Some(right)) => equal_puts(left, right),
+    match (given(words, left), given(words, right)) {
+        (Ok(left), Ok(right)) => equal_puts(&left, &right),
         _ => false,
     }
 }

@@ -1,6 +1,6 @@
 //! Words and exceptions by their numbers, so that frames that hold them are small.
 
-ghost use Rattle.std.specs.Prelude.{ℕ, ◌≡◌, IfOk};
+ghost use Rattle.std.specs.Prelude.{ℕ, ◌≡◌, Some, IfOk, slice_get};
 ghost use Rattle.cpp_tree.specs.cpp_types.Typ.{Typ};
 ghost use Rattle.symbolic_terms.specs.Words.{term_of, exception_of, puts_of};
 ghost use Rattle.symbolic_terms.specs.Meanings.{Meaning, word_of, thrown_of, given_of, Agrees};
@@ -47,24 +47,30 @@ pub fn given<'a>(words: &Words<'a>, id: PutsId) -> Result<Puts<'a>, Refusal>
     }
 }
 
+// Places a value behind the others of a list, and gives its number.
+#[tactic(auto, using(crate::proofs::Pushed::at_end, crate::proofs::Pushed::within, crate::proofs::Pushed::alike))]
+fn pushed<T: Copy>(list: &mut Vec<T>, value: T) -> Result<u32, Refusal>
+    ensures stands { IfOk result (λ n. slice_get list.new.items n ≡ Some value) }
+    ensures stay { (n : ℕ) (v : T) → slice_get list.old.items n ≡ Some v → slice_get list.new.items n ≡ Some v }
+{
+    let number = list.len();
+    if number > 0xffff_ffff {
+        return Err(Refusal::Beyond);
+    }
+    list.push(value)?;
+    Ok(number as u32)
+}
+
 /// A number for a term.
-#[tactic(auto, using(crate::proofs::Pushed::newest_term, crate::proofs::Pushed::earlier_term))]
 pub fn made<'a>(words: &mut Words<'a>, term: Term<'a>) -> Result<WordId, Refusal>
     ensures is { IfOk result (λ w. (types : ℕ → Typ) (m : Meaning) → Agrees types m words.new → word_of m w ≡ term_of types term.entry) }
     ensures grows { (types : ℕ → Typ) (m : Meaning) → Agrees types m words.new → Agrees types m words.old }
 {
-    let number = words.terms.len();
-    if number > 0xffff_ffff {
-        return Err(Refusal::Beyond);
-    }
-    words.terms.push(term)?;
-    Ok(WordId {
-        number: number as u32,
-    })
+    let number = pushed(&mut words.terms, term)?;
+    Ok(WordId { number })
 }
 
 /// A number for an exception.
-#[tactic(auto, using(crate::proofs::Pushed::newest_exception, crate::proofs::Pushed::earlier_exception))]
 pub fn made_exception<'a>(
     words: &mut Words<'a>,
     exception: Exception<'a>,
@@ -72,28 +78,15 @@ pub fn made_exception<'a>(
     ensures is { IfOk result (λ w. (types : ℕ → Typ) (m : Meaning) → Agrees types m words.new → thrown_of m w ≡ exception_of types exception.entry) }
     ensures grows { (types : ℕ → Typ) (m : Meaning) → Agrees types m words.new → Agrees types m words.old }
 {
-    let number = words.exceptions.len();
-    if number > 0xffff_ffff {
-        return Err(Refusal::Beyond);
-    }
-    words.exceptions.push(exception)?;
-    Ok(ExceptionId {
-        number: number as u32,
-    })
+    let number = pushed(&mut words.exceptions, exception)?;
+    Ok(ExceptionId { number })
 }
 
 /// A number for what was put into an exception.
-#[tactic(auto, using(crate::proofs::Pushed::newest_puts, crate::proofs::Pushed::earlier_puts))]
 pub fn made_puts<'a>(words: &mut Words<'a>, puts: Puts<'a>) -> Result<PutsId, Refusal>
     ensures is { IfOk result (λ w. (types : ℕ → Typ) (m : Meaning) → Agrees types m words.new → given_of m w ≡ puts_of types puts.entry) }
     ensures grows { (types : ℕ → Typ) (m : Meaning) → Agrees types m words.new → Agrees types m words.old }
 {
-    let number = words.puts.len();
-    if number > 0xffff_ffff {
-        return Err(Refusal::Beyond);
-    }
-    words.puts.push(puts)?;
-    Ok(PutsId {
-        number: number as u32,
-    })
+    let number = pushed(&mut words.puts, puts)?;
+    Ok(PutsId { number })
 }

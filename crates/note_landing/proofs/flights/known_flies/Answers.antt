@@ -8,4 +8,4 @@ pub returns-clause-is : goal.returns-clause-is
 returns-clause-is c m a =
     let types = c.args.body.now.source.types.now in
     let there = slice_get_read types (length types) _ c.in-Some.ty.now refl (ltb-true _ (length types) (sym c.in-Some.ensures.lookup.0)) c.in-Some.ensures.lookup.1 in
-    found_known c.args.body.now m c.args.notes.now _ _ _ _ _ _ _ types _ _ _ _ there c.in_ok-number.ensures c.find_row-row.ensures (c.in_ok-found_fits.ensures.is m a)
+    found_known c.args.body.now m c.args.notes.now _ _ _ _ _ _ _ types _ _ _ _ there c.in_ok-number.ensures (rw c.deref.ensures.value at c.find_row-row.ensures) (c.in_ok-found_fits.ensures.is m a)

@@ -11,4 +11,4 @@ returns-clause-is c told m a =
     let func = func_by c.args.body.now in
     let after = c.in_ok-facts.ensures.grows types m a in
     let first = c.in_ok-made.ensures.grows types m after in
-    makes_as _ _ _ _ _ _ _ _ _ (c.in_ok-thrown.ensures told) (c.in_ok-made_place.ensures.is types m first) (c.equal_places.ensures (search rules) types m first) (c.in_ok-made.ensures.is types m units func after) (c.equal_outcomes.ensures (search rules) types m units func after) (c.in_ok-facts.ensures.is types m a) (c.are_among.ensures (search rules) types m a)
+    makes_as _ _ _ _ _ _ _ _ _ (c.in_ok-thrown.ensures told) (c.in_ok-made_place.ensures.is types m first) (c.equal_places.ensures.shows (search rules) types m first) (c.in_ok-made.ensures.is types m units func after) (c.equal_outcomes.ensures.shows (search rules) types m units func after) (c.in_ok-facts.ensures.is types m a) (c.are_among.ensures.shows (search rules) types m a)

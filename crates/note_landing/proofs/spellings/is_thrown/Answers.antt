@@ -1,4 +1,3 @@
-use Rattle.std.proofs.Common.{rules}
 use Rattle.note_landing.proofs.Thrown.{thrown_as}
 use Rattle.note_landing.proofs.spellings.is_thrown.Goals as goal
 

@@ -3,7 +3,6 @@ use Rattle.symbolic_terms.specs.Shown.{doing_of}
 use Rattle.symbolic_frames.proofs.InPlace.{does_replaced}
 use Rattle.symbolic_frames.proofs.outcomes.replaced_leading.Goals as goal
 
--- src/outcomes.rt:69:1
-pub returns-in_ok-replaced_doing-in-Does : goal.returns-in_ok-replaced_doing-in-Does
-returns-in_ok-replaced_doing-in-Does c types p f ws k =
-    does_replaced types p f (replacing_of types c.args.with) c.args.leading c.in-Does.doing (doing_of types p f c.in_ok-replaced_doing-in-Does.field-0) ws k c.in-Does.is (c.in_ok-replaced_doing-in-Does.ensures types p f)
+pub returns-in_ok-replaced_doing-in-Does-clause-is : goal.returns-in_ok-replaced_doing-in-Does-clause-is
+returns-in_ok-replaced_doing-in-Does-clause-is c types m p f ws k agrees =
+    does_replaced types m p f (replacing_of types c.args.with) c.args.leading c.in-Does.doing (doing_of types m p f c.in_ok-replaced_doing-in-Does.field-0) ws k c.in-Does.is (c.in_ok-replaced_doing-in-Does.ensures.is types m p f agrees)

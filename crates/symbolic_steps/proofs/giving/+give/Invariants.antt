@@ -1,4 +1,3 @@
-use Rattle.std.proofs.Common.{ℕ}
 use Rattle.symbolic_steps.specs.Depth.{depth}
 use Rattle.symbolic_steps.proofs.giving.+give.Given as goal
 
