@@ -1,13 +1,19 @@
 -- Runs of compiled programs that are runs of their source.
-use Rattle.std.specs.Prelude.{ℕ, List}
+use Rattle.std.specs.Prelude.{◌≡◌, ℕ, List}
 use Rattle.command_io.specs.Writes.{Written}
 use Rattle.exec_command.specs.Exec.{RunsImage, RunsObjects}
 use Rattle.source_runs.specs.Sources.{IsOfLinked}
 use Rattle.src_bind.specs.Tables.{Given}
 use Rattle.tx_answers.specs.declared.answer.Answer.{Answer}
+use Rattle.tx_answers.specs.declared.ends.Decision.{Decision}
 use Rattle.tx_code.specs.Images.{ImageView}
 use Rattle.tx_code.specs.Objects.{ObjectView}
 use Rattle.tx_words.specs.declared.command.RunOptions.{RunOptions}
+
+-- A decision stands as it was, and what was run is a run of the linked program's source.
+pub record IsHeld (g : Given) (input : List ℕ) (old new : Decision) : Type 0 where
+  pub same : new ≡ old
+  pub source : IsOfLinked g input new.answer
 
 -- an image is run, and what was run is a run of the linked program's source
 pub record RunsHeldImage (o : RunOptions) (g : Given) (image : ImageView) (input entries : List ℕ) (a : Answer) (writes : List Written) : Type 0 where

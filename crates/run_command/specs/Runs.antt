@@ -9,7 +9,6 @@ use Rattle.source_runs.specs.Sources.{IsOfLinked, IsOfSource}
 use Rattle.src_bind.specs.Tables.{Given}
 use Rattle.source_verdict.specs.Verdict.{Accepts, RefusesTexts}
 use Rattle.tx_answers.specs.declared.answer.Answer.{Answer}
-use Rattle.tx_answers.specs.declared.ends.Decision.{Decision}
 use Rattle.tree_fold.specs.Programs.{folded_program}
 use Rattle.tx_code.specs.Objects.{ObjectView}
 use Rattle.tx_safety.specs.Safe.{IsSafe}
@@ -32,11 +31,6 @@ pub record RunsUnits (o : RunOptions) (p : Program) (names : List (List ℕ)) (i
   pub objects : List ObjectView
   pub are_objects : AreUnitObjects (program_of p) names objects
   pub decides : RunsObjects o objects input entries a writes
-
--- A decision stands as it was, and what was run is a run of the linked program.
-pub record IsHeld (g : Given) (input : List ℕ) (old new : Decision) : Type 0 where
-  pub same : new ≡ old
-  pub source : IsOfLinked g input new.answer
 
 -- The units of a linked program are run, and what was run of them is a run of the program, in the order that is answered.
 pub record RunsLinked (o : RunOptions) (g : Given) (names : List (List ℕ)) (input entries : List ℕ) (a : Answer) (writes : List Written) : Type 0 where

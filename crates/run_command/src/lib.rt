@@ -9,6 +9,7 @@ mod selftesting;
 mod steps;
 
 pub use building::build;
+pub use held_runs::held_against_source;
 pub use running::run;
 pub use selftesting::selftest;
-pub use steps::{folded_if, held_against_source};
+pub use steps::folded_if;

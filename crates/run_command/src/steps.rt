@@ -9,12 +9,10 @@ ghost use Rattle.cpp_tree.specs.Units.{program_of};
 ghost use Rattle.cpp_tree.specs.WellFormed.{WellFormed};
 ghost use Rattle.tx_safety.specs.Answers.{checked_in};
 ghost use Rattle.tx_safety.specs.Safe.{IsSafe};
-ghost use Rattle.run_command.specs.Runs.{Compiled, CompilesAndRuns, DecidesTexts, IsHeld, RunsLinked};
+ghost use Rattle.run_command.specs.Runs.{Compiled, CompilesAndRuns, DecidesTexts, RunsLinked};
 
 use crate::laws::runs_of_compiled;
-use cpp_tree::Program;
 use held_runs::run_objects;
-use source_runs::is_of_source;
 use source_verdict::{Verdict, verdict_of};
 use src_bind::Choices;
 use src_link::choices;
@@ -36,23 +34,6 @@ pub fn folded_if(alloc: Global, fold: bool, safe: SafeProgram) -> Result<SafePro
     }
     readable();
     tree_fold::fold(alloc, safe)
-}
-
-/// What was decided, where what was run is a run of the program's source. No other run was ever seen; one would count as want of memory, so that
-/// nothing is written of it.
-pub fn held_against_source(
-    alloc: Global,
-    program: &Program,
-    choices: &Choices,
-    input: &[u8],
-    decision: Decision,
-) -> Result<Decision, AllocError>
-    ensures { IfOk result (IsHeld (record { program = program.now; choices = choices.now }) input.now decision) }
-{
-    if !is_of_source(alloc, program, choices, input, &decision.answer)? {
-        return Err(AllocError);
-    }
-    Ok(decision)
 }
 
 // The objects of a program are run, and what was run is a run of the source, linked by these choices.
