@@ -31,7 +31,7 @@ fn each_in_turn(seen: &Seen) -> u8
 }
 
 /// The image of the program with these nodes.
-pub(crate) fn image(alloc: Global, rows: &[Row]) -> Result<GoodImage, Fail> {
+fn image(alloc: Global, rows: &[Row]) -> Result<GoodImage, Fail> {
     let program = program(alloc, rows)?;
     let object = generate(alloc, &program, 0, &[false], b"a.cc", &[0])?;
     let image = link(alloc, &[object])?;
