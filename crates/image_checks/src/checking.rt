@@ -5,6 +5,7 @@ ghost use Rattle.tx_code.specs.Views.{image_view};
 ghost use Rattle.src_bind.specs.Bounds.{given};
 ghost use Rattle.src_bind.specs.Tables.{CanBind, typed};
 ghost use Rattle.linked_images.specs.LinkedImages.{IsLinked};
+ghost use Rattle.image_checks.specs.Shown.{IsShown};
 
 use cpp_tree::Program;
 use image_notes::all_have_notes;
@@ -27,7 +28,8 @@ pub fn is_code_of_source(
 ) -> Result<bool, Refusal>
     requires choices { choices.now ≡ (given bound.now).choices }
     requires can { CanBind (typed (given bound.now)) }
-    ensures { IfOk result (λ yes. yes ≡ true → IsLinked (given bound.now) (image_view image.now)) }
+    ensures linked { IfOk result (λ yes. yes ≡ true → IsLinked (given bound.now) (image_view image.now)) }
+    ensures shown { IfOk result (λ yes. yes ≡ true → IsShown (given bound.now) (image_view image.now)) }
 {
     if !tables_agree(alloc, image, bound, choices)? {
         return Ok(false);
@@ -42,7 +44,8 @@ pub fn is_code_of_program(
     program: &Program,
     choices: &Choices,
 ) -> Result<bool, Refusal>
-    ensures { IfOk result (λ yes. yes ≡ true → IsLinked (record { program = program.now; choices = choices.now }) (image_view image.now)) }
+    ensures linked { IfOk result (λ yes. yes ≡ true → IsLinked (record { program = program.now; choices = choices.now }) (image_view image.now)) }
+    ensures shown { IfOk result (λ yes. yes ≡ true → IsShown (record { program = program.now; choices = choices.now }) (image_view image.now)) }
 {
     if !can_bind(alloc, program)? {
         return Ok(false);
