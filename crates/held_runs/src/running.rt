@@ -5,6 +5,7 @@ ghost use Rattle.std.specs.List.{All, list_all};
 ghost use Rattle.command_io.specs.Writes.{written_of};
 ghost use Rattle.cpp_tree.specs.tx_events.declared.TheConstants.{THREAD_LIMIT};
 ghost use Rattle.exec_command.specs.Exec.{CanRun};
+ghost use Rattle.image_checks.specs.Shown.{IsShown};
 ghost use Rattle.linked_images.specs.LinkedImages.{IsLinked};
 ghost use Rattle.tx_code.specs.Objects.{object_view};
 ghost use Rattle.tx_code.specs.Views.{image_view};
@@ -42,7 +43,8 @@ fn instructions(image: &Image) -> usize {
 /// Whether the image is shown to be the code of the program that these choices link. A no shows nothing: so large images are answered, those of which the
 /// check says no, and those on which it gives up.
 pub fn is_shown(alloc: Global, image: &Image, program: &Program, choices: &Choices) -> bool
-    ensures { result ≡ true → IsLinked (record { program = program.now; choices = choices.now }) (image_view image.now) }
+    ensures linked { result ≡ true → IsLinked (record { program = program.now; choices = choices.now }) (image_view image.now) }
+    ensures shown { result ≡ true → IsShown (record { program = program.now; choices = choices.now }) (image_view image.now) }
 {
     if instructions(image) > MOST_CHECKED {
         return false;

@@ -12,6 +12,6 @@ returns c =
     (λ d h. record {
       runs = h;
       source = of_image c.args.options.now g (image_view c.args.image) c.args.input.items c.args.entries.now d.answer (map written_of d.writes.items)
-          (c.runs_of_linked_images.ensures.some g (image_view c.args.image) (c.is_shown.ensures c.is)) h;
+          (c.runs_of_linked_images.ensures.some g (image_view c.args.image) (c.is_shown.ensures.linked c.is)) h;
     })
     c.with_compiled_image.ensures
