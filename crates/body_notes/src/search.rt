@@ -21,6 +21,10 @@ const MOST_AT: usize = 64;
 /// How often a note is looked at: it has few ways on, and its rank rises a few times.
 const MOST_TRIES: u32 = 400;
 
+/// How often all notes of a body are looked at: so many times, and so many more for each instruction.
+const LOOKS: u32 = 10_000;
+const LOOKS_EACH: u32 = 16;
+
 // A note, with the silent steps that the source takes from here on.
 fn note_of<'a>(
     room: Room<'a>,
@@ -179,16 +183,29 @@ fn look<'a>(
     }
 }
 
-// Looks at a note until it fits: whether anything has changed, or none where it never fits.
+// How often the notes of a body may be looked at.
+fn looks(body: &Compiled<'_>) -> u32 {
+    match u32::try_from(body.body.code.len()) {
+        Ok(length) => length.saturating_mul(LOOKS_EACH).saturating_add(LOOKS),
+        Err(_) => LOOKS,
+    }
+}
+
+// Looks at a note until it fits: whether anything has changed, or none where it never fits, or no look is left.
 fn settle<'a>(
     room: Room<'a>,
     words: &mut Words<'a>,
     body: &Compiled<'a>,
     notes: &mut Notes<'a>,
     at: usize,
+    left: &mut u32,
 ) -> Result<Option<bool>, Refusal> {
     let mut changed = false;
     for _ in 0..MOST_TRIES {
+        if *left == 0 {
+            return Ok(None);
+        }
+        *left = left.saturating_sub(1);
         match look(room, words, body, notes, at)? {
             Looked::Fits => return Ok(Some(changed)),
             Looked::Changed => changed = true,
@@ -204,13 +221,14 @@ fn collect<'a>(
     words: &mut Words<'a>,
     body: &Compiled<'a>,
     notes: &mut Notes<'a>,
+    left: &mut u32,
 ) -> Result<bool, Refusal> {
     let most = notes.places.len().saturating_mul(MOST_AT);
     for at in 0..most {
         if notes.list.len() <= at {
             return Ok(true);
         }
-        if settle(room, words, body, notes, at)?.is_none() {
+        if settle(room, words, body, notes, at, left)?.is_none() {
             return Ok(false);
         }
     }
@@ -223,11 +241,12 @@ fn rank<'a>(
     words: &mut Words<'a>,
     body: &Compiled<'a>,
     notes: &mut Notes<'a>,
+    left: &mut u32,
 ) -> Result<bool, Refusal> {
     for _ in 0..=MOST {
         let mut changed = false;
         for at in (0..notes.list.len()).rev() {
-            match settle(room, words, body, notes, at)? {
+            match settle(room, words, body, notes, at, left)? {
                 Some(risen) => changed = changed || risen,
                 None => return Ok(false),
             }
@@ -246,10 +265,11 @@ pub(crate) fn search<'a>(
     body: &Compiled<'a>,
 ) -> Result<Option<Notes<'a>>, Refusal> {
     let mut notes = first_notes(room, words, body)?;
-    if !collect(room, words, body, &mut notes)? {
+    let mut left = looks(body);
+    if !collect(room, words, body, &mut notes, &mut left)? {
         return Ok(None);
     }
-    if !rank(room, words, body, &mut notes)? {
+    if !rank(room, words, body, &mut notes, &mut left)? {
         return Ok(None);
     }
     Ok(Some(notes))
