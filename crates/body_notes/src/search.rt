@@ -23,6 +23,7 @@ const MOST_TRIES: u32 = 400;
 
 /// How often all notes of a body are looked at: so many times, and so many more for each instruction.
 const LOOKS: u32 = 10_000;
+
 const LOOKS_EACH: u32 = 16;
 
 // A note, with the silent steps that the source takes from here on.

@@ -9,11 +9,7 @@ use tx_linker::link;
 use unit_objects::unit_objects;
 
 // What is answered of the image of one text and the program of another.
-fn answer(
-    alloc: Global,
-    compiled: Vec<u8>,
-    source: Vec<u8>,
-) -> Result<&'static str, AllocError> {
+fn answer(alloc: Global, compiled: Vec<u8>, source: Vec<u8>) -> Result<&'static str, AllocError> {
     let names = vec![in alloc; String::from_str(alloc, "a.cc")?]?;
     let texts = vec![in alloc; compiled]?;
     let sources = vec![in alloc; source]?;
