@@ -1,0 +1,4 @@
+pub mod Alike
+pub mod AloneLifting
+pub mod LoneRuns
+pub mod SameBounds
