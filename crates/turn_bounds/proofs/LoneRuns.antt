@@ -29,17 +29,20 @@ use Rattle.turn_bounds.specs.Alone.{zeros_in, picks_started}
 
 -- ---- lists of turns
 
-first_slot : Slot
+abbrev first_slot : Slot
 first_slot = record { thread = 0; answer = λ c. Wait }
 
 -- so many turns of thread 0
-slots_more : ℕ → List Slot
+abbrev slots_more : ℕ → List Slot
 slots_more zero = []
 slots_more (suc n) = first_slot ∷ slots_more n
 
 more_zeros : (n : ℕ) → n ≤ zeros (slots_more n)
 more_zeros zero = omega arith
-more_zeros (suc n) = let h = more_zeros n in omega (arith, h)
+more_zeros (suc n) = suc_le n (zeros (slots_more n)) (more_zeros n)
+  where
+    suc_le : (n m : ℕ) → n ≤ m → suc n ≤ suc m
+    suc_le n m h = omega (arith, h)
 
 zeros_behind : (xs : List Slot) (n : ℕ) → n ≤ zeros (xs ++ slots_more n)
 zeros_behind [] n = more_zeros n
