@@ -1,5 +1,5 @@
 -- The turns of a thread, told by the cost of another with the same events.
-use Rattle.std.proofs.Common.{ℕ, ◌≡◌, ◌≤◌, ◌+◌, ◌*◌, Bool, true, false, ap, sym, ◌∙◌, subst, length, List, [], Some, arith}
+use Rattle.std.proofs.Common.{ℕ, ◌≡◌, ◌≤◌, ◌+◌, ◌*◌, true, false, ◌∙◌, List, [], Some}
 use Rattle.choosers.specs.declared.Clash.{Clash}
 use Rattle.choosers.specs.declared.Choice.{Choice}
 use Rattle.choosers.specs.Picks.{PickerName, pick}
@@ -8,11 +8,11 @@ use Rattle.tx_events.specs.declared.End.{End}
 use Rattle.tx_events.specs.declared.End.TheVariants.{StepsOut}
 use Rattle.tx_events.specs.Thread.{Thread, Lawful}
 use Rattle.tx_events.specs.Memory.{MemoryLayout}
-use Rattle.tx_events.specs.World.{World, Replays, first_world, only_first}
+use Rattle.tx_events.specs.World.{World, first_world, only_first}
 use Rattle.tx_events.specs.Same.{SameEvents, StepsWithin, with_threads}
 use Rattle.tx_serial.specs.Machine.{Machine}
 use Rattle.tx_serial.specs.Turn.{Slot, turns, turn, first_machine}
-use Rattle.tx_serial.specs.Bound.{Tally, no_tally, tallied, AtMost, is_waiting, zeros}
+use Rattle.tx_serial.specs.Bound.{Tally, no_tally, is_waiting, zeros}
 use Rattle.tx_serial.specs.Run.{PickedBy, not_begun, Outcome, RunOf}
 use Rattle.turn_bounds.specs.Alone.{EndsAlone, enough, picks_started}
 use Rattle.turn_bounds.proofs.AloneLifting as lifting

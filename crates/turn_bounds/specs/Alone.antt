@@ -1,5 +1,5 @@
 -- Runs in which the first thread stays alone.
-use Rattle.std.specs.Prelude.{ℕ, ◌≡◌, ◌==◌, ◌≤◌, ◌+◌, ◌*◌, Bool, true, false, cond, suc, List, [], ◌∷◌, Option, Some}
+use Rattle.std.specs.Prelude.{ℕ, ◌≡◌, ◌==◌, ◌≤◌, ◌+◌, ◌*◌, Bool, true, false, cond, suc, List, [], ◌∷◌, Some}
 use Rattle.choosers.specs.Picks.{PickerName}
 use Rattle.choosers.specs.Picks.PickerName.{Round, Clashing, Listed}
 use Rattle.tx_events.specs.declared.End.{End}

@@ -7,10 +7,10 @@ ghost use Rattle.tx_events.specs.declared.TheConstants.{THREAD_LIMIT};
 ghost use Rattle.tx_events.specs.declared.End.{End};
 ghost use Rattle.tx_events.specs.Memory.{MemoryLayout};
 ghost use Rattle.tx_events.specs.Same.{SameEvents, StepsWithin};
-ghost use Rattle.tx_events.specs.World.{first_world};
+ghost use Rattle.tx_events.specs.World.{World, Replays, first_world};
 ghost use Rattle.tx_serial.specs.Bound.{is_waiting, zeros};
 ghost use Rattle.tx_serial.specs.Turn.{Slot, turns, turn, first_machine};
-ghost use Rattle.turn_bounds.specs.Alone.{EndsAlone, enough};
+ghost use Rattle.turn_bounds.specs.Alone.{SpawnsNothing, EndsAlone, enough};
 
 use tx_events::Actor;
 
@@ -35,4 +35,11 @@ pub fn turns_of_threads_with_the_same_events<A: Actor, B: Actor>()
         (p : MemoryLayout) → p.limit ≤ THREAD_LIMIT → (memory : ℕ → ℕ) (input : List ℕ) (n : ℕ) (out : List ℕ) (end : End) →
         EndsAlone A.thread p (first_world memory input main) n out end → (slots : List Slot) (answer : Clash → Choice) (t : ℕ) →
         is_waiting (turn B.thread p answer t (turns B.thread p slots (first_machine memory input code))).kind ≡ false }
+{}
+
+/// Where at least two threads may be started, a replay at whose end no thread but the first was started spawns nothing.
+pub fn replays_that_start_no_thread<A: Actor>()
+    ensures { (p : MemoryLayout) → 2 ≤ p.limit → (memory : ℕ → ℕ) (input : List ℕ) (main : A.State) (order : List ℕ) (v : World A.State) →
+        (h : Replays A.thread p (first_world memory input main) order v) → v.started ≡ 1 →
+        SpawnsNothing A.thread p (first_world memory input main) order v h }
 {}
