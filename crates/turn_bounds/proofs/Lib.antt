@@ -5,3 +5,4 @@ pub mod SameBounds
 pub mod Started
 pub mod ImageThreads
 pub mod CheckedBounds
+pub mod LinkedBounds

@@ -3,3 +3,4 @@
 
 pub mod images;
 pub mod laws;
+pub mod linked;
