@@ -1,0 +1,3 @@
+pub mod Alone
+pub mod Checked
+pub mod Linked
