@@ -311,18 +311,24 @@ module _ {S T : Type 0} (a : Thread S) (b : Thread T) (limit : ℕ → ℕ) (gro
         let x = Loaded (read_at addr size (w.memory (word_of addr))) in
         subst (λ z. Lifts (c + 1) w vs r (Load addr size vol) z) (sym d)
         (either_lifts (c + 1) (Fits (c + 1) (tally_in (Load addr size vol) r.1)) (can_access p addr size) (goes 0 w (a.after s x)) (ends w (Trapped BadAddress))
-        (goes 0 (with_threads w vs) ((tallied b).after r x)) (ends (with_threads w vs) (Trapped BadAddress))
-        (update vs 0 (alive ((tallied b).after r x)), refl, f,
-        λ i. goes_lone (c + 1) (a.after s x) ((tallied b).after r x) false (h x (read_fits addr size (w.memory (word_of addr)))))
+        (goes 0 (with_threads w vs) ((tallied b).after r x)) (ends (with_threads w vs) (Trapped BadAddress)) (
+          update vs 0 (alive ((tallied b).after r x)),
+          refl,
+          f,
+          λ i. goes_lone (c + 1) (a.after s x) ((tallied b).after r x) false (h x (read_fits addr size (w.memory (word_of addr)))),
+        )
         (vs, refl, f, λ i. no_end (Trapped BadAddress) i))
     lifts c s r (Store addr size value vol) v q f h d =
         let m = update w.memory (word_of addr) (merge addr size value (w.memory (word_of addr))) in
         subst (λ z. Lifts (c + 1) w vs r (Store addr size value vol) z) (sym d)
         (either_lifts (c + 1) (Fits (c + 1) (tally_in (Store addr size value vol) r.1)) (can_access p addr size)
         (record w { memory = m; threads = update w.threads 0 (alive (a.after s Nothing)) }) (ends w (Trapped BadAddress))
-        (record (with_threads w vs) { memory = m; threads = update vs 0 (alive ((tallied b).after r Nothing)) }) (ends (with_threads w vs) (Trapped BadAddress))
-        (update vs 0 (alive ((tallied b).after r Nothing)), refl, f,
-        λ i. goes_lone (c + 1) (a.after s Nothing) ((tallied b).after r Nothing) false (h Nothing refl))
+        (record (with_threads w vs) { memory = m; threads = update vs 0 (alive ((tallied b).after r Nothing)) }) (ends (with_threads w vs) (Trapped BadAddress)) (
+          update vs 0 (alive ((tallied b).after r Nothing)),
+          refl,
+          f,
+          λ i. goes_lone (c + 1) (a.after s Nothing) ((tallied b).after r Nothing) false (h Nothing refl),
+        )
         (vs, refl, f, λ i. no_end (Trapped BadAddress) i))
     lifts c s r (Out x) v q f h d = subst (λ z. Lifts (c + 1) w vs r (Out x) z) (sym d) (
       update vs 0 (alive ((tallied b).after r Nothing)),
@@ -390,7 +396,7 @@ module _ {S T : Type 0} (a : Thread S) (b : Thread T) (limit : ℕ → ℕ) (gro
         let e = a.next d.before in
         let n = meet a b limit grows x d.before y.0 e same refl (loud_does a p 0 w d.before e v d.does) in
         let k = subst (λ z. Lifts z w vs n.at e v) (step_sum c (silent_cost d.silents) (event_cost a p 0 w d.before e v d.does))
-            (lifts w vs l.others l.absent x d.before n.at e v q n.fits n.alike d.does) in
+        (lifts w vs l.others l.absent x d.before n.at e v q n.fits n.alike d.does) in
         let m = subst (λ z. Lifts (c + step_cost a p 0 w v d) w vs n.at z v) (sym n.is) k in
         record {
           threads = m.0;

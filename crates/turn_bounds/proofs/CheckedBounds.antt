@@ -43,13 +43,13 @@ module _ (p : Program) (i : ImageView) (b : Bounds) (book : Book) (is : IsChecke
   pub image_ends : (slots : List Slot) → enough_for b n ≤ zeros slots → EndsSo layout first slots out end
   image_ends slots many =
       let t = same.bound_ends (source p) IsReached running running_laws (main_state p) (at_main i) (at_main_stands i is.image is.sound) refl
-          (main_same p i b book is) (b.most + 1) b.most some_steps (main_within p i b book is) layout small memory input n out end run slots many in
+      (main_same p i b book is) (b.most + 1) b.most some_steps (main_within p i b book is) layout small memory input n out end run slots many in
       record { end_is = t.0; out_is = t.1 }
 
   pub image_only : (slots : List Slot) (other : End) → (turns running layout slots first).end ≡ Some other → EndsSo layout first slots out end
   image_only slots other e =
       let t = same.bound_only (source p) IsReached running running_laws (main_state p) (at_main i) (at_main_stands i is.image is.sound) refl
-          (main_same p i b book is) (b.most + 1) b.most some_steps (main_within p i b book is) layout small memory input n out end run slots other e in
+      (main_same p i b book is) (b.most + 1) b.most some_steps (main_within p i b book is) layout small memory input n out end run slots other e in
       record { end_is = e ∙ ap Some t.0; out_is = t.1 }
 
   pub image_quiet : (slots : List Slot) (answer : Clash → Choice) (t : ℕ) → is_waiting (turn running layout answer t (turns running layout slots first)).kind ≡ false

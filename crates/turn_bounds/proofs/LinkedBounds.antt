@@ -86,5 +86,5 @@ module _ (g : Given) (i : ImageView) (b : Bounds) (book : Book) (is : IsLinkedFr
       pub ran_quiet : (ran.waited ≡ 0) × (ran.rolled ≡ 0)
       ran_quiet =
           let t = checked.run_quiet (program_in g) i b book (is_checked image sound) (layout_of_image i) few_threads (first_words i) input n out end
-              (with_image run) (turns_within bound picker) named.slots named.outcome named.run in
+          (with_image run) (turns_within bound picker) named.slots named.outcome named.run in
           (ap (λ z. z.waited) named.is.counts ∙ t.0, ap (λ z. z.rolled) named.is.counts ∙ t.1)

@@ -155,7 +155,7 @@ module _ {S : Type 0} (R : S → Type 0) (a : Thread S) (laws : Lawful S R a) (p
   counts_after xs [] r i w l = (w, l)
   counts_after xs (q ∷ qs) r i w l =
       let one = quiet_count (turn a p q.answer q.thread r.machine).kind r.counts
-          (ap (λ z. is_waiting (turn a p q.answer q.thread z).kind) i ∙ never_waiting xs q.answer q.thread) w l in
+      (ap (λ z. is_waiting (turn a p q.answer q.thread z).kind) i ∙ never_waiting xs q.answer q.thread) w l in
       counts_after (xs ++ q ∷ []) qs (advance a p q r) (next_turns xs q r.machine i) one.0 one.1
 
   module _ (picker : PickerName) (started : picks_started picker ≡ true) where

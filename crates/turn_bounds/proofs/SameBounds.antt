@@ -39,13 +39,13 @@ module _ {S T : Type 0} (a : Thread S) (R : T → Type 0) (b : Thread T) (laws :
   pub bound_ends : (qs : List Slot) → enough many more n ≤ zeros qs → ((turns b p qs first).end ≡ Some end) × ((turns b p qs first).out ≡ out)
   bound_ends qs few =
       let t = lone.enough_turns R b laws p small memory input main' reached free (many * n + more) n run.order last end lifts.replays lifts.at_most run.end_is
-          qs few in
+      qs few in
       (t.0, t.1 ∙ run.out_is)
 
   pub bound_only : (qs : List Slot) (x : End) → (turns b p qs first).end ≡ Some x → (x ≡ end) × ((turns b p qs first).out ≡ out)
   bound_only qs x i =
       let t = lone.only_end R b laws p small memory input main' reached free (many * n + more) n run.order last end lifts.replays lifts.at_most run.end_is
-          qs x i in
+      qs x i in
       (t.0, t.1 ∙ run.out_is)
 
   pub bound_quiet : (qs : List Slot) (answer : Clash → Choice) (t : ℕ) → is_waiting (turn b p answer t (turns b p qs first)).kind ≡ false
@@ -55,20 +55,20 @@ module _ {S T : Type 0} (a : Thread S) (R : T → Type 0) (b : Thread T) (laws :
     pub run_not_out : (result.end ≡ StepsOut → ⊥) → Told result.out result.end
     run_not_out other =
         let t = lone.not_out R b laws p small memory input main' reached free (many * n + more) n run.order last end lifts.replays lifts.at_most run.end_is
-            bound qs result is other in
+        bound qs result is other in
         (t.0, t.1 ∙ run.out_is)
 
     pub run_in_time : enough many more n ≤ zeros qs → Told result.out result.end
     run_in_time few =
         let t = lone.in_time R b laws p small memory input main' reached free (many * n + more) n run.order last end lifts.replays lifts.at_most run.end_is
-            bound qs result is few in
+        bound qs result is few in
         (t.0, t.1 ∙ run.out_is)
 
     pub run_picked : (picker : PickerName) → picks_started picker ≡ true → PickedBy (λ s before. pick picker s.turn s before) b p qs (not_begun first)
         → enough many more n ≤ bound → Told result.out result.end
     run_picked picker started picked few =
         let t = lone.picked_in_time R b laws p small memory input main' reached free (many * n + more) n run.order last end lifts.replays lifts.at_most
-            run.end_is bound qs result is picker started picked few in
+        run.end_is bound qs result is picker started picked few in
         (t.0, t.1 ∙ run.out_is)
 
     pub run_quiet : (result.counts.waited ≡ 0) × (result.counts.rolled ≡ 0)
