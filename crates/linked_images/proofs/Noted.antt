@@ -8,7 +8,7 @@ use Rattle.src_bind.specs.Tables.{Given, CanBind, typed, linked_of}
 use Rattle.body_check.specs.Notes.{Note, Bounds}
 use Rattle.body_check.specs.Calls.{Checked}
 use Rattle.image_links.specs.Agreeing.{AllChecked, linked_book}
-use Rattle.linked_images.specs.LinkedImages.{Agree, AllNoted, IsLinked}
+use Rattle.linked_images.specs.LinkedImages.{Agree, AllNoted, IsLinked, IsLinkedBy}
 use Rattle.linked_images.proofs.Linked.{linked_where_checked}
 
 module _ (g : Given) (i : ImageView) (b : Bounds) (all : AllNoted g i b) where
@@ -37,5 +37,8 @@ module _ (g : Given) (i : ImageView) (b : Bounds) (all : AllNoted g i b) where
   unfolding notes_of typs_of
   all_checked n safe body is = checked_there n safe ((names_of i).body n safe) refl body is
 
+  pub linked_by_notes : Agree g i → CanBind (typed g) → IsLinkedBy g i b
+  linked_by_notes h can = record { book = linked_book i g notes_of typs_of; is = linked_where_checked g i h can b notes_of typs_of all_checked }
+
   pub linked_where_noted : Agree g i → CanBind (typed g) → IsLinked g i
-  linked_where_noted h can = record { bounds = b; book = linked_book i g notes_of typs_of; is = linked_where_checked g i h can b notes_of typs_of all_checked }
+  linked_where_noted h can = let l = linked_by_notes h can in record { bounds = b; book = l.book; is = l.is }

@@ -42,3 +42,8 @@ pub record IsLinked (g : Given) (i : ImageView) : Type 0 where
   pub bounds : Bounds
   pub book : Book
   pub is : IsLinkedFrom g i bounds book
+
+-- So it is with some book whose notes are within these bounds.
+pub record IsLinkedBy (g : Given) (i : ImageView) (b : Bounds) : Type 0 where
+  pub book : Book
+  pub is : IsLinkedFrom g i b book
