@@ -23,7 +23,7 @@ module _ (o : RunOptions) (g : Given) (i : ImageView) (input entries : List ℕ)
 module _ (g : Given) (input : List ℕ) (a : Answer) (writes : List Written) where
   -- nothing was run
   of_refused : {number : ℕ} {line : List ℕ} {status : Status} → Refuses number line status a writes → IsOfLinked g input a
-  of_refused r = subst (λ (ran : Option (Ran Here)). OfLinked g input ran) (sym (ap (λ (x : Answer). x.ran) r.answer)) unit
+  of_refused r = subst (λ (ran : Option (Ran Here)). OfLinked g input ran) (sym (ap (λ (x : Answer). x.ran) r.answer)) tt
 
   pub of_unlinked : (fault : LinkFault) → RefusesLink fault a writes → IsOfLinked g input a
   of_unlinked (link.Twice symbol) r = of_refused r

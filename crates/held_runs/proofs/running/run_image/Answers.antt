@@ -1,13 +1,14 @@
 use Rattle.std.proofs.Common.{map}
 use Rattle.std.proofs.lemmas.Result.{IfOk-weaker}
 use Rattle.command_io.specs.Writes.{written_of}
+use Rattle.src_bind.specs.Tables.{Given}
 use Rattle.tx_code.specs.Views.{image_view}
 use Rattle.held_runs.proofs.Held.{of_image}
 use Rattle.held_runs.proofs.running.run_image.Goals as goal
 
 pub returns : goal.returns
 returns c =
-    let g = record { program = c.args.program.now; choices = c.args.choices.now } in
+    let g : Given = record { program = c.args.program.now; choices = c.args.choices.now } in
     IfOk-weaker c.with_compiled_image.result _ _
     (λ d h. record {
       runs = h;
