@@ -32,3 +32,4 @@ module _ (g : Given) (input : List ℕ) (a : Answer) (writes : List Written) whe
   of_unlinked (link.UnsafeSymbol symbol) r = of_refused r
   of_unlinked link.NoMain r = of_refused r
   of_unlinked (link.Globals size) r = of_refused r
+  of_unlinked link.Memory r = elim r [ ]

@@ -1,4 +1,4 @@
-use Rattle.std.proofs.Common.{map}
+use Rattle.std.proofs.Common.{map, rules}
 use Rattle.std.proofs.lemmas.Result.{IfOk-weaker}
 use Rattle.command_io.specs.Writes.{written_of}
 use Rattle.src_bind.specs.Tables.{Given}
@@ -13,6 +13,6 @@ returns c =
     (λ d h. record {
       runs = h;
       source = of_image c.args.options.now g (image_view c.args.image) c.args.input.items c.args.entries.now d.answer (map written_of d.writes.items)
-          (c.runs_of_linked_images.ensures.some g (image_view c.args.image) (c.is_shown.ensures.linked c.is)) h;
+          (c.runs_of_linked_images.ensures.some g (image_view c.args.image) (c.is_shown.ensures.linked (search rules))) h;
     })
     c.with_compiled_image.ensures
