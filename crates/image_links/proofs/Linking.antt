@@ -19,7 +19,7 @@ use Rattle.symbolic_code.specs.Following.{AreNames}
 use Rattle.body_check.specs.Notes.{Note, Bounds}
 use Rattle.body_check.specs.Cases.{spelled}
 use Rattle.body_check.specs.Calls.{Book, Whole, Links}
-use Rattle.image_links.specs.Books.{all_places, same_number, first_place, spelling_place, no_func, no_body, classes_in, type_number, cancels_alike, func_of}
+use Rattle.image_links.specs.Books.{all_places, same_number, first_place, spelling_place, no_func, no_body, classes_in, type_number, cancels_alike, thrown_types, is_told_apart, func_of}
 use Rattle.image_links.specs.Books.{func_takes, func_gives, passes_as, pointed_pass, slotted_pass, function_of, class_of, is_signature, is_of_type, is_slot}
 use Rattle.image_links.specs.Books.{table_of, body_of, book_of}
 use Rattle.image_links.specs.Agreeing.{same_func, most_frame, AllChecked}
@@ -192,8 +192,11 @@ module _ (i : ImageView) (p : Program) (t : TypedProgram) (told : Told i p t) (n
   body_is : (n : ℕ) (safe : Bool) (body : BodyView) → (names_of i).body n safe ≡ Some body → body_of i p t n safe ≡ body
   body_is n safe body e = ap (λ (o : Option BodyView). unwrap_or o no_body) e
 
-  void_alike : cancels_alike i p t (typ void false false) ≡ true
-  void_alike = ap (λ b. flag_eq b false) (none_cancels (spelled p.classes void) i.types refl)
+  void_thrown : thrown_types i p t (typ void false false) ≡ true
+  void_thrown = ap (λ b. flag_eq b false && is_told_apart p.classes (typ void false false)) (none_cancels (spelled p.classes void) i.types refl)
+
+  alike_of : (ty : Typ) → thrown_types i p t ty ≡ true → cancels_alike i p t ty ≡ true
+  alike_of ty e = (and_parts (cancels_alike i p t ty) (is_told_apart p.classes ty) e).0
 
   pub links_are : (b : Bounds) → AllChecked i p b book → Links p (names_of i) b book
   links_are b checked = record {
@@ -205,8 +208,8 @@ module _ (i : ImageView) (p : Program) (t : TypedProgram) (told : Told i p t) (n
     rows = λ n safe body e. rows_itself body.rows ∙ ap (λ (z : BodyView). z.rows) (sym (body_is n safe body e));
     stops = λ n safe. stops_same n;
     stops_so = λ n safe. refl;
-    cancels = λ t e. flag_same _ _ e;
-    one_type = (typ void false false, void_alike);
+    cancels = λ ty e. flag_same _ _ (alike_of ty e);
+    one_type = (typ void false false, void_thrown);
     checked = λ n safe body e. checked n safe body e;
     names = λ n safe. names_are n safe;
     called = λ n safe name callee e. sym (function_is (func_of p n).unit name callee e).1;

@@ -1,11 +1,12 @@
 -- What the numbers in an image's bodies stand for in the linked program, and the book of both.
-use Rattle.std.specs.Prelude.{ℕ, suc, ◌==◌, Bool, true, false, cond, nat_lt, ◌&&◌, List, [], ◌∷◌, length, Option, Some, None, unwrap_or, slice_get}
+use Rattle.std.specs.Prelude.{ℕ, zero, suc, ◌==◌, Bool, true, false, cond, not, nat_lt, ◌&&◌, ◌||◌, List, [], ◌∷◌, length, Option, Some, None, unwrap_or, slice_get}
 use Rattle.std.specs.Option.{option_map_or}
 use Rattle.tx_code.specs.Objects.{BodyView}
 use Rattle.tx_code.specs.Images.{ImageFuncView, ImageView}
 use Rattle.tx_code.specs.Signatures.{gives_of}
 use Rattle.tx_code.specs.Program.{names_of, func_address, class_address, global_address}
-use Rattle.cpp_tree.specs.cpp_types.Typ.{Typ, Signature}
+use Rattle.cpp_tree.specs.cpp_types.Typ.{Typ, Form, void, class, Signature}
+use Rattle.cpp_tree.specs.cpp_types.Class.{Class}
 use Rattle.cpp_tree.specs.cpp_types.Equal.{name_eq, flag_eq}
 use Rattle.cpp_tree.specs.Trees.{literal}
 use Rattle.cpp_tree.specs.Units.{Definition, Unit as TypedUnit, TypedProgram}
@@ -41,6 +42,23 @@ same_number (Some m) (Some n) = m == n
 abbrev pub spelling_place : List ℕ → List (List ℕ) → ℕ
 spelling_place s [] = 0
 spelling_place s (t ∷ ts) = cond (name_eq s t) 0 (suc (spelling_place s ts))
+
+-- whether one of the first classes, so many, is spelled so
+abbrev pub spells_class : List Class → (count : ℕ) → List ℕ → Bool
+spells_class classes zero s = false
+spells_class classes (suc n) s = name_eq s (spelled classes (class n)) || spells_class classes n s
+
+-- whether a class is spelled so, and `void` is not
+abbrev pub names_class : List Class → List ℕ → Bool
+names_class classes s = not (name_eq s (spelled classes void)) && spells_class classes (length classes) s
+
+abbrev pub is_class : List Class → Form → Bool
+is_class classes (class n) = nat_lt n (length classes)
+is_class classes f = false
+
+-- a type that is no class is spelled as no class is
+abbrev pub is_told_apart : List Class → Typ → Bool
+is_told_apart classes ty = is_class classes (form_in ty) || not (names_class classes (spelled classes (form_in ty)))
 
 -- the first class that passes a test, among those that a unit defines
 abbrev pub first_class : (ℕ → Bool) → List Definition → Option ℕ
@@ -86,6 +104,10 @@ module _ (i : ImageView) (p : Program) (t : TypedProgram) where
   -- the types of which image and program say alike whether they cancel
   abbrev pub cancels_alike : Typ → Bool
   cancels_alike ty = flag_eq ((names_of i).cancels (type_number ty)) (cancels ty)
+
+  -- the types of exceptions that are thrown
+  abbrev pub thrown_types : Typ → Bool
+  thrown_types ty = cancels_alike ty && is_told_apart p.classes ty
 
   -- what was found, if anything, is a function of the image that takes so many words, and hands back a word or none
   abbrev pub passes_as : (count : ℕ) (gives : Bool) → Option ℕ → Bool
@@ -157,7 +179,7 @@ module _ (i : ImageView) (p : Program) (t : TypedProgram) where
     takes = λ n. func_takes p n;
     stops = λ n. (func_of p n).stops;
     numbers = type_number;
-    thrown = cancels_alike;
+    thrown = thrown_types;
     takes_as = pointed_pass;
     slot_takes = slotted_pass;
   }

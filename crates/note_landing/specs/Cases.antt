@@ -13,7 +13,7 @@ use Rattle.symbolic_code.specs.Places.{Place}
 use Rattle.symbolic_terms.specs.Meanings.{Meaning}
 use Rattle.symbolic_leaving.specs.Answers.{texts_of}
 use Rattle.body_check.specs.Cases.{Case, of_class, of_spelling, of_others, spelled, is_known, answers_in, find_in, class_cases, Each}
-use Rattle.image_links.specs.Books.{spelling_place}
+use Rattle.image_links.specs.Books.{spelling_place, names_class}
 use Rattle.note_landing.specs.declared.cases.Unknown.{Unknown}
 use Rattle.note_landing.specs.declared.notes.Notes.{Notes}
 use Rattle.note_landing.specs.declared.compiled.Compiled.{Compiled}
@@ -59,6 +59,12 @@ spellings_by b = texts_of b.spellings.now
 abbrev pub EachFirst : (count : ℕ) → (Case → Type 0) → List (List ℕ) → Type 0
 EachFirst count P ss = (n : ℕ) (s : List ℕ) → n < count → slice_get ss n ≡ Some s → P (of_spelling s)
 
+-- What is asked for of a case: nothing of the spelling of a class, since a type that is thrown is a class where it is spelled as one.
+abbrev pub Needed : List Class → (Case → Type 0) → Case → Type 0
+Needed classes P (of_class n) = P (of_class n)
+Needed classes P (of_spelling s) = names_class classes s ≡ false → P (of_spelling s)
+Needed classes P of_others = P of_others
+
 -- each case of a spelling
 abbrev pub EachSpelling : (Case → Type 0) → List (List ℕ) → Type 0
 EachSpelling P ss = (n : ℕ) (s : List ℕ) → slice_get ss n ≡ Some s → P (of_spelling s)
@@ -68,8 +74,11 @@ module _ (b : Compiled) (m : Meaning) (ns : Notes) (u : Unknown) (q : Place) (o 
   CaseBy c = FoundFitsBy b m ns (facts_by b m u.known) (answers_in (linked_by b).classes (spellings_by b) u.number c) u.rank
       (find_in (linked_by b).classes (spellings_by b) (text_at (image_by b)) c (rows_by b) u.index) q (unknown u.number) o
 
+  abbrev pub NeededBy : Case → Type 0
+  NeededBy c = Needed (linked_by b).classes CaseBy c
+
   pub record CasesBy : Type 0 where
     pub spelled_rows : SpelledBy (image_by b) (spellings_by b) (rows_by b)
     pub classes : Each CaseBy (class_cases (linked_by b).classes (spellings_by b) (length (linked_by b).classes))
-    pub spellings : EachSpelling CaseBy (spellings_by b)
+    pub spellings : EachSpelling NeededBy (spellings_by b)
     pub others : CaseBy of_others

@@ -28,7 +28,7 @@ use Rattle.body_check.specs.Notes as checked
 use Rattle.body_check.specs.Notes.{Lands, LandsOn, Reaches, Edges, Outward, RowFits, FoundFits}
 use Rattle.body_check.specs.Linked.{Held}
 use Rattle.body_check.specs.Calls.{Book}
-use Rattle.image_links.specs.Books.{type_number, cancels_alike, table_of, book_of}
+use Rattle.image_links.specs.Books.{type_number, thrown_types, table_of, book_of}
 use Rattle.note_landing.specs.declared.notes.Note.{Note}
 use Rattle.note_landing.specs.declared.notes.Notes.{Notes}
 use Rattle.note_landing.specs.declared.compiled.Compiled.{Compiled}
@@ -68,7 +68,7 @@ abbrev pub table_by : Compiled → Table
 table_by b = table_of (image_by b) (linked_by b) (typed (given_by b)) (func_by b).unit (typs_by b)
 
 abbrev pub thrown_by : Compiled → Typ → Bool
-thrown_by b = cancels_alike (image_by b) (linked_by b) (typed (given_by b))
+thrown_by b = thrown_types (image_by b) (linked_by b) (typed (given_by b))
 
 abbrev pub numbers_by : Compiled → Typ → ℕ
 numbers_by b = type_number (image_by b) (linked_by b) (typed (given_by b))

@@ -4,18 +4,19 @@ ghost use Rattle.std.specs.Prelude.{ℕ, ◌≡◌, ◌||◌, ◌&&◌, not, nat
 ghost use Rattle.tx_code.specs.Meaning.{covers};
 ghost use Rattle.tx_code.specs.Views.{image_view};
 ghost use Rattle.cpp_tree.specs.cpp_types.Class.{classes_of};
-ghost use Rattle.cpp_tree.specs.cpp_types.Typ.{Typ, class as of_class};
+ghost use Rattle.cpp_tree.specs.cpp_types.Typ.{Typ};
 ghost use Rattle.symbolic_terms.specs.Meanings.{Meaning, Agrees};
-ghost use Rattle.body_check.specs.Cases.{spelled, is_known as known_so, of_spelling, class_cases, Each};
+ghost use Rattle.body_check.specs.Cases.{is_known as known_so, of_spelling, class_cases, Each};
 ghost use Rattle.symbolic_leaving.specs.Answers.{case_of, texts_of};
-ghost use Rattle.note_landing.specs.Cases.{text_at as text_in, IsSpelledBy, SpelledBy, IsTextOf, is_that_text, row_in, spellings_by, EachFirst, CaseBy, CasesBy};
+ghost use Rattle.note_landing.specs.Cases.{text_at as text_in, IsSpelledBy, SpelledBy, IsTextOf, is_that_text, row_in, spellings_by, EachFirst, CaseBy, NeededBy, CasesBy};
 ghost use Rattle.note_landing.specs.Shown.{types_by, place_by, outcome_by, linked_by, image_by};
 
+use crate::class_names::{class_text, names_class};
 use crate::compiled::{Compiled, Room};
 use crate::flights::{Flight, found_fits};
 use crate::notes::Notes;
 use crate::unfit::Unfit;
-use cpp_tree::below::{ClassRec, Shape, Ty, is_name, spell};
+use cpp_tree::below::{ClassRec, is_name};
 use image_links::tables::spelling_place;
 use std::alloc::{AllocError, Global};
 use symbolic_steps::{Case, CaseAnswers};
@@ -71,18 +72,6 @@ fn are_spelled(image: &Image, known: &[Vec<u8>], rows: &[Row]) -> bool
         }
     }
     true
-}
-
-// The spelling of a class.
-fn class_text(alloc: Global, class: u32, classes: &[ClassRec]) -> Result<Vec<u8>, AllocError>
-    ensures { IfOk result (λ v. v.items ≡ spelled (classes_of classes.now) (of_class class)) }
-{
-    let plain = Ty {
-        shape: Shape::Class(class),
-        is_const: false,
-        is_volatile: false,
-    };
-    spell(alloc, &plain, classes)
 }
 
 // The spelling of the type of a case, where it has one.
@@ -203,7 +192,7 @@ fn classes_fit<'a>(
     Ok(())
 }
 
-// The case of a spelling.
+// The case of a spelling. No exception is in it where a class is spelled so.
 fn spelling_fits<'a>(
     room: Room<'a>,
     words: &mut Words<'a>,
@@ -214,9 +203,13 @@ fn spelling_fits<'a>(
     place: Place<'a>,
     outcome: Outcome<'a>,
 ) -> Result<(), Unfit>
-    ensures is { OnOk result ((m : Meaning) → Agrees (types_by body.now) m words.new → CaseBy body.now m notes.now unknown.entry (place_by body.now m place.entry) (outcome_by body.now m outcome.entry) (of_spelling text.now)) }
+    ensures is { OnOk result ((m : Meaning) → Agrees (types_by body.now) m words.new → NeededBy body.now m notes.now unknown.entry (place_by body.now m place.entry) (outcome_by body.now m outcome.entry) (of_spelling text.now)) }
     ensures grows { OnOk result ((types : ℕ → Typ) (m : Meaning) → Agrees types m words.new → Agrees types m words.old) }
 {
+    let classes = body.source.bound.program().classes.as_slice();
+    if names_class(room.alloc, classes, text)? {
+        return Ok(());
+    }
     let case = Case::Spelling(Vec::from_slice(room.alloc, text)?);
     case_fits(room, words, body, notes, unknown, &case, place, outcome)?;
     Ok(())
@@ -233,7 +226,7 @@ fn spellings_fit<'a>(
     place: Place<'a>,
     outcome: Outcome<'a>,
 ) -> Result<(), Unfit>
-    ensures is { OnOk result ((m : Meaning) → Agrees (types_by body.now) m words.new → EachFirst count (CaseBy body.now m notes.now unknown.entry (place_by body.now m place.entry) (outcome_by body.now m outcome.entry)) (spellings_by body.now)) }
+    ensures is { OnOk result ((m : Meaning) → Agrees (types_by body.now) m words.new → EachFirst count (NeededBy body.now m notes.now unknown.entry (place_by body.now m place.entry) (outcome_by body.now m outcome.entry)) (spellings_by body.now)) }
     ensures grows { OnOk result ((types : ℕ → Typ) (m : Meaning) → Agrees types m words.new → Agrees types m words.old) }
 {
     if count == 0 {

@@ -3,8 +3,8 @@
 //! Nothing is claimed of it: it is what the search begins with.
 
 use crate::ahead::{Pace, advance};
+use crate::class_names::plain_text;
 use crate::compiled::{Compiled, Room};
-use crate::spellings::plain_text;
 use crate::unfit::Missing;
 use cpp_tree::below::{Shape, Ty};
 use std::alloc::{AllocError, Global};

@@ -3,6 +3,7 @@
 
 pub mod ahead;
 pub mod cases;
+mod class_names;
 pub mod compiled;
 pub mod flights;
 mod forgotten;

@@ -2,18 +2,19 @@
 
 ghost use Rattle.std.specs.Prelude.{◌≡◌, true, IfOk};
 ghost use Rattle.cpp_tree.specs.cpp_types.Typ.{typ_of, shape_form};
-ghost use Rattle.cpp_tree.specs.cpp_types.Class.{classes_of};
 ghost use Rattle.cpp_tree.specs.cpp_types.Equal.{flag_eq};
 ghost use Rattle.src_mean.specs.Exceptions.{cancels_form};
 ghost use Rattle.symbolic_terms.specs.declared.terms.Exception.{Exception};
 ghost use Rattle.symbolic_terms.specs.Meanings.{Meaning, thrown_of, Agrees};
-ghost use Rattle.body_check.specs.Cases.{spelled};
+ghost use Rattle.src_bind.specs.Tables.{typed};
 ghost use Rattle.body_check.specs.Notes.{IsThrown};
-ghost use Rattle.note_landing.specs.Shown.{types_by, numbers_by, thrown_by, exception_by};
+ghost use Rattle.image_links.specs.Books.{cancels_alike};
+ghost use Rattle.note_landing.specs.Shown.{types_by, numbers_by, thrown_by, exception_by, image_by, linked_by, given_by};
 ghost use Rattle.std.specs.Prelude.{ℕ, Some, slice_get};
 
+use crate::class_names::{is_told_apart, plain_text};
 use crate::compiled::Compiled;
-use cpp_tree::below::{ClassRec, Shape, Ty, copy, spell};
+use cpp_tree::below::{Shape, Ty};
 use image_links::lookups::cancels;
 use image_links::tables::spelling_place;
 use std::alloc::{AllocError, Global};
@@ -21,19 +22,6 @@ use symbolic_terms::ids::ExceptionId;
 use symbolic_terms::refusal::Refusal;
 use symbolic_terms::terms::Exception;
 use symbolic_terms::words::{Words, exception as exception_at};
-
-/// A type's spelling without its own qualifiers.
-pub fn plain_text(alloc: Global, ty: &Ty, classes: &[ClassRec]) -> Result<Vec<u8>, AllocError>
-    ensures { IfOk result (λ v. v.items ≡ spelled (classes_of classes.now) (shape_form ty.now.shape)) }
-{
-    let copied = copy(alloc, ty)?;
-    let plain = Ty {
-        shape: copied.shape,
-        is_const: false,
-        is_volatile: false,
-    };
-    spell(alloc, &plain, classes)
-}
 
 /// The number of a type in the image.
 pub fn number_of<'a>(alloc: Global, body: &Compiled<'a>, ty: &Ty) -> Result<usize, AllocError>
@@ -65,10 +53,22 @@ fn is_same(left: bool, right: bool) -> bool
 
 // Whether image and program say alike whether a type supports cancellation.
 fn cancels_alike<'a>(alloc: Global, body: &Compiled<'a>, ty: &Ty) -> Result<bool, AllocError>
-    ensures { IfOk result (λ b. b ≡ thrown_by body.now (typ_of ty.now)) }
+    ensures { IfOk result (λ b. b ≡ cancels_alike (image_by body.now) (linked_by body.now) (typed (given_by body.now)) (typ_of ty.now)) }
 {
     let number = number_of(alloc, body, ty)?;
     Ok(is_same(cancels(body.image, number), is_cancelling(&ty.shape)))
+}
+
+// Whether exceptions of a type are thrown.
+fn is_thrown_type<'a>(alloc: Global, body: &Compiled<'a>, ty: &Ty) -> Result<bool, AllocError>
+    ensures { IfOk result (λ b. b ≡ thrown_by body.now (typ_of ty.now)) }
+{
+    if !cancels_alike(alloc, body, ty)? {
+        return Ok(false);
+    }
+    let classes = body.source.bound.program().classes.as_slice();
+    let apart = is_told_apart(alloc, classes, ty)?;
+    Ok(apart)
 }
 
 // Whether an exception is of a type that is thrown, where its type is known.
@@ -83,7 +83,7 @@ fn is_of_thrown<'a>(
         Exception::Unknown(_) => Ok(true),
         Exception::Made(typ, _) => match body.source.types.get(*typ as usize) {
             Some(ty) => {
-                let alike = cancels_alike(alloc, body, ty)?;
+                let alike = is_thrown_type(alloc, body, ty)?;
                 Ok(alike)
             }
             None => Ok(false),

@@ -1,7 +1,7 @@
 //! The commands with their options.
 
 /// What a transaction does where others block its access. What each name answers is defined where policies are kept.
-#[derive(Debug, Clone, Copy, PartialEq, Eq)]
+#[derive(Debug, Clone, Copy)]
 pub enum PolicyName {
     /// `older`: the older transaction waits, and the younger yields.
     Older,
@@ -12,7 +12,7 @@ pub enum PolicyName {
 }
 
 /// Which thread takes the next turn.
-#[derive(Debug, PartialEq, Drop)]
+#[derive(Debug, Drop)]
 pub enum PickerName {
     /// `round:K`: each started thread in turn, for K turns, which are 1 to 1,000,000.
     Round(u32),
@@ -24,7 +24,7 @@ pub enum PickerName {
 }
 
 /// The options of a run, which `run`, `exec` and `races` share.
-#[derive(Debug, PartialEq, Drop)]
+#[derive(Debug, Drop)]
 pub struct RunOptions {
     /// `--steps N`: the most turns that the run takes, 0 to 4,000,000, which is also the default.
     pub steps: u32,
@@ -41,7 +41,7 @@ pub struct RunOptions {
 }
 
 /// The command `run`: compile, link and run sources.
-#[derive(Debug, PartialEq, Drop)]
+#[derive(Debug, Drop)]
 pub struct Run {
     pub options: RunOptions,
     /// `--fold`: constants are folded before code is generated.
@@ -51,7 +51,7 @@ pub struct Run {
 }
 
 /// The command `check`: the sources up to their check for safety.
-#[derive(Debug, PartialEq, Drop)]
+#[derive(Debug, Drop)]
 pub struct Check {
     /// `--dump`: the typed program is written where the sources are accepted.
     pub dump: bool,
@@ -60,7 +60,7 @@ pub struct Check {
 }
 
 /// The command `build`: write the object of one source.
-#[derive(Debug, PartialEq, Drop)]
+#[derive(Debug, Drop)]
 pub struct Build {
     /// `--fold`: constants are folded before code is generated.
     pub fold: bool,
@@ -70,7 +70,7 @@ pub struct Build {
 }
 
 /// The command `exec`: link, verify and run objects.
-#[derive(Debug, PartialEq, Drop)]
+#[derive(Debug, Drop)]
 pub struct Exec {
     pub options: RunOptions,
     /// One object file or more.
@@ -78,7 +78,7 @@ pub struct Exec {
 }
 
 /// The command `replay`: interpret a written order on the sources.
-#[derive(Debug, PartialEq, Drop)]
+#[derive(Debug, Drop)]
 pub struct Replay {
     /// `--input FILE`: the file of the input; without it the input is empty.
     pub input_file: Option<String>,
@@ -91,7 +91,7 @@ pub struct Replay {
 }
 
 /// The command `asm`: write the object of an assembly text.
-#[derive(Debug, PartialEq, Drop)]
+#[derive(Debug, Drop)]
 pub struct Asm {
     /// `--to OBJ`: where the object is written.
     pub object_file: String,
@@ -100,7 +100,7 @@ pub struct Asm {
 }
 
 /// The command `races`: all that `run` does, and then the report of races.
-#[derive(Debug, PartialEq, Drop)]
+#[derive(Debug, Drop)]
 pub struct Races {
     pub run: Run,
     /// `--report FILE`: where the report is written.
@@ -108,7 +108,7 @@ pub struct Races {
 }
 
 /// A command.
-#[derive(Debug, PartialEq, Drop)]
+#[derive(Debug, Drop)]
 pub enum Command {
     Run(Run),
     Check(Check),
