@@ -1,9 +1,10 @@
--- What was run of a shown image, and of objects that can't be linked.
-use Rattle.std.proofs.Common.{ℕ, List, ◌≡◌, ap, Some, None, subst, sym, Option}
+-- What was run of objects.
+use Rattle.std.proofs.Common.{ℕ, List, ◌≡◌, ap, Some, None, subst, sym, ◌∙◌, Option}
 use Rattle.command_io.specs.Writes.{Written}
 use Rattle.exec_command.specs.Exec.{RunsImage, RefusesLink}
 use Rattle.link_faults.specs.declared.fault.LinkFault.{LinkFault}
 use Rattle.link_faults.specs.declared.fault.LinkFault.TheVariants as link
+use Rattle.linked_images.specs.LinkedImages.{IsLinked}
 use Rattle.linked_runs.specs.SourceRuns.{RunsAsSource}
 use Rattle.named_runs.specs.NamedRuns.{picker_of, policy_of}
 use Rattle.source_runs.specs.Sources.{IsOfLinked, OfLinked}
@@ -12,24 +13,41 @@ use Rattle.tx_answers.specs.Ends.{Refuses}
 use Rattle.tx_answers.specs.declared.answer.Answer.{Answer}
 use Rattle.tx_answers.specs.declared.answer.Status.{Status}
 use Rattle.tx_code.specs.Images.{ImageView}
+use Rattle.tx_code.specs.Linked.{ImageOf}
+use Rattle.tx_code.specs.Objects.{ObjectView}
 use Rattle.tx_machine.specs.declared.run.Ran.{Ran}
 use Rattle.tx_words.specs.declared.command.RunOptions.{RunOptions}
 use Rattle.vm_thread.specs.declared.thread.Here.{Here}
+use Rattle.held_runs.specs.HeldRuns.{IsOfObjects, of_nothing, of_image, LinkToCode}
 
-module _ (o : RunOptions) (g : Given) (i : ImageView) (input entries : List ℕ) (a : Answer) (writes : List Written) where
-  pub of_image : RunsAsSource g i → RunsImage o i input entries a writes → IsOfLinked g input a
-  of_image all runs = all.answer (picker_of o.picker entries) (policy_of o.policy) o.steps input runs.ran runs.is.run a (ap (λ (x : Answer). x.ran) runs.is.answer)
+-- what was run of an image that the objects link to
+pub of_run : (o : RunOptions) (objects : List ObjectView) (i : ImageView) (input entries : List ℕ) (a : Answer) (writes : List Written) → ImageOf objects i
+    → RunsImage o i input entries a writes → IsOfObjects objects input a
+of_run o objects i input entries a writes links runs =
+    of_image i links (picker_of o.picker entries) (policy_of o.policy) o.steps runs.ran runs.is.run (ap (λ (x : Answer). x.ran) runs.is.answer)
 
-module _ (g : Given) (input : List ℕ) (a : Answer) (writes : List Written) where
-  -- nothing was run
-  of_refused : {number : ℕ} {line : List ℕ} {status : Status} → Refuses number line status a writes → IsOfLinked g input a
-  of_refused r = subst (λ (ran : Option (Ran Here)). OfLinked g input ran) (sym (ap (λ (x : Answer). x.ran) r.answer)) tt
+-- what was run is a run of the source, where the objects link to its code
+pub of_code : (g : Given) (objects : List ObjectView) (input : List ℕ) (a : Answer)
+    → ((os : List ObjectView) (i j : ImageView) → ImageOf os i → ImageOf os j → i ≡ j) → ((g : Given) (i : ImageView) → IsLinked g i → RunsAsSource g i)
+    → LinkToCode g objects → IsOfObjects objects input a → IsOfLinked g input a
+of_code g objects input a one runs code (of_nothing e) = subst (λ (ran : Option (Ran Here)). OfLinked g input ran) (sym e) tt
+of_code g objects input a one runs code (of_image i links picker policy bound ran run e) =
+    let all : RunsAsSource g i = runs g i (subst (λ z. IsLinked g z) (one objects code.image i code.links links) code.code) in
+    all.answer picker policy bound input ran run a e
 
-  pub of_unlinked : (fault : LinkFault) → RefusesLink fault a writes → IsOfLinked g input a
-  of_unlinked (link.Twice symbol) r = of_refused r
-  of_unlinked (link.OdrDiffers symbol) r = of_refused r
-  of_unlinked (link.Undefined symbol) r = of_refused r
-  of_unlinked (link.UnsafeSymbol symbol) r = of_refused r
-  of_unlinked link.NoMain r = of_refused r
-  of_unlinked (link.Globals size) r = of_refused r
-  of_unlinked link.Memory r = elim r [ ]
+-- nothing was run where objects can't be linked
+module _ (a : Answer) (writes : List Written) where
+  none_ran : {number : ℕ} {line : List ℕ} {status : Status} → Refuses number line status a writes → a.ran ≡ None
+  none_ran r = ap (λ (x : Answer). x.ran) r.answer
+
+  pub nothing_ran : (fault : LinkFault) → RefusesLink fault a writes → a.ran ≡ None
+  nothing_ran (link.Twice symbol) r = none_ran r
+  nothing_ran (link.OdrDiffers symbol) r = none_ran r
+  nothing_ran (link.Undefined symbol) r = none_ran r
+  nothing_ran (link.UnsafeSymbol symbol) r = none_ran r
+  nothing_ran link.NoMain r = none_ran r
+  nothing_ran (link.Globals size) r = none_ran r
+  nothing_ran link.Memory r = elim r [ ]
+
+  pub of_unlinked : (g : Given) (input : List ℕ) (fault : LinkFault) → RefusesLink fault a writes → IsOfLinked g input a
+  of_unlinked g input fault r = subst (λ (ran : Option (Ran Here)). OfLinked g input ran) (sym (nothing_ran fault r)) tt

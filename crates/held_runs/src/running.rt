@@ -1,4 +1,4 @@
-//! The image of compiled objects is held against the source, and run.
+//! Compiled objects are linked and run, and the run is held against the source.
 
 ghost use Rattle.std.specs.Prelude.{◌≡◌, map, IfOk, true, nat_lt};
 ghost use Rattle.std.specs.List.{All, list_all};
@@ -7,32 +7,36 @@ ghost use Rattle.cpp_tree.specs.tx_events.declared.TheConstants.{THREAD_LIMIT};
 ghost use Rattle.exec_command.specs.Exec.{CanRun};
 ghost use Rattle.image_checks.specs.Shown.{IsShown};
 ghost use Rattle.linked_images.specs.LinkedImages.{IsLinked};
+ghost use Rattle.tx_code.specs.Linked.{ImageOf};
 ghost use Rattle.tx_code.specs.Objects.{object_view};
 ghost use Rattle.tx_code.specs.Views.{image_view};
 ghost use Rattle.tx_code.specs.WellFormed.{IsObject};
-ghost use Rattle.held_runs.specs.HeldRuns.{IsHeld, RunsHeld, RunsHeldImage};
+ghost use Rattle.held_runs.specs.HeldRuns.{IsOfObjects, LinkToCode, IsHeld, RunsHeld, RunsHeldImage};
 
 use cpp_tree::Program;
 use exec_command::refusals::bad_link;
 use exec_command::steps::with_compiled_image;
 use image_checks::is_code_of_program;
+use link_faults::laws::one_image;
 use linked_runs::laws::runs_of_linked_images;
 use source_runs::is_of_source;
 use src_bind::Choices;
 use std::alloc::{AllocError, Global};
-use tx_answers::Decision;
+use tx_answers::{Answer, Decision};
 use tx_code::{Image, Object};
 use tx_linker::link;
 use tx_words::RunOptions;
 
-/// Images of at most so many instructions are held against their source before they are run. The check takes time with the code, the replay with the run.
-pub const MOST_CHECKED: usize = 20_000;
+// About so many turns are replayed in the time in which an instruction is checked.
+const TURNS_EACH: usize = 500;
 
-// The number of instructions of all bodies.
-fn instructions(image: &Image) -> usize {
+// The number of instructions of all bodies of an object.
+fn instructions(object: &Object) -> usize {
     let mut count: usize = 0;
-    for func in &image.funcs {
-        count = count.saturating_add(func.plain.code.len());
+    for func in &object.funcs {
+        if let Some(body) = &func.plain {
+            count = count.saturating_add(body.code.len());
+        }
         if let Some(body) = &func.safe {
             count = count.saturating_add(body.code.len());
         }
@@ -40,24 +44,53 @@ fn instructions(image: &Image) -> usize {
     count
 }
 
-/// Whether the image is shown to be the code of the program that these choices link. A no shows nothing: so large images are answered, those of which the
-/// check says no, and those on which it gives up.
+// Whether a run took so many turns that the check of its code is likely to be done before its replay.
+fn is_long(answer: &Answer, objects: &[Object]) -> bool {
+    let Some(ran) = &answer.ran else {
+        return false;
+    };
+    let mut count: usize = 0;
+    for object in objects {
+        count = count.saturating_add(instructions(object));
+    }
+    count.saturating_mul(TURNS_EACH) <= ran.picked.len()
+}
+
+/// Whether the image is shown to be the code of the program that these choices link. A no shows nothing: so images are answered of which the check says no, and
+/// those on which it gives up.
 pub fn is_shown(alloc: Global, image: &Image, program: &Program, choices: &Choices) -> bool
     ensures linked { result ≡ true → IsLinked (record { program = program.now; choices = choices.now }) (image_view image.now) }
     ensures shown { result ≡ true → IsShown (record { program = program.now; choices = choices.now }) (image_view image.now) }
 {
-    if instructions(image) > MOST_CHECKED {
-        return false;
-    }
     match is_code_of_program(alloc, image, program, choices) {
         Ok(shown) => shown,
         Err(_) => false,
     }
 }
 
-/// What was decided, where what was run is a run of the program's source: its order is replayed there. No other run was ever seen; one would count as want of
-/// memory, so that nothing is written of it.
-pub fn held_against_source(
+// Whether the objects link to an image that is shown to be the code of the program. It is not asked where the replay is likely to be done before.
+fn is_checked(
+    alloc: Global,
+    answer: &Answer,
+    program: &Program,
+    choices: &Choices,
+    objects: &[Object],
+) -> bool
+    requires objects { All (λ o. IsObject (object_view o)) objects.now }
+    ensures { result ≡ true → LinkToCode (record { program = program.now; choices = choices.now }) (map object_view objects.now) }
+{
+    if !is_long(answer, objects) {
+        return false;
+    }
+    match link(alloc, objects) {
+        Ok(image) => is_shown(alloc, &image, program, choices),
+        Err(_) => false,
+    }
+}
+
+// What was decided, where the order of what was run replays on the source. No other run was ever seen; one would count as want of memory, so that nothing is
+// written of it.
+fn replayed(
     alloc: Global,
     program: &Program,
     choices: &Choices,
@@ -72,44 +105,48 @@ pub fn held_against_source(
     Ok(decision)
 }
 
-// The image is run, and the run is replayed on the source.
-fn run_replayed(
+/// What was decided on objects that a program was compiled to, where what was run is a run of the program's source, linked by these choices, in the order that is
+/// answered. The image is checked or the run is replayed, whichever is likely to be done first.
+pub fn held_against_source(
+    alloc: Global,
+    program: &Program,
+    choices: &Choices,
+    objects: &[Object],
+    input: &[u8],
+    decision: Decision,
+) -> Result<Decision, AllocError>
+    requires objects { All (λ o. IsObject (object_view o)) objects.now }
+    requires run { IsOfObjects (map object_view objects.now) input.now decision.answer }
+    ensures { IfOk result (IsHeld (record { program = program.now; choices = choices.now }) input.now decision) }
+{
+    if !is_checked(alloc, &decision.answer, program, choices, objects) {
+        return replayed(alloc, program, choices, input, decision);
+    }
+    one_image();
+    runs_of_linked_images();
+    Ok(decision)
+}
+
+// The image that the objects link to is run.
+fn run_image(
     alloc: Global,
     options: &RunOptions,
     program: &Program,
     choices: &Choices,
+    objects: &[Object],
     image: Image,
     input: Vec<u8>,
     entries: &[u8],
 ) -> Result<Decision, AllocError>
+    requires objects { All (λ o. IsObject (object_view o)) objects.now }
+    requires image { ImageOf (map object_view objects.now) (image_view image) }
     requires options { CanRun options.now }
     requires threads { list_all (λ t. nat_lt t THREAD_LIMIT) entries.now ≡ true }
     ensures { IfOk result (λ d. RunsHeldImage options.now (record { program = program.now; choices = choices.now }) (image_view image) input.items entries.now d.answer (map written_of d.writes.items)) }
 {
     let given = Vec::from_slice(alloc, input.as_slice())?;
     let decision = with_compiled_image(alloc, options, image, given, entries)?;
-    held_against_source(alloc, program, choices, input.as_slice(), decision)
-}
-
-// The image is run. No replay is needed where it is shown to be the code of the program.
-fn run_image(
-    alloc: Global,
-    options: &RunOptions,
-    program: &Program,
-    choices: &Choices,
-    image: Image,
-    input: Vec<u8>,
-    entries: &[u8],
-) -> Result<Decision, AllocError>
-    requires options { CanRun options.now }
-    requires threads { list_all (λ t. nat_lt t THREAD_LIMIT) entries.now ≡ true }
-    ensures { IfOk result (λ d. RunsHeldImage options.now (record { program = program.now; choices = choices.now }) (image_view image) input.items entries.now d.answer (map written_of d.writes.items)) }
-{
-    if !is_shown(alloc, &image, program, choices) {
-        return run_replayed(alloc, options, program, choices, image, input, entries);
-    }
-    runs_of_linked_images();
-    with_compiled_image(alloc, options, image, input, entries)
+    held_against_source(alloc, program, choices, objects, input.as_slice(), decision)
 }
 
 /// What is decided on objects that a program was compiled to: they are linked, the image is verified, and it is run. No refusal comes but that they can't be
@@ -129,7 +166,9 @@ pub fn run_objects(
     ensures { IfOk result (λ d. RunsHeld options.now (record { program = program.now; choices = choices.now }) (map object_view objects.now) input.items entries.now d.answer (map written_of d.writes.items)) }
 {
     match link(alloc, objects) {
-        Ok(image) => run_image(alloc, options, program, choices, image, input, entries),
+        Ok(image) => run_image(
+            alloc, options, program, choices, objects, image, input, entries,
+        ),
         Err(fault) => bad_link(alloc, &fault),
     }
 }

@@ -200,7 +200,7 @@ all_cases b m ns u q o low c = record {
         → TypeFits (linked_by b) (func_by b) bounds (notes_by b m ns) (thrown_by b) (numbers_by b) (rows_by b) (facts_by b m u.known) u.rank u.index q (unknown u.number) o t
     fits_so t told =
         let found = type_case classes known (CaseBy b m ns u q o) c.classes
-            (each_spelling classes known (NeededBy b m ns u q o) known c.spellings c.others) t (apart t told) in
+        (each_spelling classes known (NeededBy b m ns u q o) known c.spellings c.others) t (apart t told) in
         record {
           answers = answers_in classes known u.number found.0;
           right = λ k handler answer e. tested classes known u.number found.0 t k handler answer (k == u.number) refl found.1 e;

@@ -33,7 +33,11 @@ pub(crate) fn class_text(
 }
 
 /// A type's spelling without its own qualifiers.
-pub(crate) fn plain_text(alloc: Global, ty: &Ty, classes: &[ClassRec]) -> Result<Vec<u8>, AllocError>
+pub(crate) fn plain_text(
+    alloc: Global,
+    ty: &Ty,
+    classes: &[ClassRec],
+) -> Result<Vec<u8>, AllocError>
     ensures { IfOk result (λ v. v.items ≡ spelled (classes_of classes.now) (shape_form ty.now.shape)) }
 {
     let copied = copy(alloc, ty)?;

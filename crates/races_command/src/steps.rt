@@ -38,7 +38,14 @@ fn run_program(
     let objects = unit_objects(alloc, safe, names, texts)?;
     let given = Vec::from_slice(alloc, input.as_slice())?;
     let decision = with_objects(alloc, options, file, objects.as_slice(), given, entries)?;
-    held_against_source(alloc, safe.program(), choices, input.as_slice(), decision)
+    held_against_source(
+        alloc,
+        safe.program(),
+        choices,
+        objects.as_slice(),
+        input.as_slice(),
+        decision,
+    )
 }
 
 // A program that is accepted is compiled, with `fold` the program that it folds to, and run. A folded program is linked by the choices of the

@@ -14,7 +14,7 @@ pub returns-in-Err : goal.returns-in-Err
 returns-in-Err c = IfOk-weaker c.bad_link.result _ _
     (λ d h. record {
       decides = cannot_link c.in-Err.fault c.in-Err.ensures h;
-      source = of_unlinked (record { program = c.args.program.now; choices = c.args.choices.now }) c.args.input.items d.answer
-          (map written_of d.writes.items) c.in-Err.fault h;
+      source = of_unlinked d.answer (map written_of d.writes.items) (record { program = c.args.program.now; choices = c.args.choices.now })
+          c.args.input.items c.in-Err.fault h;
     })
     c.bad_link.ensures

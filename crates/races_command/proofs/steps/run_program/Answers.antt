@@ -7,7 +7,20 @@ use Rattle.run_command.specs.source_runs.Sources.{IsOfLinked}
 use Rattle.tx_answers.specs.declared.ends.Decision.{Decision}
 use Rattle.tx_code.specs.Objects.{ObjectView, object_view}
 use Rattle.tx_code.specs.declared.object.Object.{Object}
+use Rattle.races_command.proofs.Raced.{of_raced}
 use Rattle.races_command.proofs.steps.run_program.Goals as goal
+
+pub held_against_source-requires-clause-run : goal.held_against_source-requires-clause-run
+held_against_source-requires-clause-run c =
+    let bytes : c.in_ok-given.given.items ≡ c.as_slice-4.result.now = c.in_ok-given.ensures.items ∙ c.as_slice.ensures.value ∙ sym c.as_slice-4.ensures.value in
+    let views : map object_view c.as_slice-2.result.now ≡ map object_view c.as_slice-3.result.now =
+    ap (λ (os : List Object). map object_view os) (c.as_slice-2.ensures.value ∙ sym c.as_slice-3.ensures.value) in
+    of_raced c.args.options.now c.args.file.now (map object_view c.as_slice-3.result.now) c.as_slice-4.result.now c.args.entries.now
+    c.in_ok-decision.decision.answer (map written_of c.in_ok-decision.decision.writes.items)
+    (subst (λ (os : List ObjectView). DecidesObjects c.args.options.now c.args.file.now os c.as_slice-4.result.now c.args.entries.now
+    c.in_ok-decision.decision.answer (map written_of c.in_ok-decision.decision.writes.items)) views
+    (subst (λ (input : List ℕ). DecidesObjects c.args.options.now c.args.file.now (map object_view c.as_slice-2.result.now) input c.args.entries.now
+    c.in_ok-decision.decision.answer (map written_of c.in_ok-decision.decision.writes.items)) bytes c.in_ok-decision.ensures))
 
 pub returns : goal.returns
 returns c =
@@ -32,6 +45,6 @@ returns c =
             program = c.program.result.now;
             choices =
                 c.args.choices.now;
-          }) input d.answer) c.as_slice-3.ensures.value h.source);
+          }) input d.answer) c.as_slice-4.ensures.value h.source);
     })
     c.held_against_source.ensures

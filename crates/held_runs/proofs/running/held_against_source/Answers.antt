@@ -1,0 +1,14 @@
+use Rattle.std.proofs.Common.{map, rules, refl}
+use Rattle.src_bind.specs.Tables.{Given}
+use Rattle.tx_code.specs.Objects.{object_view}
+use Rattle.held_runs.proofs.Held.{of_code}
+use Rattle.held_runs.proofs.running.held_against_source.Goals as goal
+
+pub returns : goal.returns
+returns c =
+    let g : Given = record { program = c.args.program.now; choices = c.args.choices.now } in
+    record {
+      same = refl;
+      source = of_code g (map object_view c.args.objects.now) c.args.input.now c.args.decision.answer c.one_image.ensures c.runs_of_linked_images.ensures.some
+          (c.is_checked.ensures (search rules)) c.requires.run;
+    }
