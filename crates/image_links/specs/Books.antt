@@ -5,7 +5,7 @@ use Rattle.tx_code.specs.Objects.{BodyView}
 use Rattle.tx_code.specs.Images.{ImageFuncView, ImageView}
 use Rattle.tx_code.specs.Signatures.{gives_of}
 use Rattle.tx_code.specs.Program.{names_of, func_address, class_address, global_address}
-use Rattle.cpp_tree.specs.cpp_types.Typ.{Typ, Form, void, class, Signature}
+use Rattle.cpp_tree.specs.cpp_types.Typ.{Typ, Form, void, class as class_form, Signature}
 use Rattle.cpp_tree.specs.cpp_types.Class.{Class}
 use Rattle.cpp_tree.specs.cpp_types.Equal.{name_eq, flag_eq}
 use Rattle.cpp_tree.specs.Trees.{literal}
@@ -46,14 +46,14 @@ spelling_place s (t ∷ ts) = cond (name_eq s t) 0 (suc (spelling_place s ts))
 -- whether one of the first classes, so many, is spelled so
 abbrev pub spells_class : List Class → (count : ℕ) → List ℕ → Bool
 spells_class classes zero s = false
-spells_class classes (suc n) s = name_eq s (spelled classes (class n)) || spells_class classes n s
+spells_class classes (suc n) s = name_eq s (spelled classes (class_form n)) || spells_class classes n s
 
 -- whether a class is spelled so, and `void` is not
 abbrev pub names_class : List Class → List ℕ → Bool
 names_class classes s = not (name_eq s (spelled classes void)) && spells_class classes (length classes) s
 
 abbrev pub is_class : List Class → Form → Bool
-is_class classes (class n) = nat_lt n (length classes)
+is_class classes (class_form n) = nat_lt n (length classes)
 is_class classes f = false
 
 -- a type that is no class is spelled as no class is
