@@ -207,7 +207,8 @@ fn spelling_fits<'a>(
     ensures grows { OnOk result ((types : ℕ → Typ) (m : Meaning) → Agrees types m words.new → Agrees types m words.old) }
 {
     let classes = body.source.bound.program().classes.as_slice();
-    if names_class(room.alloc, classes, text)? {
+    let named = names_class(room.alloc, classes, text)?;
+    if named {
         return Ok(());
     }
     let case = Case::Spelling(Vec::from_slice(room.alloc, text)?);

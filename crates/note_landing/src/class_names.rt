@@ -1,6 +1,6 @@
 //! What classes are spelled as. A type that is thrown is a class, or is spelled as none is: so a row by a class's spelling takes that class alone.
 
-ghost use Rattle.std.specs.Prelude.{◌≡◌, IfOk};
+ghost use Rattle.std.specs.Prelude.{◌≡◌, ◌||◌, ◌&&◌, IfOk};
 ghost use Rattle.cpp_tree.specs.cpp_types.Class.{classes_of};
 ghost use Rattle.cpp_tree.specs.cpp_types.Typ.{class as of_class, typ_of, shape_form};
 ghost use Rattle.body_check.specs.Cases.{spelled};
@@ -44,6 +44,20 @@ pub(crate) fn plain_text(
     shape_text(alloc, copied.shape, classes)
 }
 
+// Whether one of them is true.
+fn either(left: bool, right: bool) -> bool
+    ensures { result ≡ (left || right) }
+{
+    left || right
+}
+
+/// Whether both are true.
+pub(crate) fn both(left: bool, right: bool) -> bool
+    ensures { result ≡ (left && right) }
+{
+    left && right
+}
+
 // Whether one of the first classes, so many, is spelled so.
 fn spells_class(
     alloc: Global,
@@ -58,11 +72,8 @@ fn spells_class(
     }
     let class = count - 1;
     let own = class_text(alloc, class, classes)?;
-    if is_name(text, &own) {
-        return Ok(true);
-    }
     let found = spells_class(alloc, classes, class, text)?;
-    Ok(found)
+    Ok(either(is_name(text, &own), found))
 }
 
 /// Whether a class is spelled so, and `void` is not.
@@ -73,15 +84,12 @@ pub(crate) fn names_class(
 ) -> Result<bool, AllocError>
     ensures { IfOk result (λ b. b ≡ names_class (classes_of classes.now) text.now) }
 {
-    let nothing = shape_text(alloc, Shape::Void, classes)?;
-    if is_name(text, &nothing) {
-        return Ok(false);
-    }
     let Ok(count) = u32::try_from(classes.len()) else {
         return Err(AllocError);
     };
+    let nothing = shape_text(alloc, Shape::Void, classes)?;
     let found = spells_class(alloc, classes, count, text)?;
-    Ok(found)
+    Ok(both(!is_name(text, &nothing), found))
 }
 
 // Whether a shape is that of a class.
@@ -104,10 +112,7 @@ pub(crate) fn is_told_apart(
 ) -> Result<bool, AllocError>
     ensures { IfOk result (λ b. b ≡ is_told_apart (classes_of classes.now) (typ_of ty.now)) }
 {
-    if is_class(&ty.shape, classes) {
-        return Ok(true);
-    }
     let text = plain_text(alloc, ty, classes)?;
     let named = names_class(alloc, classes, &text)?;
-    Ok(!named)
+    Ok(either(is_class(&ty.shape, classes), !named))
 }

@@ -12,7 +12,7 @@ ghost use Rattle.image_links.specs.Books.{cancels_alike};
 ghost use Rattle.note_landing.specs.Shown.{types_by, numbers_by, thrown_by, exception_by, image_by, linked_by, given_by};
 ghost use Rattle.std.specs.Prelude.{ℕ, Some, slice_get};
 
-use crate::class_names::{is_told_apart, plain_text};
+use crate::class_names::{both, is_told_apart, plain_text};
 use crate::compiled::Compiled;
 use cpp_tree::below::{Shape, Ty};
 use image_links::lookups::cancels;
@@ -63,12 +63,10 @@ fn cancels_alike<'a>(alloc: Global, body: &Compiled<'a>, ty: &Ty) -> Result<bool
 fn is_thrown_type<'a>(alloc: Global, body: &Compiled<'a>, ty: &Ty) -> Result<bool, AllocError>
     ensures { IfOk result (λ b. b ≡ thrown_by body.now (typ_of ty.now)) }
 {
-    if !cancels_alike(alloc, body, ty)? {
-        return Ok(false);
-    }
+    let alike = cancels_alike(alloc, body, ty)?;
     let classes = body.source.bound.program().classes.as_slice();
     let apart = is_told_apart(alloc, classes, ty)?;
-    Ok(apart)
+    Ok(both(alike, apart))
 }
 
 // Whether an exception is of a type that is thrown, where its type is known.
