@@ -107,7 +107,7 @@ module _ (classes : List Class) (known : List (List ℕ)) where
 -- ---- a type that is thrown is in a case that is asked for
 
 module _ (classes : List Class) (known : List (List ℕ)) (P : Case → Type 0) where
-  Found : Typ → Type 0
+  abbrev pub Found : Typ → Type 0
   Found t = (c : Case) × Falls classes known c t × P c
 
   class_at : (n most : ℕ) → n < most → Each P (class_cases classes known most) → P (of_class n)
