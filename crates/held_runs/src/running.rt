@@ -8,21 +8,25 @@ ghost use Rattle.exec_command.specs.Exec.{CanRun};
 ghost use Rattle.image_checks.specs.Shown.{IsShown};
 ghost use Rattle.linked_images.specs.LinkedImages.{IsLinked};
 ghost use Rattle.tx_code.specs.Linked.{ImageOf};
+ghost use Rattle.tx_code.specs.Images.{IsImage};
 ghost use Rattle.tx_code.specs.Objects.{object_view};
+ghost use Rattle.tx_code.specs.Sound.{Sound};
 ghost use Rattle.tx_code.specs.Views.{image_view};
 ghost use Rattle.tx_code.specs.WellFormed.{IsObject};
 ghost use Rattle.held_runs.specs.HeldRuns.{IsOfObjects, LinkToCode, IsHeld, RunsHeld, RunsHeldImage};
 
+use bounded_runs::is_run_of;
+use bounded_runs::laws::runs_of_linked_images;
+use code_verify::verify;
 use cpp_tree::Program;
 use exec_command::refusals::bad_link;
 use exec_command::steps::with_compiled_image;
 use image_checks::is_code_of_program;
 use link_faults::laws::one_image;
-use linked_runs::laws::runs_of_linked_images;
-use source_runs::is_of_source;
 use src_bind::Choices;
 use std::alloc::{AllocError, Global};
 use tx_answers::{Answer, Decision};
+use tx_code::laws::an_image_is_whole;
 use tx_code::{Image, Object};
 use tx_linker::link;
 use tx_words::RunOptions;
@@ -68,7 +72,20 @@ pub fn is_shown(alloc: Global, image: &Image, program: &Program, choices: &Choic
     }
 }
 
-// Whether the objects link to an image that is shown to be the code of the program. It is not asked where the replay is likely to be done before.
+// Whether an image is sound, and shown to be the code of the program.
+fn is_sound_code(alloc: Global, image: Image, program: &Program, choices: &Choices) -> bool
+    ensures whole { IsImage (image_view image) }
+    ensures sound { result ≡ true → Sound (image_view image) }
+    ensures shown { result ≡ true → IsShown (record { program = program.now; choices = choices.now }) (image_view image) }
+{
+    an_image_is_whole(&image);
+    match verify(alloc, image) {
+        Ok(good) => is_shown(alloc, good.image(), program, choices),
+        Err(_) => false,
+    }
+}
+
+// Whether the objects link to a sound image that is shown to be the code of the program. It is not asked where the replay is likely to be done before.
 fn is_checked(
     alloc: Global,
     answer: &Answer,
@@ -83,13 +100,13 @@ fn is_checked(
         return false;
     }
     match link(alloc, objects) {
-        Ok(image) => is_shown(alloc, &image, program, choices),
+        Ok(image) => is_sound_code(alloc, image, program, choices),
         Err(_) => false,
     }
 }
 
-// What was decided, where the order of what was run replays on the source. No other run was ever seen; one would count as want of memory, so that nothing is
-// written of it.
+// What was decided, where the order of what was run replays on the source, within the turn bound. No other run was ever seen; one would count as want of memory,
+// so that nothing is written of it.
 fn replayed(
     alloc: Global,
     program: &Program,
@@ -99,14 +116,16 @@ fn replayed(
 ) -> Result<Decision, AllocError>
     ensures { IfOk result (IsHeld (record { program = program.now; choices = choices.now }) input.now decision) }
 {
-    if !is_of_source(alloc, program, choices, input, &decision.answer)? {
-        return Err(AllocError);
+    if let Some(ran) = &decision.answer.ran {
+        if !is_run_of(alloc, program, choices, input, ran)? {
+            return Err(AllocError);
+        }
     }
     Ok(decision)
 }
 
 /// What was decided on objects that a program was compiled to, where what was run is a run of the program's source, linked by these choices, in the order that is
-/// answered. The image is checked or the run is replayed, whichever is likely to be done first.
+/// answered, and keeps its turn bound. The image is checked or the run is replayed, whichever is likely to be done first.
 pub fn held_against_source(
     alloc: Global,
     program: &Program,

@@ -9,13 +9,12 @@ use Rattle.choosers.specs.Picks as pickers
 use Rattle.linked_images.specs.LinkedImages.{IsLinkedFrom}
 use Rattle.linked_runs.specs.SourceRuns.{RunsAsSource}
 use Rattle.named_runs.specs.NamedRuns.{IsNamedRun}
-use Rattle.source_runs.specs.Sources.{RunsTo, IsOfLinked, OfLinked, end_in}
+use Rattle.source_runs.specs.Sources.{RunsTo, end_in}
 use Rattle.src_bind.specs.Tables.{Given, typed}
 use Rattle.src_mean.specs.Frames.{State as SourceState}
 use Rattle.src_mean.specs.Links.{first_cells}
 use Rattle.src_mean.specs.Source.{source, main_state}
 use Rattle.src_replay.specs.Orders.{program_in, layout_in}
-use Rattle.tx_answers.specs.declared.answer.Answer.{Answer}
 use Rattle.tx_code.specs.Images.{ImageView}
 use Rattle.tx_events.specs.declared.End.{End}
 use Rattle.tx_events.specs.declared.TheConstants.{THREAD_LIMIT}
@@ -65,12 +64,8 @@ module _ (g : Given) (i : ImageView) (b : Bounds) (book : Book) (is : IsLinkedFr
         (subst (λ z. RunsTo g input ran.order.items z run.outcome.end) (sym run.is.out)
         (subst (λ z. RunsTo g input z run.outcome.out run.outcome.end) (sym run.is.order) (runs_to input run.outcome run.replayed)))
 
-    pub answer_of : (a : Answer) → a.ran ≡ Some ran → IsOfLinked g input a
-    answer_of a e = subst (λ z. OfLinked g input z) (sym e) named_runs_to
-
   pub runs_as_source : RunsAsSource g i
   runs_as_source = record {
     replayed = λ input outcome r. runs_to input outcome r;
     named = λ picker policy bound input ran run. named_runs_to picker policy bound input ran run;
-    answer = λ picker policy bound input ran run a e. answer_of picker policy bound input ran run a e;
   }

@@ -8,7 +8,7 @@ use Rattle.object_races.specs.ObjectRaces.{DecidesObjects}
 use Rattle.run_command.specs.Commands.{source_files, wants_of, AreTexts, TooMany, no_files}
 use Rattle.run_command.specs.Runs.{Compiled}
 use Rattle.run_command.specs.schedules.Text.{Spells as Says, IsFirstBad, most_entries}
-use Rattle.run_command.specs.source_runs.Sources.{IsOfLinked, IsOfSource}
+use Rattle.run_command.specs.bounded_runs.BoundedRuns.{IsOfLinked, IsOfSource}
 use Rattle.run_command.specs.src_bind.Tables.{Given}
 use Rattle.run_command.specs.source_verdict.Verdict.{Accepts, RefusesTexts}
 use Rattle.run_command.specs.tx_answers.Ends.{Ends, Refuses}
@@ -28,7 +28,8 @@ pub record RacesUnits (o : RunOptions) (file : List ℕ) (p : Program) (names : 
   pub are_objects : AreUnitObjects (program_of p) names objects
   pub decides : DecidesObjects o file objects input entries a writes
 
--- The units of a linked program are run, and its races are reported; what was run is a run of the program, in the order that is answered.
+-- The units of a linked program are run, and its races are reported; what was run is a run of the program, in the order that is answered, within its
+-- turn bound.
 pub record RacesLinked (o : RunOptions) (file : List ℕ) (g : Given) (names : List (List ℕ)) (input entries : List ℕ) (a : Answer)
     (writes : List Written) : Type 0 where
   pub units : RacesUnits o file g.program names input entries a writes

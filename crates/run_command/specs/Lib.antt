@@ -1,9 +1,9 @@
+pub use Rattle.bounded_runs.specs as bounded_runs
 pub use Rattle.command_io.specs as command_io
 pub use Rattle.cpp_tree.specs as cpp_tree
 pub use Rattle.exec_command.specs as exec_command
 pub use Rattle.held_runs.specs as held_runs
 pub use Rattle.schedules.specs as schedules
-pub use Rattle.source_runs.specs as source_runs
 pub use Rattle.source_verdict.specs as source_verdict
 pub use Rattle.src_bind.specs as src_bind
 pub use Rattle.tx_answers.specs as tx_answers

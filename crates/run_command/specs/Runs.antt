@@ -1,11 +1,11 @@
 -- What becomes of texts that are to be run.
 use Rattle.std.specs.Prelude.{◌≡◌, ℕ, Bool, true, false, List}
+use Rattle.bounded_runs.specs.BoundedRuns.{IsOfLinked, IsOfSource}
 use Rattle.command_io.specs.Writes.{Written}
 use Rattle.cpp_tree.specs.declared.program.Program.{Program}
 use Rattle.cpp_tree.specs.Units.{program_of}
 use Rattle.cpp_tree.specs.WellFormed.{WellFormed}
 use Rattle.exec_command.specs.Exec.{RunsObjects}
-use Rattle.source_runs.specs.Sources.{IsOfLinked, IsOfSource}
 use Rattle.src_bind.specs.Tables.{Given}
 use Rattle.source_verdict.specs.Verdict.{Accepts, RefusesTexts}
 use Rattle.tx_answers.specs.declared.answer.Answer.{Answer}
@@ -32,12 +32,13 @@ pub record RunsUnits (o : RunOptions) (p : Program) (names : List (List ℕ)) (i
   pub are_objects : AreUnitObjects (program_of p) names objects
   pub decides : RunsObjects o objects input entries a writes
 
--- The units of a linked program are run, and what was run of them is a run of the program, in the order that is answered.
+-- The units of a linked program are run, and what was run of them is a run of the program, in the order that is answered, within its turn bound.
 pub record RunsLinked (o : RunOptions) (g : Given) (names : List (List ℕ)) (input entries : List ℕ) (a : Answer) (writes : List Written) : Type 0 where
   pub units : RunsUnits o g.program names input entries a writes
   pub source : IsOfLinked g input a
 
--- A safe program is compiled, with `--fold` the program that it folds to, and run; what was run is a run of the program itself, in the order that is answered.
+-- A safe program is compiled, with `--fold` the program that it folds to, and run; what was run is a run of the program itself, in the order that is answered, within
+-- its turn bound.
 pub record CompilesAndRuns (o : RunOptions) (fold : Bool) (p : Program) (names : List (List ℕ)) (input entries : List ℕ) (a : Answer)
     (writes : List Written) : Type 0 where
   pub program : Program

@@ -4,10 +4,10 @@ ghost use Rattle.std.specs.Prelude.{ℕ, Bool, List};
 ghost use Rattle.cpp_tree.specs.Units.{program_of};
 ghost use Rattle.cpp_tree.specs.WellFormed.{WellFormed};
 ghost use Rattle.cpp_tree.specs.declared.program.Program.{Program};
+ghost use Rattle.bounded_runs.specs.BoundedRuns.{IsOfLinked, IsOfSource};
 ghost use Rattle.command_io.specs.Writes.{Written};
 ghost use Rattle.run_command.specs.Completes.{Completed};
 ghost use Rattle.run_command.specs.Runs.{DecidesTexts, IsCompiled};
-ghost use Rattle.source_runs.specs.Sources.{IsOfLinked, IsOfSource};
 ghost use Rattle.source_verdict.specs.Nested.{HasNested};
 ghost use Rattle.source_verdict.specs.Verdict.{Accepts};
 ghost use Rattle.src_bind.specs.declared.choices.Choices.{Choices};
@@ -18,7 +18,8 @@ ghost use Rattle.tx_words.specs.declared.command.RunOptions.{RunOptions};
 use fold_events::laws::{same_bound, same_memory};
 use source_verdict::laws::{one_program, one_verdict};
 
-/// What was run of a compiled program is a run of the program that it was compiled from: folding keeps each run.
+/// What was run of a compiled program is a run of the program that it was compiled from, within its turn bound: folding keeps each
+/// run, and no replay of the folded program costs more.
 pub fn runs_of_compiled()
     ensures { (fold : Bool) (p q : Program) (c : Choices) (input : List ℕ) (a : Answer) → WellFormed p → IsCompiled fold p q → AreChoices (program_of p) c → IsOfLinked (record { program = q; choices = c }) input a → IsOfSource p input a }
 {

@@ -1,8 +1,8 @@
 //! Whether a run is one of its source: its order, replayed with the threads of the source, has its output and its end.
 #![tactic(auto)]
 
-ghost use Rattle.std.specs.Prelude.{◌≡◌, IfOk, true, false};
-ghost use Rattle.source_runs.specs.Sources.{RunsWithin, IsOfLinked, IsOfLinkedWithin, end_in};
+ghost use Rattle.std.specs.Prelude.{◌≡◌, IfOk, IfNone, IfSome, true, false};
+ghost use Rattle.source_runs.specs.Sources.{RunsWithin, RunsWith, end_in};
 ghost use Rattle.src_bind.specs.Bounds.{given};
 ghost use Rattle.src_bind.specs.Tables.{CanBind, typed};
 
@@ -11,7 +11,6 @@ use src_bind::{Bound, Choices, bind};
 use src_link::can_bind;
 use src_replay::{ReplayFault, Replayed, replay};
 use std::alloc::{AllocError, Global};
-use tx_answers::Answer;
 use tx_events::End;
 
 // The end of a run whose replay ends so.
@@ -33,33 +32,40 @@ fn agrees(replayed: &Replayed, out: &[u8], end: End) -> bool
     replayed.out.as_slice() == out && end_of(replayed.end) == end
 }
 
-// Whether the order of a bound program comes to this output and end.
-fn bound_runs<'a>(
+// How many threads are started in the order of a bound program, where it comes to this output and end.
+fn bound_run<'a>(
     alloc: Global,
     bound: &'a Bound<'a>,
     input: &'a [u8],
     order: &[u8],
     out: &[u8],
     end: End,
-) -> Result<bool, AllocError>
+) -> Result<Option<usize>, AllocError>
     requires { CanBind (typed (given bound.now)) }
-    ensures yes { IfOk result (λ yes. yes ≡ true → RunsWithin 4294967295 (given bound.now) input.now order.now out.now end) }
-    ensures no { IfOk result (λ yes. yes ≡ false → RunsWithin 4294967295 (given bound.now) input.now order.now out.now end → ⊥) }
+    ensures some { IfOk result (λ o. IfSome o (λ n. RunsWith n 4294967295 (given bound.now) input.now order.now out.now end)) }
+    ensures none { IfOk result (λ o. IfNone o (RunsWithin 4294967295 (given bound.now) input.now order.now out.now end → ⊥)) }
 {
     match replay(alloc, bound, input, order, u32::MAX) {
-        Ok(replayed) => Ok(agrees(&replayed, out, end)),
-        Err(ReplayFault::NotARun { .. }) => Ok(false),
-        Err(ReplayFault::Spent { .. }) => Ok(false),
+        Ok(replayed) => {
+            if agrees(&replayed, out, end) {
+                Ok(Some(replayed.started))
+            } else {
+                Ok(None)
+            }
+        }
+        Err(ReplayFault::NotARun { .. }) => Ok(None),
+        Err(ReplayFault::Spent { .. }) => Ok(None),
         Err(ReplayFault::Memory) => Err(AllocError),
     }
 }
 
-/// Whether the threads of the program's source, run in this order, write this and end so: each entry is one step of the thread of that
-/// number, or one whole outermost atomic block, and `StepsOut` says that the program has not ended. The program is linked by these choices.
+/// How many threads are started, thread 0 among them, where the threads of the program's source, run in this order, write this
+/// and end so: each entry is one step of the thread of that number, or one whole outermost atomic block, and `StepsOut` says that
+/// the program has not ended. The program is linked by these choices.
 ///
-/// No means that there is no such run, or that its threads take more than 4,294,967,295 steps, each silent one and each event counted as one.
-/// A program of which `can_bind` says no counts as want of memory. The time grows with the steps.
-pub fn is_source_run(
+/// `None` means that there is no such run, or that its threads take more than 4,294,967,295 steps, each silent one and each event
+/// counted as one. A program of which `can_bind` says no counts as want of memory. The time grows with the steps.
+pub fn source_run(
     alloc: Global,
     program: &Program,
     choices: &Choices,
@@ -67,40 +73,13 @@ pub fn is_source_run(
     order: &[u8],
     out: &[u8],
     end: End,
-) -> Result<bool, AllocError>
-    ensures yes { IfOk result (λ yes. yes ≡ true → RunsWithin 4294967295 (record { program = program.now; choices = choices.now }) input.now order.now out.now end) }
-    ensures no { IfOk result (λ yes. yes ≡ false → RunsWithin 4294967295 (record { program = program.now; choices = choices.now }) input.now order.now out.now end → ⊥) }
+) -> Result<Option<usize>, AllocError>
+    ensures some { IfOk result (λ o. IfSome o (λ n. RunsWith n 4294967295 (record { program = program.now; choices = choices.now }) input.now order.now out.now end)) }
+    ensures none { IfOk result (λ o. IfNone o (RunsWithin 4294967295 (record { program = program.now; choices = choices.now }) input.now order.now out.now end → ⊥)) }
 {
     if !can_bind(alloc, program)? {
         return Err(AllocError);
     }
     let bound = bind(alloc, program, choices)?;
-    bound_runs(alloc, &bound, input, order, out, end)
-}
-
-/// Whether what was run, if anything was, is a run of the program's source: the order of the answer, replayed on the source, has its output and
-/// its end. No means that it is no such run, or one that takes more than 4,294,967,295 steps of the source.
-pub fn is_of_source(
-    alloc: Global,
-    program: &Program,
-    choices: &Choices,
-    input: &[u8],
-    answer: &Answer,
-) -> Result<bool, AllocError>
-    ensures yes { IfOk result (λ yes. yes ≡ true → IsOfLinked (record { program = program.now; choices = choices.now }) input.now answer.now) }
-    ensures within { IfOk result (λ yes. yes ≡ true → IsOfLinkedWithin 4294967295 (record { program = program.now; choices = choices.now }) input.now answer.now) }
-    ensures no { IfOk result (λ yes. yes ≡ false → IsOfLinkedWithin 4294967295 (record { program = program.now; choices = choices.now }) input.now answer.now → ⊥) }
-{
-    match &answer.ran {
-        Some(ran) => is_source_run(
-            alloc,
-            program,
-            choices,
-            input,
-            ran.order.as_slice(),
-            ran.out.as_slice(),
-            ran.end,
-        ),
-        None => Ok(true),
-    }
+    bound_run(alloc, &bound, input, order, out, end)
 }

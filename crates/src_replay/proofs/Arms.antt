@@ -85,7 +85,12 @@ module _ (t : ℕ) (w : Worlds State) (s : State) where
 
   module _ (program : Program) where
     pub shows_going : (new : World) (v : Worlds State) → world_of new ≡ v → Shows new v
-    shows_going new v e = record { end_is = ap (λ (z : Worlds State). z.end) e; out_is = ap (λ (z : Worlds State). z.out) e; all = λ h. e }
+    shows_going new v e = record {
+      end_is = ap (λ (z : Worlds State). z.end) e;
+      out_is = ap (λ (z : Worlds State). z.out) e;
+      started_is = ap (λ (z : Worlds State). z.started) e;
+      all = λ h. e;
+    }
 
     -- the world was changed beside its threads, and the thread went on
     pub took_moved : (event : Event) (reply : Reply) (change : Worlds State → Worlds State) (old mid new : World) (r : Entry) → world_of old ≡ goes t w s
@@ -109,16 +114,17 @@ module _ (t : ℕ) (w : Worlds State) (s : State) where
 
     -- the program ended
     pub took_halted : (event : Event) (end : End) (old mid new : World) (r : Entry) → world_of old ≡ goes t w s → mid.out.items ≡ old.out.items
-        → layout_of mid.memory ≡ layout_of old.memory → mid.left ≡ old.left → Stands program mid
+        → length mid.threads.alive.items ≡ length old.threads.alive.items → layout_of mid.memory ≡ layout_of old.memory → mid.left ≡ old.left → Stands program mid
         → EventStep (source program) (layout_of old.memory) t w s event (ends w end) → (r ≡ Taken) × (new ≡ record mid { end = Some end })
         → Took program t w s event old new r
-    took_halted event end old mid new r e out layout left stands does h = record {
+    took_halted event end old mid new r e out count layout left stands does h = record {
       taken = h.0;
       world = ends w end;
       does = does;
       shows = record {
         end_is = ap (λ (z : World). z.end) h.1;
         out_is = ap (λ (z : World). z.out.items) h.1 ∙ (out ∙ ap (λ (z : Worlds State). z.out) e);
+        started_is = ap (λ (z : World). length z.threads.alive.items) h.1 ∙ (count ∙ ap (λ (z : Worlds State). z.started) e);
         all = λ none. let no : Some end ≡ None = sym (ap (λ (z : World). z.end) h.1) ∙ none in absurd cc;
       };
       stays = record {

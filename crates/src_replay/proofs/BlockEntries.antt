@@ -23,7 +23,7 @@ use Rattle.src_replay.specs.Inner.{is_inner}
 use Rattle.src_replay.specs.Shown.{world_of, Stands, IsSet, Does, Inmost, ActTaken, ActRefused, ActSpent, Acted, BlockGoes, BlockLeaves, BlockRun}
 use Rattle.src_replay.specs.Undone.{copies, undone}
 use Rattle.src_replay.proofs.Moves.{goes_twice}
-use Rattle.src_replay.proofs.Arms.{set_world}
+use Rattle.src_replay.proofs.Arms.{set_world, shows_going}
 use Rattle.src_replay.proofs.BlockSteps.{inside_open, begin_open, comes_is}
 use Rattle.src_replay.proofs.Undone.{begun_copies}
 
@@ -113,16 +113,16 @@ module _ (program : Program) (p : MemoryLayout) (t : ℕ) (w : Worlds State) (s 
         record {
           world = v;
           done = whole old before h (alone.Leaves g.state (words_of mid.memory)) v paid.left g.leaves refl refl (less ∙ kept);
-          shows = record { end_is = ap (λ (z : Worlds State). z.end) world; out_is = ap (λ (z : Worlds State). z.out) world; all = λ none. world };
+          shows = shows_going t w s program paid v world;
           stands = subst (λ (z : World). Stands program z) (sym same) stands;
           layout = ap (λ (z : World). layout_of z.memory) same ∙ layout;
         }
 
     pub block_halted : (old mid paid new : World) (before : Nested) (end : End) (r : Entry) (h : BlockRun program p t w s left old before)
         → inner_by (source program) p h.last h.last.state.event ≡ alone.Halts end → Stands program mid → layout_of mid.memory ≡ p
-        → mid ≡ record old { memory = mid.memory; threads = mid.threads } → paid ≡ record mid { left = paid.left } → paid.left + 1 ≡ mid.left → (r ≡ Taken)
+        → length mid.threads.alive.items ≡ length old.threads.alive.items → mid ≡ record old { memory = mid.memory; threads = mid.threads } → paid ≡ record mid { left = paid.left } → paid.left + 1 ≡ mid.left → (r ≡ Taken)
         × (new ≡ record paid { end = Some end }) → Acted program p t w s left new r
-    block_halted old mid paid new before end r h e stands layout kept same less n =
+    block_halted old mid paid new before end r h e stands layout count kept same less n =
         let out : new.out.items ≡ w.out = ap (λ (z : World). z.out.items) n.1
         ∙ (ap (λ (z : World). z.out.items) same ∙ (ap (λ (z : World). z.out.items) kept ∙ ap (λ (z : Worlds State). z.out) h.at.world)) in
         let same_left : new.left ≡ paid.left = ap (λ (z : World). z.left) n.1 in
@@ -133,6 +133,8 @@ module _ (program : Program) (p : MemoryLayout) (t : ℕ) (w : Worlds State) (s 
           shows = record {
             end_is = ap (λ (z : World). z.end) n.1;
             out_is = out;
+            started_is = ap (λ (z : World). length z.threads.alive.items) n.1
+                ∙ (ap (λ (z : World). length z.threads.alive.items) same ∙ (count ∙ ap (λ (z : Worlds State). z.started) h.at.world));
             all = λ none. let no : Some end ≡ None = sym (ap (λ (z : World). z.end) n.1)
                 ∙ none in absurd cc;
           };

@@ -74,6 +74,7 @@ module _ {S : Type 0} (a : Thread S) (p : MemoryLayout) where
       record {
         out_is = h.out_is ∙ ap (λ (z : World S). z.out) same;
         end_is = h.end_is ∙ ap (λ (z : World S). z.end) same;
+        started_is = h.started_is ∙ ap (λ (z : World S). z.started) same;
         cost_is =
             omega (arith, h.cost_is, one);
       }

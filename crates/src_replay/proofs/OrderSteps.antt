@@ -63,7 +63,12 @@ module _ (b : Given) (input order : List ℕ) (most : ℕ) where
     world = first_in b input;
     replays = refl;
     cost_is = omega (arith, left);
-    shows = record { end_is = ap (λ (z : Worlds State). z.end) e; out_is = ap (λ (z : Worlds State). z.out) e; all = λ none. e };
+    shows = record {
+      end_is = ap (λ (z : Worlds State). z.end) e;
+      out_is = ap (λ (z : Worlds State). z.out) e;
+      started_is = ap (λ (z : Worlds State). z.started) e;
+      all = λ none. e;
+    };
     stands = stands;
     layout = layout;
   }
@@ -127,9 +132,9 @@ module _ (b : Given) (input order : List ℕ) (most : ℕ) where
         })
 
   pub ran_all : (i : ℕ) (now : World) (r : Replayed) → Ran b input order most i now → length order ≤ i → r.out.items ≡ now.out.items → r.end ≡ now.end
-      → r.cost + now.left ≡ most
+      → r.started ≡ length now.threads.alive.items → r.cost + now.left ≡ most
       → IsReplay (source (program_in b)) (layout_in b) (first_in b input) order most r
-  ran_all i now r ran past out end costs =
+  ran_all i now r ran past out end started costs =
       let a = source (program_in b) in
       let p = layout_in b in
       let first = first_in b input in
@@ -141,6 +146,7 @@ module _ (b : Given) (input order : List ℕ) (most : ℕ) where
         replays = m.replays;
         out_is = out ∙ ran.shows.out_is;
         end_is = end ∙ ran.shows.end_is;
+        started_is = started ∙ ran.shows.started_is;
         cost_is = omega (arith, m.costs, costs, ran.cost_is);
         within = omega (arith, costs);
       }

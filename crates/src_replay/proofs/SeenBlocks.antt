@@ -23,6 +23,7 @@ use Rattle.src_replay.specs.Inner.{is_inner}
 use Rattle.src_replay.specs.LoneRuns.{loud, inside_events}
 use Rattle.src_replay.specs.Seen.{SeenBlock, SeenDoes, SeenTaken, SeenRefused, SeenSpent, SeenAct}
 use Rattle.src_replay.specs.Shown.{world_of, Stands, IsSet, Does, Inmost, ActTaken, BlockGoes, BlockLeaves, BlockRun}
+use Rattle.src_replay.proofs.Arms.{shows_going}
 use Rattle.src_replay.proofs.BlockEntries.{block_start, block_more, next_comes}
 
 module _ (program : Program) (p : MemoryLayout) (t : ℕ) (w : Worlds State) (s : State) (event : Event) (left : ℕ) (before : List Event) where
@@ -88,7 +89,7 @@ module _ (program : Program) (p : MemoryLayout) (t : ℕ) (w : Worlds State) (s 
         let taken : ActTaken program p t w s left paid = record {
           world = v;
           done = d.done;
-          shows = record { end_is = ap (λ (z : Worlds State). z.end) world; out_is = ap (λ (z : Worlds State). z.out) world; all = λ none. world };
+          shows = shows_going t w s program paid v world;
           stands = subst (λ (z : World). Stands program z) (sym same) stands;
           layout = ap (λ (z : World). layout_of z.memory) same ∙ layout;
         } in
@@ -96,10 +97,11 @@ module _ (program : Program) (p : MemoryLayout) (t : ℕ) (w : Worlds State) (s 
 
     pub seen_halted : (old mid paid new : World) (b : Nested) (end : End) (r : Entry) (told after : List Event) (next : Event)
         (h : SeenBlock program p t w s event left old b before told) → inner_by (source program) p h.block.last h.block.last.state.event ≡ alone.Halts end
-        → Stands program mid → layout_of mid.memory ≡ p → mid ≡ record old { memory = mid.memory; threads = mid.threads }
+        → Stands program mid → layout_of mid.memory ≡ p → length mid.threads.alive.items ≡ length old.threads.alive.items
+        → mid ≡ record old { memory = mid.memory; threads = mid.threads }
         → paid ≡ record mid { left = paid.left } → paid.left + 1 ≡ mid.left → (r ≡ Taken) × (new ≡ record paid { end = Some end })
         → next ≡ h.block.last.state.event → after ≡ told ++ loud next → SeenAct program p t w s left new before after r
-    seen_halted old mid paid new b end r told after next h e stands layout kept same less n here more =
+    seen_halted old mid paid new b end r told after next h e stands layout count kept same less n here more =
         let out : new.out.items ≡ w.out = ap (λ (z : World). z.out.items) n.1
         ∙ (ap (λ (z : World). z.out.items) same ∙ (ap (λ (z : World). z.out.items) kept ∙ ap (λ (z : Worlds State). z.out) h.block.at.world)) in
         let same_left : new.left ≡ paid.left = ap (λ (z : World). z.left) n.1 in
@@ -111,6 +113,8 @@ module _ (program : Program) (p : MemoryLayout) (t : ℕ) (w : Worlds State) (s 
           shows = record {
             end_is = ap (λ (z : World). z.end) n.1;
             out_is = out;
+            started_is = ap (λ (z : World). length z.threads.alive.items) n.1
+                ∙ (ap (λ (z : World). length z.threads.alive.items) same ∙ (count ∙ ap (λ (z : Worlds State). z.started) h.block.at.world));
             all = λ none. let no : Some end ≡ None = sym (ap (λ (z : World). z.end) n.1)
                 ∙ none in absurd cc;
           };

@@ -15,12 +15,13 @@ use Rattle.src_replay.specs.declared.replaying.ReplayFault.TheVariants.{NotARun,
 use Rattle.src_replay.specs.declared.replaying.Replayed.{Replayed}
 use Rattle.src_replay.specs.Entries.{Refused, Unfinished}
 
--- The order leads from the first world to this one, with this output and end, and that is what it costs, which is at most what was given.
+-- The order leads from the first world to this one, with this output and end and so many threads started, and that is what it costs, which is at most what was given.
 pub record IsReplay {S : Type 0} (a : Thread S) (p : MemoryLayout) (first : World S) (order : List ℕ) (most : ℕ) (r : Replayed) : Type 0 where
   pub world : World S
   pub replays : Replays a p first order world
   pub out_is : r.out.items ≡ world.out
   pub end_is : r.end ≡ world.end
+  pub started_is : r.started ≡ world.started
   pub cost_is : r.cost ≡ cost a p first order world replays
   pub within : r.cost ≤ most
 
@@ -45,11 +46,12 @@ pub record IsSpent {S : Type 0} (a : Thread S) (p : MemoryLayout) (first : World
   pub unfinished : Unfinished a p begun.thread begun.world begun.left
   pub costs_more : (v : World S) (step : Step a p begun.thread begun.world v) → begun.left < step_cost a p begun.thread begun.world v step
 
--- a replay of that order has this output, end and cost
+-- a replay of that order has this output, end and cost, and starts so many threads
 pub record IsOnly {S : Type 0} (a : Thread S) (p : MemoryLayout) (first : World S) (order : List ℕ) (r : Replayed) (v : World S)
     (replay : Replays a p first order v) : Type 0 where
   pub out_is : r.out.items ≡ v.out
   pub end_is : r.end ≡ v.end
+  pub started_is : r.started ≡ v.started
   pub cost_is : r.cost ≡ cost a p first order v replay
 
 -- the answer on an order, want of memory aside

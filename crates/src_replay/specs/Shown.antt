@@ -75,10 +75,11 @@ pub record IsMore (program : Program) (s : State) (old new : List Alive) : Type 
   pub count : length new ≡ length old + 1
   pub each : (k : ℕ) (x : Alive) → slice_get new k ≡ Some x → IsOf program x
 
--- It shows this world; where the program has ended, its output and its end alone.
+-- It shows this world; where the program has ended, its output, its end and how many threads were started.
 pub record Shows (w : World) (v : Worlds State) : Type 0 where
   pub end_is : w.end ≡ v.end
   pub out_is : w.out.items ≡ v.out
+  pub started_is : length w.threads.alive.items ≡ v.started
   pub all : w.end ≡ None → world_of w ≡ v
 
 -- what stays in a step: threads of the program, and what is mapped

@@ -10,11 +10,13 @@ use src_bind::Bound;
 use std::alloc::Global;
 use tx_events::End;
 
-/// What a replayed order came to: the output, the end, `None` where none came, and the cost in steps.
+/// What a replayed order came to: the output, the end, `None` where none came, how many threads were started, thread 0
+/// among them, and the cost in steps.
 #[derive(Drop)]
 pub struct Replayed {
     pub out: Vec<u8>,
     pub end: Option<End>,
+    pub started: usize,
     pub cost: u32,
 }
 
@@ -66,6 +68,12 @@ pub fn replay<'a>(
         }
     }
     let cost = most - world.left;
+    let started = world.threads.count();
     let World { out, end, .. } = world;
-    Ok(Replayed { out, end, cost })
+    Ok(Replayed {
+        out,
+        end,
+        started,
+        cost,
+    })
 }

@@ -3,6 +3,7 @@ pub mod AloneLifting
 pub mod LoneRuns
 pub mod SameBounds
 pub mod Started
+pub mod OnTheWay
 pub mod ImageThreads
 pub mod CheckedBounds
 pub mod LinkedBounds

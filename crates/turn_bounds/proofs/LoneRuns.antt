@@ -68,7 +68,7 @@ not_both o x e f = absurd (cc)
 
 -- ---- picks
 
-mod_one : (n m : ℕ) → m ≡ 1 → n % m ≡ 0
+pub mod_one : (n m : ℕ) → m ≡ 1 → n % m ≡ 0
 mod_one n m e = ap (λ z. n % z) e ∙ below_one (n % 1) (mod-lt n (omega arith))
   where
     below_one : (k : ℕ) → k < 1 → k ≡ 0

@@ -46,7 +46,7 @@ module _ {S : Type 0} (a : Thread S) (p : MemoryLayout) where
   join_same t w s (Some u) v d = ap (λ z. z.started) d.1
 
   -- an event that is no Spawn starts no thread
-  event_same : (t : ℕ) (w : World S) (s : S) (e : Event) (v : World S) → is_spawn e ≡ false → EventStep a p t w s e v → v.started ≡ w.started
+  pub event_same : (t : ℕ) (w : World S) (s : S) (e : Event) (v : World S) → is_spawn e ≡ false → EventStep a p t w s e v → v.started ≡ w.started
   event_same t w s Silent v q d = absurd d
   event_same t w s EndAtomic v q d = absurd d
   event_same t w s (Raise kind can) v q d = absurd d

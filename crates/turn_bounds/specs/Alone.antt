@@ -1,5 +1,5 @@
 -- Runs in which the first thread stays alone.
-use Rattle.std.specs.Prelude.{ℕ, ◌≡◌, ◌==◌, ◌≤◌, ◌+◌, ◌*◌, Bool, true, false, cond, suc, List, [], ◌∷◌, Some}
+use Rattle.std.specs.Prelude.{ℕ, ◌≡◌, ◌==◌, ◌≤◌, ◌+◌, ◌*◌, Bool, true, false, cond, suc, List, [], ◌∷◌, Some, None}
 use Rattle.choosers.specs.Picks.{PickerName}
 use Rattle.choosers.specs.Picks.PickerName.{Round, Clashing, Listed}
 use Rattle.tx_events.specs.declared.End.{End}
@@ -23,6 +23,15 @@ pub record EndsAlone {S : Type 0} (a : Thread S) (p : MemoryLayout) (first : Wor
   pub within : cost a p first order world replays ≤ n
   pub out_is : world.out ≡ out
   pub end_is : world.end ≡ Some end
+
+-- In this world, which a replay has come to for so many units of cost, thread 0 alone was started; and from there on the program comes to this end with this
+-- output, so that it costs at most n in all.
+pub record IsOnTheWay {S : Type 0} (a : Thread S) (p : MemoryLayout) (w : World S) (spent n : ℕ) (out : List ℕ) (end : End) : Type 0 where
+  pub left : ℕ
+  pub ends : EndsAlone a p w left out end
+  pub within : spent + left ≤ n
+  pub started : w.started ≡ 1
+  pub no_others : (t : ℕ) → w.threads (suc t) ≡ None
 
 -- How many turns of thread 0 are enough for cost n, where up to each event the code takes at most many * n + more steps: one for each of its steps, and two
 -- more for each access.

@@ -10,7 +10,8 @@ ghost use Rattle.tx_events.specs.Same.{SameEvents, StepsWithin};
 ghost use Rattle.tx_events.specs.World.{World, Replays, first_world};
 ghost use Rattle.tx_serial.specs.Bound.{is_waiting, zeros};
 ghost use Rattle.tx_serial.specs.Turn.{Slot, turns, turn, first_machine};
-ghost use Rattle.turn_bounds.specs.Alone.{SpawnsNothing, EndsAlone, enough};
+ghost use Rattle.src_mean.specs.Cost.{cost};
+ghost use Rattle.turn_bounds.specs.Alone.{SpawnsNothing, EndsAlone, IsOnTheWay, enough};
 
 use tx_events::Actor;
 
@@ -42,4 +43,13 @@ pub fn replays_that_start_no_thread<A: Actor>()
     ensures { (p : MemoryLayout) → 2 ≤ p.limit → (memory : ℕ → ℕ) (input : List ℕ) (main : A.State) (order : List ℕ) (v : World A.State) →
         (h : Replays A.thread p (first_world memory input main) order v) → v.started ≡ 1 →
         SpawnsNothing A.thread p (first_world memory input main) order v h }
+{}
+
+/// A program that spawns nothing and ends at cost n: each replay of it is on the way there. So it has come to that end with that
+/// output where it has ended, and else thread 0 alone goes on, and what is left costs no more than the rest of n.
+pub fn replays_are_on_the_way<A: Actor>()
+    ensures { (p : MemoryLayout) (memory : ℕ → ℕ) (input : List ℕ) (main : A.State) (n : ℕ) (out : List ℕ) (end : End) →
+        EndsAlone A.thread p (first_world memory input main) n out end → (order : List ℕ) (v : World A.State) →
+        (h : Replays A.thread p (first_world memory input main) order v) →
+        IsOnTheWay A.thread p v (cost A.thread p (first_world memory input main) order v h) n out end }
 {}

@@ -1,14 +1,17 @@
-use Rattle.std.proofs.Common.{map, rules, refl}
+use Rattle.std.proofs.Common.{map, rules, refl, ◌≤◌, arith}
 use Rattle.src_bind.specs.Tables.{Given}
 use Rattle.tx_code.specs.Objects.{object_view}
 use Rattle.held_runs.proofs.Held.{of_code}
 use Rattle.held_runs.proofs.running.held_against_source.Goals as goal
+
+few : 63 ≤ 63
+few = omega arith
 
 pub returns : goal.returns
 returns c =
     let g : Given = record { program = c.args.program.now; choices = c.args.choices.now } in
     record {
       same = refl;
-      source = of_code g (map object_view c.args.objects.now) c.args.input.now c.args.decision.answer c.one_image.ensures c.runs_of_linked_images.ensures.some
-          (c.is_checked.ensures (search rules)) c.requires.run;
+      source = of_code g (map object_view c.args.objects.now) c.args.input.now c.args.decision.answer c.one_image.ensures
+          (λ g i shown. c.runs_of_linked_images.ensures g i _ shown few) (c.is_checked.ensures (search rules)) c.requires.run;
     }

@@ -1,8 +1,8 @@
 use Rattle.std.proofs.Common.{◌≡◌, ◌∙◌, ℕ, List, map, subst, sym}
 use Rattle.std.proofs.lemmas.Result.{IfOk-weaker}
+use Rattle.bounded_runs.specs.BoundedRuns.{IsOfLinked}
 use Rattle.command_io.specs.Writes.{written_of}
 use Rattle.exec_command.specs.Exec.{RunsImage}
-use Rattle.source_runs.specs.Sources.{IsOfLinked}
 use Rattle.tx_answers.specs.declared.ends.Decision.{Decision}
 use Rattle.tx_code.specs.Objects.{object_view}
 use Rattle.tx_code.specs.Views.{image_view}

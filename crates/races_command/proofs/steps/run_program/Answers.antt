@@ -3,7 +3,7 @@ use Rattle.std.proofs.lemmas.Result.{IfOk-weaker}
 use Rattle.command_io.specs.Writes.{written_of}
 use Rattle.cpp_tree.specs.declared.program.Program.{Program}
 use Rattle.object_races.specs.ObjectRaces.{DecidesObjects}
-use Rattle.run_command.specs.source_runs.Sources.{IsOfLinked}
+use Rattle.run_command.specs.bounded_runs.BoundedRuns.{IsOfLinked}
 use Rattle.tx_answers.specs.declared.ends.Decision.{Decision}
 use Rattle.tx_code.specs.Objects.{ObjectView, object_view}
 use Rattle.tx_code.specs.declared.object.Object.{Object}

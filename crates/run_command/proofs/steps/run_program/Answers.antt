@@ -1,9 +1,9 @@
 use Rattle.std.proofs.Common.{◌≡◌, ap, List, map, subst}
 use Rattle.std.proofs.lemmas.Result.{IfOk-weaker}
+use Rattle.bounded_runs.specs.BoundedRuns.{IsOfLinked}
 use Rattle.command_io.specs.Writes.{written_of}
 use Rattle.cpp_tree.specs.declared.program.Program.{Program}
 use Rattle.exec_command.specs.Exec.{RunsObjects}
-use Rattle.source_runs.specs.Sources.{IsOfLinked}
 use Rattle.tx_code.specs.Objects.{ObjectView, object_view}
 use Rattle.tx_code.specs.declared.object.Object.{Object}
 use Rattle.run_command.proofs.steps.run_program.Goals as goal

@@ -146,8 +146,8 @@ returns-in-Halts-clause-seen c = λ program w s kind stand going e begins is ena
     IfOk-weaker c.halt.result _ _ (λ r n. seen_halted program p c.args.t w s c.args.event world.left c.args.events.now.items kind (begins ∙ is) is
     (ap (λ z. is_enabled c.args.t w z) (sym is) ∙ enabled) old mid paid c.halt.new.self before c.in-Halts.end r
     c.loop-taken.events.items c.note.new.events.items c.next-inner.result h
-    (at_halts program p c.args.t w h.block.last mid nested c.in_ok-step.step c.in-Halts.end c.in-Halts.is inner) inner.stands layout c.in_ok-step.ensures.same
-    same less n here c.in_ok-note.ensures) c.halt.ensures.halted
+    (at_halts program p c.args.t w h.block.last mid nested c.in_ok-step.step c.in-Halts.end c.in-Halts.is inner) inner.stands layout c.in_ok-step.ensures.count
+    c.in_ok-step.ensures.same same less n here c.in_ok-note.ensures) c.halt.ensures.halted
 
 pub returns-in-Never-clause-seen : goal.returns-in-Never-clause-seen
 returns-in-Never-clause-seen c = λ program w s kind stand going e begins is enabled.

@@ -46,5 +46,5 @@ loop-i-init c =
 pub returns : goal.returns
 returns c =
     let inv = c.loop-i.invariant in
-    ran_all (given c.args.bound.now) c.args.input.now c.args.order.now c.args.most c.loop-i.i c.loop-i.world _ inv.ran c.loop-i-test.false refl refl
+    ran_all (given c.args.bound.now) c.args.input.now c.args.order.now c.args.most c.loop-i.i c.loop-i.world _ inv.ran c.loop-i-test.false refl refl c.count-started.ensures
     (omega (arith, inv.left))

@@ -31,5 +31,5 @@ returns-else-is_some-clause-took c = λ program w s stand going e enabled.
     let there = ap (λ o. is_some (option_map has_ended o)) (sym (target_in t c.args.id w s (world_of self) e))
     ∙ (ap (λ i. is_some (option_map has_ended (target t i (world_of self).threads))) (sym (to_z-of_z w32 c.args.id c.ranges.id))
     ∙ (ap is_some (sym (c.target.ensures (few_threads program self stand))) ∙ (sym c.is_some.ensures ∙ c.if-is_some.false))) in
-    IfOk-weaker c.halt.result _ _ (λ r h. took_halted t w s program (Join c.args.id) (Trapped BadJoin) self self c.halt.new.self r e refl refl refl stand
+    IfOk-weaker c.halt.result _ _ (λ r h. took_halted t w s program (Join c.args.id) (Trapped BadJoin) self self c.halt.new.self r e refl refl refl refl stand
     (joins_none t w ((source program).after s Nothing) (target t c.args.id w.threads) there) h) c.halt.ensures.halted

@@ -28,7 +28,7 @@ returns-in-None-clause-took c = λ program w s volatile stand going e event.
     let t = c.args.t in
     let p = layout_of self.memory in
     IfOk-weaker c.halt.result _ _ (λ r h. took_halted t w s program (Load c.args.addr c.args.size volatile)
-    (Trapped BadAddress) self self c.halt.new.self r e refl refl refl stand
+    (Trapped BadAddress) self self c.halt.new.self r e refl refl refl refl stand
     (cond_false (can_access p c.args.addr c.args.size) _ (ends w (Trapped BadAddress))
     (read_none (can_access p c.args.addr c.args.size) _ c.load.result c.load.ensures.value c.in-None.is)) h) c.halt.ensures.halted
 

@@ -126,7 +126,8 @@ returns-in-Halts-clause-acted c = λ program w s kind stand going e begins enabl
     let inner = inner_on program p (layout_of old.memory) t w h.last mid nested c.in_ok-step.step inv.layout
     (c.in_ok-step.ensures.steps program w h.last h.stands h.at) in
     IfOk-weaker c.halt.result _ _ (λ r n. block_halted program p t w s self.left kind begins enabled old mid paid c.halt.new.self before c.in-Halts.end r h
-    (at_halts program p t w h.last mid nested c.in_ok-step.step c.in-Halts.end c.in-Halts.is inner) inner.stands layout c.in_ok-step.ensures.same same less n)
+    (at_halts program p t w h.last mid nested c.in_ok-step.step c.in-Halts.end c.in-Halts.is inner) inner.stands layout c.in_ok-step.ensures.count c.in_ok-step.ensures.same
+    same less n)
     c.halt.ensures.halted
 
 pub returns-in-Never-clause-acted : goal.returns-in-Never-clause-acted

@@ -57,6 +57,6 @@ returns-then-count-from-clause-took c = λ program w s stand going e.
     let p = layout_of self.memory in
     let started : w.started ≡ c.count-count.result = sym (ap (λ (z : Worlds State). z.started) e) ∙ sym c.count-count.ensures in
     IfOk-weaker c.halt.result _ _ (λ r h. took_halted c.args.t w s program (Spawn c.args.func c.args.arg)
-    (Trapped TooManyThreads) self self c.halt.new.self r e refl refl refl stand
+    (Trapped TooManyThreads) self self c.halt.new.self r e refl refl refl refl stand
     (cond_false (nat_lt w.started p.limit) _ (ends w (Trapped TooManyThreads))
     (le-ltb w.started p.limit (omega (arith, started, c.if-count-from.true, c.from.ensures, stand.limit)))) h) c.halt.ensures.halted

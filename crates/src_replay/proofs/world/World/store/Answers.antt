@@ -43,6 +43,6 @@ returns-else-store-clause-took c = λ program w s volatile stand going e event.
     let mid = record self { memory = c.store.new.self } in
     let cannot = sym c.store.ensures.done ∙ c.if-store.false in
     IfOk-weaker c.halt.result _ _ (λ r h. took_halted t w s program (Store c.args.addr c.args.size c.args.value volatile)
-    (Trapped BadAddress) self mid c.halt.new.self r e refl c.store.ensures.layout refl
+    (Trapped BadAddress) self mid c.halt.new.self r e refl refl c.store.ensures.layout refl
     (stand_on program (layout_of self.memory) (layout_of c.store.new.self) self.threads.alive.items c.store.ensures.layout stand)
     (cond_false (can_access p c.args.addr c.args.size) _ (ends w (Trapped BadAddress)) cannot) h) c.halt.ensures.halted

@@ -165,12 +165,14 @@ fn failing(alloc: Global, case: Case) -> Result<String, AllocError> {
     Ok(line)
 }
 
-/// What comes of a case.
+/// What comes of a case, a line.
 pub fn answer(alloc: Global, line: &str) -> Result<String, AllocError> {
     let case = read_case(alloc, line)?;
-    if case.fails.is_empty() {
-        steady(alloc, case)
+    let mut answer = if case.fails.is_empty() {
+        steady(alloc, case)?
     } else {
-        failing(alloc, case)
-    }
+        failing(alloc, case)?
+    };
+    answer.push_str("\n")?;
+    Ok(answer)
 }

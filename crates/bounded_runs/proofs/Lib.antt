@@ -1,0 +1,2 @@
+pub mod LoneSource
+pub mod Zeros
