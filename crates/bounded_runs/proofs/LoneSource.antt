@@ -1,7 +1,7 @@
 -- A source that ends alone, and what its run by itself comes to.
 use Rattle.std.proofs.Common.{ℕ, zero, suc, ◌≡◌, ◌≤◌, ◌<◌, ◌+◌, ◌*◌, ◌%◌, Bool, true, false, refl, ap, sym, ◌∙◌, subst, List, Option, Some, None, arith}
 use Rattle.std.proofs.lemmas.Bool.{true≢false}
-use Rattle.source_runs.specs.Sources.{RunsTo, RunsWith, end_in}
+use Rattle.source_runs.specs.Sources.{RunsTo, RunsWithin, RunsWith, end_in}
 use Rattle.src_bind.specs.Tables.{Given}
 use Rattle.src_mean.specs.Cost.{cost, step_cost}
 use Rattle.src_mean.specs.Source.{source}
@@ -21,7 +21,8 @@ use Rattle.tx_events.specs.Thread.{Thread}
 use Rattle.tx_events.specs.World.{World, Step, Replays}
 use Rattle.tx_machine.specs.declared.run.Ran.{Ran}
 use Rattle.vm_thread.specs.declared.thread.Here.{Here}
-use Rattle.bounded_runs.specs.BoundedRuns.{has_ended}
+use Rattle.tx_events.proofs.OneReplay.{same_replays}
+use Rattle.bounded_runs.specs.BoundedRuns.{IsPlain, starts, never_waits, has_ended}
 
 later : (c l s r m n : ℕ) → c + l ≡ m → l < s → s ≤ r → c + r ≤ n → m < n
 later c l s r m n e h g f = omega (arith, e, h, g, f)
@@ -120,3 +121,23 @@ module _ (started most : ℕ) (g : Given) (input : List ℕ) (ran : Ran Here) (r
       ended = same_end n out end alone;
       in_time = λ many. too_late (zeros_in ran.picked.items) (66 * n + 64) (more n out end alone) many;
     }
+
+-- two runs of one order start as many threads
+same_started : (s t m n : ℕ) (g : Given) (input order out : List ℕ) (e : End) → RunsWith s m g input order out e → RunsWith t n g input order out e → s ≡ t
+same_started s t m n g input order out e h k = h.started_is ∙ (ap (λ (w : World _). w.started) (same_replays (source (program_in g)) (layout_in g) order
+    (first_in g input) h.run.runs.world k.run.runs.world h.run.runs.replays k.run.runs.replays) ∙ sym k.started_is)
+
+-- what is refused is no plain run
+module _ (started : ℕ) (g : Given) (input : List ℕ) (ran : Ran Here) where
+  module _ (run : RunsWith started 4294967295 g input ran.order.items ran.out.items ran.end) (one : started ≡ 1) where
+    pub waits_no : (ran.waited ≡ 0 → ran.rolled ≡ 0 → ⊥) → IsPlain g input ran → ⊥
+    waits_no waits (starts s r many) = many (same_started s started 4294967295 4294967295 g input ran.order.items ran.out.items ran.end r run ∙ one)
+    waits_no waits (never_waits r waited rolled few) = waits waited rolled
+
+    pub turns_no : ran.end ≡ StepsOut → 64 ≤ zeros_in ran.picked.items → IsPlain g input ran → ⊥
+    turns_no is_open enough (starts s r many) = many (same_started s started 4294967295 4294967295 g input ran.order.items ran.out.items ran.end r run ∙ one)
+    turns_no is_open enough (never_waits r waited rolled few) = too_late (zeros_in ran.picked.items) 64 (few is_open) enough
+
+pub none_no : (g : Given) (input : List ℕ) (ran : Ran Here) → (RunsWithin 4294967295 g input ran.order.items ran.out.items ran.end → ⊥) → IsPlain g input ran → ⊥
+none_no g input ran none (starts s r many) = none r.run
+none_no g input ran none (never_waits r waited rolled few) = none r

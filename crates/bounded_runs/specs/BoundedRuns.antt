@@ -1,15 +1,17 @@
 -- Runs that are runs of the source, within its turn bound.
-use Rattle.std.specs.Prelude.{ℕ, List, Option, Some, None, Bool, true, false}
+use Rattle.std.specs.Prelude.{ℕ, ◌≡◌, ◌<◌, List, Option, Some, None, Bool, true, false}
 use Rattle.cpp_tree.specs.Units.{program_of}
 use Rattle.cpp_tree.specs.declared.program.Program.{Program}
-use Rattle.source_runs.specs.Sources.{RunsTo}
+use Rattle.source_runs.specs.Sources.{RunsTo, RunsWithin, RunsWith}
 use Rattle.src_bind.specs.Tables.{Given}
 use Rattle.src_bind.specs.declared.choices.Choices.{Choices}
 use Rattle.src_link.specs.Slots.{AreChoices}
 use Rattle.src_replay.specs.declared.alone.AloneEnd.{AloneEnd}
 use Rattle.src_replay.specs.declared.alone.AloneEnd.TheVariants.{Ended, NotEnabled, InBlock, Spent}
+use Rattle.turn_bounds.specs.Alone.{zeros_in}
 use Rattle.turn_bounds.specs.Linked.{KeepsTurnBound}
 use Rattle.tx_answers.specs.declared.answer.Answer.{Answer}
+use Rattle.tx_events.specs.declared.End.TheVariants.{StepsOut}
 use Rattle.tx_machine.specs.declared.run.Ran.{Ran}
 use Rattle.vm_thread.specs.declared.thread.Here.{Here}
 
@@ -24,6 +26,13 @@ has_ended Spent = false
 pub record IsRunOf (g : Given) (input : List ℕ) (ran : Ran Here) : Type 0 where
   pub source : RunsTo g input ran.order.items ran.out.items ran.end
   pub turns : KeepsTurnBound g input ran
+
+-- A run that is never refused: it is one of the source within 4,294,967,295 steps, and started another thread, or did not wait, and has ended or had fewer than
+-- 64 turns of thread 0.
+pub data IsPlain (g : Given) (input : List ℕ) (ran : Ran Here) : Type 0 where
+  starts : (started : ℕ) → RunsWith started 4294967295 g input ran.order.items ran.out.items ran.end → (started ≡ 1 → ⊥) → IsPlain g input ran
+  never_waits : RunsWithin 4294967295 g input ran.order.items ran.out.items ran.end → ran.waited ≡ 0 → ran.rolled ≡ 0
+      → (ran.end ≡ StepsOut → zeros_in ran.picked.items < 64) → IsPlain g input ran
 
 -- So it is of what was run, if anything was.
 abbrev pub OfLinked : Given → List ℕ → Option (Ran Here) → Type 0

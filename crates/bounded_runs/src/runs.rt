@@ -1,7 +1,7 @@
 //! A run is held against its source.
 
-ghost use Rattle.std.specs.Prelude.{◌≡◌, ◌≤◌, ◌<◌, ◌+◌, ◌*◌, ℕ, List, true, IfOk, IfNone, IfSome};
-ghost use Rattle.bounded_runs.specs.BoundedRuns.{IsRunOf, has_ended};
+ghost use Rattle.std.specs.Prelude.{◌≡◌, ◌≤◌, ◌<◌, ◌+◌, ◌*◌, ℕ, List, true, false, IfOk, IfNone, IfSome};
+ghost use Rattle.bounded_runs.specs.BoundedRuns.{IsRunOf, IsPlain, has_ended};
 ghost use Rattle.cpp_tree.specs.tx_events.declared.End.{End};
 ghost use Rattle.source_runs.specs.Sources.{RunsWith};
 ghost use Rattle.turn_bounds.specs.Alone.{zeros_in};
@@ -34,6 +34,7 @@ fn first_turns(picked: &[u8]) -> usize
 fn cost_within(turns: usize) -> Option<usize>
     ensures none { IfNone result (turns < 64) }
     ensures some { IfSome result (λ cost. turns < 66 * (cost + 1) + 64) }
+    ensures enough { IfSome result (λ cost. 64 ≤ turns) }
 {
     match turns.checked_sub(64) {
         Some(rest) => Some(rest / 66),
@@ -78,8 +79,9 @@ fn needs_more(
     input: &[u8],
     picked: &[u8],
 ) -> Result<bool, AllocError>
-    ensures { IfOk result (λ more. more ≡ true → (n : ℕ) (out : List ℕ) (end : End) →
+    ensures more { IfOk result (λ more. more ≡ true → (n : ℕ) (out : List ℕ) (end : End) →
         EndsAloneIn (record { program = program.now; choices = choices.now }) input.now n out end → zeros_in picked.now < 66 * n + 64) }
+    ensures some { IfOk result (λ more. more ≡ false → 64 ≤ zeros_in picked.now) }
 {
     let Some(cost) = cost_within(first_turns(picked)) else {
         return Ok(true);
@@ -100,7 +102,8 @@ fn keeps_turn_bound(
     started: usize,
 ) -> Result<bool, AllocError>
     requires { RunsWith started 4294967295 (record { program = program.now; choices = choices.now }) input.now ran.now.order.items ran.now.out.items ran.now.end }
-    ensures { IfOk result (λ yes. yes ≡ true → KeepsTurnBound (record { program = program.now; choices = choices.now }) input.now ran.now) }
+    ensures yes { IfOk result (λ yes. yes ≡ true → KeepsTurnBound (record { program = program.now; choices = choices.now }) input.now ran.now) }
+    ensures no { IfOk result (λ yes. yes ≡ false → IsPlain (record { program = program.now; choices = choices.now }) input.now ran.now → ⊥) }
 {
     if started != 1 {
         return Ok(true);
@@ -127,7 +130,8 @@ pub fn is_run_of(
     input: &[u8],
     ran: &Ran<Here>,
 ) -> Result<bool, AllocError>
-    ensures { IfOk result (λ yes. yes ≡ true → IsRunOf (record { program = program.now; choices = choices.now }) input.now ran.now) }
+    ensures yes { IfOk result (λ yes. yes ≡ true → IsRunOf (record { program = program.now; choices = choices.now }) input.now ran.now) }
+    ensures no { IfOk result (λ yes. yes ≡ false → IsPlain (record { program = program.now; choices = choices.now }) input.now ran.now → ⊥) }
 {
     let order = ran.order.as_slice();
     let out = ran.out.as_slice();

@@ -3,6 +3,11 @@
 //! "C++14" is ISO/IEC 14882:2014, and "the TS" is ISO/IEC TS 19841:2015.
 #![tactic(auto)]
 
+mod calls;
+mod leaves;
 pub mod next;
+mod objects;
+mod operations;
 pub mod running;
+mod statements;
 pub mod words;
