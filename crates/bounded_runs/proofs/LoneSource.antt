@@ -1,9 +1,10 @@
 -- A source that ends alone, and what its run by itself comes to.
-use Rattle.std.proofs.Common.{ℕ, zero, suc, ◌≡◌, ◌≤◌, ◌<◌, ◌+◌, ◌*◌, ◌%◌, Bool, true, false, refl, ap, sym, ◌∙◌, subst, List, Option, Some, None, arith}
+use Rattle.std.proofs.Common.{ℕ, ◌≡◌, ◌≤◌, ◌<◌, ◌+◌, ◌*◌, false, refl, ap, sym, ◌∙◌, subst, List, Option, Some, None, arith}
 use Rattle.std.proofs.lemmas.Bool.{true≢false}
 use Rattle.source_runs.specs.Sources.{RunsTo, RunsWithin, RunsWith, end_in}
 use Rattle.src_bind.specs.Tables.{Given}
 use Rattle.src_mean.specs.Cost.{cost, step_cost}
+use Rattle.src_mean.specs.Frames.{State}
 use Rattle.src_mean.specs.Source.{source}
 use Rattle.src_replay.specs.LoneRuns.{CameTo, IsTurn, IsStuck, IsBroken, IsCutOff, IsRunAlone, RunsAlone}
 use Rattle.src_replay.specs.Orders.{program_in, layout_in, first_in}
@@ -67,10 +68,10 @@ module _ {S : Type 0} (a : Thread S) (p : MemoryLayout) (first : World S) (n : �
   going_on most r Spent h q = cut_off most r h
 
 module _ (g : Given) (input : List ℕ) (n : ℕ) (out : List ℕ) (end : End) (alone : EndsAloneIn g input n out end) where
-  abbrev Way : (w : World _) → ℕ → Type 0
+  abbrev Way : (w : World State) → ℕ → Type 0
   Way w spent = IsOnTheWay (source (program_in g)) (layout_in g) w spent n out end
 
-  ways : (order : List ℕ) (v : World _) (h : Replays (source (program_in g)) (layout_in g) (first_in g input) order v)
+  ways : (order : List ℕ) (v : World State) (h : Replays (source (program_in g)) (layout_in g) (first_in g input) order v)
       → Way v (cost (source (program_in g)) (layout_in g) (first_in g input) order v h)
   ways order v h = on_the_way (source (program_in g)) (layout_in g) out end order (first_in g input) v h alone.order alone.world alone.replays n refl (λ k. refl)
       alone.spawns_nothing alone.within alone.out_is alone.end_is
@@ -124,7 +125,7 @@ module _ (started most : ℕ) (g : Given) (input : List ℕ) (ran : Ran Here) (r
 
 -- two runs of one order start as many threads
 same_started : (s t m n : ℕ) (g : Given) (input order out : List ℕ) (e : End) → RunsWith s m g input order out e → RunsWith t n g input order out e → s ≡ t
-same_started s t m n g input order out e h k = h.started_is ∙ (ap (λ (w : World _). w.started) (same_replays (source (program_in g)) (layout_in g) order
+same_started s t m n g input order out e h k = h.started_is ∙ (ap (λ (w : World State). w.started) (same_replays (source (program_in g)) (layout_in g) order
     (first_in g input) h.run.runs.world k.run.runs.world h.run.runs.replays k.run.runs.replays) ∙ sym k.started_is)
 
 -- what is refused is no plain run

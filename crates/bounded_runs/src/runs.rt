@@ -67,8 +67,8 @@ fn costs_more(
         return Err(AllocError);
     }
     let bound = bind(alloc, program, choices)?;
-    let run = run_alone(alloc, &bound, input, cost)?;
-    Ok(!is_done(run.stopped))
+    let alone = run_alone(alloc, &bound, input, cost)?;
+    Ok(!is_done(alone.stopped))
 }
 
 // Whether the program by itself needs more turns than were thread 0's.
