@@ -43,13 +43,6 @@ of_code g objects input a one runs code (of_image i links picker policy bound ra
     let all : IsRunOf g input ran = runs g i (subst (λ z. IsShown g z) same code.code) (subst IsImage same code.whole) (subst Sound same code.sound) picker policy bound input ran run in
     subst (λ (z : Option (Ran Here)). OfLinked g input z) (sym e) all
 
--- what was run is what is held against the source
-pub of_ran : (g : Given) (input : List ℕ) (a : Answer) (ran : Ran Here) → a.ran ≡ Some ran → IsRunOf g input ran → IsOfLinked g input a
-of_ran g input a ran e run = subst (λ (z : Option (Ran Here)). OfLinked g input z) (sym e) run
-
-pub of_none : (g : Given) (input : List ℕ) (a : Answer) → a.ran ≡ None → IsOfLinked g input a
-of_none g input a e = subst (λ (z : Option (Ran Here)). OfLinked g input z) (sym e) tt
-
 -- nothing was run where objects can't be linked
 module _ (a : Answer) (writes : List Written) where
   none_ran : {number : ℕ} {line : List ℕ} {status : Status} → Refuses number line status a writes → a.ran ≡ None
