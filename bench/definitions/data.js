@@ -6,7 +6,7 @@ const { mkdirSync, readdirSync, readFileSync, writeFileSync } = require("fs");
 const { join } = require("path");
 
 // The programs are those of the test program that runs the code on them, and its wanted answers are those of the definitions too.
-const TESTS = join(__dirname, "../../crates/program_tests");
+const TESTS = join(__dirname, "../../crates/replay_tests");
 const REFUSALS = join(__dirname, "data/refusals.tsv");
 const ESCAPES = { n: "\n", t: "\t", "\\": "\\" };
 

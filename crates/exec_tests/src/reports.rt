@@ -54,16 +54,16 @@ fn trapped(alloc: Global) -> Result<Ran<Here>, AllocError> {
     })
 }
 
-/// What is written of the run, a line: the output, the error output, and the order as the file `o`.
+/// What is written of the run: the output, the error output, and the order as the file `o`.
 pub fn answer(alloc: Global) -> Result<String, AllocError> {
     let order = Some(String::from_str(alloc, "o")?);
     let writes = run_writes(alloc, &image_of(alloc)?, &trapped(alloc)?, &order, &None)?;
     let mut host = SteadyHost::new(alloc, Vec::new(alloc))?;
     if write_all(&mut host, writes.as_slice()).is_err() {
-        return format!(in alloc; "memory\n");
+        return format!(in alloc; "memory");
     }
     format!(in alloc;
-        "out {} err {} o {}\n",
+        "out {} err {} o {}",
         host.out().escape_ascii(),
         host.err().escape_ascii(),
         host.file("o").unwrap_or(b"none").escape_ascii()

@@ -165,14 +165,12 @@ fn failing(alloc: Global, case: Case) -> Result<String, AllocError> {
     Ok(line)
 }
 
-/// What comes of a case, a line.
+/// What comes of a case.
 pub fn answer(alloc: Global, line: &str) -> Result<String, AllocError> {
     let case = read_case(alloc, line)?;
-    let mut answer = if case.fails.is_empty() {
-        steady(alloc, case)?
+    if case.fails.is_empty() {
+        steady(alloc, case)
     } else {
-        failing(alloc, case)?
-    };
-    answer.push_str("\n")?;
-    Ok(answer)
+        failing(alloc, case)
+    }
 }

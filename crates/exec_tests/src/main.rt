@@ -1,0 +1,35 @@
+//! Commands over hosts in memory. A case is a line of the input, its answer a line of the output.
+#![tactic(auto)]
+
+mod cases;
+mod reports;
+
+use case_texts::is_case;
+use std::alloc::{AllocError, Global};
+use std::io;
+
+// The answer to a case.
+fn answer(alloc: Global, case: &str) -> Result<String, AllocError> {
+    if case == "report" {
+        reports::answer(alloc)
+    } else {
+        cases::answer(alloc, case)
+    }
+}
+
+// The answers to the cases of a text, a line each.
+fn answers(alloc: Global, text: &str) -> Result<String, AllocError> {
+    let mut lines = String::new(alloc);
+    for case in text.lines() {
+        if is_case(case) {
+            lines.push_str(&answer(alloc, case)?)?;
+            lines.push_str("\n")?;
+        }
+    }
+    Ok(lines)
+}
+
+fn main(rt: HostRuntime) -> io::Result<()> {
+    let text = io::read_to_string(rt.alloc(), rt.reader())?;
+    rt.print(answers(rt.alloc(), &text)?)
+}
