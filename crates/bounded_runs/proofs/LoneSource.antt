@@ -138,7 +138,3 @@ module _ (started : ℕ) (g : Given) (input : List ℕ) (ran : Ran Here) where
     pub turns_no : ran.end ≡ StepsOut → 64 ≤ zeros_in ran.picked.items → IsPlain g input ran → ⊥
     turns_no is_open enough (starts s r many) = many (same_started s started 4294967295 4294967295 g input ran.order.items ran.out.items ran.end r run ∙ one)
     turns_no is_open enough (never_waits r waited rolled few) = too_late (zeros_in ran.picked.items) 64 (few is_open) enough
-
-pub none_no : (g : Given) (input : List ℕ) (ran : Ran Here) → (RunsWithin 4294967295 g input ran.order.items ran.out.items ran.end → ⊥) → IsPlain g input ran → ⊥
-none_no g input ran none (starts s r many) = none r.run
-none_no g input ran none (never_waits r waited rolled few) = none r

@@ -13,14 +13,14 @@ ghost use Rattle.tx_code.specs.Sound.{Sound};
 ghost use Rattle.tx_machine.specs.declared.run.Ran.{Ran};
 ghost use Rattle.vm_thread.specs.declared.thread.Here.{Here};
 
-use linked_runs::laws::runs_of_linked_images as runs_as_source;
+use linked_runs::laws::runs_of_linked_images;
 use turn_bounds::linked::runs_of_images_that_stay_alone;
 
 /// Each run of a sound image that is linked from a program, with notes that allow at most 63 steps before the source takes one
 /// more, is a run of the program's source, and keeps the turn bound.
-pub fn runs_of_linked_images()
+pub fn linked_images_keep_the_turn_bound()
     ensures { (g : Given) (i : ImageView) (b : Bounds) → IsLinkedBy g i b → b.most ≤ 63 → IsImage i → Sound i → (picker : PickerName) (policy : PolicyName) (bound : ℕ) (input : List ℕ) (ran : Ran Here) → IsNamedRun i picker policy bound input ran → IsRunOf g input ran }
 {
-    runs_as_source();
+    runs_of_linked_images();
     runs_of_images_that_stay_alone();
 }

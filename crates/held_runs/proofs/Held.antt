@@ -40,7 +40,8 @@ pub of_code : (g : Given) (objects : List ObjectView) (input : List ℕ) (a : An
 of_code g objects input a one runs code (of_nothing e) = subst (λ (ran : Option (Ran Here)). OfLinked g input ran) (sym e) tt
 of_code g objects input a one runs code (of_image i links picker policy bound ran run e) =
     let same : code.image ≡ i = one objects code.image i code.links links in
-    let all : IsRunOf g input ran = runs g i (subst (λ z. IsShown g z) same code.code) (subst IsImage same code.whole) (subst Sound same code.sound) picker policy bound input ran run in
+    let all : IsRunOf g input ran = runs g i (subst (λ z. IsShown g z) same code.code) (subst IsImage same code.whole)
+    (subst Sound same code.sound) picker policy bound input ran run in
     subst (λ (z : Option (Ran Here)). OfLinked g input z) (sym e) all
 
 -- nothing was run where objects can't be linked

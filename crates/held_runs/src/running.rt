@@ -16,7 +16,7 @@ ghost use Rattle.tx_code.specs.WellFormed.{IsObject};
 ghost use Rattle.held_runs.specs.HeldRuns.{IsOfObjects, LinkToCode, IsHeld, RunsHeld, RunsHeldImage};
 
 use bounded_runs::is_run_of;
-use bounded_runs::laws::runs_of_linked_images;
+use bounded_runs::laws::linked_images_keep_the_turn_bound;
 use code_verify::verify;
 use cpp_tree::Program;
 use exec_command::refusals::bad_link;
@@ -142,7 +142,7 @@ pub fn held_against_source(
         return replayed(alloc, program, choices, input, decision);
     }
     one_image();
-    runs_of_linked_images();
+    linked_images_keep_the_turn_bound();
     Ok(decision)
 }
 

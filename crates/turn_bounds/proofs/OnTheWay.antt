@@ -25,9 +25,6 @@ le_here n m h = omega (arith, h)
 le_self : (n : ℕ) → n ≤ n
 le_self n = omega arith
 
-sum_one : (x y r m n : ℕ) → x ≡ y → r ≤ m → x + m ≤ n → y + r ≤ n
-sum_one x y r m n e h g = omega (arith, e, h, g)
-
 sum_on : (x y c l m n : ℕ) → x ≡ y → c + l ≤ m → x + m ≤ n → (y + c) + l ≤ n
 sum_on x y c l m n e h g = omega (arith, e, h, g)
 

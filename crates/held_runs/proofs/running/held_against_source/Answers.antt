@@ -13,5 +13,5 @@ returns c =
     record {
       same = refl;
       source = of_code g (map object_view c.args.objects.now) c.args.input.now c.args.decision.answer c.one_image.ensures
-          (λ g i shown. c.runs_of_linked_images.ensures g i _ shown few) (c.is_checked.ensures (search rules)) c.requires.run;
+          (λ g i shown. c.linked_images_keep_the_turn_bound.ensures g i _ shown few) (c.is_checked.ensures (search rules)) c.requires.run;
     }

@@ -1,6 +1,6 @@
 use Rattle.turn_bounds.proofs.CheckedBounds.{units_enough}
 use Rattle.turn_bounds.specs.Alone.{zeros_in}
-use Rattle.bounded_runs.proofs.laws.runs_of_linked_images.Goals as goal
+use Rattle.bounded_runs.proofs.laws.linked_images_keep_the_turn_bound.Goals as goal
 
 pub returns : goal.returns
 returns c = λ g i b linked few image sound picker policy bound input ran run.
