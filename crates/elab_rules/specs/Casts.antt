@@ -23,10 +23,10 @@ use Rattle.elab_ctx.specs.cpp_tree.Notation.{plain}
 use Rattle.elab_ctx.specs.cpp_tree.Typing.{form_in, is_volatile_typ, unqualified, is_class_typ, is_void, kind_in, is_class_prvalue}
 use Rattle.elab_ctx.specs.Ctx.{Ctx, Work}
 use Rattle.elab_ctx.specs.Steps.{and_then, expect, check, Operand, Made}
-use Rattle.elab_rules.specs.Values.{size_type, retyped, number, valued, converted}
+use Rattle.elab_rules.specs.Values.{size_type, retyped, number, valued, converted, is_exception_form}
 use Rattle.elab_rules.specs.Objects.{size_of, fields, traits_at}
 use Rattle.elab_rules.specs.Initialising.{initial, object_of, class_from, from_values, with_tree, class_number}
-use Rattle.elab_rules.specs.Operators.{value, dropped, is_sized, is_function}
+use Rattle.elab_rules.specs.Operators.{value, dropped, is_function, measurable, without_value}
 use Rattle.elab_ctx.specs.tx_events.declared.TheConstants.{EXCEPTION_SIZE}
 
 -- Casts
@@ -36,10 +36,6 @@ abbrev pub is_numeric : Form → Bool
 is_numeric (int k) = true
 is_numeric (enum n s) = true
 is_numeric f = false
-
-abbrev pub is_exception_form : Form → Bool
-is_exception_form (tx_ex t) = true
-is_exception_form f = false
 
 -- an initialiser as an expression: that of a `std::tx_exception` builds the value in it, and a `Retype` says what the expression is
 -- it stands where the expression does
@@ -85,7 +81,7 @@ functional c w at t os = if is_class_typ t then and_then (from_values c w (unqua
 -- `sizeof` (C++14 5.3.3)
 abbrev pub size_literal : Ctx → At → At → Typ → Result Tree ElabFault
 size_literal c at operand t = and_then (check at BadOperand (not (is_function (referred t)) && not (is_void (referred t))))
-    (λ y. and_then (check at Incomplete (is_sized c (referred t))) (λ z. Ok (number ULong (size_of c.classes (referred t)) at)))
+    (λ y. and_then (measurable c at (referred t)) (λ z. Ok (number ULong (size_of c.classes (referred t)) at)))
 
 -- `throw` (C++14 15.1, profile: integers, enums and what is copied byte by byte)
 
@@ -112,7 +108,7 @@ throw_in c w at f o = and_then (check at BadThrow (is_thrown_scalar (form_in (ty
 
 abbrev pub throw : Ctx → Work → At → List Operand → Result Made ElabFault
 throw c w at [] = Ok (record { tree = node Rethrow (plain void) Prvalue at none; work = w })
-throw c w at (o ∷ os) = throw_in c w at (form_in (typ_in o.tree)) o
+throw c w at (o ∷ os) = and_then (throw_in c w at (form_in (typ_in o.tree)) o) (λ (m : Made). Ok (with_tree (without_value at) m))
 
 -- String literals (C++14 2.14.5): a global of its own for each place
 

@@ -28,7 +28,7 @@ use Rattle.elab_ctx.specs.cpp_tree.Notation.{plain}
 use Rattle.elab_ctx.specs.cpp_tree.Typing.{form_in}
 use Rattle.elab_ctx.specs.Ctx.{Ctx, Work, Capture, Closure}
 use Rattle.elab_ctx.specs.Steps.{and_then, expect, check, Operand, Made, MadeAll, Typed, TypedAll, at_of, spelling, value_at, token_place}
-use Rattle.elab_rules.specs.Values.{retyped, valued, stored, part_at}
+use Rattle.elab_rules.specs.Values.{same_at, retyped, valued, stored, part_at}
 use Rattle.elab_rules.specs.Objects.{Part, parts_of, destroys}
 use Rattle.elab_rules.specs.Initialising.{class_from, same_number, class_number, closure_part}
 use Rattle.elab_rules.specs.Constants.{word_in, constant}
@@ -142,9 +142,6 @@ leaf_or_row s c w k.ThrowExpression at t = row_of s c w k.ThrowExpression at t [
 leaf_or_row s c w kind at t = leaf_of s c w kind at t
 
 -- Lambdas: each was made before the full-expression, and is found by its place
-
-abbrev pub same_at : At → At → Bool
-same_at a b = a.source == b.source && a.offset == b.offset
 
 abbrev pub closure_at : At → List Closure → Option Closure
 closure_at at [] = None

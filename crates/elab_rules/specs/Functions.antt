@@ -202,7 +202,7 @@ abbrev pub word_item : Typ → Typ
 word_item t = if is_class_typ t then plain (ptr t) else t
 
 abbrev pub result_items : Typ → List Typ
-result_items t = if is_class_typ t then plain (ptr (unqualified t)) ∷ [] else []
+result_items t = if is_class_typ t then plain (ptr t) ∷ [] else []
 
 abbrev pub this_items : Option Typ → List Typ
 this_items (Some t) = plain (ptr t) ∷ []
@@ -275,7 +275,7 @@ zero_result t at = node (forms.Literal 0) (unqualified t) Prvalue at none
 
 abbrev pub result_zeroed : Ctx → Typ → At → Tree
 result_zeroed c t at = void_at forms.Init at (two (void_at (forms.Load ULong false) at
-    (one (node (forms.Local 0) (plain (ptr (unqualified t))) Lvalue at none))) (untyped (zeros c.classes at (unqualified t))))
+    (one (node (forms.Local 0) (plain (ptr t)) Lvalue at none))) (untyped (zeros c.classes at t)))
 
 abbrev pub end_of : Ctx → Typ → At → Trees
 end_of c t at = if is_void t then none else (if is_class_typ t then two (result_zeroed c t at) (void_at forms.Return at none) else one

@@ -27,9 +27,9 @@ use Rattle.elab_ctx.specs.cpp_tree.declared.faults.ElabFault.{ElabFault}
 use Rattle.elab_ctx.specs.cpp_tree.declared.faults.ElabFault.TheVariants.{Ill}
 use Rattle.elab_ctx.specs.cpp_tree.declared.faults.IllRule.TheVariants.{NoConversion, NoViable, Ambiguous, Incomplete, AbstractObject, NoDefault, NoCopy}
 use Rattle.elab_ctx.specs.cpp_tree.declared.faults.IllRule.TheVariants.{BadInit, OutOfProfile, BadDeclaration}
-use Rattle.elab_ctx.specs.cpp_tree.Trees.{Tree, node, Trees, none, more, one, two, three, kind_of, typ_in, cat_of, kids_of, nowhere}
+use Rattle.elab_ctx.specs.cpp_tree.Trees.{Tree, node, Trees, none, more, one, two, three, first, kind_of, typ_in, cat_of, kids_of, nowhere}
 use Rattle.elab_ctx.specs.cpp_tree.Notation.{plain}
-use Rattle.elab_ctx.specs.cpp_tree.Typing.{form_in, is_volatile_typ, unqualified, qualified, is_class_typ, kind_in, is_class_prvalue}
+use Rattle.elab_ctx.specs.cpp_tree.Typing.{form_in, is_volatile_typ, unqualified, qualified, is_class_typ, without_exception, kind_in, is_class_prvalue}
 use Rattle.elab_ctx.specs.Ctx.{Ctx, Work, Func, Traits, Special, absent, trivial, function, with_item, next_place}
 use Rattle.elab_ctx.specs.Steps.{and_then, expect, check, Operand, Made, MadeAll}
 use Rattle.elab_rules.specs.Values.{place_of, retyped, valued, stepped, stored, builder, temporary, converted}
@@ -182,15 +182,16 @@ abbrev pub copied_in_place : Ctx → Work → ℕ → Typ → At → Operand →
 copied_in_place c w n t at o = with_tree (λ (s : Tree). node CopyFrom t Prvalue at (two (as_source o.at n s) (copies c.classes at t)))
     (object_of c w o.at o.tree)
 
--- the initialiser of an object of this type, which has the qualifiers of that object; what is called has its own type
-abbrev pub rebuilt : TKind → Typ → Tree → Tree
-rebuilt (Construct k) t e = node (Construct k) t (cat_of e) (place_of e) (kids_of e)
-rebuilt CopyFrom t e = node CopyFrom t (cat_of e) (place_of e) (kids_of e)
-rebuilt Pieces t e = node Pieces t (cat_of e) (place_of e) (kids_of e)
-rebuilt kind t e = e
+-- the initialiser of an object of this type, which has the qualifiers of that object, and its parts have them too; what is called has its own type
+abbrev pub rebuilt : List Class → TKind → Typ → Tree → Tree
+rebuilt classes (Construct k) t e = node (Construct k) t (cat_of e) (place_of e) (kids_of e)
+rebuilt classes (Store k v) t e = node (Store k (is_volatile_typ t)) t (cat_of e) (place_of e) (kids_of e)
+rebuilt classes CopyFrom t e = node CopyFrom t (cat_of e) (place_of e) (two (first (kids_of e)) (copies classes (place_of e) t))
+rebuilt classes Pieces t e = zeros classes (place_of e) t
+rebuilt classes kind t e = e
 
-abbrev pub building : Typ → Tree → Tree
-building t e = rebuilt (kind_of e) t e
+abbrev pub building : List Class → Typ → Tree → Tree
+building classes t e = if typ_eq t (typ_in e) then e else rebuilt classes (kind_of e) t e
 
 -- a word that is passed: an object of its own for a parameter of class type, made first, else a value or what a reference is bound to
 abbrev pub argument_object : Work → Typ → At → Trees → Made → Made
@@ -256,26 +257,45 @@ copy_of_held c None = trivial
 abbrev pub closure_part : Ctx → At → Part → Tree
 closure_part c at p = copied_part c at p.typ (copy_of_held c (class_number (element_of p.typ)))
 
-abbrev pub closure_pieces : Ctx → At → List Part → Trees
-closure_pieces c at [] = none
-closure_pieces c at (p ∷ ps) = more (node (Piece p.offset) p.typ Prvalue at (more (closure_part c at p) (destroys c at p.typ))) (closure_pieces c at ps)
+-- in a lambda's object with these qualifiers
+abbrev pub closure_piece : Ctx → At → Part → Tree
+closure_piece c at p = node (Piece p.offset) p.typ Prvalue at (more (closure_part c at p) (destroys c at p.typ))
+
+abbrev pub qualified_part : Bool → Bool → Part → Part
+qualified_part q v p = record p { typ = qualified q v p.typ }
+
+abbrev pub closure_pieces : Ctx → At → Bool → Bool → List Part → Trees
+closure_pieces c at q v [] = none
+closure_pieces c at q v (p ∷ ps) = more (closure_piece c at (qualified_part q v p)) (closure_pieces c at q v ps)
+
+abbrev pub closure_copied : Ctx → ℕ → Bool → Bool → At → Tree → Tree
+closure_copied c n q v at s = node CopyFrom (typ (closure n) q v) Prvalue at
+    (two s (node Pieces (typ (closure n) q v) Prvalue at (closure_pieces c at q v (parts_of c.classes n))))
+
+-- a lambda's object of its own type, without qualifiers
+abbrev pub is_closure_itself : ℕ → Bool → Bool → Tree → Bool
+is_closure_itself n q v e = is_prvalue_of_class n e && typ_eq (typ (closure n) q v) (typ_in e)
+
+-- a `std::tx_exception` of this type: the value in it has its qualifiers
+abbrev pub exception_built : List Class → Typ → Tree → Tree
+exception_built classes t e = if typ_eq t (typ_in e) then e else building classes (without_exception t) e
+
+abbrev pub exception_copied : Ctx → Typ → At → Tree → Tree
+exception_copied c t at s = node CopyFrom t Prvalue at (two s (copies c.classes at (without_exception t)))
 
 -- an object of class type from an expression (C++14 8.5 p17): a prvalue of the class is its own initialiser
 abbrev pub class_from : Ctx → Work → Typ → At → Operand → Result Made ElabFault
-class_from c w (typ (closure n) q v) at o = if is_prvalue_of_class n o.tree then Ok (record { tree = o.tree; work = w }) else
+class_from c w (typ (closure n) q v) at o = if is_closure_itself n q v o.tree then Ok (record { tree = o.tree; work = w }) else
     and_then (check (o.at) NoConversion (same_number n (class_number (typ_in o.tree))))
-    (λ y. Ok (record {
-      tree = node CopyFrom (typ (closure n) q v) Prvalue at
-          (two o.tree (node Pieces (typ (closure n) false false) Prvalue at (closure_pieces c at (parts_of c.classes n))));
-      work = w;
-    }))
+    (λ y. Ok (with_tree (closure_copied c n q v at) (object_of c w o.at o.tree)))
 class_from c w (typ (class n) q v) at o = and_then (makeable c at n)
-    (λ k. if is_prvalue_of_class n o.tree then Ok (record { tree = building (typ (class n) q v) o.tree; work = w }) else
+    (λ k. if is_prvalue_of_class n o.tree then Ok (record { tree = building c.classes (typ (class n) q v) o.tree; work = w }) else
     and_then (check (o.at) NoConversion (is_same_or_base c.classes (class_number (typ_in o.tree)) (Some n)))
     (λ y. copied_object c w n (typ (class n) q v) at o))
 class_from c w (typ (tx_ex t) q v) at o = and_then (check (o.at) NoConversion (form_eq (form_in (typ_in o.tree)) (tx_ex t))) (λ y.
-    if is_class_prvalue (typ_in o.tree) (cat_of o.tree) then Ok (record { tree = builder o.tree; work = w }) else Ok
-    (record { tree = node CopyFrom (typ (tx_ex t) q v) Prvalue at (two o.tree (copies c.classes at t)); work = w }))
+    if is_class_prvalue (typ_in o.tree) (cat_of o.tree) then Ok
+    (record { tree = exception_built c.classes (typ (tx_ex t) q v) (builder o.tree); work = w }) else Ok
+    (record { tree = exception_copied c (typ (tx_ex t) q v) at o.tree; work = w }))
 class_from c w t at o = Err (Ill (o.at) NoConversion)
 
 abbrev pub passed : Ctx → Work → Typ → Operand → Result Made ElabFault
@@ -332,7 +352,7 @@ first_tree [] = None
 -- an object of a class by one of its constructors
 abbrev pub constructed : Ctx → Work → ℕ → Typ → At → List Operand → Result Made ElabFault
 constructed c w n t at [] = and_then (from_nothing c t at) (λ (e : Tree). Ok (record { tree = e; work = w }))
-constructed c w n t at (o ∷ os) = and_then (makeable c at n) (λ k. if is_prvalue_itself n (o ∷ os) then Ok (record { tree = building t o.tree; work = w }) else
+constructed c w n t at (o ∷ os) = and_then (makeable c at n) (λ k. if is_prvalue_itself n (o ∷ os) then Ok (record { tree = building c.classes t o.tree; work = w }) else
     and_then (meant at (chosen c.classes (makers c n) (arguments (o ∷ os)))) (λ i. constructed_by c w n t at (o ∷ os) (constructor_at c n i)))
 
 abbrev pub only : List Operand → Option Operand
@@ -355,8 +375,8 @@ is_exception_itself t os = false
 abbrev pub from_values : Ctx → Work → Typ → At → List Operand → Result Made ElabFault
 from_values c w (typ (class n) q v) at os = constructed c w n (typ (class n) q v) at os
 from_values c w (typ (tx_ex t) q v) at [] = Err (Ill at NoDefault)
-from_values c w (typ (tx_ex t) q v) at (o ∷ os) = if is_exception_itself t (o ∷ os) then class_from c w (typ (tx_ex t) q v) at o else exception_from c w t at
-    (o ∷ os)
+from_values c w (typ (tx_ex t) q v) at (o ∷ os) = if is_exception_itself t (o ∷ os) then class_from c w (typ (tx_ex t) q v) at o else
+    exception_from c w (without_exception (typ (tx_ex t) q v)) at (o ∷ os)
 from_values c w (typ (array e n) q v) at (o ∷ os) = Err (Ill at BadInit)
 from_values c w t at [] = and_then (from_nothing c t at) (λ (e : Tree). Ok (record { tree = e; work = w }))
 from_values c w t at (o ∷ os) = if is_class_typ t then class_from c w t at o else and_then (expect at BadInit (only (o ∷ os)))

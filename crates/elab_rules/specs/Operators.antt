@@ -1,5 +1,5 @@
 -- Operators on scalars (C++14 5.2.1, 5.2.6, 5.3.1, 5.6 to 5.18), from operands that are typed.
-use Rattle.std.specs.Prelude.{ℕ, ◌==◌, Bool, true, false, not, ◌&&◌, ◌||◌, List, [], ◌∷◌, ◌^◌, ◌-◌, Option, Some, None, is_some, is_none, Result, Ok, Err}
+use Rattle.std.specs.Prelude.{ℕ, ◌==◌, nat_le, Bool, true, false, not, ◌&&◌, ◌||◌, List, [], ◌∷◌, ◌^◌, ◌-◌, Option, Some, None, is_some, is_none, Result, Ok, Err}
 use Rattle.std.specs.Prelude.{if◌then◌else◌, slice_get, option_map, codes}
 use Rattle.std.specs.Str.{bytes_eq}
 use Rattle.elab_ctx.specs.tx_ints.declared.kinds.IntKind.{IntKind}
@@ -19,17 +19,19 @@ use Rattle.elab_ctx.specs.cpp_tree.declared.kinds.TKind.{TKind}
 use Rattle.elab_ctx.specs.cpp_tree.declared.kinds.TKind.TheVariants.{Literal, Local, Global, Load, Retype, Binary, Conditional, Comma, Assign, Update}
 use Rattle.elab_ctx.specs.cpp_tree.declared.kinds.TKind.TheVariants.{CopyAssign, Throw, Rethrow}
 use Rattle.elab_ctx.specs.cpp_tree.declared.faults.ElabFault.{ElabFault}
-use Rattle.elab_ctx.specs.cpp_tree.declared.faults.ElabFault.TheVariants.{Ill}
+use Rattle.elab_ctx.specs.cpp_tree.declared.faults.ElabFault.TheVariants.{Ill, Limit}
+use Rattle.elab_ctx.specs.cpp_tree.declared.faults.LimitKind.TheVariants.{Size}
+use Rattle.elab_ctx.specs.cpp_layout.declared.extents.TheConstants.{GREATEST_SIZE}
 use Rattle.elab_ctx.specs.cpp_tree.declared.faults.IllRule.TheVariants.{NoConversion, BadOperand, NotLvalue, ConstTarget, Incomplete, NoCopy, OutOfProfile}
 use Rattle.elab_ctx.specs.cpp_tree.Trees.{Tree, node, Trees, none, more, one, two, three, typ_in, cat_of, kind_of}
 use Rattle.elab_ctx.specs.cpp_tree.Notation.{plain}
-use Rattle.elab_ctx.specs.cpp_tree.Typing.{form_in, is_volatile_typ, unqualified, is_class_typ, is_void, kind_in, is_class_prvalue}
+use Rattle.elab_ctx.specs.cpp_tree.Typing.{form_in, is_volatile_typ, unqualified, is_class_typ, is_void, kind_in, is_class_prvalue, goes_both_ways}
 use Rattle.elab_ctx.specs.Ctx.{Ctx, Work}
 use Rattle.elab_ctx.specs.Steps.{and_then, expect, check, Operand, Made}
-use Rattle.elab_rules.specs.Values.{bool_type, int_type, size_type, retyped, number, operated, valued, converted, in_kind, stepped}
+use Rattle.elab_rules.specs.Values.{place_of, same_at, bool_type, int_type, size_type, retyped, number, operated, valued, converted, in_kind, stepped, is_exception_form}
 use Rattle.elab_rules.specs.Objects.{size_of, copies, traits_at}
 use Rattle.elab_rules.specs.Constants.{word_in}
-use Rattle.elab_rules.specs.Initialising.{initial, object_of, class_from, class_number, as_source, is_same_or_base, with_tree}
+use Rattle.elab_rules.specs.Initialising.{initial, object_of, class_from, class_number, as_source, is_same_or_base, with_tree, exception_copied}
 
 -- Names of operators
 
@@ -127,9 +129,16 @@ moved c op at t p n = operated op ULong (unqualified (typ_in (value p))) at (val
 abbrev pub moved_back : Ctx → At → Typ → Operand → Operand → Tree
 moved_back c at t n p = operated Add ULong (unqualified (typ_in (value p))) at (scaled c at t n) (value p)
 
+-- no object is larger than the greatest one (profile); a type that was written before its class was complete may be
+abbrev pub within_greatest : Ctx → At → Typ → Result Bool ElabFault
+within_greatest c at t = if nat_le (size_of c.classes t) GREATEST_SIZE then Ok true else Err (Limit at Size)
+
+abbrev pub measurable : Ctx → At → Typ → Result Bool ElabFault
+measurable c at t = and_then (check at Incomplete (is_sized c t)) (λ y. within_greatest c at t)
+
 -- the pointed type is one to whose objects a pointer can be moved
 abbrev pub movable : Ctx → At → At → Typ → Result Bool ElabFault
-movable c at p t = and_then (check at BadOperand (not (is_function t))) (λ y. check p Incomplete (is_sized c t))
+movable c at p t = and_then (check at BadOperand (not (is_function t))) (λ y. measurable c p t)
 
 abbrev pub difference : Ctx → At → Typ → Operand → Operand → Tree
 difference c at t p q = operated Div Long (plain (int Long)) at (in_kind at Long (operated Sub ULong size_type at (value p) (value q)))
@@ -301,13 +310,38 @@ is_throw Throw = true
 is_throw Rethrow = true
 is_throw kind = false
 
+-- what says that an expression has no value: a `throw` is one of type `void` (C++14 15.1 p1)
+abbrev pub without_value : At → Tree → Tree
+without_value at e = retyped at (plain void) Prvalue e
+
+-- the `throw` that an expression is, by itself; every other expression as it is
+abbrev pub bare_throw : Tree → Tree
+bare_throw (node Retype t cat at (more e none)) = if is_throw (kind_of e) && same_at at (place_of e) then e else node Retype t cat at (one e)
+bare_throw e = e
+
+abbrev pub throws : Tree → Bool
+throws e = is_throw (kind_of (bare_throw e))
+
 abbrev pub dropped : Ctx → Work → Operand → Made
-dropped c w o = if is_throw (kind_of o.tree) then record { tree = o.tree; work = w } else (
+dropped c w o = if throws o.tree then record { tree = bare_throw o.tree; work = w } else (
     if is_volatile_scalar (typ_in o.tree) && is_read_when_dropped o.tree then record { tree = value o; work = w } else object_of c w o.at o.tree)
 
+-- a `std::tx_exception` that is written with its value
+abbrev pub is_written_exception : Tree → Bool
+is_written_exception (node Retype (typ (tx_ex t) d v) Prvalue at kids) = true
+is_written_exception e = false
+
+-- an operand beside another: such an exception is a copy of the object that is built
+abbrev pub settled : Ctx → Work → Operand → Made
+settled c w o = if is_written_exception o.tree then with_tree (exception_copied c (typ_in o.tree) o.at) (object_of c w o.at o.tree) else
+    record { tree = o.tree; work = w }
+
 -- `a, b` (C++14 5.18)
+abbrev pub comma_of : At → Tree → Tree → Tree
+comma_of at x y = node Comma (typ_in y) (cat_of y) at (two x y)
+
 abbrev pub comma : Ctx → Work → At → Operand → Operand → Made
-comma c w at a b = with_tree (λ (x : Tree). node Comma (typ_in b.tree) (cat_of b.tree) at (two x b.tree)) (dropped c w a)
+comma c w at a b = with_tree (comma_of at (dropped c w a).tree) (settled c (dropped c w a).work b)
 
 -- `? :` (C++14 5.16)
 
@@ -336,10 +370,36 @@ two_values at test f (ptr t) a b = and_then (check at BadOperand (is_null a))
 two_values at test f g a b = if form_eq f g && is_some (kind_in f) then Ok
     (conditional_node at (plain f) Prvalue test (value a) (value b)) else two_numbers at test (arithmetic f) (arithmetic g) a b
 
+-- two objects of a class: the type has the qualifiers of those that are prvalues
+abbrev pub object_type : Tree → Typ
+object_type e = if is_class_prvalue (typ_in e) (cat_of e) then typ_in e else unqualified (typ_in e)
+
+abbrev pub joined_type : Typ → Typ → Typ
+joined_type (typ f c v) (typ g d w) = typ f (c || d) (v || w)
+
+abbrev pub common_class : Operand → Operand → Typ
+common_class a b = joined_type (object_type a.tree) (object_type b.tree)
+
+-- a class prvalue that builds no object of exactly this type: what is called or chosen has its own
+abbrev pub has_own_type : Typ → Tree → Bool
+has_own_type t e = is_written_exception e
+    || (not (typ_eq t (typ_in e)) && (goes_both_ways (kind_of e) || is_exception_form (form_in (typ_in e))))
+
+abbrev pub is_other_prvalue : Typ → Tree → Bool
+is_other_prvalue t e = is_class_prvalue (typ_in e) (cat_of e) && has_own_type t e
+
+abbrev pub object_operand : Operand → Tree → Operand
+object_operand o e = record { tree = e; at = o.at; zero = false }
+
+-- an object of exactly this type: of such a prvalue, a copy
+abbrev pub object_as : Ctx → Work → Typ → Operand → Result Made ElabFault
+object_as c w t o = if is_other_prvalue t o.tree then
+    class_from c (object_of c w o.at o.tree).work t o.at (object_operand o (object_of c w o.at o.tree).tree) else class_from c w t o.at o
+
 abbrev pub two_objects : Ctx → Work → At → Tree → Operand → Operand → Result Made ElabFault
-two_objects c w at test a b = and_then (class_from c w (unqualified (typ_in a.tree)) a.at a)
-    (λ (x : Made). and_then (class_from c x.work (unqualified (typ_in a.tree)) b.at b)
-    (λ (y : Made). Ok (record { tree = conditional_node at (unqualified (typ_in a.tree)) Prvalue test x.tree y.tree; work = y.work })))
+two_objects c w at test a b = and_then (object_as c w (common_class a b) a)
+    (λ (x : Made). and_then (object_as c x.work (common_class a b) b)
+    (λ (y : Made). Ok (record { tree = conditional_node at (common_class a b) Prvalue test x.tree y.tree; work = y.work })))
 
 -- an operand beside one that throws: an lvalue, a class prvalue or nothing stays as it is
 abbrev pub kept_value : Operand → Tree
@@ -348,12 +408,16 @@ kept_value o = if is_lvalue (cat_of o.tree) then o.tree else value o
 abbrev pub same_work : Work → Result Tree ElabFault → Result Made ElabFault
 same_work w r = and_then r (λ (t : Tree). Ok (record { tree = t; work = w }))
 
+-- an operand beside one that throws
+abbrev pub conditional_like : At → Tree → Tree → Tree → Tree → Tree
+conditional_like at like test x y = conditional_node at (typ_in like) (cat_of like) test x y
+
 abbrev pub branches : Ctx → Work → At → Tree → Operand → Operand → Result Made ElabFault
 branches c w at test a b =
-    if is_throw (kind_of a.tree) && is_throw (kind_of b.tree) then Ok
-    (record { tree = conditional_node at (plain void) Prvalue test a.tree b.tree; work = w }) else (
-    if is_throw (kind_of b.tree) then Ok (record { tree = conditional_node at (typ_in a.tree) (cat_of a.tree) test a.tree b.tree; work = w }) else (
-    if is_throw (kind_of a.tree) then Ok (record { tree = conditional_node at (typ_in b.tree) (cat_of b.tree) test a.tree b.tree; work = w }) else (
+    if throws a.tree && throws b.tree then Ok
+    (record { tree = conditional_node at (plain void) Prvalue test (bare_throw a.tree) (bare_throw b.tree); work = w }) else (
+    if throws b.tree then Ok (with_tree (λ (x : Tree). conditional_like at x test x (bare_throw b.tree)) (settled c w a)) else (
+    if throws a.tree then Ok (with_tree (λ (y : Tree). conditional_like at y test (bare_throw a.tree) y) (settled c w b)) else (
     if same_lvalues a b || (is_void (typ_in a.tree) && is_void (typ_in b.tree)) then Ok
     (record { tree = conditional_node at (typ_in a.tree) (cat_of a.tree) test a.tree b.tree; work = w }) else (
     if both_of_class a b then two_objects c w at test a b else same_work w (two_values at test (value_form a) (value_form b) a b)))))

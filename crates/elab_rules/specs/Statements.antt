@@ -41,11 +41,11 @@ use Rattle.elab_ctx.specs.declared.env.Label.TheVariants.{Outside, Direct as Dir
 use Rattle.elab_ctx.specs.Ctx.{Ctx, Work, Variable, Returns, known, deduced, Labels, Func, Special, absent, trivial, function, opened, closed, with_variable}
 use Rattle.elab_ctx.specs.Ctx.{with_item, next_place}
 use Rattle.elab_ctx.specs.Steps.{and_then, expect, check, Operand, Made, Typed, TypedAll, at_of, spelling, token_place}
-use Rattle.elab_rules.specs.Values.{bool_type, retyped, number, stored, converted}
+use Rattle.elab_rules.specs.Values.{place_of, bool_type, retyped, number, stored, converted}
 use Rattle.elab_rules.specs.Objects.{destroys, element_of, fields, traits_at, size_of, followed_by}
-use Rattle.elab_rules.specs.Initialising.{conversion, initial, class_from, from_nothing, from_values, scalar_from, func_at, class_number, is_prvalue_of_class}
+use Rattle.elab_rules.specs.Initialising.{conversion, initial, class_from, from_nothing, from_values, scalar_from, func_at, class_number, is_prvalue_of_class, seen_as}
 use Rattle.elab_rules.specs.Constants.{constant}
-use Rattle.elab_rules.specs.Operators.{value, truth, dropped, true_at, arithmetic, is_complete, is_throw}
+use Rattle.elab_rules.specs.Operators.{value, truth, dropped, true_at, arithmetic, is_complete, is_throw, without_value, bare_throw}
 use Rattle.elab_rules.specs.Names.{is_const_typ}
 use Rattle.elab_rules.specs.Sizes.{typ_sized}
 use Rattle.elab_rules.specs.Strings.{string_bytes}
@@ -98,8 +98,15 @@ abbrev mutual
   hold_temporary none = false
   hold_temporary (more t ts) = holds_temporary t || hold_temporary ts
 
+abbrev pub whole_of : At → Tree → Tree
+whole_of at e = node forms.FullExpression (typ_in e) (cat_of e) at (one e)
+
+-- a `throw` of an object makes none
+abbrev pub throws_object : Tree → Bool
+throws_object e = is_throw (kind_of e) && is_class_typ (typ_in e)
+
 abbrev pub whole_if : Bool → At → Tree → Tree
-whole_if true at e = node forms.FullExpression (typ_in e) (cat_of e) at (one e)
+whole_if true at e = whole_of at (if throws_object e then without_value (place_of e) e else e)
 whole_if false at e = e
 
 -- an expression or an initialiser as a whole
@@ -431,13 +438,18 @@ abbrev pub class_returned : At → Typ → Full → Made → Tree
 class_returned at t f m = statement (forms.Block false) at
     (two (statement forms.Init at (two (result_object t at) (full f.operand.at m.tree))) (return_node at none))
 
+-- behind the temporaries of a full-expression the object that a result refers to has the type that is written
+abbrev pub result_of : Typ → At → Tree → Tree
+result_of (typ (ref u) d v) at e = if holds_temporary e then seen_as at u e else e
+result_of t at e = e
+
 abbrev pub return_value : At → Typ → Full → Result Done ElabFault
-return_value at (typ void d v) f = and_then (check at BadReturn (is_void (typ_in f.operand.tree) || is_throw (kind_of f.operand.tree)))
-    (λ y. done (one (statement (forms.Block false) at (two (full f.operand.at f.operand.tree) (return_node at none)))) f.state)
+return_value at (typ void d v) f = and_then (check at BadReturn (is_void (typ_in f.operand.tree)))
+    (λ y. done (one (statement (forms.Block false) at (two (full f.operand.at (bare_throw f.operand.tree)) (return_node at none)))) f.state)
 return_value at t f = if is_class_typ t then and_then (class_from f.state.ctx f.state.work t f.operand.at f.operand)
     (λ (m : Made). done (one (class_returned at t f m)) (with_work f.state m.work))
     else and_then (initial f.state.ctx f.state.work t f.operand)
-    (λ (m : Made). done (one (return_node at (one (full f.operand.at m.tree)))) (with_work f.state m.work))
+    (λ (m : Made). done (one (return_node at (one (full f.operand.at (result_of t f.operand.at m.tree))))) (with_work f.state m.work))
 
 abbrev pub with_deduced : State → Option Typ → State
 with_deduced st t = record st { ctx = record st.ctx { returns = deduced t } }

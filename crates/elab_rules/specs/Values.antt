@@ -1,5 +1,5 @@
 -- Values, conversions as nodes, and temporaries (C++14 clause 4, 8.5.3, 12.2).
-use Rattle.std.specs.Prelude.{ℕ, Bool, true, false, ◌&&◌, ◌+◌, List, [], ◌∷◌, Option, Some, None, Result, Ok, Err, if◌then◌else◌}
+use Rattle.std.specs.Prelude.{ℕ, ◌==◌, Bool, true, false, ◌&&◌, ◌+◌, List, [], ◌∷◌, Option, Some, None, Result, Ok, Err, if◌then◌else◌}
 use Rattle.elab_ctx.specs.tx_ints.declared.kinds.IntKind.{IntKind}
 use Rattle.elab_ctx.specs.tx_ints.declared.kinds.IntKind.TheVariants.{Bool as BoolKind, Int, ULong, Long}
 use Rattle.elab_ctx.specs.tx_ints.declared.kinds.BinOp.{BinOp}
@@ -30,6 +30,13 @@ use Rattle.elab_ctx.specs.Steps.{and_then, expect, Operand, Made}
 
 abbrev pub place_of : Tree → At
 place_of (node kind t cat at kids) = at
+
+abbrev pub same_at : At → At → Bool
+same_at a b = a.source == b.source && a.offset == b.offset
+
+abbrev pub is_exception_form : Form → Bool
+is_exception_form (tx_ex t) = true
+is_exception_form f = false
 
 abbrev pub bool_type : Typ
 bool_type = plain (int BoolKind)
