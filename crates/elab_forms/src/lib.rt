@@ -5,7 +5,11 @@ pub mod assignments;
 pub mod below;
 pub mod conditionals;
 pub mod drops;
+pub mod exceptions;
+mod objects;
+pub mod throws;
 
 pub use assignments::assignment;
 pub use conditionals::conditional;
 pub use drops::{comma, dropped};
+pub use throws::{bare_throw, throws};
