@@ -14,7 +14,7 @@ ghost use Rattle.elab_forms.specs.Rows.{both_stay, beside_throw, behind_throw, t
 
 use crate::exceptions::settled;
 use crate::objects::{common_class, object_as};
-use crate::throws::{bare_throw, throws};
+use crate::thrown::{bare_throw, throws};
 use elab_make::below::{
     At, Cat, ElabFault, Env, IllRule, IntKind, Operand, Shape, TKind, TNode, TNodeId, Ty, Work,
     copy, equal_shapes, equal_types, is_class_type, kind_of, node_at, pointer_to, unqualified_type,

@@ -11,7 +11,7 @@ ghost use Rattle.elab_make.specs.elab_rules.Operators.{dropped, comma_of, comma,
 ghost use Rattle.elab_forms.specs.Parts.{is_one_prvalue, is_read_lvalue, is_read_by};
 
 use crate::exceptions::settled;
-use crate::throws::{bare_throw, is_throw};
+use crate::thrown::{bare_throw, is_throw};
 use elab_make::below::{
     At, Cat, Env, Operand, TKind, TNode, TNodeId, Ty, Work, add_binary, copy, kids_at, kind_of,
     node_at,

@@ -7,9 +7,9 @@ pub mod conditionals;
 pub mod drops;
 pub mod exceptions;
 mod objects;
-pub mod throws;
+pub mod thrown;
 
 pub use assignments::assignment;
 pub use conditionals::conditional;
 pub use drops::{comma, dropped};
-pub use throws::{bare_throw, throws};
+pub use thrown::{bare_throw, throws};

@@ -21,8 +21,8 @@ pub fn is_throw(nodes: &Vec<TNode>, id: TNodeId) -> bool
     }
 }
 
-// Whether two places are the same.
-fn same_at(a: At, b: At) -> bool
+/// Whether two places are the same.
+pub fn same_at(a: At, b: At) -> bool
     ensures { result ≡ same_at a b }
 {
     a.source == b.source && a.offset == b.offset
