@@ -1,15 +1,14 @@
 -- Trees that a row takes apart, by their kind, type, category and kids.
 use Rattle.std.specs.Prelude.{Bool, true, false, ◌&&◌, if◌then◌else◌}
-use Rattle.elab_make.specs.cpp_types.Typ.{Typ}
 use Rattle.elab_make.specs.cpp_types.declared.classes.At.{At}
 use Rattle.elab_make.specs.cpp_types.declared.ranks.Cat.{Cat}
 use Rattle.elab_make.specs.cpp_types.declared.ranks.Cat.TheVariants.{Lvalue, Prvalue}
 use Rattle.elab_make.specs.cpp_tree.declared.kinds.TKind.{TKind}
 use Rattle.elab_make.specs.cpp_tree.declared.kinds.TKind.TheVariants.{Local, Global, Load, Retype, Binary}
 use Rattle.elab_make.specs.cpp_tree.Trees.{Tree, Trees, none, more, cat_of, kind_of}
-use Rattle.elab_make.specs.cpp_tree.Typing.{is_prvalue, form_in}
+use Rattle.elab_make.specs.cpp_tree.Typing.{is_prvalue}
 use Rattle.elab_make.specs.elab_ctx.Says.{place_in}
-use Rattle.elab_make.specs.elab_rules.Values.{same_at, is_exception_form}
+use Rattle.elab_make.specs.elab_rules.Values.{same_at}
 use Rattle.elab_make.specs.elab_rules.Operators.{is_throw}
 
 abbrev pub is_one_prvalue : Trees → Bool
@@ -36,12 +35,3 @@ throw_or at e other = if is_throw (kind_of e) && same_at at (place_in e) then e 
 abbrev pub only_throw : At → Trees → Tree → Tree
 only_throw at (more e none) other = throw_or at e other
 only_throw at kids other = other
-
-abbrev pub bare_by : TKind → At → Trees → Tree → Tree
-bare_by Retype at kids other = only_throw at kids other
-bare_by kind at kids other = other
-
--- a `std::tx_exception` that is written with its value
-abbrev pub is_written_by : TKind → Cat → Typ → Bool
-is_written_by Retype Prvalue t = is_exception_form (form_in t)
-is_written_by kind cat t = false

@@ -13,7 +13,7 @@ ghost use Rattle.elab_make.specs.elab_rules.Operators.{value, as_kind, as_pointe
 ghost use Rattle.elab_forms.specs.Rows.{both_stay, beside_throw, behind_throw, two_operands, value_or_null, null_or_value, same_scalars, two_scalars, conditional_by};
 
 use crate::exceptions::settled;
-use crate::objects::{common_class, object_as};
+use crate::common_types::{common_class, object_as};
 use crate::thrown::{bare_throw, throws};
 use elab_make::below::{
     At, Cat, ElabFault, Env, IllRule, IntKind, Operand, Shape, TKind, TNode, TNodeId, Ty, Work,

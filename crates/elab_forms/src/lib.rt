@@ -3,10 +3,10 @@
 
 pub mod assignments;
 pub mod below;
+mod common_types;
 pub mod conditionals;
 pub mod drops;
 pub mod exceptions;
-mod objects;
 pub mod thrown;
 
 pub use assignments::assignment;

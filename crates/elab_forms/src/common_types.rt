@@ -65,7 +65,7 @@ fn goes_both_ways(kind: TKind) -> bool
         TKind::Conditional
         | TKind::Comma
         | TKind::FullExpression
-        | TKind::Call(_)
+        | TKind::Call { .. }
         | TKind::VirtualCall { .. }
         | TKind::PointerCall
         | TKind::Throw
