@@ -154,11 +154,11 @@ pub fn building(
     requires { id.0 < length (trees_of nodes.old.items) }
     ensures { IfOk result (λ r. Adds (trees_of nodes.old.items) (trees_of nodes.new.items) r (building_of (classes_of env.now.classes.items) (typ_of ty.now) (tree_at (trees_of nodes.old.items) id))) }
 {
-    let node = node_at(nodes, id);
-    if equal_types(ty, &node.ty) {
+    if equal_types(ty, &node_at(nodes, id).ty) {
         return Ok(id);
     }
-    rebuilt(alloc, env, nodes, node.kind, ty, id)
+    let kind = node_at(nodes, id).kind;
+    rebuilt(alloc, env, nodes, kind, ty, id)
 }
 
 /// A copy of an object of a class, part by part.
