@@ -26,7 +26,8 @@ use Rattle.elab_rules.specs.elab_ctx.Ctx.{Ctx, Work}
 use Rattle.elab_rules.specs.elab_ctx.Steps.{and_then, check, expect, Operand, Made, TypedAll, at_of, spelling}
 use Rattle.elab_rules.specs.Objects.{traits_at}
 use Rattle.elab_rules.specs.Values.{place_of, same_at}
-use Rattle.elab_rules.specs.Initialising.{initial, conversion, class_number, is_same_or_base, as_source, with_tree, object_of, exception_copied}
+use Rattle.elab_rules.specs.Initialising.{initial, conversion, class_number, is_same_or_base, as_source}
+use Rattle.elab_rules.specs.Initialising.{with_tree, object_of, exception_copied}
 use Rattle.elab_rules.specs.Operators.{updated, scaled, value, value_form, arithmetic, assigned, copy_assigned, class_assigned_in, same_object, assignment}
 use Rattle.elab_rules.specs.Operators.{compound_numbers, compound_in, compound, movable, is_sum, same_work, truth, is_throw, is_null, as_pointer}
 use Rattle.elab_rules.specs.Operators.{bare_throw, throws as throws_tree, dropped, is_written_exception, settled, object_type, joined_type, common_class}

@@ -28,7 +28,8 @@ use Rattle.elab_rules.specs.cpp_tree.Notation.{plain}
 use Rattle.elab_rules.specs.elab_ctx.Ctx.{Ctx, Work, Special, absent, trivial, function}
 use Rattle.elab_rules.specs.elab_ctx.Steps.{and_then, expect, check, Operand, Made, Typed, TypedAll, at_of}
 use Rattle.elab_rules.specs.Values.{place_of, number, valued, converted, stepped, is_exception_form}
-use Rattle.elab_rules.specs.Initialising.{initial, bound_by, is_prvalue_of_class, is_closure_itself, same_number, class_number, rebuilt, building, constructed_copy, reference_word}
+use Rattle.elab_rules.specs.Initialising.{initial, bound_by, is_prvalue_of_class, same_number, class_number, rebuilt, constructed_copy, reference_word}
+use Rattle.elab_rules.specs.Initialising.{is_closure_itself, building}
 use Rattle.elab_rules.specs.Initialising.{parameters_at, copied_object, has_copy, meant, makers, argument, arguments, constructor_at, constructed_by, words}
 use Rattle.elab_rules.specs.Initialising.{constructed, from_nothing, makeable, default_by, is_prvalue_itself, class_from, from_values, with_tree}
 use Rattle.elab_rules.specs.Names.{is_tx_exception}
