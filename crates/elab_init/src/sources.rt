@@ -10,6 +10,7 @@ ghost use Rattle.elab_conv.specs.elab_rules.Objects.{copies as copies_by};
 ghost use Rattle.elab_conv.specs.elab_rules.Initialising.{as_base as as_base_of, as_source as as_source_of, copied_anew as copied_anew_of, rebuilt as rebuilt_of, building as building_of, same_number as same_number_of};
 
 use crate::objects::{copies, zeros};
+use crate::temporaries::with_type;
 use crate::types::class_number;
 use cpp_types::{At, Cat, Shape, Ty, copy, equal_types};
 use elab_conv::below::{
@@ -63,33 +64,6 @@ pub fn as_source(
         return Ok(id);
     }
     as_base(alloc, nodes, at, class, id)
-}
-
-// A node like another, of another type.
-fn with_type(
-    alloc: Global,
-    nodes: &mut Vec<TNode>,
-    kind: TKind,
-    ty: &Ty,
-    id: TNodeId,
-) -> Result<TNodeId, AllocError>
-    requires { id.0 < length (trees_of nodes.old.items) }
-    ensures { IfOk result (λ r. Adds (trees_of nodes.old.items) (trees_of nodes.new.items) r (node kind (typ_of ty.now) (cat_of (tree_at (trees_of nodes.old.items) id)) (place_of (tree_at (trees_of nodes.old.items) id)) (kids_of (tree_at (trees_of nodes.old.items) id)))) }
-{
-    let cat = node_at(nodes, id).cat;
-    let at = node_at(nodes, id).at;
-    let kids = Vec::from_slice(alloc, kids_at(nodes, id)?)?;
-    let ty = copy(alloc, ty)?;
-    add_node(
-        nodes,
-        TNode {
-            kind,
-            ty,
-            cat,
-            at,
-            kids,
-        },
-    )
 }
 
 // A copy of an object as one of another type.
@@ -154,11 +128,11 @@ pub fn building(
     requires { id.0 < length (trees_of nodes.old.items) }
     ensures { IfOk result (λ r. Adds (trees_of nodes.old.items) (trees_of nodes.new.items) r (building_of (classes_of env.now.classes.items) (typ_of ty.now) (tree_at (trees_of nodes.old.items) id))) }
 {
-    let node = node_at(nodes, id);
-    if equal_types(ty, &node.ty) {
+    if equal_types(ty, &node_at(nodes, id).ty) {
         return Ok(id);
     }
-    rebuilt(alloc, env, nodes, node.kind, ty, id)
+    let kind = node_at(nodes, id).kind;
+    rebuilt(alloc, env, nodes, kind, ty, id)
 }
 
 /// A copy of an object of a class, part by part.

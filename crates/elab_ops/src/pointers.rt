@@ -23,8 +23,9 @@ ghost use Rattle.elab_conv.specs.elab_rules.Operators.{value, as_kind, arithmeti
 use crate::arithmetic::{arithmetic_of, in_kind, number, on_values, operated, operated_in};
 use crate::operands::{as_kind, ill, int_type, number_kind, pointed, value, value_type};
 use elab_conv::below::{
-    At, BinOp, Cat, ElabFault, Env, IllRule, IntKind, LimitKind, Operand, Shape, TKind, TNode, TNodeId, Ty,
-    add_unary, completion, copy, equal_types, held_class, node_at, size_align, size_of,
+    At, BinOp, Cat, ElabFault, Env, IllRule, IntKind, LimitKind, Operand, Shape, TKind, TNode,
+    TNodeId, Ty, add_unary, completion, copy, equal_types, held_class, node_at, size_align,
+    size_of,
 };
 use elab_conv::types::{pointer_to, unqualified_type};
 use std::alloc::{AllocError, Global};
