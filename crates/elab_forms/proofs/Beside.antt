@@ -3,6 +3,7 @@ use Rattle.std.proofs.Common.{◌≡◌, ◌<◌, ◌∙◌, List, length, Resul
 use Rattle.std.specs.declared.alloc.AllocError.{AllocError}
 use Rattle.elab_make.specs.cpp_types.Typ.{Typ}
 use Rattle.elab_make.specs.cpp_types.declared.classes.At.{At}
+use Rattle.elab_make.specs.cpp_types.declared.ranks.Cat.TheVariants.{Lvalue}
 use Rattle.elab_make.specs.cpp_tree.declared.arena.TNodeId.{TNodeId}
 use Rattle.elab_make.specs.cpp_tree.Trees.{Tree}
 use Rattle.elab_make.specs.cpp_tree.Arena.{tree_at, Adds}
@@ -12,10 +13,10 @@ use Rattle.elab_make.specs.elab_ctx.Says.{Puts}
 use Rattle.elab_make.specs.elab_ctx.Operands.{operand_in}
 use Rattle.elab_make.specs.elab_ctx.declared.operand.Operand.{Operand as OperandRec}
 use Rattle.elab_make.proofs.elab_ctx.Looks.{grows_trans, at_grown, within_grown}
-use Rattle.elab_make.specs.elab_rules.Initialising.{with_tree, exception_copied}
-use Rattle.elab_make.specs.elab_rules.Operators.{dropped, settled, bare_throw, comma_of, comma, conditional_like}
+use Rattle.elab_make.specs.elab_rules.Initialising.{with_tree, exception_copied, seen_as}
+use Rattle.elab_make.specs.elab_rules.Operators.{dropped, settled, bare_throw, comma_of, comma, conditional_node, conditional_like, joined_class, shared}
 use Rattle.elab_forms.specs.Rows.{beside_throw, behind_throw}
-use Rattle.elab_forms.proofs.Steps.{at_operand}
+use Rattle.elab_forms.proofs.Steps.{at_operand, three_ok}
 
 -- a copy of an object that was made, as one of a type that is known by an equation
 pub exception_puts : (c : Ctx) (at : At) (t u : Typ) (n0 n1 n2 : List Tree) (w : Work) (o : TNodeId) (m : Made) (r : Result TNodeId AllocError) → u ≡ t
@@ -79,3 +80,15 @@ behind_puts c w w1 at test x y a b (Ok r) n0 n1 n2 k h xs ys rs =
       work_is = ys.work_is;
     }
 behind_puts c w w1 at test x y a b (Err e) n0 n1 n2 k h xs ys rs = tt
+
+-- two lvalues of one class, of which one has all qualifiers of the other
+pub shared_ok : (at : At) (test x y : TNodeId) (a b : OperandRec) (u : Typ) (r : Result TNodeId AllocError) (n0 n1 n2 n3 : List Tree) → test.0 < length n0
+    → b.id.0 < length n0 → u ≡ joined_class (operand_in n0 a) (operand_in n0 b) → Adds n0 n1 x (seen_as a.at u (tree_at n0 a.id))
+    → Adds n1 n2 y (seen_as b.at u (tree_at n1 b.id))
+    → IfOk r (λ (id : TNodeId). Adds n2 n3 id (conditional_node at u Lvalue (tree_at n2 test) (tree_at n2 x) (tree_at n2 y)))
+    → IfOk r (λ (id : TNodeId). Adds n0 n3 id (shared at (tree_at n0 test) (operand_in n0 a) (operand_in n0 b)))
+shared_ok at test x y a b u r n0 n1 n2 n3 k h e xs ys rs =
+    subst (λ (z : Typ). IfOk r (λ (id : TNodeId). Adds n0 n3 id
+    (conditional_node at z Lvalue (tree_at n0 test) (seen_as a.at z (tree_at n0 a.id)) (seen_as b.at z (tree_at n0 b.id))))) e
+    (three_ok n0 n1 n2 n3 test b.id x y r (λ (p q s : Tree). conditional_node at u Lvalue p q s) (seen_as b.at u) (seen_as a.at u (tree_at n0 a.id))
+    k h xs ys rs)

@@ -15,7 +15,7 @@ use Rattle.elab_make.specs.elab_rules.Values.{bool_type}
 use Rattle.elab_make.specs.elab_rules.Initialising.{initial, as_source, object_of, class_from, with_tree}
 use Rattle.elab_make.specs.elab_rules.Operators.{value, arithmetic, as_pointer, is_null, assigned, same_lvalues, conditional_node, two_numbers}
 use Rattle.elab_make.specs.elab_rules.Operators.{branches, bare_throw, settled, object_operand, conditional_like, both_of_class, two_objects, two_values}
-use Rattle.elab_make.specs.elab_rules.Operators.{value_form, same_work}
+use Rattle.elab_make.specs.elab_rules.Operators.{value_form, same_work, is_shared, shared}
 use Rattle.elab_ops.specs.Forms.{value_initial}
 
 -- Assignments
@@ -67,7 +67,8 @@ behind_throw c w at test a b = with_tree (λ (y : Tree). conditional_like at y t
 -- where none throws
 abbrev pub two_operands : Ctx → Work → At → Tree → Operand → Operand → Result Made ElabFault
 two_operands c w at test a b = if both_stay a b then Ok (record { tree = conditional_like at a.tree test a.tree b.tree; work = w }) else (
-    if both_of_class a b then two_objects c w at test a b else same_work w (two_values at test (value_form a) (value_form b) a b))
+    if is_shared a b then Ok (record { tree = shared at test a b; work = w }) else (
+    if both_of_class a b then two_objects c w at test a b else same_work w (two_values at test (value_form a) (value_form b) a b)))
 
 -- by the value of the test
 abbrev pub conditional_by : Ctx → Work → At → Operand → Operand → Operand → Result Made ElabFault

@@ -9,11 +9,11 @@ ghost use Rattle.elab_make.specs.cpp_tree.Typing.{form_in, is_void};
 ghost use Rattle.elab_make.specs.elab_ctx.Ctx.{ctx_of, work_of};
 ghost use Rattle.elab_make.specs.elab_ctx.Operands.{operand_in};
 ghost use Rattle.elab_make.specs.elab_ctx.Says.{Gives, Makes, Puts};
-ghost use Rattle.elab_make.specs.elab_rules.Operators.{value, as_kind, as_pointer, pointed, conditional_node, same_lvalues, both_of_class, two_numbers, two_values, two_objects, branches, conditional, conditional_like, bare_throw as bare_throw_of};
+ghost use Rattle.elab_make.specs.elab_rules.Operators.{value, as_kind, as_pointer, pointed, conditional_node, same_lvalues, both_of_class, two_numbers, two_values, two_objects, branches, conditional, conditional_like, joined_class, is_shared, shared, bare_throw as bare_throw_of};
 ghost use Rattle.elab_forms.specs.Rows.{both_stay, beside_throw, behind_throw, two_operands, value_or_null, null_or_value, same_scalars, two_scalars, conditional_by};
 
 use crate::exceptions::settled;
-use crate::common_types::{common_class, object_as};
+use crate::common_types::{common_class, joined_class, object_as, seen_as};
 use crate::thrown::{bare_throw, throws};
 use elab_make::below::{
     At, Cat, ElabFault, Env, IllRule, IntKind, Operand, Shape, TKind, TNode, TNodeId, Ty, Work,
@@ -424,6 +424,40 @@ fn both_of_class(nodes: &Vec<TNode>, a: Operand, b: Operand) -> bool
     is_class_type(first) && equal_shapes(&first.shape, &second.shape)
 }
 
+// Whether two operands are lvalues of one class, whose common type is that of one of them.
+fn is_shared(nodes: &Vec<TNode>, joined: &Ty, a: Operand, b: Operand) -> bool
+    requires left { a.id.0 < length (trees_of nodes.now.items) }
+    requires right { b.id.0 < length (trees_of nodes.now.items) }
+    requires joined { typ_of joined.now ≡ joined_class (operand_in (trees_of nodes.now.items) a) (operand_in (trees_of nodes.now.items) b) }
+    ensures { result ≡ is_shared (operand_in (trees_of nodes.now.items) a) (operand_in (trees_of nodes.now.items) b) }
+{
+    let is_first = equal_types(joined, &node_at(nodes, a.id).ty);
+    let is_second = equal_types(joined, &node_at(nodes, b.id).ty);
+    let same_class = both_of_class(nodes, a, b);
+    is_lvalue(nodes, a.id) && is_lvalue(nodes, b.id) && same_class && (is_first || is_second)
+}
+
+// Such operands, as lvalues of their common type.
+fn shared(
+    alloc: Global,
+    nodes: &mut Vec<TNode>,
+    at: At,
+    joined: Ty,
+    test: TNodeId,
+    a: Operand,
+    b: Operand,
+) -> Result<TNodeId, AllocError>
+    requires test { test.0 < length (trees_of nodes.old.items) }
+    requires left { a.id.0 < length (trees_of nodes.old.items) }
+    requires right { b.id.0 < length (trees_of nodes.old.items) }
+    requires joined { typ_of joined ≡ joined_class (operand_in (trees_of nodes.old.items) a) (operand_in (trees_of nodes.old.items) b) }
+    ensures { IfOk result (λ r. Adds (trees_of nodes.old.items) (trees_of nodes.new.items) r (shared at (tree_at (trees_of nodes.old.items) test) (operand_in (trees_of nodes.old.items) a) (operand_in (trees_of nodes.old.items) b))) }
+{
+    let x = seen_as(alloc, nodes, a.at, &joined, a.id)?;
+    let y = seen_as(alloc, nodes, b.at, &joined, b.id)?;
+    conditional_node(alloc, nodes, at, joined, Cat::Lvalue, test, x, y)
+}
+
 // The type of what gives no value.
 pub fn void_type() -> Ty
     ensures { typ_of result ≡ plain void }
@@ -510,6 +544,11 @@ fn two_operands(
 {
     if both_stay(&work.nodes, a, b) {
         let made = conditional_like(alloc, &mut work.nodes, at, a.id, test, a.id, b.id)?;
+        return Ok(made);
+    }
+    let joined = joined_class(alloc, &work.nodes, a, b)?;
+    if is_shared(&work.nodes, &joined, a, b) {
+        let made = shared(alloc, &mut work.nodes, at, joined, test, a, b)?;
         return Ok(made);
     }
     if both_of_class(&work.nodes, a, b) {
