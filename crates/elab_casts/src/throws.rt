@@ -17,8 +17,8 @@ ghost use Rattle.elab_casts.specs.Rows.{value_thrown, one_thrown};
 
 use elab_forms::below::{
     At, Cat, EXCEPTION_SIZE, ElabFault, Env, IllRule, LimitKind, Operand, Shape, TKind, TNode,
-    TNodeId, Ty, Work, add_leaf, add_node, add_unary, copy, elab_ops_ill as ill, fields, node_at, object_kids,
-    object_of, size_of, traits_at, unqualified_type, value,
+    TNodeId, Ty, Work, add_leaf, add_node, add_unary, copy, elab_ops_ill as ill, fields, node_at,
+    object_kids, object_of, size_of, traits_at, unqualified_type, value,
 };
 use elab_forms::conditionals::void_type;
 use std::alloc::{AllocError, Global};

@@ -18,7 +18,8 @@ ghost use Rattle.elab_rows.specs.Pieces.{piece_tree, one_piece};
 use elab_casts::below::{
     At, Capture, Cat, Closure, ElabFault, Env, IllRule, ObjectPart, Operand, Shape, Special, TKind,
     TNode, TNodeId, Ty, Work, add_binary, add_node, class_from, class_number, copies, copy,
-    destroys, each_by, element_type, keep, object_kids, parts_of, same_at, stored, traits_at, valued,
+    destroys, each_by, element_type, keep, object_kids, parts_of, same_at, stored, traits_at,
+    valued,
 };
 use elab_names::parts::{ill, plain_type};
 use elab_names::{this_tree, variable_at};
