@@ -41,8 +41,8 @@ fn is_thrown_scalar(ty: &Ty) -> bool
     }
 }
 
-// Tests that objects of a type are no larger than an exception.
-fn within_exception(env: &Env, at: At, ty: &Ty) -> Result<bool, ElabFault>
+/// Tests that objects of a type are no larger than an exception.
+pub fn within_exception(env: &Env, at: At, ty: &Ty) -> Result<bool, ElabFault>
     ensures { Tells result (within_exception (ctx_of env.now) at (typ_of ty.now)) }
 {
     let size = size_of(env, ty)?;

@@ -64,6 +64,7 @@ pub use elab_casts::below::add_three;
 pub use elab_casts::below::add_unary;
 pub use elab_casts::below::arithmetic;
 pub use elab_casts::below::bare_throw;
+pub use elab_casts::within_exception;
 pub use elab_casts::below::class_at;
 pub use elab_casts::below::class_from;
 pub use elab_casts::below::class_number;
