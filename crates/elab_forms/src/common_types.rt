@@ -2,19 +2,18 @@
 
 ghost use Rattle.std.specs.Prelude.{◌≡◌, ◌<◌, length, IfOk};
 ghost use Rattle.elab_make.specs.cpp_types.Typ.{typ_of};
-ghost use Rattle.elab_make.specs.cpp_tree.Arena.{trees_of, tree_at, Adds};
+ghost use Rattle.elab_make.specs.cpp_tree.Arena.{trees_of, tree_at};
 ghost use Rattle.elab_make.specs.cpp_tree.Typing.{goes_both_ways};
 ghost use Rattle.elab_make.specs.elab_ctx.Ctx.{ctx_of, work_of};
 ghost use Rattle.elab_make.specs.elab_ctx.Operands.{operand_in};
 ghost use Rattle.elab_make.specs.elab_ctx.Says.{Makes};
-ghost use Rattle.elab_make.specs.elab_rules.Initialising.{seen_as as seen_as_of};
 ghost use Rattle.elab_make.specs.elab_rules.Operators.{object_type, joined_type, common_class, joined_class, has_own_type, is_other_prvalue, object_as};
 ghost use Rattle.elab_forms.specs.Rows.{object_copied};
 
 use crate::exceptions::{is_exception_type, is_written_exception};
 use elab_make::below::{
-    At, Cat, ElabFault, Env, Operand, TKind, TNode, TNodeId, Ty, Work, add_unary, copy,
-    equal_types, is_class_prvalue, node_at, unqualified_type,
+    At, ElabFault, Env, Operand, TKind, TNode, TNodeId, Ty, Work, copy, equal_types,
+    is_class_prvalue, node_at, unqualified_type,
 };
 use elab_make::{class_from, object_of};
 use std::alloc::{AllocError, Global};
@@ -71,24 +70,6 @@ pub fn joined_class(
 {
     let left = copy(alloc, &node_at(nodes, a.id).ty)?;
     Ok(joined_type(left, &node_at(nodes, b.id).ty))
-}
-
-/// An lvalue as one of a type.
-pub fn seen_as(
-    alloc: Global,
-    nodes: &mut Vec<TNode>,
-    at: At,
-    ty: &Ty,
-    id: TNodeId,
-) -> Result<TNodeId, AllocError>
-    requires { id.0 < length (trees_of nodes.old.items) }
-    ensures { IfOk result (λ r. Adds (trees_of nodes.old.items) (trees_of nodes.new.items) r (seen_as_of at (typ_of ty.now) (tree_at (trees_of nodes.old.items) id))) }
-{
-    if equal_types(ty, &node_at(nodes, id).ty) {
-        return Ok(id);
-    }
-    let ty = copy(alloc, ty)?;
-    add_unary(alloc, nodes, TKind::Retype, ty, Cat::Lvalue, at, id)
 }
 
 // Whether nodes of a kind stand for a class prvalue or another value alike.

@@ -12,9 +12,10 @@ ghost use Rattle.elab_make.specs.elab_ctx.Says.{Gives, Makes, Puts};
 ghost use Rattle.elab_make.specs.elab_rules.Operators.{value, as_kind, as_pointer, pointed, conditional_node, same_lvalues, both_of_class, two_numbers, two_values, two_objects, branches, conditional, conditional_like, joined_class, is_shared, shared, bare_throw as bare_throw_of};
 ghost use Rattle.elab_forms.specs.Rows.{both_stay, beside_throw, behind_throw, two_operands, value_or_null, null_or_value, same_scalars, two_scalars, conditional_by};
 
-use crate::common_types::{common_class, joined_class, object_as, seen_as};
+use crate::common_types::{common_class, joined_class, object_as};
 use crate::exceptions::settled;
 use crate::thrown::{bare_throw, throws};
+use elab_init::seen_as;
 use elab_make::below::{
     At, Cat, ElabFault, Env, IllRule, IntKind, Operand, Shape, TKind, TNode, TNodeId, Ty, Work,
     copy, equal_shapes, equal_types, is_class_type, kind_of, node_at, pointer_to, unqualified_type,
