@@ -20,9 +20,9 @@ use Rattle.elab_rules.specs.cpp_tree.declared.kinds.TKind.{TKind}
 use Rattle.elab_rules.specs.cpp_tree.declared.kinds.TKind.TheVariants as forms
 use Rattle.elab_rules.specs.cpp_tree.declared.faults.ElabFault.{ElabFault}
 use Rattle.elab_rules.specs.cpp_tree.declared.faults.IllRule.TheVariants.{NoConversion, NoViable, BadInit, OutOfProfile}
-use Rattle.elab_rules.specs.cpp_tree.Trees.{Tree, node, Trees, none, more, typ_in, cat_of, kind_of}
+use Rattle.elab_rules.specs.cpp_tree.Trees.{Tree, node, Trees, none, more, typ_in, cat_of}
 use Rattle.elab_rules.specs.cpp_tree.Units.{Global}
-use Rattle.elab_rules.specs.cpp_tree.Typing.{form_in, unqualified, is_class_typ, is_void, kind_in, is_class_prvalue}
+use Rattle.elab_rules.specs.cpp_tree.Typing.{form_in, unqualified, is_class_typ, without_exception, is_void, kind_in, is_class_prvalue}
 use Rattle.elab_rules.specs.elab_ctx.Ctx.{Ctx, Work, Capture, Closure, with_item}
 use Rattle.elab_rules.specs.elab_ctx.Steps.{and_then, expect, check, at_of, spelling, token_place, Operand, Made, MadeAll, Typed, TypedAll}
 use Rattle.elab_rules.specs.Objects
@@ -138,7 +138,7 @@ copied_object : (c : Ctx) (w : Work) (n : ℕ) (t : Typ) (at : At) (o : Operand)
 copied_object c w n t at o = search (behind, constructed_copy)
 
 class_from : (c : Ctx) (w : Work) (t : Typ) (at : At) (o : Operand) → Holds (made w) (Initialising.class_from c w t at o)
-class_from c w (typ (closure n) q v) at o = either (made w) (Initialising.is_prvalue_of_class n o.tree) _ _ (same w) (search (behind, same))
+class_from c w (typ (closure n) q v) at o = either (made w) (Initialising.is_closure_itself n q v o.tree) _ _ (same w) (search (behind, object))
 class_from c w (typ (class n) q v) at o = behind (made w) (Initialising.makeable c at n) _
     (λ i. either (made w) (Initialising.is_prvalue_of_class n o.tree) _ _ (same w) (search (behind, copied_object)))
 class_from c w (typ (tx_ex t) q v) at o = behind (made w) (check o.at NoConversion (form_eq (form_in (typ_in o.tree)) (tx_ex t))) _
@@ -184,7 +184,7 @@ from_values : (c : Ctx) (w : Work) (t : Typ) (at : At) (os : List Operand) → H
 from_values c w (typ (class n) q v) at os = constructed c w n (typ (class n) q v) at os
 from_values c w (typ (tx_ex t) q v) at [] = tt
 from_values c w (typ (tx_ex t) q v) at (o ∷ os) = either (made w) (Initialising.is_exception_itself t (o ∷ os)) _ _ (class_from c w (typ (tx_ex t) q v) at o)
-    (exception_from c w t at (o ∷ os))
+    (exception_from c w (without_exception (typ (tx_ex t) q v)) at (o ∷ os))
 from_values c w (typ (array e n) q v) at (o ∷ os) = tt
 from_values c w t at [] = search (behind, same)
 from_values c w t at (o ∷ os) = one_value c w t at o os
@@ -210,29 +210,52 @@ assignment c w at a b = behind (made w) (Operators.target at a) _
     (λ y. either (made w) (is_class_typ (typ_in a.tree)) _ _ (class_assigned_in c w at a b (form_in (typ_in a.tree))) (search (behind, scalar_assigned)))
 
 dropped_by : (c : Ctx) (w : Work) (o : Operand) (b d : Bool)
-    → Behind w (if b then record { tree = o.tree; work = w } else
+    → Behind w (if b then record { tree = Operators.bare_throw o.tree; work = w } else
     (if d then record { tree = Operators.value o; work = w } else Initialising.object_of c w o.at o.tree)).work
 dropped_by c w o true d = same w
 dropped_by c w o false true = same w
 dropped_by c w o false false = object c w o.at o.tree
 
 dropped : (c : Ctx) (w : Work) (o : Operand) → Behind w (Operators.dropped c w o).work
-dropped c w o = dropped_by c w o (Operators.is_throw (kind_of o.tree)) (Operators.is_volatile_scalar (typ_in o.tree) && Operators.is_read_when_dropped o.tree)
+dropped c w o = dropped_by c w o (Operators.throws o.tree) (Operators.is_volatile_scalar (typ_in o.tree) && Operators.is_read_when_dropped o.tree)
+
+settled_by : (c : Ctx) (w : Work) (o : Operand) (b : Bool)
+    → Behind w (if b then Initialising.with_tree (Initialising.exception_copied c (typ_in o.tree) o.at) (Initialising.object_of c w o.at o.tree) else
+    record { tree = o.tree; work = w }).work
+settled_by c w o true = object c w o.at o.tree
+settled_by c w o false = same w
+
+settled : (c : Ctx) (w : Work) (o : Operand) → Behind w (Operators.settled c w o).work
+settled c w o = settled_by c w o (Operators.is_written_exception o.tree)
+
+comma : (c : Ctx) (w : Work) (at : At) (a b : Operand) → Behind w (Operators.comma c w at a b).work
+comma c w at a b = after (dropped c w a) (settled c (Operators.dropped c w a).work b)
+
+object_as : (c : Ctx) (w : Work) (t : Typ) (o : Operand) → Holds (made w) (Operators.object_as c w t o)
+object_as c w t o = either (made w) (Operators.is_other_prvalue t o.tree) _ _ (moved w x.work (Initialising.class_from c x.work t o.at p)
+    (object c w o.at o.tree) (class_from c x.work t o.at p)) (class_from c w t o.at o)
+  where
+    x : Made
+    x = Initialising.object_of c w o.at o.tree
+
+    p : Operand
+    p = Operators.object_operand o x.tree
 
 two_objects : (c : Ctx) (w : Work) (at : At) (test : Tree) (a b : Operand) → Holds (made w) (Operators.two_objects c w at test a b)
-two_objects c w at test a b = passes (made w) (made w) (Initialising.class_from c w (unqualified (typ_in a.tree)) a.at a) _
-    (class_from c w (unqualified (typ_in a.tree)) a.at a) (λ x g.
-    passes (made x.work) (made w) (Initialising.class_from c x.work (unqualified (typ_in a.tree)) b.at b) _
-    (class_from c x.work (unqualified (typ_in a.tree)) b.at b) (λ y h. after g h))
+two_objects c w at test a b = passes (made w) (made w) (Operators.object_as c w t a) _ (object_as c w t a)
+    (λ x g. passes (made x.work) (made w) (Operators.object_as c x.work t b) _ (object_as c x.work t b) (λ y h. after g h))
+  where
+    t : Typ
+    t = Operators.common_class a b
 
 same_work : (w : Work) (r : Result Tree ElabFault) → Holds (made w) (Operators.same_work w r)
 same_work w r = behind (made w) r _ (λ t. same w)
 
 branches : (c : Ctx) (w : Work) (at : At) (test : Tree) (a b : Operand) → Holds (made w) (Operators.branches c w at test a b)
 branches c w at test a b =
-    either (made w) (Operators.is_throw (kind_of a.tree) && Operators.is_throw (kind_of b.tree)) _ _ (same w) (
-    either (made w) (Operators.is_throw (kind_of b.tree)) _ _ (same w) (
-    either (made w) (Operators.is_throw (kind_of a.tree)) _ _ (same w) (
+    either (made w) (Operators.throws a.tree && Operators.throws b.tree) _ _ (same w) (
+    either (made w) (Operators.throws b.tree) _ _ (settled c w a) (
+    either (made w) (Operators.throws a.tree) _ _ (settled c w b) (
     either (made w) (Operators.same_lvalues a b || (is_void (typ_in a.tree) && is_void (typ_in b.tree))) _ _ (same w) (
     either (made w) (Operators.both_of_class a b) _ _ (two_objects c w at test a b)
     (same_work w (Operators.two_values at test (Operators.value_form a) (Operators.value_form b) a b))))))
@@ -325,7 +348,8 @@ throw_in c w at f o = search (behind, same)
 
 throw : (c : Ctx) (w : Work) (at : At) (os : List Operand) → Holds (made w) (Casts.throw c w at os)
 throw c w at [] = same w
-throw c w at (o ∷ os) = throw_in c w at (form_in (typ_in o.tree)) o
+throw c w at (o ∷ os) =
+    passes (made w) (made w) (Casts.throw_in c w at (form_in (typ_in o.tree)) o) _ (throw_in c w at (form_in (typ_in o.tree)) o) (λ m g. g)
 
 -- Lambdas
 
@@ -387,7 +411,7 @@ row_of s c w k.BinaryExpression at t (a ∷ b ∷ []) = search (behind, same)
 row_of s c w k.ConditionalExpression at t (a ∷ b ∷ d ∷ []) = an_operand at w (Operators.conditional c w at a b d) (conditional c w at a b d)
 row_of s c w k.AssignmentExpression at t (a ∷ b ∷ []) =
     an_operand at w (Expressions.assignment_of c w at (spelling s t) a b) (assignment_of c w at (spelling s t) a b)
-row_of s c w k.CommaExpression at t (a ∷ b ∷ []) = dropped c w a
+row_of s c w k.CommaExpression at t (a ∷ b ∷ []) = comma c w at a b
 row_of s c w k.ThrowExpression at t os = an_operand at w (Casts.throw c w at os) (throw c w at os)
 row_of s c w k.MemberAccess at t (a ∷ []) = an_operand at w (Names.member_access c w at (token_place s at.source t) (spelling s t) a)
     (member_access c w at (token_place s at.source t) (spelling s t) a)

@@ -26,5 +26,5 @@ pub use sources::{as_base, as_source, building, copy_in_place, same_number};
 pub use temporaries::{builder, object_kids, seen_as, temporary};
 pub use types::{
     class_number, element_type, is_class_prvalue, is_class_type, is_prvalue_of_class,
-    is_same_or_base, qualified_type, referred_type, traits_at,
+    is_same_or_base, qualified_type, referred_type, traits_at, without_exception,
 };

@@ -1,13 +1,13 @@
 // Objects part by part: zeros, copies, and the scalars of an exception (C++14 8.5, 12.8).
 
-ghost use Rattle.std.specs.Prelude.{◌≡◌, false, IfOk, map};
+ghost use Rattle.std.specs.Prelude.{◌≡◌, ◌<◌, length, false, IfOk, map};
 ghost use Rattle.cpp_types.specs.Typ.{typ, typ_of, class as class_form};
 ghost use Rattle.cpp_types.specs.Class.{classes_of};
 ghost use Rattle.elab_conv.specs.cpp_tree.Arena.{trees_of, tree_at, Adds};
 ghost use Rattle.elab_conv.specs.cpp_tree.Typing.{form_in, qualified};
 ghost use Rattle.elab_conv.specs.cpp_tree.Trees.{node, one};
 ghost use Rattle.elab_conv.specs.elab_ctx.Says.{AddsAll};
-ghost use Rattle.elab_conv.specs.elab_rules.Objects.{whole, whole_form, class_whole, size_of as size_by, zeros as zeros_by, copies as copies_by};
+ghost use Rattle.elab_conv.specs.elab_rules.Objects.{as_closure as as_closure_of, whole, whole_form, class_whole, size_of as size_by, zeros as zeros_by, copies as copies_by};
 ghost use Rattle.elab_init.specs.Leaves.{leaf_of, pieces_by};
 ghost use Rattle.elab_init.specs.Parts.{part_of};
 
@@ -16,9 +16,10 @@ use crate::leaves::Leaf;
 use crate::lists::keep;
 use crate::parts::ObjectPart;
 use crate::scalars::scalar_leaf;
+use crate::temporaries::with_type;
 use crate::types::qualified_type;
 use cpp_types::{At, Cat, Shape, Ty, copy};
-use elab_conv::below::{Env, TKind, TNode, TNodeId, add_leaf, add_node, add_unary, size_of};
+use elab_conv::below::{Env, TKind, TNode, TNodeId, add_leaf, add_node, add_unary, node_at, size_of};
 use std::alloc::{AllocError, Global};
 
 // How deep calls nest that go into arrays and classes: deeper than types and classes do. A deeper one counts as want
@@ -114,6 +115,27 @@ fn add_whole(
     )
 }
 
+// An object of a lambda's class, as one of a class.
+fn as_closure(
+    alloc: Global,
+    nodes: &mut Vec<TNode>,
+    class: u32,
+    is_const: bool,
+    is_volatile: bool,
+    id: TNodeId,
+) -> Result<TNodeId, AllocError>
+    requires { id.0 < length (trees_of nodes.old.items) }
+    ensures { IfOk result (λ r. Adds (trees_of nodes.old.items) (trees_of nodes.new.items) r (as_closure_of class is_const is_volatile (tree_at (trees_of nodes.old.items) id))) }
+{
+    let ty = Ty {
+        shape: Shape::Closure(class),
+        is_const,
+        is_volatile,
+    };
+    let kind = node_at(nodes, id).kind;
+    with_type(alloc, nodes, kind, &ty, id)
+}
+
 // The same by what the type is, its own qualifiers apart.
 #[cycle(whole)]
 fn add_form(
@@ -150,7 +172,7 @@ fn add_form(
             let target = array_type(alloc, is_const, is_volatile, ty)?;
             elements(alloc, env, nodes, at, target, element, *count, init)
         }
-        Shape::Class(class) | Shape::Closure(class) => add_class(
+        Shape::Class(class) => add_class(
             alloc,
             env,
             nodes,
@@ -162,6 +184,21 @@ fn add_form(
             is_volatile,
             *class,
         ),
+        Shape::Closure(class) => {
+            let object = add_class(
+                alloc,
+                env,
+                nodes,
+                levels - 1,
+                leaf,
+                depth,
+                at,
+                is_const,
+                is_volatile,
+                *class,
+            )?;
+            as_closure(alloc, nodes, *class, is_const, is_volatile, object)
+        }
         Shape::TxEx(value) => add_form(
             alloc,
             env,

@@ -2,11 +2,11 @@
 
 ghost use Rattle.std.specs.Prelude.{◌≡◌, ◌<◌, ◌∷◌, IfOk, length};
 ghost use Rattle.cpp_types.specs.Typ.{typ_of};
-ghost use Rattle.elab_conv.specs.cpp_tree.Trees.{kids_of};
+ghost use Rattle.elab_conv.specs.cpp_tree.Trees.{node, cat_of, kids_of};
 ghost use Rattle.elab_conv.specs.cpp_tree.Arena.{trees_of, tree_at, trees_at, Adds};
 ghost use Rattle.elab_conv.specs.elab_ctx.Ctx.{work_of};
 ghost use Rattle.elab_conv.specs.elab_ctx.Says.{Puts};
-ghost use Rattle.elab_conv.specs.elab_rules.Values.{builder as builder_of, only_tree, temporary as temporary_of};
+ghost use Rattle.elab_conv.specs.elab_rules.Values.{place_of, builder as builder_of, only_tree, temporary as temporary_of};
 ghost use Rattle.elab_conv.specs.elab_rules.Initialising.{seen_as as seen_as_of};
 
 use crate::lists::{keep, keep_all};
@@ -118,4 +118,31 @@ pub fn seen_as(
     }
     let ty = copy(alloc, ty)?;
     add_unary(alloc, nodes, TKind::Retype, ty, Cat::Lvalue, at, id)
+}
+
+/// A node like another, of another kind and type.
+pub fn with_type(
+    alloc: Global,
+    nodes: &mut Vec<TNode>,
+    kind: TKind,
+    ty: &Ty,
+    id: TNodeId,
+) -> Result<TNodeId, AllocError>
+    requires { id.0 < length (trees_of nodes.old.items) }
+    ensures { IfOk result (λ r. Adds (trees_of nodes.old.items) (trees_of nodes.new.items) r (node kind (typ_of ty.now) (cat_of (tree_at (trees_of nodes.old.items) id)) (place_of (tree_at (trees_of nodes.old.items) id)) (kids_of (tree_at (trees_of nodes.old.items) id)))) }
+{
+    let cat = node_at(nodes, id).cat;
+    let at = node_at(nodes, id).at;
+    let kids = Vec::from_slice(alloc, kids_at(nodes, id)?)?;
+    let ty = copy(alloc, ty)?;
+    add_node(
+        nodes,
+        TNode {
+            kind,
+            ty,
+            cat,
+            at,
+            kids,
+        },
+    )
 }

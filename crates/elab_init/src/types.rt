@@ -5,7 +5,7 @@ ghost use Rattle.cpp_types.specs.Typ.{typ_of};
 ghost use Rattle.cpp_types.specs.Class.{classes_of};
 ghost use Rattle.cpp_types.specs.Conversion.{referred};
 ghost use Rattle.elab_conv.specs.cpp_tree.Arena.{trees_of, tree_at};
-ghost use Rattle.elab_conv.specs.cpp_tree.Typing.{form_in, qualified, is_class_typ, is_class_prvalue as is_class_prvalue_of};
+ghost use Rattle.elab_conv.specs.cpp_tree.Typing.{form_in, qualified, without_exception, is_class_typ, is_class_prvalue as is_class_prvalue_of};
 ghost use Rattle.elab_conv.specs.elab_ctx.Ctx.{ctx_of, traits_of};
 ghost use Rattle.elab_conv.specs.elab_rules.Objects.{element_of, element_form, traits_at as traits_at_of};
 ghost use Rattle.elab_conv.specs.elab_rules.Initialising.{class_number as class_number_of, is_same_or_base as is_same_or_base_of, is_prvalue_of_class as is_prvalue_of_class_of};
@@ -76,6 +76,32 @@ pub fn referred_type(ty: &Ty) -> &Ty
         | Shape::Class(_)
         | Shape::Closure(_)
         | Shape::TxEx(_) => ty,
+    }
+}
+
+/// The type of the value in a `std::tx_exception`, with the qualifiers of that; of any other type, the type itself.
+pub fn without_exception(alloc: Global, ty: &Ty) -> Result<Ty, AllocError>
+    ensures { IfOk result (λ t. typ_of t ≡ without_exception (typ_of ty.now)) }
+{
+    match &ty.shape {
+        Shape::TxEx(value) => {
+            let value = copy(alloc, value)?;
+            Ok(Ty {
+                shape: value.shape,
+                is_const: ty.is_const,
+                is_volatile: ty.is_volatile,
+            })
+        }
+        Shape::Void
+        | Shape::Int(_)
+        | Shape::Enum { .. }
+        | Shape::Null
+        | Shape::Ptr(_)
+        | Shape::Ref(_)
+        | Shape::Array(_, _)
+        | Shape::Func(_)
+        | Shape::Class(_)
+        | Shape::Closure(_) => copy(alloc, ty),
     }
 }
 

@@ -1,5 +1,5 @@
 -- Assignments, `a, b` and `? :`.
-use Rattle.std.proofs.Common.{◌≡◌, refl, sym, ap, ◌∙◌, ℕ, Bool, true, false, ◌&&◌, ◌||◌, List, Option, Some, None, is_some, Result, Ok, Err}
+use Rattle.std.proofs.Common.{◌≡◌, refl, sym, ap, ◌∙◌, ℕ, Bool, true, false, ◌&&◌, ◌||◌, ◌==◌, List, Option, Some, None, is_some, Result, Ok, Err, eqb-true}
 use Rattle.std.proofs.lemmas.Bool.{and_parts}
 use Rattle.std.specs.Prelude.{not, if◌then◌else◌}
 use Rattle.elab_rules.specs.tx_ints.declared.kinds.IntKind.{IntKind}
@@ -12,26 +12,32 @@ use Rattle.elab_rules.specs.cpp_types.Equal.{typ_eq, form_eq}
 use Rattle.elab_rules.specs.cpp_types.Conversion.{is_lvalue, is_object_form}
 use Rattle.elab_rules.specs.cpp_types.declared.classes.At.{At}
 use Rattle.elab_rules.specs.cpp_types.declared.ranks.Conversion.{Conversion}
-use Rattle.elab_rules.specs.cpp_types.declared.ranks.Cat.TheVariants.{Prvalue}
+use Rattle.elab_rules.specs.cpp_types.declared.ranks.Cat.{Cat}
+use Rattle.elab_rules.specs.cpp_types.declared.ranks.Cat.TheVariants.{Lvalue, Prvalue}
 use Rattle.elab_rules.specs.cpp_ast.declared.kinds.NodeKind.TheVariants as k
 use Rattle.elab_rules.specs.cpp_tree.declared.kinds.TKind.{TKind}
-use Rattle.elab_rules.specs.cpp_tree.declared.kinds.TKind.TheVariants.{Throw, Rethrow}
+use Rattle.elab_rules.specs.cpp_tree.declared.kinds.TKind.TheVariants.{Retype, Throw, Rethrow}
 use Rattle.elab_rules.specs.cpp_tree.declared.faults.ElabFault.{ElabFault}
 use Rattle.elab_rules.specs.cpp_tree.declared.faults.IllRule.TheVariants.{BadOperand, NoCopy, NoConversion}
-use Rattle.elab_rules.specs.cpp_tree.Trees.{Tree, typ_in, cat_of, kind_of}
-use Rattle.elab_rules.specs.cpp_tree.Typing.{form_in, kind_in, unqualified, is_class_typ, is_void, is_volatile_typ}
+use Rattle.elab_rules.specs.cpp_tree.Trees.{Tree, node, none, more, one, typ_in, cat_of, kind_of, kids_of}
+use Rattle.elab_rules.specs.cpp_tree.Typing.{form_in, kind_in, unqualified, is_class_typ, is_class_prvalue, is_void, is_volatile_typ}
 use Rattle.elab_rules.specs.cpp_tree.Notation.{plain}
 use Rattle.elab_rules.specs.elab_ctx.Ctx.{Ctx, Work}
 use Rattle.elab_rules.specs.elab_ctx.Steps.{and_then, check, expect, Operand, Made, TypedAll, at_of, spelling}
 use Rattle.elab_rules.specs.Objects.{traits_at}
-use Rattle.elab_rules.specs.Initialising.{initial, conversion, class_number, is_same_or_base, as_source, class_from}
+use Rattle.elab_rules.specs.Values.{place_of, same_at}
+use Rattle.elab_rules.specs.Initialising.{initial, conversion, class_number, is_same_or_base, as_source}
+use Rattle.elab_rules.specs.Initialising.{with_tree, object_of, exception_copied}
 use Rattle.elab_rules.specs.Operators.{updated, scaled, value, value_form, arithmetic, assigned, copy_assigned, class_assigned_in, same_object, assignment}
 use Rattle.elab_rules.specs.Operators.{compound_numbers, compound_in, compound, movable, is_sum, same_work, truth, is_throw, is_null, as_pointer}
-use Rattle.elab_rules.specs.Operators.{conditional_node, same_lvalues, both_of_class, two_numbers, two_values, two_objects, branches, conditional}
+use Rattle.elab_rules.specs.Operators.{bare_throw, throws as throws_tree, dropped, is_written_exception, settled, object_type, joined_type, common_class}
+use Rattle.elab_rules.specs.Operators.{object_as, conditional_like, conditional_node, same_lvalues, both_of_class, two_numbers, two_values, two_objects, branches, conditional}
+use Rattle.elab_rules.specs.Names.{is_const_typ}
 use Rattle.elab_rules.specs.Expressions.{row_of, assignment_of}
 use Rattle.elab_laws.specs.Reading.{On, IsPrvalue, IsLvalue, EachTwo}
 use Rattle.elab_laws.specs.Unary.{IsModifiable}
-use Rattle.elab_laws.specs.Assigning.{Simple, Compound, integer, pointer, simple_words, compound_words, Compounds, IsAs, Second, Throws, throws, throws_again}
+use Rattle.elab_laws.specs.Assigning.{Simple, Compound, integer, pointer, simple_words, compound_words, Compounds, IsAs, Second, IsThrow, throws, throws_again}
+use Rattle.elab_laws.specs.Assigning.{Throws, bare, without_value, gives_const, gives_volatile}
 use Rattle.elab_laws.specs.Assigning.{Either, both_throw, first_throws, second_throws, both_void, lvalues, objects, values, numbers_of, or_null, null_or}
 use Rattle.elab_laws.specs.Assigning.{Chosen, Assignments, Commas, Conditionals}
 use Rattle.elab_laws.proofs.Reading.{bind, skip, after, checked, expected, either, weaken, of_two, of_three, made_in, each_word, ForAll}
@@ -163,19 +169,52 @@ compounds_law = assignment_law compound_words Compound each_compound
 
 -- `a, b`
 
+-- the copy of an operand that is beside another has its type and category
+written_as : (t : Typ) (at : At) (c : Ctx) (e s : Tree) → is_written_exception e ≡ true → t ≡ typ_in e → IsAs e (exception_copied c t at s)
+written_as t at c (node Retype (typ (tx_ex u) d v) Prvalue p kids) s h i = record { same_type = i; same_category = refl }
+written_as t at c e s h i = absurd cc
+
+settled_by : (c : Ctx) (w : Work) (o : Operand) (b : Bool) → is_written_exception o.tree ≡ b
+    → IsAs o.tree (if b then with_tree (exception_copied c (typ_in o.tree) o.at) (object_of c w o.at o.tree) else record { tree = o.tree; work = w }).tree
+settled_by c w o true h = written_as (typ_in o.tree) o.at c o.tree (object_of c w o.at o.tree).tree h refl
+settled_by c w o false h = record { same_type = refl; same_category = refl }
+
+settled_as : (c : Ctx) (w : Work) (o : Operand) → IsAs o.tree (settled c w o).tree
+settled_as c w o = settled_by c w o (is_written_exception o.tree) refl
+
 pub commas_law : Commas
 commas_law s c w p t a b = of_two s c w a b Second (λ (xs : TypedAll). row_of s c xs.work k.CommaExpression (at_of p) t xs.operands)
-    (λ x y. record { same_type = refl; same_category = refl })
+    (λ x y. let i = settled_as c (dropped c y.work x.operand).work y.operand in record { same_type = i.same_type; same_category = i.same_category })
 
 -- `? :`
 
-throw_kind : (x : Operand) (kind : TKind) → kind_of x.tree ≡ kind → is_throw kind ≡ true → Throws x
-throw_kind x Throw h i = throws h
-throw_kind x Rethrow h i = throws_again h
-throw_kind x kind h i = absurd cc
+throw_kind : (e : Tree) (kind : TKind) → kind_of e ≡ kind → is_throw kind ≡ true → IsThrow e
+throw_kind e Throw h i = throws h
+throw_kind e Rethrow h i = throws_again h
+throw_kind e kind h i = absurd cc
 
-throws_from : (x : Operand) → is_throw (kind_of x.tree) ≡ true → Throws x
-throws_from x h = throw_kind x (kind_of x.tree) refl h
+bare_from : (x : Operand) (e : Tree) → x.tree ≡ e → is_throw (kind_of e) ≡ true → Throws x
+bare_from x e h i = bare (throw_kind x.tree (kind_of e) (ap kind_of h) i)
+
+abbrev stands : ℕ → ℕ → At
+stands m n = record { source = m; offset = n }
+
+at_same : (a b : At) → same_at a b ≡ true → b ≡ a
+at_same a b h = let p = and_parts (a.source == b.source) (a.offset == b.offset) h in
+    ap (λ (n : ℕ). stands n b.offset) (sym (eqb-true a.source b.source p.0)) ∙ ap (stands a.source) (sym (eqb-true a.offset b.offset p.1))
+
+retype_from : (x : Operand) (t : Typ) (cat : Cat) (at : At) (e : Tree) (b : Bool) → x.tree ≡ node Retype t cat at (one e)
+    → (is_throw (kind_of e) && same_at at (place_of e)) ≡ b → is_throw (kind_of (if b then e else node Retype t cat at (one e))) ≡ true → Throws x
+retype_from x t cat at e true h i j = let p = and_parts (is_throw (kind_of e)) (same_at at (place_of e)) i in
+    without_value e (ap kind_of h) (ap kids_of h) (at_same at (place_of e) p.1 ∙ sym (ap place_of h)) (throw_kind e (kind_of e) refl p.0)
+retype_from x t cat at e false h i j = absurd cc
+
+throws_in : (x : Operand) (e : Tree) → x.tree ≡ e → throws_tree e ≡ true → Throws x
+throws_in x (node Retype t cat at (more e none)) h i = retype_from x t cat at e (is_throw (kind_of e) && same_at at (place_of e)) h refl i
+throws_in x (node kind t cat at kids) h i = bare_from x (node kind t cat at kids) h i
+
+throws_from : (x : Operand) → throws_tree x.tree ≡ true → Throws x
+throws_from x h = throws_in x x.tree refl h
 
 void_from : (t : Typ) → is_void t ≡ true → form_in t ≡ void
 void_from (typ void c v) h = refl
@@ -189,6 +228,10 @@ void_from (typ (func s) c v) h = absurd cc
 void_from (typ (class n) c v) h = absurd cc
 void_from (typ (closure n) c v) h = absurd cc
 void_from (typ (tx_ex t) c v) h = absurd cc
+
+-- beside one that throws
+like : (at : At) (test x y : Tree) (o z : Tree) → IsAs o z → IsAs o (conditional_like at z test x y)
+like at test x y o z i = record { same_type = i.same_type; same_category = i.same_category }
 
 itself : (e f : Tree) → typ_in e ≡ typ_in f → cat_of e ≡ cat_of f → IsAs f e
 itself e f h i = record { same_type = h; same_category = i }
@@ -248,21 +291,34 @@ values_law at test x y (ptr t) f i j = pointer_or_null at test x y t i
 values_law at test x y f (ptr t) i j = null_or_pointer at test x y t j
 values_law at test x y f g i j = values_case at test x y f g i j
 
+-- an object's type: with its qualifiers, if it is a prvalue
+object_is : (t : Typ) (cat : Cat) → is_object_form (form_in t) ≡ true
+    → (if is_class_prvalue t cat then t else unqualified t) ≡
+    typ (form_in t) (not (is_lvalue cat) && is_const_typ t) (not (is_lvalue cat) && is_volatile_typ t)
+object_is (typ f d v) Lvalue h = refl
+object_is (typ f d v) Prvalue h = rw h refl
+
+common_is : (x y : Operand) → is_object_form (form_in (typ_in x.tree)) ≡ true → is_object_form (form_in (typ_in y.tree)) ≡ true
+    → common_class x y ≡ typ (form_in (typ_in x.tree)) (gives_const x || gives_const y) (gives_volatile x || gives_volatile y)
+common_is x y h g = ap (λ (z : Typ). joined_type z (object_type y.tree)) (object_is (typ_in x.tree) (cat_of x.tree) h)
+    ∙ ap (joined_type (typ (form_in (typ_in x.tree)) (gives_const x) (gives_volatile x))) (object_is (typ_in y.tree) (cat_of y.tree) g)
+
 objects_law : (c : Ctx) (w : Work) (at : At) (test : Tree) (x y : Operand) → both_of_class x y ≡ true → On (Tree_in (Either x y)) (two_objects c w at test x y)
-objects_law c w at test x y h = skip (Tree_in (Either x y)) (class_from c w (unqualified (typ_in x.tree)) x.at x) _
-    (λ u. skip (Tree_in (Either x y)) (class_from c u.work (unqualified (typ_in x.tree)) y.at y) _ (λ v.
+objects_law c w at test x y h = skip (Tree_in (Either x y)) (object_as c w (common_class x y) x) _
+    (λ u. skip (Tree_in (Either x y)) (object_as c u.work (common_class x y) y) _ (λ v.
     let p = and_parts (is_class_typ (typ_in x.tree)) (form_eq (form_in (typ_in x.tree)) (form_in (typ_in y.tree))) h in
-    objects (class_from_typ (typ_in x.tree) p.0) (sym (form_same (form_in (typ_in x.tree)) (form_in (typ_in y.tree)) p.1))
-    (record { has_type = refl; category = refl })))
+    let f = form_same (form_in (typ_in x.tree)) (form_in (typ_in y.tree)) p.1 in
+    let o = class_from_typ (typ_in x.tree) p.0 in
+    objects (form_in (typ_in x.tree)) o refl (sym f) (record { has_type = common_is x y o (ap is_object_form (sym f) ∙ o); category = refl })))
 
 branches_law : (c : Ctx) (w : Work) (at : At) (test : Tree) (x y : Operand) → On (Tree_in (Either x y)) (branches c w at test x y)
-branches_law c w at test x y = either (Tree_in (Either x y)) (is_throw (kind_of x.tree) && is_throw (kind_of y.tree)) _ _
-    (λ h. let p = and_parts (is_throw (kind_of x.tree)) (is_throw (kind_of y.tree)) h in
+branches_law c w at test x y = either (Tree_in (Either x y)) (throws_tree x.tree && throws_tree y.tree) _ _
+    (λ h. let p = and_parts (throws_tree x.tree) (throws_tree y.tree) h in
     both_throw (throws_from x p.0) (throws_from y p.1) (record { has_type = refl; category = refl }))
-    (λ h. either (Tree_in (Either x y)) (is_throw (kind_of y.tree)) _ _
-    (λ i. second_throws (throws_from y i) (record { same_type = refl; same_category = refl }))
-    (λ i. either (Tree_in (Either x y)) (is_throw (kind_of x.tree)) _ _
-    (λ j. first_throws (throws_from x j) (record { same_type = refl; same_category = refl }))
+    (λ h. either (Tree_in (Either x y)) (throws_tree y.tree) _ _
+    (λ i. second_throws (throws_from y i) (like at test (settled c w x).tree (bare_throw y.tree) x.tree (settled c w x).tree (settled_as c w x)))
+    (λ i. either (Tree_in (Either x y)) (throws_tree x.tree) _ _
+    (λ j. first_throws (throws_from x j) (like at test (bare_throw x.tree) (settled c w y).tree y.tree (settled c w y).tree (settled_as c w y)))
     (λ j. either (Tree_in (Either x y)) (same_lvalues x y || (is_void (typ_in x.tree) && is_void (typ_in y.tree))) _ _
     (λ l. one_of_two (same_lvalues x y) (is_void (typ_in x.tree) && is_void (typ_in y.tree))
     (Either x y (conditional_node at (typ_in x.tree) (cat_of x.tree) test x.tree y.tree)) l

@@ -6,7 +6,7 @@ use Rattle.std.specs.Prelude.{not, if◌then◌else◌}
 use Rattle.elab_rules.specs.tx_ints.declared.kinds.IntKind.{IntKind}
 use Rattle.elab_rules.specs.tx_ints.declared.kinds.IntKind.TheVariants.{Int, ULong}
 use Rattle.elab_rules.specs.cpp_types.Typ.{Typ, typ, Form, void, int, enum, null, ptr, ref, array, func, class, closure, tx_ex}
-use Rattle.elab_rules.specs.cpp_types.Equal.{form_eq}
+use Rattle.elab_rules.specs.cpp_types.Equal.{typ_eq, form_eq}
 use Rattle.elab_rules.specs.cpp_types.Class.{Class}
 use Rattle.elab_rules.specs.cpp_types.Conversion.{step_of, other_step, bound, has_value, decayed, referred, is_object_form}
 use Rattle.elab_rules.specs.cpp_types.declared.classes.At.{At}
@@ -19,24 +19,25 @@ use Rattle.elab_rules.specs.cpp_lex.Tokens.{Lexeme}
 use Rattle.elab_rules.specs.cpp_ast.Trees as syntax
 use Rattle.elab_rules.specs.cpp_ast.declared.kinds.NodeKind.TheVariants as k
 use Rattle.elab_rules.specs.cpp_tree.declared.kinds.TKind.{TKind}
-use Rattle.elab_rules.specs.cpp_tree.declared.kinds.TKind.TheVariants.{Retype, Construct, CopyFrom, Pieces}
+use Rattle.elab_rules.specs.cpp_tree.declared.kinds.TKind.TheVariants.{Retype, Construct, Store, CopyFrom, Pieces}
 use Rattle.elab_rules.specs.cpp_tree.declared.faults.ElabFault.{ElabFault}
-use Rattle.elab_rules.specs.cpp_tree.declared.faults.IllRule.TheVariants.{NoConversion, NoCopy, BadOperand, Incomplete, BadThrow, NotTriviallyCopyable}
+use Rattle.elab_rules.specs.cpp_tree.declared.faults.IllRule.TheVariants.{NoConversion, NoCopy, BadOperand, BadThrow, NotTriviallyCopyable}
 use Rattle.elab_rules.specs.cpp_tree.Trees.{Tree, node, one, typ_in, cat_of, kind_of}
 use Rattle.elab_rules.specs.cpp_tree.Typing.{form_in, is_reference, unqualified, is_class_prvalue, is_void, is_volatile_typ, kind_in}
 use Rattle.elab_rules.specs.cpp_tree.Notation.{plain}
 use Rattle.elab_rules.specs.elab_ctx.Ctx.{Ctx, Work, Special, absent, trivial, function}
 use Rattle.elab_rules.specs.elab_ctx.Steps.{and_then, expect, check, Operand, Made, Typed, TypedAll, at_of}
-use Rattle.elab_rules.specs.Values.{number, valued, converted, stepped}
+use Rattle.elab_rules.specs.Values.{place_of, number, valued, converted, stepped, is_exception_form}
 use Rattle.elab_rules.specs.Initialising.{initial, bound_by, is_prvalue_of_class, same_number, class_number, rebuilt, constructed_copy, reference_word}
+use Rattle.elab_rules.specs.Initialising.{is_closure_itself, building}
 use Rattle.elab_rules.specs.Initialising.{parameters_at, copied_object, has_copy, meant, makers, argument, arguments, constructor_at, constructed_by, words}
 use Rattle.elab_rules.specs.Initialising.{constructed, from_nothing, makeable, default_by, is_prvalue_itself, class_from, from_values, with_tree}
 use Rattle.elab_rules.specs.Names.{is_tx_exception}
 use Rattle.elab_rules.specs.Objects.{Leaf, class_whole, zero_leaf, traits_at, size_of}
 use Rattle.elab_rules.specs.cpp_overload.Choosing.{chosen}
-use Rattle.elab_rules.specs.Operators.{value, is_sized, is_function}
-use Rattle.elab_rules.specs.Casts.{is_numeric, scalar_cast, reference_cast, cast, functional, is_exception_form, as_expression, stored_at, size_literal}
-use Rattle.elab_rules.specs.Casts.{throw_object, throw_in, throw_node, within_exception, is_thrown_scalar}
+use Rattle.elab_rules.specs.Operators.{value, measurable, is_function}
+use Rattle.elab_rules.specs.Casts.{is_numeric, scalar_cast, reference_cast, cast, functional, as_expression, stored_at, size_literal}
+use Rattle.elab_rules.specs.Casts.{throw_object, throw_in, throw_node, throw, within_exception, is_thrown_scalar}
 use Rattle.elab_rules.specs.Expressions.{an_operand, a_tree, row_of, expression_with, chosen_operand, type_id_of, type_id_with, operands_of, specified_with}
 use Rattle.elab_rules.specs.Types.{no_specifiers, specified_type}
 use Rattle.elab_laws.specs.Reading.{On, IsPrvalue, IsLvalue, operand_of}
@@ -46,7 +47,7 @@ use Rattle.elab_rules.specs.cpp_overload.declared.calls.NoBest.{NoBest}
 use Rattle.elab_rules.specs.cpp_overload.declared.calls.NoBest.TheVariants.{NoViable as NoneViable, Ambiguous}
 use Rattle.elab_rules.proofs.cpp_overload.Choosing.{chosen_is_meant}
 use Rattle.elab_laws.specs.Casting.{Makes, MadeBy, by_constructor, by_copy, Built, CastTo, to_void, to_reference, to_scalar, to_class, to_exception, OfCast}
-use Rattle.elab_laws.specs.Casting.{OfFunctional, FunctionalCasts, SizeOf, OfSizeType, OfSizeExpression, Thrown, StaticCasts, Casts, SizesOfTypes}
+use Rattle.elab_laws.specs.Casting.{OfFunctional, FunctionalCasts, SizeOf, OfSizeType, OfSizeExpression, ThrownObject, Thrown, StaticCasts, Casts, SizesOfTypes}
 use Rattle.elab_laws.specs.Casting.{SizesOfExpressions, Throws, Rethrows}
 use Rattle.elab_laws.proofs.Reading.{bind, skip, after, checked, weaken, either, of_one, made_in}
 use Rattle.elab_laws.proofs.Equal.{form_same}
@@ -178,15 +179,24 @@ number_is n None h = absurd cc
 itself_is : (n : ℕ) (e : Tree) → is_prvalue_of_class n e ≡ true → IsOf n e
 itself_is n e h = number_is n (class_number (typ_in e)) (and_parts (is_class_prvalue (typ_in e) (cat_of e)) (same_number n (class_number (typ_in e))) h).1
 
-rebuilt_is : (n : ℕ) (kind : TKind) (t : Typ) (e : Tree) → class_number t ≡ Some n → IsOf n e → IsOf n (rebuilt kind t e)
-rebuilt_is n (Construct k) t e h g = h
-rebuilt_is n CopyFrom t e h g = h
-rebuilt_is n Pieces t e h g = h
-rebuilt_is n kind t e h g = g
-
 zero_is : (depth : ℕ) (leaf : Leaf) (classes : List Class) (at : At) (n : ℕ) (q v : Bool) → IsOf n (class_whole depth leaf classes at n q v)
 zero_is zero leaf classes at n q v = refl
 zero_is (suc depth) leaf classes at n q v = refl
+
+rebuilt_is : (classes : List Class) (kind : TKind) (n : ℕ) (q v : Bool) (e : Tree) → IsOf n e → IsOf n (rebuilt classes kind (typ (class n) q v) e)
+rebuilt_is classes (Construct k) n q v e h = refl
+rebuilt_is classes (Store k s) n q v e h = refl
+rebuilt_is classes CopyFrom n q v e h = refl
+rebuilt_is classes Pieces n q v e h = zero_is (length classes) zero_leaf classes (place_of e) n (false || q) (false || v)
+rebuilt_is classes kind n q v e h = h
+
+building_by : (classes : List Class) (n : ℕ) (q v : Bool) (e : Tree) (b : Bool) → IsOf n e
+    → IsOf n (if b then e else rebuilt classes (kind_of e) (typ (class n) q v) e)
+building_by classes n q v e true h = h
+building_by classes n q v e false h = rebuilt_is classes (kind_of e) n q v e h
+
+building_is : (classes : List Class) (n : ℕ) (q v : Bool) (e : Tree) → IsOf n e → IsOf n (building classes (typ (class n) q v) e)
+building_is classes n q v e h = building_by classes n q v e (typ_eq (typ (class n) q v) (typ_in e)) h
 
 default_law : (c : Ctx) (n : ℕ) (q v : Bool) (at : At) (s : Special) → On (IsOf n) (default_by c (typ (class n) q v) at s)
 default_law c n q v at absent = tt
@@ -213,7 +223,7 @@ constructed_law c w n q v at [] = bind (IsOf n) (InMade (IsOf n)) (from_nothing 
     (skip (IsOf n) (makeable c at n) _ (λ k. default_law c n q v at (traits_at c n).default)) (λ e g. g)
 constructed_law c w n q v at (o ∷ []) = skip (InMade (IsOf n)) (makeable c at n) _
     (λ k. either (InMade (IsOf n)) (is_prvalue_itself n (o ∷ [])) _ _
-    (λ b. rebuilt_is n (kind_of o.tree) (typ (class n) q v) o.tree refl (itself_is n o.tree b))
+    (λ b. building_is c.classes n q v o.tree (itself_is n o.tree b))
     (λ b. skip (InMade (IsOf n)) (meant at (chosen c.classes (makers c n) (arguments (o ∷ [])))) _
     (λ i. by_law c w n (typ (class n) q v) at (o ∷ []) (constructor_at c n i) refl)))
 constructed_law c w n q v at (o ∷ p ∷ os) = skip (InMade (IsOf n)) (makeable c at n) _
@@ -221,7 +231,8 @@ constructed_law c w n q v at (o ∷ p ∷ os) = skip (InMade (IsOf n)) (makeable
     (λ i. by_law c w n (typ (class n) q v) at (o ∷ p ∷ os) (constructor_at c n i) refl))
 
 closure_made : (c : Ctx) (w : Work) (n : ℕ) (q v : Bool) (at : At) (o : Operand) → On (InMade (IsOf n)) (class_from c w (typ (closure n) q v) at o)
-closure_made c w n q v at o = either (InMade (IsOf n)) (is_prvalue_of_class n o.tree) _ _ (λ b. itself_is n o.tree b)
+closure_made c w n q v at o = either (InMade (IsOf n)) (is_closure_itself n q v o.tree) _ _
+    (λ b. itself_is n o.tree (and_parts (is_prvalue_of_class n o.tree) (typ_eq (typ (closure n) q v) (typ_in o.tree)) b).0)
     (λ b. skip (InMade (IsOf n)) (check o.at NoConversion (same_number n (class_number (typ_in o.tree)))) _ (λ y. refl))
 
 -- Exceptions
@@ -443,15 +454,15 @@ functional_casts_law s c w p t base es = nested (OfFunctional s c w p base es) (
 
 -- `sizeof`
 
-size_in : (c : Ctx) (w : Work) (at : At) (t : Typ) (b d : Bool)
+size_in : (c : Ctx) (w : Work) (at : At) (t : Typ) (b : Bool) (r : Result Bool ElabFault)
     → On (SizeOf c w t) (a_tree at w (and_then (check at BadOperand b)
-    (λ y. and_then (check at Incomplete d) (λ z. Ok (number ULong (size_of c.classes (referred t)) at)))))
-size_in c w at t true true = record { value = refl; result = record { has_type = refl; category = refl }; nothing_made = refl }
-size_in c w at t true false = tt
-size_in c w at t false d = tt
+    (λ y. and_then r (λ z. Ok (number ULong (size_of c.classes (referred t)) at)))))
+size_in c w at t true (Ok y) = record { value = refl; result = record { has_type = refl; category = refl }; nothing_made = refl }
+size_in c w at t true (Err e) = tt
+size_in c w at t false r = tt
 
 size_law : (c : Ctx) (w : Work) (at place : At) (t : Typ) → On (SizeOf c w t) (a_tree at w (size_literal c at place t))
-size_law c w at place t = size_in c w at t (not (is_function (referred t)) && not (is_void (referred t))) (is_sized c (referred t))
+size_law c w at place t = size_in c w at t (not (is_function (referred t)) && not (is_void (referred t))) (measurable c at (referred t))
 
 pub sizes_of_types_law : SizesOfTypes
 sizes_of_types_law s c w p t a = after (OfSizeType s c w a) (type_id_with s c [] w a) _
@@ -482,35 +493,46 @@ object_plain (typ (func s) d v) h = absurd cc
 plain_form : (t : Typ) (f : Form) → form_in t ≡ f → unqualified t ≡ plain f
 plain_form (typ g d v) f h = ap plain h
 
+-- what throws stands where the expression does
+abbrev ThrownAt : At → Operand → Tree → Type 0
+ThrownAt at o e = ThrownObject o e × (place_of e ≡ at)
+
 thrown_scalar : (c : Ctx) (w : Work) (at : At) (o : Operand)
-    → On (InMade (Thrown c o)) (and_then (check at BadThrow (is_thrown_scalar (form_in (typ_in (value o)))))
+    → On (InMade (ThrownAt at o)) (and_then (check at BadThrow (is_thrown_scalar (form_in (typ_in (value o)))))
     (λ y. Ok (record { tree = throw_node c at (typ_in (value o)) (value o); work = w })))
-thrown_scalar c w at o = checked (InMade (Thrown c o)) at BadThrow (is_thrown_scalar (form_in (typ_in (value o)))) _
-    (λ y. record {
-      is = refl;
-      result = record {
-        has_type = plain_form (typ_in (value o)) (decayed (typ_in o.tree)) (tree_value o.at o.tree);
-        category =
-            refl;
-      };
-    })
+thrown_scalar c w at o = checked (InMade (ThrownAt at o)) at BadThrow (is_thrown_scalar (form_in (typ_in (value o)))) _
+    (λ y. (
+      record {
+        is = refl;
+        result = record {
+          has_type = plain_form (typ_in (value o)) (decayed (typ_in o.tree)) (tree_value o.at o.tree);
+          category =
+              refl;
+        };
+      },
+      refl,
+    ))
 
 thrown_object : (c : Ctx) (w : Work) (at : At) (o : Operand) → is_object_form (form_in (typ_in o.tree)) ≡ true
-    → On (InMade (Thrown c o)) (throw_object c w at o)
-thrown_object c w at o h = skip (InMade (Thrown c o)) (check o.at NoCopy (not (is_volatile_typ (typ_in o.tree)))) _
-    (λ y. skip (InMade (Thrown c o)) (within_exception c at (typ_in o.tree)) _
-    (λ z. record { is = refl; result = record { has_type = object_plain (typ_in o.tree) h; category = refl } }))
+    → On (InMade (ThrownAt at o)) (throw_object c w at o)
+thrown_object c w at o h = skip (InMade (ThrownAt at o)) (check o.at NoCopy (not (is_volatile_typ (typ_in o.tree)))) _
+    (λ y. skip (InMade (ThrownAt at o)) (within_exception c at (typ_in o.tree)) _
+    (λ z. (record { is = refl; result = record { has_type = object_plain (typ_in o.tree) h; category = refl } }, refl)))
 
-throw_law : (c : Ctx) (w : Work) (at : At) (f : Form) (o : Operand) → form_in (typ_in o.tree) ≡ f → On (InMade (Thrown c o)) (throw_in c w at f o)
-throw_law c w at (class n) o h = skip (InMade (Thrown c o)) (check at NotTriviallyCopyable (traits_at c n).is_trivially_copyable) _
+throw_in_law : (c : Ctx) (w : Work) (at : At) (f : Form) (o : Operand) → form_in (typ_in o.tree) ≡ f → On (InMade (ThrownAt at o)) (throw_in c w at f o)
+throw_in_law c w at (class n) o h = skip (InMade (ThrownAt at o)) (check at NotTriviallyCopyable (traits_at c n).is_trivially_copyable) _
     (λ y. thrown_object c w at o (ap is_object_form h))
-throw_law c w at (tx_ex t) o h = thrown_object c w at o (ap is_object_form h)
-throw_law c w at f o h = thrown_scalar c w at o
+throw_in_law c w at (tx_ex t) o h = thrown_object c w at o (ap is_object_form h)
+throw_in_law c w at f o h = thrown_scalar c w at o
+
+throw_law : (c : Ctx) (w : Work) (at : At) (o : Operand) → On (InMade (Thrown c o)) (throw c w at (o ∷ []))
+throw_law c w at o = bind (InMade (ThrownAt at o)) (InMade (Thrown c o)) (throw_in c w at (form_in (typ_in o.tree)) o) _
+    (throw_in_law c w at (form_in (typ_in o.tree)) o refl)
+    (λ m g. record { is = refl; result = record { has_type = refl; category = refl }; thrown = m.tree; only = refl; place = g.1; object = g.0 })
 
 pub throws_law : Throws
 throws_law s c w p t a = of_one s c w a (Thrown c) (λ (xs : TypedAll). row_of s c xs.work k.ThrowExpression (at_of p) t xs.operands)
-    (λ x. made_in (Thrown c x.operand) (at_of p) (throw_in c x.work (at_of p) (form_in (typ_in x.operand.tree)) x.operand)
-    (throw_law c x.work (at_of p) (form_in (typ_in x.operand.tree)) x.operand refl))
+    (λ x. made_in (Thrown c x.operand) (at_of p) (throw c x.work (at_of p) (x.operand ∷ [])) (throw_law c x.work (at_of p) x.operand))
 
 pub rethrows_law : Rethrows
 rethrows_law s c w p t = record { is = refl; result = record { has_type = refl; category = refl } }

@@ -1,16 +1,18 @@
 -- Assignments (C++14 5.17), `a, b` (5.18) and `? :` (5.16).
-use Rattle.std.specs.Prelude.{◌≡◌, ℕ, true, false, List, [], ◌∷◌, is_some, codes}
+use Rattle.std.specs.Prelude.{◌≡◌, ℕ, Bool, true, false, not, ◌&&◌, ◌||◌, List, [], ◌∷◌, is_some, codes}
 use Rattle.elab_rules.specs.tx_ints.declared.kinds.IntKind.{IntKind}
 use Rattle.elab_rules.specs.tx_ints.Integers.{usual_of}
-use Rattle.elab_rules.specs.cpp_types.Typ.{Typ, Form, void, int, ptr}
-use Rattle.elab_rules.specs.cpp_types.Conversion.{is_object_form, conversion_of}
+use Rattle.elab_rules.specs.cpp_types.Typ.{Typ, typ, Form, void, int, ptr}
+use Rattle.elab_rules.specs.cpp_types.Conversion.{is_lvalue, is_object_form, conversion_of}
 use Rattle.elab_rules.specs.cpp_ast.declared.kinds.NodeKind.TheVariants as k
-use Rattle.elab_rules.specs.cpp_tree.declared.kinds.TKind.TheVariants.{Throw, Rethrow}
-use Rattle.elab_rules.specs.cpp_tree.Trees.{Tree, kind_of, typ_in, cat_of}
-use Rattle.elab_rules.specs.cpp_tree.Typing.{form_in, unqualified}
+use Rattle.elab_rules.specs.cpp_tree.declared.kinds.TKind.TheVariants.{Retype, Throw, Rethrow}
+use Rattle.elab_rules.specs.cpp_tree.Trees.{Tree, one, kind_of, typ_in, cat_of, kids_of}
+use Rattle.elab_rules.specs.cpp_tree.Typing.{form_in, unqualified, is_volatile_typ}
 use Rattle.elab_rules.specs.cpp_tree.Notation.{plain}
 use Rattle.elab_rules.specs.elab_ctx.Ctx.{Ctx}
 use Rattle.elab_rules.specs.elab_ctx.Steps.{Operand}
+use Rattle.elab_rules.specs.Values.{place_of}
+use Rattle.elab_rules.specs.Names.{is_const_typ}
 use Rattle.elab_laws.specs.Reading.{IsPrvalue, IsLvalue, value_type, EachTwo, AnyTwo, AnyThree}
 use Rattle.elab_laws.specs.Arithmetic.{IsNumber, PointsTo}
 use Rattle.elab_laws.specs.Unary.{IsModifiable}
@@ -47,10 +49,21 @@ pub record IsAs (x e : Tree) : Type 0 where
 abbrev pub Second : Operand → Operand → Tree → Type 0
 Second x y e = IsAs y.tree e
 
--- a `throw`, which has no value (5.16 p2)
+pub data IsThrow (e : Tree) : Type 0 where
+  throws : kind_of e ≡ Throw → IsThrow e
+  throws_again : kind_of e ≡ Rethrow → IsThrow e
+
+-- a `throw`, which has no value (5.16 p2): by itself, or with the node at its own place that says so
 pub data Throws (x : Operand) : Type 0 where
-  throws : kind_of x.tree ≡ Throw → Throws x
-  throws_again : kind_of x.tree ≡ Rethrow → Throws x
+  bare : IsThrow x.tree → Throws x
+  without_value : (e : Tree) → kind_of x.tree ≡ Retype → kids_of x.tree ≡ one e → place_of e ≡ place_of x.tree → IsThrow e → Throws x
+
+-- the qualifiers that an operand gives to an object: those of a prvalue alone
+abbrev pub gives_const : Operand → Bool
+gives_const x = not (is_lvalue (cat_of x.tree)) && is_const_typ (typ_in x.tree)
+
+abbrev pub gives_volatile : Operand → Bool
+gives_volatile x = not (is_lvalue (cat_of x.tree)) && is_volatile_typ (typ_in x.tree)
 
 -- what `? :` gives of its second and third operand
 pub data Either (x y : Operand) (e : Tree) : Type 0 where
@@ -62,8 +75,8 @@ pub data Either (x y : Operand) (e : Tree) : Type 0 where
   -- p4: lvalues of one type
   lvalues : (t : Typ) → IsLvalue t x.tree → IsLvalue t y.tree → IsLvalue t e → Either x y e
   -- p3, p6: objects of one class, or values of one type
-  objects : is_object_form (form_in (typ_in x.tree)) ≡ true → form_in (typ_in y.tree) ≡ form_in (typ_in x.tree) → IsPrvalue (unqualified (typ_in x.tree)) e
-      → Either x y e
+  objects : (f : Form) → is_object_form f ≡ true → form_in (typ_in x.tree) ≡ f → form_in (typ_in y.tree) ≡ f
+      → IsPrvalue (typ f (gives_const x || gives_const y) (gives_volatile x || gives_volatile y)) e → Either x y e
   values : (f : Form) → value_type x ≡ f → value_type y ≡ f → IsPrvalue (plain f) e → Either x y e
   -- p6: numbers as the usual arithmetic conversions say, a pointer with a null pointer constant as the pointer
   numbers_of : (i j : IntKind) → IsNumber x i → IsNumber y j → IsPrvalue (plain (int (usual_of i j))) e → Either x y e

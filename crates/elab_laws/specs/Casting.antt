@@ -8,12 +8,13 @@ use Rattle.elab_rules.specs.cpp_ast.Trees as syntax
 use Rattle.elab_rules.specs.cpp_ast.declared.arena.At.{At as SyntaxAt}
 use Rattle.elab_rules.specs.cpp_ast.declared.kinds.NodeKind.{NodeKind}
 use Rattle.elab_rules.specs.cpp_ast.declared.kinds.NodeKind.TheVariants as k
-use Rattle.elab_rules.specs.cpp_tree.declared.kinds.TKind.TheVariants.{Literal, Throw, Rethrow, Construct, CopyFrom}
-use Rattle.elab_rules.specs.cpp_tree.Trees.{Tree, kind_of, typ_in}
+use Rattle.elab_rules.specs.cpp_tree.declared.kinds.TKind.TheVariants.{Literal, Retype, Throw, Rethrow, Construct, CopyFrom}
+use Rattle.elab_rules.specs.cpp_tree.Trees.{Tree, one, kind_of, typ_in, kids_of}
 use Rattle.elab_rules.specs.cpp_tree.Typing.{form_in, unqualified, kind_in, is_reference}
 use Rattle.elab_rules.specs.cpp_tree.Notation.{plain}
 use Rattle.elab_rules.specs.elab_ctx.Ctx.{Ctx, Work}
 use Rattle.elab_rules.specs.elab_ctx.Steps.{and_then, Operand, Typed, TypedAll, at_of}
+use Rattle.elab_rules.specs.Values.{place_of}
 use Rattle.elab_rules.specs.Objects.{size_of}
 use Rattle.elab_rules.specs.Initialising.{class_number, makers, constructor_at, arguments, is_prvalue_itself}
 use Rattle.elab_rules.specs.cpp_overload.Overload.{Argument, IsChosen}
@@ -85,9 +86,18 @@ pub record OfSizeExpression (s : List Lexeme) (c : Ctx) (w : Work) (a : syntax.T
   pub size : SizeOf c w (typ_in operand.operand.tree) r
 
 -- what is thrown is an object of the type of the value, without qualifiers (15.1 p3)
-pub record Thrown (c : Ctx) (x : Operand) (e : Tree) : Type 0 where
+pub record ThrownObject (x : Operand) (e : Tree) : Type 0 where
   pub is : kind_of e ≡ Throw
   pub result : IsPrvalue (plain (value_type x)) e
+
+-- a `throw` has type `void` (15.1 p1): its node says that there is no value, and has the one that throws as its only kid, at its own place
+pub record Thrown (c : Ctx) (x : Operand) (e : Tree) : Type 0 where
+  pub is : kind_of e ≡ Retype
+  pub result : IsPrvalue (plain void) e
+  pub thrown : Tree
+  pub only : kids_of e ≡ one thrown
+  pub place : place_of thrown ≡ place_of e
+  pub object : ThrownObject x thrown
 
 pub record IsAgain (e : Tree) : Type 0 where
   pub is : kind_of e ≡ Rethrow

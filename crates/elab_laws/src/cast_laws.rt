@@ -23,7 +23,7 @@ pub fn sizes()
     ensures sizes_of_expressions { SizesOfExpressions }
 {}
 
-/// `throw` throws an object of the type of the value of its operand.
+/// `throw` has no value, and throws an object of the type of the value of its operand.
 pub fn throws()
     ensures throws { Throws }
     ensures rethrows { Rethrows }

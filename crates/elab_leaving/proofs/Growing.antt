@@ -18,8 +18,9 @@ use Rattle.elab_rules.specs.cpp_tree.declared.kinds.TKind.{TKind}
 use Rattle.elab_rules.specs.cpp_tree.declared.kinds.TKind.TheVariants as forms
 use Rattle.elab_rules.specs.cpp_tree.declared.kinds.Builtin.{Builtin}
 use Rattle.elab_rules.specs.cpp_tree.declared.faults.ElabFault.{ElabFault}
-use Rattle.elab_rules.specs.cpp_tree.Trees.{Tree, node, Trees, none, more, one, typ_in, cat_of, kind_of}
+use Rattle.elab_rules.specs.cpp_tree.Trees.{Tree, node, Trees, none, more, one, typ_in, cat_of}
 use Rattle.elab_rules.specs.cpp_tree.Typing.{form_in, unqualified, is_void, is_class_typ, is_class_prvalue, is_volatile_typ, kind_in, qualified}
+use Rattle.elab_rules.specs.cpp_tree.Typing.{without_exception}
 use Rattle.elab_rules.specs.elab_ctx.Ctx.{Ctx, Work, Closure, Capture, Default, with_item}
 use Rattle.elab_rules.specs.elab_ctx.Steps.{and_then, Operand, Made, MadeAll, Typed, TypedAll, at_of, spelling, token_place, check, expect, value_at}
 use Rattle.elab_rules.specs.Objects.{Part, parts_of, traits_at}
@@ -27,10 +28,11 @@ use Rattle.elab_rules.specs.Initialising.{object_of, bound_by, initial, is_prval
 use Rattle.elab_rules.specs.Initialising.{copied_object, class_from, passed, words, constructed_by, is_prvalue_itself, constructed, only, scalar_from}
 use Rattle.elab_rules.specs.Initialising.{exception_from, is_exception_itself, from_values, func_at, argument, arguments, class_number, conversion}
 use Rattle.elab_rules.specs.Initialising.{from_nothing, has_copy, is_same_or_base, makeable, makers, meant, places_from, same_number, signature_result}
-use Rattle.elab_rules.specs.Initialising.{with_tree, as_source, signature_parameters}
-use Rattle.elab_rules.specs.Operators.{value, is_throw, is_volatile_scalar, is_read_when_dropped, dropped, copy_assigned, class_assigned_in, assignment}
+use Rattle.elab_rules.specs.Initialising.{with_tree, as_source, signature_parameters, is_closure_itself}
+use Rattle.elab_rules.specs.Operators.{value, throws, is_volatile_scalar, is_read_when_dropped, dropped, copy_assigned, class_assigned_in, assignment}
 use Rattle.elab_rules.specs.Operators.{same_lvalues, both_of_class, two_objects, same_work, branches, conditional, value_form, assigned, step, target, truth}
-use Rattle.elab_rules.specs.Operators.{compound, compound_operator, same_object, subscript, two_values}
+use Rattle.elab_rules.specs.Operators.{compound, compound_operator, same_object, subscript, two_values, is_written_exception, settled, comma}
+use Rattle.elab_rules.specs.Operators.{common_class, is_other_prvalue, object_operand, object_as}
 use Rattle.elab_rules.specs.Names.{is_tx_exception, member_access, class_member, exception_member, is_free, is_method, resolved, is_const_typ}
 use Rattle.elab_rules.specs.Names.{is_volatile_object, members_in, named, offset_at, this_tree}
 use Rattle.elab_rules.specs.Casts.{is_numeric, scalar_cast, cast_in, cast, functional, throw_object, throw_in, throw, string_global, is_thrown_scalar}
@@ -112,8 +114,8 @@ copied_grows c w n t at o = skip (Mades w) (check (o.at) NoCopy (not (is_volatil
     (λ y. skip (Mades w) (meant at (chosen c.classes (makers c n) (argument o ∷ []))) _ (λ i. copy_made c w n t at o (constructor_at c n i)))
 
 pub class_grows : (c : Ctx) (w : Work) (t : Typ) (at : At) (o : Operand) → On (Mades w) (class_from c w t at o)
-class_grows c w (typ (closure n) q v) at o = either (Mades w) (is_prvalue_of_class n o.tree) _ _ (same w)
-    (skip (Mades w) (check (o.at) NoConversion (same_number n (class_number (typ_in o.tree)))) _ (λ y. same w))
+class_grows c w (typ (closure n) q v) at o = either (Mades w) (is_closure_itself n q v o.tree) _ _ (same w)
+    (skip (Mades w) (check (o.at) NoConversion (same_number n (class_number (typ_in o.tree)))) _ (λ y. object_grows c w o.at o.tree))
 class_grows c w (typ (class n) q v) at o = skip (Mades w) (makeable c at n) _
     (λ k. either (Mades w) (is_prvalue_of_class n o.tree) _ _ (same w)
     (skip (Mades w) (check (o.at) NoConversion (is_same_or_base c.classes (class_number (typ_in o.tree)) (Some n))) _
@@ -162,7 +164,7 @@ values_grow : (c : Ctx) (w : Work) (t : Typ) (at : At) (os : List Operand) → O
 values_grow c w (typ (class n) q v) at os = constructed_grows c w n (typ (class n) q v) at os
 values_grow c w (typ (tx_ex t) q v) at [] = tt
 values_grow c w (typ (tx_ex t) q v) at (o ∷ os) = either (Mades w) (is_exception_itself t (o ∷ os)) _ _ (class_grows c w (typ (tx_ex t) q v) at o)
-    (exception_grows c w t at (o ∷ os))
+    (exception_grows c w (without_exception (typ (tx_ex t) q v)) at (o ∷ os))
 values_grow c w (typ (array e n) q v) at (o ∷ os) = tt
 values_grow c w t at [] = nothing_grows c w t at
 values_grow c w t at (o ∷ os) = value_grows c w t at o os
@@ -185,8 +187,14 @@ directly_grows c w t at os = values_grow c w t at os
 -- Operators
 
 pub dropped_grows : (c : Ctx) (w : Work) (o : Operand) → Mades w (dropped c w o)
-dropped_grows c w o = if_made w (is_throw (kind_of o.tree)) _ _ (same w)
+dropped_grows c w o = if_made w (throws o.tree) _ _ (same w)
     (if_made w (is_volatile_scalar (typ_in o.tree) && is_read_when_dropped o.tree) _ _ (same w) (object_grows c w o.at o.tree))
+
+settled_grows : (c : Ctx) (w : Work) (o : Operand) → Mades w (settled c w o)
+settled_grows c w o = if_made w (is_written_exception o.tree) _ _ (object_grows c w o.at o.tree) (same w)
+
+comma_grows : (c : Ctx) (w : Work) (at : At) (a b : Operand) → Mades w (comma c w at a b)
+comma_grows c w at a b = let v = (dropped c w a).work in grown w v (settled c v b).work (dropped_grows c w a) (settled_grows c v b)
 
 same_grows : (w : Work) (r : Result Tree ElabFault) → On (Mades w) (same_work w r)
 same_grows w r = skip (Mades w) r _ (λ t. same w)
@@ -213,16 +221,27 @@ assigned_grows : (c : Ctx) (w : Work) (at : At) (name : List ℕ) (a b : Operand
 assigned_grows c w at name a b = either (Mades w) (bytes_eq name (codes "=")) _ _ (assignment_grows c w at a b)
     (same_grows w (and_then (expect at OutOfProfile (compound_operator name)) (λ (op : BinOp). compound c op at a b)))
 
+object_as_grows : (c : Ctx) (w : Work) (t : Typ) (o : Operand) → On (Mades w) (object_as c w t o)
+object_as_grows c w t o = either (Mades w) (is_other_prvalue t o.tree) _ _
+    (made_after w x.work (class_from c x.work t o.at p) (object_grows c w o.at o.tree) (class_grows c x.work t o.at p)) (class_grows c w t o.at o)
+  where
+    x : Made
+    x = object_of c w o.at o.tree
+
+    p : Operand
+    p = object_operand o x.tree
+
 objects_grow : (c : Ctx) (w : Work) (at : At) (test : Tree) (a b : Operand) → On (Mades w) (two_objects c w at test a b)
-objects_grow c w at test a b = bind (Mades w) (Mades w) (class_from c w (unqualified (typ_in a.tree)) a.at a) _
-    (class_grows c w (unqualified (typ_in a.tree)) a.at a)
-    (λ x g. bind (Mades x.work) (Mades w) (class_from c x.work (unqualified (typ_in a.tree)) b.at b) _
-    (class_grows c x.work (unqualified (typ_in a.tree)) b.at b) (λ y h. grown w x.work y.work g h))
+objects_grow c w at test a b = bind (Mades w) (Mades w) (object_as c w t a) _ (object_as_grows c w t a)
+    (λ x g. bind (Mades x.work) (Mades w) (object_as c x.work t b) _ (object_as_grows c x.work t b) (λ y h. grown w x.work y.work g h))
+  where
+    t : Typ
+    t = common_class a b
 
 branches_grow : (c : Ctx) (w : Work) (at : At) (test : Tree) (a b : Operand) → On (Mades w) (branches c w at test a b)
 branches_grow c w at test a b =
-    either (Mades w) (is_throw (kind_of a.tree) && is_throw (kind_of b.tree)) _ _ (same w)
-    (either (Mades w) (is_throw (kind_of b.tree)) _ _ (same w) (either (Mades w) (is_throw (kind_of a.tree)) _ _ (same w)
+    either (Mades w) (throws a.tree && throws b.tree) _ _ (same w)
+    (either (Mades w) (throws b.tree) _ _ (settled_grows c w a) (either (Mades w) (throws a.tree) _ _ (settled_grows c w b)
     (either (Mades w) (same_lvalues a b || (is_void (typ_in a.tree) && is_void (typ_in b.tree))) _ _ (same w)
     (either (Mades w) (both_of_class a b) _ _ (objects_grow c w at test a b) (same_grows w (two_values at test (value_form a) (value_form b) a b))))))
 
@@ -268,7 +287,8 @@ throw_in_grows c w at f o = skip (Mades w) (check at BadThrow (is_thrown_scalar 
 
 throw_grows : (c : Ctx) (w : Work) (at : At) (os : List Operand) → On (Mades w) (throw c w at os)
 throw_grows c w at [] = same w
-throw_grows c w at (o ∷ os) = throw_in_grows c w at (form_in (typ_in o.tree)) o
+throw_grows c w at (o ∷ os) = bind (Mades w) (Mades w) (throw_in c w at (form_in (typ_in o.tree)) o) _ (throw_in_grows c w at (form_in (typ_in o.tree)) o)
+    (λ m g. g)
 
 access_grows : (c : Ctx) (w : Work) (at dot : At) (name : List ℕ) (o : Operand) → On (Mades w) (member_access c w at dot name o)
 access_grows c w at dot name o = either (Mades w) (is_tx_exception (typ_in o.tree)) _ _
@@ -376,7 +396,7 @@ row_grows s c w k.BinaryExpression at t (a ∷ b ∷ []) = tree_operand at w (op
 row_grows s c w k.ConditionalExpression at t (a ∷ b ∷ d ∷ []) = made_operand w w at (conditional c w at a b d) (same w) (conditional_grows c w at a b d)
 row_grows s c w k.AssignmentExpression at t (a ∷ b ∷ []) =
     made_operand w w at (assignment_of c w at (spelling s t) a b) (same w) (assigned_grows c w at (spelling s t) a b)
-row_grows s c w k.CommaExpression at t (a ∷ b ∷ []) = dropped_grows c w a
+row_grows s c w k.CommaExpression at t (a ∷ b ∷ []) = comma_grows c w at a b
 row_grows s c w k.ThrowExpression at t os = made_operand w w at (throw c w at os) (same w) (throw_grows c w at os)
 row_grows s c w k.MemberAccess at t (a ∷ []) = made_operand w w at (member_access c w at (token_place s at.source t) (spelling s t) a) (same w)
     (access_grows c w at (token_place s at.source t) (spelling s t) a)

@@ -10,12 +10,12 @@ use Rattle.elab_rules.specs.cpp_tree.declared.kinds.TKind.TheVariants as forms
 use Rattle.elab_rules.specs.cpp_tree.declared.faults.ElabFault.{ElabFault}
 use Rattle.elab_rules.specs.cpp_tree.declared.faults.IllRule.TheVariants.{Redeclared, TypeDiffers, BadDeclaration, NotConstant, Incomplete, BadInit, Narrowing}
 use Rattle.elab_rules.specs.cpp_tree.declared.faults.IllRule.TheVariants.{BadReturn, BadBreak, BadCase}
-use Rattle.elab_rules.specs.cpp_tree.Trees.{Tree, none, kind_of, typ_in, one, three}
+use Rattle.elab_rules.specs.cpp_tree.Trees.{Tree, none, typ_in, one, three}
 use Rattle.elab_rules.specs.cpp_tree.Typing.{is_class_typ, form_in, is_void, kind_in, unqualified}
 use Rattle.elab_rules.specs.elab_ctx.Ctx.{next_place, Returns, known, deduced}
 use Rattle.elab_rules.specs.elab_ctx.Steps.{and_then, check, expect, at_of, spelling, Made, Typed, TypedAll}
 use Rattle.elab_rules.specs.Initialising.{class_from, initial}
-use Rattle.elab_rules.specs.Operators.{value, truth, dropped, is_complete, is_throw}
+use Rattle.elab_rules.specs.Operators.{value, truth, dropped, is_complete}
 use Rattle.elab_rules.specs.Types.{Parameter, has_auto}
 use Rattle.elab_rules.specs.Braces.{item_of, string_token, is_char_array, syntax_place, string_object}
 use Rattle.elab_rules.specs.Expressions.{expression_of, operands_of, chosen_operand, declared_by, type_of_specifiers}
@@ -28,7 +28,7 @@ use Rattle.elab_rules.specs.Statements.{next_variable, variable_by, variable, na
 use Rattle.elab_rules.specs.Statements.{return_by, return_nothing, returned, case_label, default_label, inner, in_loop, in_block, in_switch, outer}
 use Rattle.elab_rules.specs.Statements.{named_handler, handler_type, in_order, switched, jump, a_part, for_first, for_test, for_step, statement_of}
 use Rattle.elab_rules.specs.Statements.{statements_of, handlers_of, case_fits, caught_type, declarable, is_bounded, is_fresh, is_own_name, label_here}
-use Rattle.elab_rules.specs.Statements.{only_expression, same_deduction, switched_type, class_returned, full, return_node, block, statement, the_tree}
+use Rattle.elab_rules.specs.Statements.{only_expression, same_deduction, switched_type, class_returned, full, result_of, return_node, block, statement, the_tree}
 use Rattle.std.specs.Prelude.{if◌then◌else◌}
 use Rattle.elab_leaving.specs.Kept.{Leaves, On, Lawful}
 use Rattle.elab_leaving.proofs.Keeping.{bind, skip, either, stays, after, Grows, begins_refl, begins_trans, work_kept, variable_kept, unnamed_kept}
@@ -179,7 +179,7 @@ declaration_kept lams q s st at ts = tt
 class_or_value : (at : At) (t : Typ) (f : Full) → On (Ends f.state)
     (if is_class_typ t then and_then (class_from f.state.ctx f.state.work t f.operand.at f.operand)
     (λ (m : Made). done (one (class_returned at t f m)) (with_work f.state m.work)) else and_then (initial f.state.ctx f.state.work t f.operand)
-    (λ (m : Made). done (one (return_node at (one (full f.operand.at m.tree)))) (with_work f.state m.work)))
+    (λ (m : Made). done (one (return_node at (one (full f.operand.at (result_of t f.operand.at m.tree))))) (with_work f.state m.work)))
 class_or_value at t f = either (Ends f.state) (is_class_typ t) _ _
     (bind (λ (m : Made). Grows f.state.work m.work) (Ends f.state) (class_from f.state.ctx f.state.work t f.operand.at f.operand) _
     (class_grows f.state.ctx f.state.work t f.operand.at f.operand) (λ m g. work_kept f.state m.work g))
@@ -187,8 +187,7 @@ class_or_value at t f = either (Ends f.state) (is_class_typ t) _ _
     (initial_grows f.state.ctx f.state.work t f.operand) (λ m g. work_kept f.state m.work g))
 
 value_returned : (at : At) (t : Typ) (f : Full) → On (Ends f.state) (return_value at t f)
-value_returned at (typ void d v) f = skip (Ends f.state) (check at BadReturn (is_void (typ_in f.operand.tree) || is_throw (kind_of f.operand.tree))) _
-    (λ y. stays f.state)
+value_returned at (typ void d v) f = skip (Ends f.state) (check at BadReturn (is_void (typ_in f.operand.tree))) _ (λ y. stays f.state)
 value_returned at t f = class_or_value at t f
 
 return_kept : (at : At) (r : Returns) (f : Full) → On (Ends f.state) (return_by at r f)

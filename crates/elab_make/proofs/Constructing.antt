@@ -22,7 +22,7 @@ abbrev chosen_maker : Ctx → Work → ℕ → Typ → At → List Operand → R
 chosen_maker c w n t at os = and_then (meant at (chosen c.classes (makers c n) (arguments os))) (λ i. constructed_by c w n t at os (constructor_at c n i))
 
 abbrev made_of : Ctx → Work → ℕ → Typ → At → Tree → List Operand → Result Made ElabFault
-made_of c w n t at e os = if is_prvalue_itself n os then Ok (record { tree = building t e; work = w }) else chosen_maker c w n t at os
+made_of c w n t at e os = if is_prvalue_itself n os then Ok (record { tree = building c.classes t e; work = w }) else chosen_maker c w n t at os
 
 constructed_is : (c : Ctx) (w : Work) (n : ℕ) (t : Typ) (at : At) (trees : List Tree) (first : OperandRec) (os : List OperandRec) → os ≡ first ∷ drop 1 os
     → constructed c w n t at (operands_in trees os) ≡ and_then (makeable c at n) (λ k. made_of c w n t at (tree_at trees first.id) (operands_in trees os))

@@ -1,5 +1,5 @@
 -- Trees with which something is made, in several steps.
-use Rattle.std.proofs.Common.{◌≡◌, ℕ, ◌+◌, ◌<◌, ◌≤◌, List, [], ◌∷◌, ◌++◌, length, drop, map, refl, ◌∙◌, ap, subst, get_or, Result, Ok, Err, IfOk}
+use Rattle.std.proofs.Common.{◌≡◌, Bool, ℕ, ◌+◌, ◌<◌, ◌≤◌, List, [], ◌∷◌, ◌++◌, length, drop, map, refl, ◌∙◌, ap, subst, get_or, Result, Ok, Err, IfOk}
 use Rattle.std.specs.declared.alloc.AllocError.{AllocError}
 use Rattle.elab_init.specs.cpp_types.Typ.{Typ, typ_of}
 use Rattle.elab_init.specs.cpp_types.declared.classes.At.{At}
@@ -14,7 +14,7 @@ use Rattle.elab_init.specs.elab_ctx.Says.{AddsAll, Puts}
 use Rattle.elab_init.proofs.elab_ctx.Looks.{grows_trans, at_grown}
 use Rattle.elab_init.specs.elab_rules.Objects.{Part, backwards, destroys}
 use Rattle.elab_init.specs.elab_rules.Values.{temporary}
-use Rattle.elab_init.specs.elab_rules.Initialising.{with_tree, closure_part, closure_pieces}
+use Rattle.elab_init.specs.elab_rules.Initialising.{with_tree, closure_piece, qualified_part, closure_pieces}
 use Rattle.elab_init.specs.Parts.{part_of}
 use Rattle.elab_init.specs.declared.parts.ObjectPart.{ObjectPart}
 use Rattle.elab_init.proofs.Listing.{Adding, adding_one, adding_done, adds_more, trees_grown, drop_step, drop_past}
@@ -59,19 +59,19 @@ pub back_more : (each : Part → Trees) (parts : List ObjectPart) (i : ℕ) (p d
 back_more each parts i p d old now new ids others next h e a m n =
     rw (drop_step parts i d h) (adds_more old now new ids others next _ _ a (subst (λ (z : ObjectPart). AddsAll now new others (each (part_of z))) e m) n)
 
-closure_next : (c : Ctx) (at : At) (parts : List ObjectPart) (i : ℕ) (p d : ObjectPart) → i < length parts → p ≡ get_or parts i d
-    → closure_pieces c at (map part_of (drop i parts))
-    ≡ more (node (Piece p.offset) (typ_of p.ty) Prvalue at (more (closure_part c at (part_of p)) (destroys c at (typ_of p.ty))))
-    (closure_pieces c at (map part_of (drop (i + 1) parts)))
-closure_next c at parts i p d h e = rw (drop_step parts i d h) (rw e refl)
+closure_next : (c : Ctx) (at : At) (q v : Bool) (parts : List ObjectPart) (i : ℕ) (p d : ObjectPart) → i < length parts → p ≡ get_or parts i d
+    → closure_pieces c at q v (map part_of (drop i parts))
+    ≡ more (closure_piece c at (qualified_part q v (part_of p))) (closure_pieces c at q v (map part_of (drop (i + 1) parts)))
+closure_next c at q v parts i p d h e = rw (drop_step parts i d h) (rw e refl)
 
-pub closure_added : (c : Ctx) (at : At) (parts : List ObjectPart) (i : ℕ) (p d : ObjectPart) (old now new : List Tree) (ids next : List TNodeId) (r : TNodeId)
-    → Adding old now ids (closure_pieces c at (map part_of (drop i parts))) (closure_pieces c at (map part_of parts)) → i < length parts → p ≡ get_or parts i d
-    → Adds now new r (node (Piece p.offset) (typ_of p.ty) Prvalue at (more (closure_part c at (part_of p)) (destroys c at (typ_of p.ty))))
-    → next ≡ ids ++ r ∷ [] → Adding old new next (closure_pieces c at (map part_of (drop (i + 1) parts))) (closure_pieces c at (map part_of parts))
-closure_added c at parts i p d old now new ids next r a h e q n = adding_one old now new ids next r _ _ _ _ a (closure_next c at parts i p d h e) q n
+pub closure_added : (c : Ctx) (at : At) (q v : Bool) (parts : List ObjectPart) (i : ℕ) (p d : ObjectPart) (old now new : List Tree) (ids next : List TNodeId)
+    (r : TNodeId) → Adding old now ids (closure_pieces c at q v (map part_of (drop i parts))) (closure_pieces c at q v (map part_of parts)) → i < length parts
+    → p ≡ get_or parts i d → Adds now new r (closure_piece c at (qualified_part q v (part_of p)))
+    → next ≡ ids ++ r ∷ [] → Adding old new next (closure_pieces c at q v (map part_of (drop (i + 1) parts))) (closure_pieces c at q v (map part_of parts))
+closure_added c at q v parts i p d old now new ids next r a h e g n =
+    adding_one old now new ids next r _ _ _ _ a (closure_next c at q v parts i p d h e) g n
 
-pub closure_done : (c : Ctx) (at : At) (parts : List ObjectPart) (i : ℕ) (old now : List Tree) (ids : List TNodeId)
-    → Adding old now ids (closure_pieces c at (map part_of (drop i parts))) (closure_pieces c at (map part_of parts)) → length parts ≤ i
-    → AddsAll old now ids (closure_pieces c at (map part_of parts))
-closure_done c at parts i old now ids a h = adding_done old now ids _ _ a (rw (drop_past parts i h) refl)
+pub closure_done : (c : Ctx) (at : At) (q v : Bool) (parts : List ObjectPart) (i : ℕ) (old now : List Tree) (ids : List TNodeId)
+    → Adding old now ids (closure_pieces c at q v (map part_of (drop i parts))) (closure_pieces c at q v (map part_of parts)) → length parts ≤ i
+    → AddsAll old now ids (closure_pieces c at q v (map part_of parts))
+closure_done c at q v parts i old now ids a h = adding_done old now ids _ _ a (rw (drop_past parts i h) refl)

@@ -8,7 +8,7 @@ ghost use Rattle.elab_init.specs.cpp_tree.Arena.{trees_of, tree_at, Adds};
 ghost use Rattle.elab_init.specs.elab_ctx.Ctx.{ctx_of, special_of};
 ghost use Rattle.elab_init.specs.elab_ctx.Says.{AddsAll};
 ghost use Rattle.elab_init.specs.elab_rules.Objects.{parts_of as parts_by, destroys as destroys_by};
-ghost use Rattle.elab_init.specs.elab_rules.Initialising.{copied_part as copied_part_of, copy_of_held as copy_of_held_of, closure_part as closure_part_of, closure_pieces as closure_pieces_of};
+ghost use Rattle.elab_init.specs.elab_rules.Initialising.{copied_part as copied_part_of, copy_of_held as copy_of_held_of, closure_part as closure_part_of, closure_piece as closure_piece_of, qualified_part as qualified_part_of, closure_pieces as closure_pieces_of, closure_copied as closure_copied_of};
 ghost use Rattle.elab_init.specs.Parts.{part_of};
 
 use crate::destructions::destroys;
@@ -17,7 +17,8 @@ use elab_init::below::{
     At, Cat, Env, Shape, Special, TKind, TNode, TNodeId, Ty, add_binary, add_node, copy,
 };
 use elab_init::{
-    ObjectPart, class_number, copies, element_type, keep, object_kids, parts_of, traits_at,
+    ObjectPart, class_number, copies, element_type, keep, object_kids, parts_of, qualified_type,
+    traits_at,
 };
 use std::alloc::{AllocError, Global};
 
@@ -72,7 +73,7 @@ fn closure_piece(
     at: At,
     part: &ObjectPart,
 ) -> Result<TNodeId, AllocError>
-    ensures { IfOk result (λ r. Adds (trees_of nodes.old.items) (trees_of nodes.new.items) r (node (TKind.Piece part.now.offset) (typ_of part.now.ty) Cat.Prvalue at (more (closure_part_of (ctx_of env.now) at (part_of part.now)) (destroys_by (ctx_of env.now) at (typ_of part.now.ty))))) }
+    ensures { IfOk result (λ r. Adds (trees_of nodes.old.items) (trees_of nodes.new.items) r (closure_piece_of (ctx_of env.now) at (part_of part.now))) }
 {
     let init = closure_part(alloc, env, nodes, at, part)?;
     let ends = destroys(alloc, env, nodes, at, &part.ty)?;
@@ -93,21 +94,51 @@ fn closure_piece(
     )
 }
 
+// A part of an object with these qualifiers.
+fn qualified_part(
+    alloc: Global,
+    is_const: bool,
+    is_volatile: bool,
+    part: &ObjectPart,
+) -> Result<ObjectPart, AllocError>
+    ensures { IfOk result (λ p. part_of p ≡ qualified_part_of is_const is_volatile (part_of part.now)) }
+{
+    let ty = qualified_type(alloc, is_const, is_volatile, &part.ty)?;
+    Ok(ObjectPart {
+        offset: part.offset,
+        ty,
+    })
+}
+
 fn closure_pieces(
     alloc: Global,
     env: &Env,
     nodes: &mut Vec<TNode>,
     at: At,
+    is_const: bool,
+    is_volatile: bool,
     parts: &[ObjectPart],
 ) -> Result<Vec<TNodeId>, AllocError>
-    ensures { IfOk result (λ ids. AddsAll (trees_of nodes.old.items) (trees_of nodes.new.items) ids.items (closure_pieces_of (ctx_of env.now) at (map part_of parts.now))) }
+    ensures { IfOk result (λ ids. AddsAll (trees_of nodes.old.items) (trees_of nodes.new.items) ids.items (closure_pieces_of (ctx_of env.now) at is_const is_volatile (map part_of parts.now))) }
 {
     let mut kids = Vec::new(alloc);
     for part in parts {
-        let kid = closure_piece(alloc, env, nodes, at, part)?;
+        let part = qualified_part(alloc, is_const, is_volatile, part)?;
+        let kid = closure_piece(alloc, env, nodes, at, &part)?;
         keep(&mut kids, kid)?;
     }
     Ok(kids)
+}
+
+/// The type of a lambda's object.
+pub fn closure_type(class: u32, is_const: bool, is_volatile: bool) -> Ty
+    ensures { typ_of result ≡ typ (closure class) is_const is_volatile }
+{
+    Ty {
+        shape: Shape::Closure(class),
+        is_const,
+        is_volatile,
+    }
 }
 
 // The parts of a lambda's object, copied.
@@ -116,22 +147,19 @@ fn closure_parts(
     env: &Env,
     nodes: &mut Vec<TNode>,
     class: u32,
+    is_const: bool,
+    is_volatile: bool,
     at: At,
 ) -> Result<TNodeId, AllocError>
-    ensures { IfOk result (λ r. Adds (trees_of nodes.old.items) (trees_of nodes.new.items) r (node TKind.Pieces (typ (closure class) false false) Cat.Prvalue at (closure_pieces_of (ctx_of env.now) at (parts_by (classes_of env.now.classes.items) class)))) }
+    ensures { IfOk result (λ r. Adds (trees_of nodes.old.items) (trees_of nodes.new.items) r (node TKind.Pieces (typ (closure class) is_const is_volatile) Cat.Prvalue at (closure_pieces_of (ctx_of env.now) at is_const is_volatile (parts_by (classes_of env.now.classes.items) class)))) }
 {
     let parts = parts_of(alloc, env, class)?;
-    let kids = closure_pieces(alloc, env, nodes, at, &parts)?;
-    let ty = Ty {
-        shape: Shape::Closure(class),
-        is_const: false,
-        is_volatile: false,
-    };
+    let kids = closure_pieces(alloc, env, nodes, at, is_const, is_volatile, &parts)?;
     add_node(
         nodes,
         TNode {
             kind: TKind::Pieces,
-            ty,
+            ty: closure_type(class, is_const, is_volatile),
             cat: Cat::Prvalue,
             at,
             kids,
@@ -145,20 +173,20 @@ pub fn closure_copy(
     env: &Env,
     nodes: &mut Vec<TNode>,
     class: u32,
-    ty: &Ty,
+    is_const: bool,
+    is_volatile: bool,
     at: At,
     id: TNodeId,
 ) -> Result<TNodeId, AllocError>
     requires { id.0 < length (trees_of nodes.old.items) }
-    ensures { IfOk result (λ r. Adds (trees_of nodes.old.items) (trees_of nodes.new.items) r (node TKind.CopyFrom (typ_of ty.now) Cat.Prvalue at (two (tree_at (trees_of nodes.old.items) id) (node TKind.Pieces (typ (closure class) false false) Cat.Prvalue at (closure_pieces_of (ctx_of env.now) at (parts_by (classes_of env.now.classes.items) class)))))) }
+    ensures { IfOk result (λ r. Adds (trees_of nodes.old.items) (trees_of nodes.new.items) r (closure_copied_of (ctx_of env.now) class is_const is_volatile at (tree_at (trees_of nodes.old.items) id))) }
 {
-    let parts = closure_parts(alloc, env, nodes, class, at)?;
-    let ty = copy(alloc, ty)?;
+    let parts = closure_parts(alloc, env, nodes, class, is_const, is_volatile, at)?;
     add_binary(
         alloc,
         nodes,
         TKind::CopyFrom,
-        ty,
+        closure_type(class, is_const, is_volatile),
         Cat::Prvalue,
         at,
         id,

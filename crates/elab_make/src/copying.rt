@@ -9,21 +9,20 @@ ghost use Rattle.elab_init.specs.elab_ctx.Ctx.{ctx_of, work_of, special_of};
 ghost use Rattle.elab_init.specs.elab_ctx.Operands.{operand_in};
 ghost use Rattle.elab_init.specs.elab_ctx.Steps.{and_then, Made};
 ghost use Rattle.elab_init.specs.elab_ctx.Says.{Makes, MakesAll, Puts};
-ghost use Rattle.elab_init.specs.elab_rules.Objects.{copies as copies_by};
-ghost use Rattle.elab_init.specs.elab_rules.Initialising.{initial as initial_of, has_copy as has_copy_of, reference_word as reference_word_of, constructed_copy as constructed_copy_of, copied_object as copied_object_of, class_from as class_from_of, copied_in_place as copied_in_place_of};
+ghost use Rattle.elab_init.specs.elab_rules.Initialising.{initial as initial_of, has_copy as has_copy_of, reference_word as reference_word_of, constructed_copy as constructed_copy_of, copied_object as copied_object_of, class_from as class_from_of, copied_in_place as copied_in_place_of, with_tree, object_of as object_by, is_closure_itself as is_closure_itself_of, closure_copied as closure_copied_of, exception_built as exception_built_of, exception_copied as exception_copied_of};
 
 use crate::binding::initial;
-use crate::closures::closure_copy;
+use crate::closures::{closure_copy, closure_type};
 use crate::lists::one_of;
 use crate::objects::object_of;
 use elab_init::below::{
     At, Cat, ElabFault, Env, IllRule, Operand, Shape, Special, TKind, TNode, TNodeId, Ty, Work,
-    add_binary, copy, equal_shapes, node_at,
+    add_binary, copy, equal_shapes, equal_types, node_at,
 };
 use elab_init::{
     builder, building, class_number, construct, constructors, copies, copy_in_place, ill,
     is_class_prvalue, is_prvalue_of_class, is_same_or_base, makeable, makers, meant, parameters_at,
-    same_number, traits_at,
+    same_number, traits_at, without_exception,
 };
 use std::alloc::{AllocError, Global};
 
@@ -146,6 +145,48 @@ pub fn place_at(places: &[u32], i: u32) -> Option<u32>
     Some(*place)
 }
 
+// Whether an expression is a prvalue of a lambda's class with exactly these qualifiers.
+fn is_closure_itself(
+    nodes: &Vec<TNode>,
+    class: u32,
+    is_const: bool,
+    is_volatile: bool,
+    id: TNodeId,
+) -> bool
+    requires { id.0 < length (trees_of nodes.now.items) }
+    ensures { result ≡ is_closure_itself_of class is_const is_volatile (tree_at (trees_of nodes.now.items) id) }
+{
+    let ty = closure_type(class, is_const, is_volatile);
+    is_prvalue_of_class(nodes, class, id) && equal_types(&ty, &node_at(nodes, id).ty)
+}
+
+// A copy of the lambda's object that an expression gives.
+fn closure_copied(
+    alloc: Global,
+    env: &Env,
+    work: &mut Work,
+    class: u32,
+    is_const: bool,
+    is_volatile: bool,
+    at: At,
+    o: Operand,
+) -> Result<TNodeId, AllocError>
+    requires { o.id.0 < length (trees_of work.old.nodes.items) }
+    ensures { IfOk result (λ r. Puts (trees_of work.old.nodes.items) (trees_of work.new.nodes.items) (work_of work.new) r (with_tree (closure_copied_of (ctx_of env.now) class is_const is_volatile at) (object_by (ctx_of env.now) (work_of work.old) o.at (tree_at (trees_of work.old.nodes.items) o.id)))) }
+{
+    let object = object_of(alloc, env, work, o.at, o.id)?;
+    closure_copy(
+        alloc,
+        env,
+        &mut work.nodes,
+        class,
+        is_const,
+        is_volatile,
+        at,
+        object,
+    )
+}
+
 // A lambda's object from an expression.
 fn closure_from(
     alloc: Global,
@@ -160,18 +201,13 @@ fn closure_from(
     requires { o.id.0 < length (trees_of work.old.nodes.items) }
     ensures { Makes (trees_of work.old.nodes.items) (trees_of work.new.nodes.items) (work_of work.new) result (class_from_of (ctx_of env.now) (work_of work.old) (typ (closure class) is_const is_volatile) at (operand_in (trees_of work.old.nodes.items) o)) }
 {
-    if is_prvalue_of_class(&work.nodes, class, o.id) {
+    if is_closure_itself(&work.nodes, class, is_const, is_volatile, o.id) {
         return Ok(o.id);
     }
     if !same_number(class, class_number(&node_at(&work.nodes, o.id).ty)) {
         return Err(ill(o.at, IllRule::NoConversion));
     }
-    let ty = Ty {
-        shape: Shape::Closure(class),
-        is_const,
-        is_volatile,
-    };
-    let made = closure_copy(alloc, env, &mut work.nodes, class, &ty, at, o.id)?;
+    let made = closure_copied(alloc, env, work, class, is_const, is_volatile, at, o)?;
     Ok(made)
 }
 
@@ -196,7 +232,7 @@ fn object_from(
         is_volatile,
     };
     if is_prvalue_of_class(&work.nodes, class, o.id) {
-        let made = building(alloc, &mut work.nodes, &ty, o.id)?;
+        let made = building(alloc, env, &mut work.nodes, &ty, o.id)?;
         return Ok(made);
     }
     let found = class_number(&node_at(&work.nodes, o.id).ty);
@@ -223,20 +259,20 @@ fn exception_type(
     })
 }
 
-// A copy of the value in a `std::tx_exception`.
-fn exception_copy(
+/// A `std::tx_exception` of a type, copied from an object.
+pub fn exception_copied(
     alloc: Global,
     env: &Env,
     nodes: &mut Vec<TNode>,
     ty: &Ty,
-    value: &Ty,
     at: At,
     id: TNodeId,
 ) -> Result<TNodeId, AllocError>
     requires { id.0 < length (trees_of nodes.old.items) }
-    ensures { IfOk result (λ r. Adds (trees_of nodes.old.items) (trees_of nodes.new.items) r (node TKind.CopyFrom (typ_of ty.now) Cat.Prvalue at (two (tree_at (trees_of nodes.old.items) id) (copies_by (classes_of env.now.classes.items) at (typ_of value.now))))) }
+    ensures { IfOk result (λ r. Adds (trees_of nodes.old.items) (trees_of nodes.new.items) r (exception_copied_of (ctx_of env.now) (typ_of ty.now) at (tree_at (trees_of nodes.old.items) id))) }
 {
-    let parts = copies(alloc, env, nodes, at, value)?;
+    let value = without_exception(alloc, ty)?;
+    let parts = copies(alloc, env, nodes, at, &value)?;
     let ty = copy(alloc, ty)?;
     add_binary(
         alloc,
@@ -248,6 +284,24 @@ fn exception_copy(
         id,
         parts,
     )
+}
+
+// What builds a `std::tx_exception` of a type.
+fn exception_built(
+    alloc: Global,
+    env: &Env,
+    nodes: &mut Vec<TNode>,
+    ty: &Ty,
+    id: TNodeId,
+) -> Result<TNodeId, AllocError>
+    requires { id.0 < length (trees_of nodes.old.items) }
+    ensures { IfOk result (λ r. Adds (trees_of nodes.old.items) (trees_of nodes.new.items) r (exception_built_of (classes_of env.now.classes.items) (typ_of ty.now) (tree_at (trees_of nodes.old.items) id))) }
+{
+    if equal_types(ty, &node_at(nodes, id).ty) {
+        return Ok(id);
+    }
+    let value = without_exception(alloc, ty)?;
+    building(alloc, env, nodes, &value, id)
 }
 
 // A `std::tx_exception` from an expression.
@@ -270,10 +324,11 @@ fn exception_from(
         return Err(ill(o.at, IllRule::NoConversion));
     }
     if is_class_prvalue(&node.ty, node.cat) {
-        let made = builder(&work.nodes, o.id)?;
+        let init = builder(&work.nodes, o.id)?;
+        let made = exception_built(alloc, env, &mut work.nodes, &ty, init)?;
         return Ok(made);
     }
-    let made = exception_copy(alloc, env, &mut work.nodes, &ty, value, at, o.id)?;
+    let made = exception_copied(alloc, env, &mut work.nodes, &ty, at, o.id)?;
     Ok(made)
 }
 

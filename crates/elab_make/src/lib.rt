@@ -16,7 +16,7 @@ pub mod values;
 
 pub use binding::{bound_by, initial};
 pub use call_words::{passed, words};
-pub use copying::{class_from, copied_in_place, place_at};
+pub use copying::{class_from, copied_in_place, exception_copied, place_at};
 pub use destructions::{count_of, destroys};
 pub use each::each_by;
 pub use lists::one_of;

@@ -22,7 +22,7 @@ use elab_init::below::{
 };
 use elab_init::{
     building, construct, constructors, ill, is_class_type, is_prvalue_of_class, makeable, makers,
-    meant, parameters_at,
+    meant, parameters_at, without_exception,
 };
 use std::alloc::Global;
 
@@ -100,7 +100,7 @@ fn constructed_from(
 {
     let _number = makeable(env, at, class)?;
     if is_prvalue_itself(&work.nodes, class, os) {
-        let made = building(alloc, &mut work.nodes, ty, first.id)?;
+        let made = building(alloc, env, &mut work.nodes, ty, first.id)?;
         return Ok(made);
     }
     let places = constructors(alloc, env, class)?;
@@ -239,7 +239,8 @@ fn exception_values(
     if is_exception_itself(&work.nodes, value, os) {
         return class_from(alloc, env, work, ty, at, os[0]);
     }
-    exception_from(alloc, env, work, value, at, os)
+    let inner = without_exception(alloc, ty)?;
+    exception_from(alloc, env, work, &inner, at, os)
 }
 
 /// An object of a type from values in parentheses, or from none.

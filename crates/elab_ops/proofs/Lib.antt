@@ -1,3 +1,4 @@
 pub mod Comparing
+pub mod Sizing
 pub mod Steps
 pub mod Values

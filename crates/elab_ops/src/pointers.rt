@@ -1,11 +1,12 @@
 // Pointers and numbers (C++14 5.2.1, 5.3.1, 5.7).
 
-ghost use Rattle.std.specs.Prelude.{◌≡◌, ◌<◌, length, IfOk, Some, None, Ok, List, ℕ};
+ghost use Rattle.std.specs.Prelude.{◌≡◌, ◌<◌, length, nat_le, true, IfOk, Some, None, Ok, List, ℕ};
 ghost use Rattle.elab_conv.specs.tx_ints.declared.kinds.IntKind.TheVariants.{Long, ULong};
 ghost use Rattle.elab_conv.specs.tx_ints.declared.kinds.BinOp.TheVariants.{Mul, Div};
 ghost use Rattle.elab_conv.specs.cpp_types.Typ.{typ_of, int};
-ghost use Rattle.elab_conv.specs.cpp_types.Class.{held};
+ghost use Rattle.elab_conv.specs.cpp_types.Class.{held, classes_of};
 ghost use Rattle.elab_conv.specs.cpp_types.Conversion.{is_lvalue};
+ghost use Rattle.elab_conv.specs.cpp_layout.declared.extents.TheConstants.{GREATEST_SIZE};
 ghost use Rattle.elab_conv.specs.cpp_tree.Trees.{typ_in, cat_of};
 ghost use Rattle.elab_conv.specs.cpp_tree.Arena.{trees_of, tree_at, Adds};
 ghost use Rattle.elab_conv.specs.cpp_tree.Notation.{plain};
@@ -17,13 +18,14 @@ ghost use Rattle.elab_ops.specs.Forms.{object_at};
 ghost use Rattle.elab_conv.specs.elab_ctx.Says.{Gives, Tells};
 ghost use Rattle.elab_conv.specs.elab_rules.Objects.{size_of};
 ghost use Rattle.elab_conv.specs.elab_rules.Values.{number, operated, in_kind, size_type, retyped};
-ghost use Rattle.elab_conv.specs.elab_rules.Operators.{value, as_kind, arithmetic, arithmetic_of, is_object_type, is_complete, is_sized, is_function, pointed, movable, sum_of, indirection, address_of, subscript, value_form};
+ghost use Rattle.elab_conv.specs.elab_rules.Operators.{value, as_kind, arithmetic, arithmetic_of, is_object_type, is_complete, is_sized, is_function, pointed, measurable, movable, sum_of, indirection, address_of, subscript, value_form};
 
 use crate::arithmetic::{arithmetic_of, in_kind, number, on_values, operated, operated_in};
 use crate::operands::{as_kind, ill, int_type, number_kind, pointed, value, value_type};
 use elab_conv::below::{
-    At, BinOp, Cat, ElabFault, Env, IllRule, IntKind, Operand, Shape, TKind, TNode, TNodeId, Ty,
-    add_unary, completion, copy, equal_types, held_class, node_at, size_of,
+    At, BinOp, Cat, ElabFault, Env, IllRule, IntKind, LimitKind, Operand, Shape, TKind, TNode,
+    TNodeId, Ty, add_unary, completion, copy, equal_types, held_class, node_at, size_align,
+    size_of,
 };
 use elab_conv::types::{pointer_to, unqualified_type};
 use std::alloc::{AllocError, Global};
@@ -82,6 +84,33 @@ pub fn is_function(ty: &Ty) -> bool
     }
 }
 
+// Whether an object of a type that has a size is no larger than the greatest one.
+fn is_within_greatest(env: &Env, ty: &Ty) -> bool
+    requires { is_sized (ctx_of env.now) (typ_of ty.now) ≡ true }
+    ensures { result ≡ nat_le (size_of (classes_of env.now.classes.items) (typ_of ty.now)) GREATEST_SIZE }
+{
+    match size_align(ty, &env.classes) {
+        Ok(_) => true,
+        Err(_) => false,
+    }
+}
+
+/// Tests that objects of a type have a size, and that it is no more than the greatest one.
+pub fn measurable(env: &Env, at: At, ty: &Ty) -> Result<bool, ElabFault>
+    ensures { Tells result (measurable (ctx_of env.now) at (typ_of ty.now)) }
+{
+    if !is_sized(env, ty) {
+        return Err(ill(at, IllRule::Incomplete));
+    }
+    if !is_within_greatest(env, ty) {
+        return Err(ElabFault::Limit {
+            at,
+            which: LimitKind::Size,
+        });
+    }
+    Ok(true)
+}
+
 /// Tests that a pointer, at a place of its own, can be moved to other objects of the type that it points to.
 pub fn movable(env: &Env, at: At, pointer: At, ty: &Ty) -> Result<bool, ElabFault>
     ensures { Tells result (movable (ctx_of env.now) at pointer (typ_of ty.now)) }
@@ -89,10 +118,7 @@ pub fn movable(env: &Env, at: At, pointer: At, ty: &Ty) -> Result<bool, ElabFaul
     if is_function(ty) {
         return Err(ill(at, IllRule::BadOperand));
     }
-    if !is_sized(env, ty) {
-        return Err(ill(pointer, IllRule::Incomplete));
-    }
-    Ok(true)
+    measurable(env, pointer, ty)
 }
 
 /// A number of objects of a size as a number of bytes.

@@ -27,7 +27,7 @@ use Rattle.elab_ctx.specs.cpp_tree.declared.faults.ElabFault.{ElabFault}
 use Rattle.elab_ctx.specs.cpp_tree.declared.faults.ElabFault.TheVariants.{Ill}
 use Rattle.elab_ctx.specs.cpp_tree.declared.faults.IllRule.TheVariants.{NoConversion, NoViable, Ambiguous, Incomplete, AbstractObject, NoDefault, NoCopy}
 use Rattle.elab_ctx.specs.cpp_tree.declared.faults.IllRule.TheVariants.{BadInit, OutOfProfile, BadDeclaration}
-use Rattle.elab_ctx.specs.cpp_tree.Trees.{Tree, node, Trees, none, more, one, two, three, first, kind_of, typ_in, cat_of, kids_of, nowhere}
+use Rattle.elab_ctx.specs.cpp_tree.Trees.{Tree, node, Trees, none, more, one, two, three, kind_of, typ_in, cat_of, kids_of, nowhere}
 use Rattle.elab_ctx.specs.cpp_tree.Notation.{plain}
 use Rattle.elab_ctx.specs.cpp_tree.Typing.{form_in, is_volatile_typ, unqualified, qualified, is_class_typ, without_exception, kind_in, is_class_prvalue}
 use Rattle.elab_ctx.specs.Ctx.{Ctx, Work, Func, Traits, Special, absent, trivial, function, with_item, next_place}
@@ -183,10 +183,14 @@ copied_in_place c w n t at o = with_tree (λ (s : Tree). node CopyFrom t Prvalue
     (object_of c w o.at o.tree)
 
 -- the initialiser of an object of this type, which has the qualifiers of that object, and its parts have them too; what is called has its own type
+abbrev pub copied_anew : List Class → Typ → Tree → Trees → Tree
+copied_anew classes t e none = e
+copied_anew classes t e (more source ts) = node CopyFrom t (cat_of e) (place_of e) (two source (copies classes (place_of e) t))
+
 abbrev pub rebuilt : List Class → TKind → Typ → Tree → Tree
 rebuilt classes (Construct k) t e = node (Construct k) t (cat_of e) (place_of e) (kids_of e)
 rebuilt classes (Store k v) t e = node (Store k (is_volatile_typ t)) t (cat_of e) (place_of e) (kids_of e)
-rebuilt classes CopyFrom t e = node CopyFrom t (cat_of e) (place_of e) (two (first (kids_of e)) (copies classes (place_of e) t))
+rebuilt classes CopyFrom t e = copied_anew classes t e (kids_of e)
 rebuilt classes Pieces t e = zeros classes (place_of e) t
 rebuilt classes kind t e = e
 

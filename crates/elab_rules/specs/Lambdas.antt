@@ -127,10 +127,14 @@ abbrev mutual
 
 -- Captures (5.1.2 p8 to p15)
 
--- the member of a capture: a copy of the object, or a reference to it
+-- the member of a capture: a copy of the object, or a reference to it; a reference to a function stays one
+abbrev pub copied_as : Typ → Typ
+copied_as (typ (func s) c v) = plain (ref (typ (func s) c v))
+copied_as t = t
+
 abbrev pub captured_as : Bool → Typ → Typ
 captured_as true t = plain (ref (referred t))
-captured_as false t = referred t
+captured_as false t = copied_as (referred t)
 
 abbrev pub variable_type : Ctx → At → ℕ → Result Typ ElabFault
 variable_type c at i = and_then (expect at UnknownName (slice_get c.variables i)) (λ (v : Variable). expect at BadInit v.typ)

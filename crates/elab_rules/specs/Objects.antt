@@ -11,11 +11,11 @@ use Rattle.elab_ctx.specs.cpp_layout.Measured.{member_offset}
 use Rattle.elab_ctx.specs.cpp_tree.declared.kinds.TKind.{TKind}
 use Rattle.elab_ctx.specs.cpp_tree.declared.kinds.TKind.TheVariants.{Literal, Store, CopyScalar, CopyConstruct, Construct, Pieces, Piece, Elements, Destroy}
 use Rattle.elab_ctx.specs.cpp_tree.declared.kinds.TKind.TheVariants.{Field}
-use Rattle.elab_ctx.specs.cpp_tree.Trees.{Tree, node, Trees, none, more, one, two}
+use Rattle.elab_ctx.specs.cpp_tree.Trees.{Tree, node, Trees, none, more, one, two, kind_of, cat_of, kids_of}
 use Rattle.elab_ctx.specs.cpp_tree.Notation.{plain}
 use Rattle.elab_ctx.specs.cpp_tree.Typing.{form_in, is_volatile_typ, unqualified, qualified, kind_in}
 use Rattle.elab_ctx.specs.Ctx.{Ctx, Traits, Special, absent, trivial, function}
-use Rattle.elab_rules.specs.Values.{stored, stored_as}
+use Rattle.elab_rules.specs.Values.{place_of, stored, stored_as}
 
 abbrev pub size_of : List Class → Typ → ℕ
 size_of classes t = (extent_of classes t).size
@@ -61,6 +61,10 @@ Leaf = Typ → At → Tree
 abbrev pub scalar_leaf : Leaf → Typ → At → Tree
 scalar_leaf leaf t at = leaf t at
 
+-- an object of a lambda's class, as one of a class
+abbrev pub as_closure : ℕ → Bool → Bool → Tree → Tree
+as_closure n c v e = node (kind_of e) (typ (closure n) c v) (cat_of e) (place_of e) (kids_of e)
+
 -- an object of a type in an object with these qualifiers, by what is done for its classes
 abbrev mutual
   pub whole : (ℕ → Bool → Bool → Tree) → Leaf → List Class → At → Bool → Bool → Typ → Tree
@@ -70,7 +74,7 @@ abbrev mutual
   whole_form each leaf classes at c v (array t n) = node (Elements n (size_of classes t)) (qualified c v (plain (array t n))) Prvalue at
       (one (whole each leaf classes at c v t))
   whole_form each leaf classes at c v (class n) = each n c v
-  whole_form each leaf classes at c v (closure n) = each n c v
+  whole_form each leaf classes at c v (closure n) = as_closure n c v (each n c v)
   whole_form each leaf classes at c v (tx_ex (typ f d w)) = whole_form each leaf classes at c v f
   whole_form each leaf classes at c v (ref t) = leaf (plain (ref t)) at
   whole_form each leaf classes at c v f = leaf (typ f c v) at

@@ -31,7 +31,7 @@ use Rattle.elab_ctx.specs.Steps.{and_then, expect, check, Operand, Made}
 use Rattle.elab_rules.specs.Values.{place_of, same_at, bool_type, int_type, size_type, retyped, number, operated, valued, converted, in_kind, stepped, is_exception_form}
 use Rattle.elab_rules.specs.Objects.{size_of, copies, traits_at}
 use Rattle.elab_rules.specs.Constants.{word_in}
-use Rattle.elab_rules.specs.Initialising.{initial, object_of, class_from, class_number, as_source, is_same_or_base, with_tree, exception_copied}
+use Rattle.elab_rules.specs.Initialising.{initial, object_of, class_from, class_number, as_source, is_same_or_base, with_tree, exception_copied, seen_as}
 
 -- Names of operators
 
@@ -380,6 +380,17 @@ joined_type (typ f c v) (typ g d w) = typ f (c || d) (v || w)
 abbrev pub common_class : Operand → Operand → Typ
 common_class a b = joined_type (object_type a.tree) (object_type b.tree)
 
+-- two lvalues of one class, of which one has all qualifiers of the other (C++14 5.16 p3)
+abbrev pub joined_class : Operand → Operand → Typ
+joined_class a b = joined_type (typ_in a.tree) (typ_in b.tree)
+
+abbrev pub is_shared : Operand → Operand → Bool
+is_shared a b = is_lvalue (cat_of a.tree) && is_lvalue (cat_of b.tree) && both_of_class a b
+    && (typ_eq (joined_class a b) (typ_in a.tree) || typ_eq (joined_class a b) (typ_in b.tree))
+
+abbrev pub shared : At → Tree → Operand → Operand → Tree
+shared at test a b = conditional_node at (joined_class a b) Lvalue test (seen_as a.at (joined_class a b) a.tree) (seen_as b.at (joined_class a b) b.tree)
+
 -- a class prvalue that builds no object of exactly this type: what is called or chosen has its own
 abbrev pub has_own_type : Typ → Tree → Bool
 has_own_type t e = is_written_exception e
@@ -420,7 +431,8 @@ branches c w at test a b =
     if throws a.tree then Ok (with_tree (λ (y : Tree). conditional_like at y test (bare_throw a.tree) y) (settled c w b)) else (
     if same_lvalues a b || (is_void (typ_in a.tree) && is_void (typ_in b.tree)) then Ok
     (record { tree = conditional_node at (typ_in a.tree) (cat_of a.tree) test a.tree b.tree; work = w }) else (
-    if both_of_class a b then two_objects c w at test a b else same_work w (two_values at test (value_form a) (value_form b) a b)))))
+    if is_shared a b then Ok (record { tree = shared at test a b; work = w }) else (
+    if both_of_class a b then two_objects c w at test a b else same_work w (two_values at test (value_form a) (value_form b) a b))))))
 
 abbrev pub conditional : Ctx → Work → At → Operand → Operand → Operand → Result Made ElabFault
 conditional c w at test a b = and_then (truth c w test) (λ (t : Tree). branches c w at t a b)

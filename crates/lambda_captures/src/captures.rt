@@ -1,11 +1,12 @@
 // Captures (C++14 5.1.2 p8 to p15).
 
 ghost use Rattle.std.specs.Prelude.{◌≡◌, ◌++◌, ◌∷◌, [], map, IfOk, OnOk};
-ghost use Rattle.elab_init.specs.cpp_types.Typ.{typ_of};
+ghost use Rattle.elab_init.specs.cpp_types.Typ.{typ_of, ref};
+ghost use Rattle.elab_init.specs.cpp_tree.Notation.{plain};
 ghost use Rattle.elab_init.specs.cpp_tree.Typing.{form_in};
 ghost use Rattle.elab_init.specs.elab_ctx.Ctx.{ctx_of, special_of, capture_of};
 ghost use Rattle.elab_init.specs.elab_rules.Statements.{is_trivial as is_trivial_of};
-ghost use Rattle.elab_init.specs.elab_rules.Lambdas.{captured_as as captured_as_of, copies_closure as copies_closure_of, is_captured as is_captured_of, capture_variable as capture_variable_of, capture_this as capture_this_of, capture_used as capture_used_of, captured_uses};
+ghost use Rattle.elab_init.specs.elab_rules.Lambdas.{copied_as as copied_as_of, captured_as as captured_as_of, copies_closure as copies_closure_of, is_captured as is_captured_of, capture_variable as capture_variable_of, capture_this as capture_this_of, capture_used as capture_used_of, captured_uses};
 ghost use Rattle.lambda_captures.specs.Shown.{used_of};
 ghost use Rattle.lambda_captures.specs.Steps.{capture_typed as capture_typed_of, capture_once};
 ghost use Rattle.lambda_captures.specs.Says.{Collects};
@@ -20,16 +21,42 @@ use elab_names::parts::plain_type;
 use elab_types::specifiers::ill;
 use std::alloc::{AllocError, Global};
 
-/// The member of a capture: a copy of the object, or a reference to it.
+// A reference to a type.
+fn reference_to(alloc: Global, ty: &Ty) -> Result<Ty, AllocError>
+    ensures { IfOk result (λ t. typ_of t ≡ plain (ref (typ_of ty.now))) }
+{
+    let target = Box::new(alloc, copy(alloc, ty)?)?;
+    Ok(plain_type(Shape::Ref(target)))
+}
+
+// The member of a capture by copy: a reference to a function stays one.
+fn copied_as(alloc: Global, ty: &Ty) -> Result<Ty, AllocError>
+    ensures { IfOk result (λ t. typ_of t ≡ copied_as_of (typ_of ty.now)) }
+{
+    match &ty.shape {
+        Shape::Func(_) => reference_to(alloc, ty),
+        Shape::Void
+        | Shape::Int(_)
+        | Shape::Enum { .. }
+        | Shape::Null
+        | Shape::Ptr(_)
+        | Shape::Ref(_)
+        | Shape::Array(_, _)
+        | Shape::Class(_)
+        | Shape::Closure(_)
+        | Shape::TxEx(_) => copy(alloc, ty),
+    }
+}
+
+// The member of a capture: a copy of the object, or a reference to it.
 fn captured_as(alloc: Global, by_ref: bool, ty: &Ty) -> Result<Ty, AllocError>
     ensures { IfOk result (λ t. typ_of t ≡ captured_as_of by_ref (typ_of ty.now)) }
 {
-    let object = copy(alloc, referred_type(ty))?;
-    if !by_ref {
-        return Ok(object);
+    let object = referred_type(ty);
+    if by_ref {
+        return reference_to(alloc, object);
     }
-    let target = Box::new(alloc, object)?;
-    Ok(plain_type(Shape::Ref(target)))
+    copied_as(alloc, object)
 }
 
 fn is_trivial(special: Special) -> bool
