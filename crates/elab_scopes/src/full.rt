@@ -65,11 +65,7 @@ fn throws_object(nodes: &Vec<TNode>, id: TNodeId) -> bool
 }
 
 // A `throw` of an object as an expression without a value; every other expression as it is.
-fn without_object(
-    alloc: Global,
-    nodes: &mut Vec<TNode>,
-    id: TNodeId,
-) -> Result<TNodeId, AllocError>
+fn without_object(alloc: Global, nodes: &mut Vec<TNode>, id: TNodeId) -> Result<TNodeId, AllocError>
     requires { id.0 < length (trees_of nodes.old.items) }
     ensures { IfOk result (λ r. Adds (trees_of nodes.old.items) (trees_of nodes.new.items) r (without_object_of (tree_at (trees_of nodes.old.items) id))) }
 {

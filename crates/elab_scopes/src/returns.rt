@@ -6,7 +6,7 @@ ghost use Rattle.elab_expr.specs.cpp_ast.Orders.{are_below};
 ghost use Rattle.elab_expr.specs.cpp_types.Typ.{typ_of};
 ghost use Rattle.elab_expr.specs.cpp_tree.Arena.{trees_of, tree_at, Adds};
 ghost use Rattle.elab_expr.specs.elab_ctx.Ctx.{ctx_of, returns_of};
-ghost use Rattle.elab_expr.specs.elab_rules.Statements.{returned as returned_of, return_by as return_by_of, return_nothing as return_nothing_of, return_value as return_value_of, same_deduction as same_deduction_of, result_object as result_object_of, result_of as result_of_typ};
+ghost use Rattle.elab_expr.specs.elab_rules.Statements.{returned as returned_of, return_by as return_by_of, return_nothing as return_nothing_of, return_value as return_value_of, same_deduction as same_deduction_of, result_object as result_object_of, result_of as result_of_typ, full as full_of};
 ghost use Rattle.elab_expr.specs.elab_types.Syntax.{syntax_of, trees_at as syntaxes_at};
 ghost use Rattle.elab_scopes.specs.States.{state_of, made, full_in};
 ghost use Rattle.elab_scopes.specs.Returning.{void_returned, object_returned as object_returned_of, return_object as return_object_of, return_void as return_void_of, return_scalar as return_scalar_of, return_known, return_deduced, return_deduced_by, object_built as object_built_of, scalar_returned as scalar_returned_of};
@@ -179,6 +179,21 @@ fn result_of(
     seen_as(alloc, nodes, at, target, id)
 }
 
+// What is returned, as a whole.
+fn whole_result(
+    alloc: Global,
+    nodes: &mut Vec<TNode>,
+    ty: &Ty,
+    at: At,
+    id: TNodeId,
+) -> Result<TNodeId, AllocError>
+    requires { id.0 < length (trees_of nodes.old.items) }
+    ensures { IfOk result (λ r. Adds (trees_of nodes.old.items) (trees_of nodes.new.items) r (full_of at (result_of_typ (typ_of ty.now) at (tree_at (trees_of nodes.old.items) id)))) }
+{
+    let result = result_of(alloc, nodes, ty, at, id)?;
+    full(alloc, nodes, at, result)
+}
+
 fn scalar_returned(
     alloc: Global,
     nodes: &mut Vec<TNode>,
@@ -190,8 +205,7 @@ fn scalar_returned(
     requires { id.0 < length (trees_of nodes.old.items) }
     ensures { IfOk result (λ r. Adds (trees_of nodes.old.items) (trees_of nodes.new.items) r (scalar_returned_of at place (typ_of ty.now) (tree_at (trees_of nodes.old.items) id))) }
 {
-    let result = result_of(alloc, nodes, ty, place, id)?;
-    let whole = full(alloc, nodes, place, result)?;
+    let whole = whole_result(alloc, nodes, ty, place, id)?;
     unary_statement(alloc, nodes, TKind::Return, at, whole)
 }
 
