@@ -15,8 +15,8 @@ use Rattle.elab_forms.specs.elab_ctx.Ctx.{Ctx, Work}
 use Rattle.elab_forms.specs.elab_ctx.Steps.{and_then, check, Operand, Made}
 use Rattle.elab_forms.specs.elab_rules.Values.{converted, number, retyped}
 use Rattle.elab_forms.specs.elab_rules.Initialising.{initial, from_values, with_tree}
-use Rattle.elab_forms.specs.elab_rules.Operators.{dropped}
-use Rattle.elab_forms.specs.elab_rules.Casts.{is_numeric, as_expression, is_thrown_scalar, throw_node}
+use Rattle.elab_forms.specs.elab_rules.Operators.{dropped, without_value}
+use Rattle.elab_forms.specs.elab_rules.Casts.{is_numeric, as_expression, is_thrown_scalar, throw_node, throw_in}
 
 -- a value as one of a scalar type
 abbrev pub value_cast : Ctx → Work → At → Typ → Tree → Bool → Result Made ElabFault
@@ -47,3 +47,7 @@ void_made c w at o = with_tree (λ (e : Tree). retyped at (plain void) Prvalue e
 abbrev pub value_thrown : Ctx → Work → At → Tree → Result Made ElabFault
 value_thrown c w at v = and_then (check at BadThrow (is_thrown_scalar (form_in (typ_in v))))
     (λ y. Ok (record { tree = throw_node c at (typ_in v) v; work = w }))
+
+-- `throw` of an operand, which has no value
+abbrev pub one_thrown : Ctx → Work → At → Operand → Result Made ElabFault
+one_thrown c w at o = and_then (throw_in c w at (form_in (typ_in o.tree)) o) (λ (m : Made). Ok (with_tree (without_value at) m))

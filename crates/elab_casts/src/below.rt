@@ -1,6 +1,7 @@
 //! What stands below this crate, passed on: a crate above it lists this crate alone.
 
 pub use elab_forms::assignment;
+pub use elab_forms::bare_throw;
 pub use elab_forms::below::At;
 pub use elab_forms::below::BinOp;
 pub use elab_forms::below::Binding;
@@ -131,3 +132,5 @@ pub use elab_forms::below::zeros;
 pub use elab_forms::comma;
 pub use elab_forms::conditional;
 pub use elab_forms::dropped;
+pub use elab_forms::thrown::same_at;
+pub use elab_forms::throws;

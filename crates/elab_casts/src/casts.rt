@@ -13,17 +13,18 @@ ghost use Rattle.elab_forms.specs.elab_ctx.Ctx.{ctx_of, work_of};
 ghost use Rattle.elab_forms.specs.elab_ctx.Operands.{operand_in, operands_in, are_in};
 ghost use Rattle.elab_forms.specs.elab_ctx.Says.{Gives, Makes, Puts};
 ghost use Rattle.elab_forms.specs.elab_rules.Values.{number, retyped};
-ghost use Rattle.elab_forms.specs.elab_rules.Casts.{is_numeric, is_exception_form, stored_at, as_expression, reference_cast, scalar_cast, cast_in, cast, functional, size_literal};
+ghost use Rattle.elab_forms.specs.elab_rules.Casts.{is_numeric, stored_at, as_expression, reference_cast, scalar_cast, cast_in, cast, functional, size_literal};
 ghost use Rattle.elab_casts.specs.Rows.{value_cast, void_made, class_made, zero_made, many_made};
 
 use elab_forms::below::{
     At, Cat, ElabFault, Env, IllRule, IntKind, Operand, Shape, TKind, TNode, TNodeId, Ty, Work,
     add_leaf, add_node, add_unary, converted, copy, elab_ops_ill as ill, from_values, initial,
-    is_class_type, is_function, is_sized, kids_at, kind_of, node_at, number, referred_type,
+    is_class_type, is_function, kids_at, kind_of, measurable, node_at, number, referred_type,
     size_of, unqualified_type, value,
 };
 use elab_forms::conditionals::{is_void, void_type};
 use elab_forms::dropped;
+use elab_forms::exceptions::is_exception_type;
 use std::alloc::{AllocError, Global};
 
 // Whether a type is one of integers or enums.
@@ -49,25 +50,6 @@ fn are_numeric(from: &Ty, to: &Ty) -> bool
     ensures { result ≡ (is_numeric (form_in (typ_of from.now)) && is_numeric (form_in (typ_of to.now))) }
 {
     is_numeric(from) && is_numeric(to)
-}
-
-// Whether a type is `std::tx_exception` of another.
-fn is_exception_type(ty: &Ty) -> bool
-    ensures { result ≡ is_exception_form (form_in (typ_of ty.now)) }
-{
-    match &ty.shape {
-        Shape::TxEx(_) => true,
-        Shape::Void
-        | Shape::Int(_)
-        | Shape::Enum { .. }
-        | Shape::Null
-        | Shape::Ptr(_)
-        | Shape::Ref(_)
-        | Shape::Array(_, _)
-        | Shape::Func(_)
-        | Shape::Class(_)
-        | Shape::Closure(_) => false,
-    }
 }
 
 // A node like another, of a kind, a type and a category, at a place.
@@ -408,9 +390,7 @@ pub fn size_literal(
     if is_function(target) || is_void(target) {
         return Err(ill(at, IllRule::BadOperand));
     }
-    if !is_sized(env, target) {
-        return Err(ill(at, IllRule::Incomplete));
-    }
+    let _ = measurable(env, at, target)?;
     let size = size_of(env, target)?;
     let made = number(alloc, nodes, IntKind::ULong, u64::from(size), at)?;
     Ok(made)

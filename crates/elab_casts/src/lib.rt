@@ -8,4 +8,4 @@ pub mod throws;
 
 pub use casts::{cast, functional, size_literal};
 pub use strings::string_made;
-pub use throws::throw;
+pub use throws::{throw, within_exception};

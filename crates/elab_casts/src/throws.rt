@@ -12,13 +12,13 @@ ghost use Rattle.elab_forms.specs.elab_ctx.Ctx.{ctx_of, work_of};
 ghost use Rattle.elab_forms.specs.elab_ctx.Operands.{operand_in, operands_in, are_in};
 ghost use Rattle.elab_forms.specs.elab_ctx.Says.{Makes, Tells};
 ghost use Rattle.elab_forms.specs.elab_rules.Casts.{is_thrown_scalar, within_exception, throw_node, throw_object, throw_in, throw};
-ghost use Rattle.elab_forms.specs.elab_rules.Operators.{value as value_of};
-ghost use Rattle.elab_casts.specs.Rows.{value_thrown};
+ghost use Rattle.elab_forms.specs.elab_rules.Operators.{value as value_of, without_value};
+ghost use Rattle.elab_casts.specs.Rows.{value_thrown, one_thrown};
 
 use elab_forms::below::{
     At, Cat, EXCEPTION_SIZE, ElabFault, Env, IllRule, LimitKind, Operand, Shape, TKind, TNode,
-    TNodeId, Ty, Work, add_leaf, add_node, copy, elab_ops_ill as ill, fields, node_at, object_kids,
-    object_of, size_of, traits_at, unqualified_type, value,
+    TNodeId, Ty, Work, add_leaf, add_node, add_unary, copy, elab_ops_ill as ill, fields, node_at,
+    object_kids, object_of, size_of, traits_at, unqualified_type, value,
 };
 use elab_forms::conditionals::void_type;
 use std::alloc::{AllocError, Global};
@@ -41,8 +41,8 @@ fn is_thrown_scalar(ty: &Ty) -> bool
     }
 }
 
-// Tests that objects of a type are no larger than an exception.
-fn within_exception(env: &Env, at: At, ty: &Ty) -> Result<bool, ElabFault>
+/// Tests that objects of a type are no larger than an exception.
+pub fn within_exception(env: &Env, at: At, ty: &Ty) -> Result<bool, ElabFault>
     ensures { Tells result (within_exception (ctx_of env.now) at (typ_of ty.now)) }
 {
     let size = size_of(env, ty)?;
@@ -184,8 +184,8 @@ fn throw_in(
     }
 }
 
-// `throw o`
-fn throw_one(
+// The `throw` of an operand, by the form of its type.
+fn operand_thrown(
     alloc: Global,
     env: &Env,
     work: &mut Work,
@@ -197,6 +197,42 @@ fn throw_one(
 {
     let ty = copy(alloc, &node_at(&work.nodes, o.id).ty)?;
     throw_in(alloc, env, work, at, &ty, o)
+}
+
+// A `throw` as an expression, which has no value.
+fn without_value(
+    alloc: Global,
+    nodes: &mut Vec<TNode>,
+    at: At,
+    id: TNodeId,
+) -> Result<TNodeId, AllocError>
+    ensures { IfOk result (λ r. Adds (trees_of nodes.old.items) (trees_of nodes.new.items) r (without_value at (tree_at (trees_of nodes.old.items) id))) }
+{
+    add_unary(
+        alloc,
+        nodes,
+        TKind::Retype,
+        void_type(),
+        Cat::Prvalue,
+        at,
+        id,
+    )
+}
+
+// `throw o`
+fn throw_one(
+    alloc: Global,
+    env: &Env,
+    work: &mut Work,
+    at: At,
+    o: Operand,
+) -> Result<TNodeId, ElabFault>
+    requires { o.id.0 < length (trees_of work.old.nodes.items) }
+    ensures { Makes (trees_of work.old.nodes.items) (trees_of work.new.nodes.items) (work_of work.new) result (one_thrown (ctx_of env.now) (work_of work.old) at (operand_in (trees_of work.old.nodes.items) o)) }
+{
+    let thrown = operand_thrown(alloc, env, work, at, o)?;
+    let made = without_value(alloc, &mut work.nodes, at, thrown)?;
+    Ok(made)
 }
 
 // `throw`

@@ -1,5 +1,5 @@
 -- Trees that a row takes apart.
-use Rattle.std.proofs.Common.{◌≡◌, ◌≢◌, ◌∙◌, Bool, false, List, [], ◌∷◌, length, Result, Ok, Err, IfOk, refl, sym, ap}
+use Rattle.std.proofs.Common.{◌≡◌, ◌≢◌, ◌<◌, ◌∙◌, Bool, false, List, [], ◌∷◌, length, Result, Ok, Err, IfOk, refl, sym, ap, arith}
 use Rattle.std.specs.declared.alloc.AllocError.{AllocError}
 use Rattle.elab_make.specs.cpp_types.Typ.{Typ}
 use Rattle.elab_make.specs.cpp_types.declared.classes.At.{At}
@@ -11,7 +11,7 @@ use Rattle.elab_make.specs.cpp_tree.Trees.{Tree, node, Trees, none, more, kind_o
 use Rattle.elab_make.specs.cpp_tree.declared.arena.TNodeId.{TNodeId}
 use Rattle.elab_make.specs.cpp_tree.Arena.{trees_at}
 use Rattle.elab_make.specs.elab_rules.Operators.{is_read_when_dropped}
-use Rattle.elab_forms.specs.Parts.{is_one_prvalue, is_read_lvalue, is_read_by}
+use Rattle.elab_forms.specs.Parts.{is_one_prvalue, is_read_lvalue, is_read_by, only_throw}
 
 lvalue_read : (kind : TKind) (t : Typ) (at : At) (kids : Trees) → is_read_when_dropped (node kind t Lvalue at kids) ≡ is_read_lvalue kind kids
 lvalue_read (Local k) t at kids = refl
@@ -43,3 +43,10 @@ pub not_one_kid : (trees : List Tree) (ids : List TNodeId) → length ids ≢ 1 
 not_one_kid trees [] h = refl
 not_one_kid trees (i ∷ []) h = absurd (h refl)
 not_one_kid trees (i ∷ j ∷ ids) h = refl
+
+-- The `throw` that an expression is
+
+pub no_throw : (trees : List Tree) (ids : List TNodeId) (at : At) (e : Tree) → 1 < length ids → only_throw at (trees_at trees ids) e ≡ e
+no_throw trees [] at e h = refl
+no_throw trees (i ∷ []) at e h = absurd (omega arith)
+no_throw trees (i ∷ j ∷ ids) at e h = refl

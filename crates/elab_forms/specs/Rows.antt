@@ -6,15 +6,16 @@ use Rattle.elab_make.specs.cpp_types.declared.classes.At.{At}
 use Rattle.elab_make.specs.cpp_types.declared.ranks.Cat.TheVariants.{Prvalue}
 use Rattle.elab_make.specs.cpp_tree.declared.faults.ElabFault.{ElabFault}
 use Rattle.elab_make.specs.cpp_tree.declared.faults.IllRule.TheVariants.{BadOperand}
-use Rattle.elab_make.specs.cpp_tree.Trees.{Tree, kind_of, typ_in}
+use Rattle.elab_make.specs.cpp_tree.Trees.{Tree, typ_in}
 use Rattle.elab_make.specs.cpp_tree.Notation.{plain}
 use Rattle.elab_make.specs.cpp_tree.Typing.{form_in, unqualified, is_void, kind_in}
 use Rattle.elab_make.specs.elab_ctx.Ctx.{Ctx, Work}
 use Rattle.elab_make.specs.elab_ctx.Steps.{and_then, check, Operand, Made}
 use Rattle.elab_make.specs.elab_rules.Values.{bool_type}
-use Rattle.elab_make.specs.elab_rules.Initialising.{initial, as_source}
-use Rattle.elab_make.specs.elab_rules.Operators.{value, arithmetic, as_pointer, is_null, assigned, is_throw, same_lvalues, conditional_node, two_numbers}
-use Rattle.elab_make.specs.elab_rules.Operators.{branches}
+use Rattle.elab_make.specs.elab_rules.Initialising.{initial, as_source, object_of, class_from, with_tree}
+use Rattle.elab_make.specs.elab_rules.Operators.{value, arithmetic, as_pointer, is_null, assigned, same_lvalues, conditional_node, two_numbers}
+use Rattle.elab_make.specs.elab_rules.Operators.{branches, bare_throw, settled, object_operand, conditional_like, both_of_class, two_objects, two_values}
+use Rattle.elab_make.specs.elab_rules.Operators.{value_form, same_work, is_shared, shared}
 use Rattle.elab_ops.specs.Forms.{value_initial}
 
 -- Assignments
@@ -31,9 +32,6 @@ as_object at (Some n) e = as_source at n e
 as_object at None e = e
 
 -- `? :`
-
-abbrev pub both_throw : Operand → Operand → Bool
-both_throw a b = is_throw (kind_of a.tree) && is_throw (kind_of b.tree)
 
 -- operands that stay as they are
 abbrev pub both_stay : Operand → Operand → Bool
@@ -54,6 +52,23 @@ same_scalars f g = form_eq f g && is_some (kind_in f)
 abbrev pub two_scalars : At → Tree → Form → Form → Operand → Operand → Result Tree ElabFault
 two_scalars at test f g a b = if same_scalars f g then Ok (conditional_node at (plain f) Prvalue test (value a) (value b)) else two_numbers at test
     (arithmetic f) (arithmetic g) a b
+
+-- an object of a type that is copied from the one that a class prvalue makes
+abbrev pub object_copied : Ctx → Work → Typ → Operand → Result Made ElabFault
+object_copied c w t o = class_from c (object_of c w o.at o.tree).work t o.at (object_operand o (object_of c w o.at o.tree).tree)
+
+-- an operand beside one that throws, and the other way about
+abbrev pub beside_throw : Ctx → Work → At → Tree → Operand → Operand → Made
+beside_throw c w at test a b = with_tree (λ (x : Tree). conditional_like at x test x (bare_throw b.tree)) (settled c w a)
+
+abbrev pub behind_throw : Ctx → Work → At → Tree → Operand → Operand → Made
+behind_throw c w at test a b = with_tree (λ (y : Tree). conditional_like at y test (bare_throw a.tree) y) (settled c w b)
+
+-- where none throws
+abbrev pub two_operands : Ctx → Work → At → Tree → Operand → Operand → Result Made ElabFault
+two_operands c w at test a b = if both_stay a b then Ok (record { tree = conditional_like at a.tree test a.tree b.tree; work = w }) else (
+    if is_shared a b then Ok (record { tree = shared at test a b; work = w }) else (
+    if both_of_class a b then two_objects c w at test a b else same_work w (two_values at test (value_form a) (value_form b) a b)))
 
 -- by the value of the test
 abbrev pub conditional_by : Ctx → Work → At → Operand → Operand → Operand → Result Made ElabFault

@@ -12,7 +12,7 @@ ghost use Rattle.elab_make.specs.elab_ctx.Ctx.{ctx_of, work_of};
 ghost use Rattle.elab_make.specs.elab_ctx.Operands.{operand_in};
 ghost use Rattle.elab_make.specs.elab_ctx.Says.{Gives, Makes};
 ghost use Rattle.elab_make.specs.elab_rules.Objects.{copies};
-ghost use Rattle.elab_make.specs.elab_rules.Operators.{assigned, class_assigned_in, class_assigned, copy_assigned, assignment};
+ghost use Rattle.elab_make.specs.elab_rules.Operators.{assigned, class_assigned_in, class_assigned, copy_assigned, is_assignable_form, assignment};
 ghost use Rattle.elab_forms.specs.Rows.{scalar_assigned, as_object};
 
 use elab_make::below::{
@@ -172,6 +172,25 @@ fn object_assigned(
     copy_assigned(alloc, env, work, at, a, b, Some(class), &ty)
 }
 
+// Whether an object of a type is assigned another, in a `std::tx_exception`.
+fn is_assignable_type(env: &Env, ty: &Ty) -> bool
+    ensures { result ≡ is_assignable_form (ctx_of env.now) (form_in (typ_of ty.now)) }
+{
+    match &ty.shape {
+        Shape::Class(class) => traits_at(env, *class).is_assignable,
+        Shape::Void
+        | Shape::Int(_)
+        | Shape::Enum { .. }
+        | Shape::Null
+        | Shape::Ptr(_)
+        | Shape::Ref(_)
+        | Shape::Array(_, _)
+        | Shape::Func(_)
+        | Shape::Closure(_)
+        | Shape::TxEx(_) => true,
+    }
+}
+
 // A `std::tx_exception` that is assigned another; the type is that of its value.
 fn exception_assigned(
     alloc: Global,
@@ -188,6 +207,9 @@ fn exception_assigned(
 {
     if !is_exception_of(&node_at(&work.nodes, b.id).ty, value) {
         return Err(ill(b.at, IllRule::NoConversion));
+    }
+    if !is_assignable_type(env, value) || node_at(&work.nodes, a.id).ty.is_volatile {
+        return Err(ill(at, IllRule::NoCopy));
     }
     copy_assigned(alloc, env, work, at, a, b, None, value)
 }

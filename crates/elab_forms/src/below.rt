@@ -127,7 +127,7 @@ pub use elab_ops::operands::arithmetic;
 pub use elab_ops::operands::int_type;
 pub use elab_ops::plus;
 pub use elab_ops::pointers::is_function;
-pub use elab_ops::pointers::is_sized;
+pub use elab_ops::pointers::measurable;
 pub use elab_ops::step;
 pub use elab_ops::subscript;
 pub use elab_ops::truth::add_three;

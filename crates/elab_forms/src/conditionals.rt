@@ -3,23 +3,24 @@
 ghost use Rattle.std.specs.Prelude.{◌≡◌, ◌<◌, length, IfOk, None};
 ghost use Rattle.elab_make.specs.cpp_types.Typ.{typ_of, void, ptr, int};
 ghost use Rattle.elab_make.specs.cpp_types.declared.ranks.Cat.TheVariants.{Prvalue};
-ghost use Rattle.elab_make.specs.cpp_tree.Trees.{typ_in, cat_of};
 ghost use Rattle.elab_make.specs.cpp_tree.Notation.{plain};
 ghost use Rattle.elab_make.specs.cpp_tree.Arena.{trees_of, tree_at, Adds};
 ghost use Rattle.elab_make.specs.cpp_tree.Typing.{form_in, is_void};
 ghost use Rattle.elab_make.specs.elab_ctx.Ctx.{ctx_of, work_of};
 ghost use Rattle.elab_make.specs.elab_ctx.Operands.{operand_in};
-ghost use Rattle.elab_make.specs.elab_ctx.Says.{Gives, Makes};
-ghost use Rattle.elab_make.specs.elab_rules.Operators.{value, as_kind, as_pointer, pointed, conditional_node, same_lvalues, both_of_class, two_numbers, two_values, two_objects, branches, conditional};
-ghost use Rattle.elab_forms.specs.Rows.{both_throw, both_stay, value_or_null, null_or_value, same_scalars, two_scalars, conditional_by};
+ghost use Rattle.elab_make.specs.elab_ctx.Says.{Gives, Makes, Puts};
+ghost use Rattle.elab_make.specs.elab_rules.Operators.{value, as_kind, as_pointer, pointed, conditional_node, same_lvalues, both_of_class, two_numbers, two_values, two_objects, branches, conditional, conditional_like, joined_class, is_shared, shared, bare_throw as bare_throw_of};
+ghost use Rattle.elab_forms.specs.Rows.{both_stay, beside_throw, behind_throw, two_operands, value_or_null, null_or_value, same_scalars, two_scalars, conditional_by};
 
-use crate::drops::is_throw;
+use crate::common_types::{common_class, joined_class, object_as};
+use crate::exceptions::settled;
+use crate::thrown::{bare_throw, throws};
+use elab_init::seen_as;
 use elab_make::below::{
     At, Cat, ElabFault, Env, IllRule, IntKind, Operand, Shape, TKind, TNode, TNodeId, Ty, Work,
     copy, equal_shapes, equal_types, is_class_type, kind_of, node_at, pointer_to, unqualified_type,
     usual,
 };
-use elab_make::class_from;
 use elab_ops::operands::{arithmetic, as_kind, as_pointer, int_type, is_null, pointed, value_type};
 use elab_ops::pointers::is_lvalue;
 use elab_ops::truth::{add_three, bool_value};
@@ -53,7 +54,7 @@ fn conditional_like(
     y: TNodeId,
 ) -> Result<TNodeId, AllocError>
     requires { like.0 < length (trees_of nodes.old.items) }
-    ensures { IfOk result (λ r. Adds (trees_of nodes.old.items) (trees_of nodes.new.items) r (conditional_node at (typ_in (tree_at (trees_of nodes.old.items) like)) (cat_of (tree_at (trees_of nodes.old.items) like)) (tree_at (trees_of nodes.old.items) test) (tree_at (trees_of nodes.old.items) x) (tree_at (trees_of nodes.old.items) y))) }
+    ensures { IfOk result (λ r. Adds (trees_of nodes.old.items) (trees_of nodes.new.items) r (conditional_like at (tree_at (trees_of nodes.old.items) like) (tree_at (trees_of nodes.old.items) test) (tree_at (trees_of nodes.old.items) x) (tree_at (trees_of nodes.old.items) y))) }
 {
     let cat = node_at(nodes, like).cat;
     let ty = copy(alloc, &node_at(nodes, like).ty)?;
@@ -366,9 +367,9 @@ fn two_objects(
     requires right { b.id.0 < length (trees_of work.old.nodes.items) }
     ensures { Makes (trees_of work.old.nodes.items) (trees_of work.new.nodes.items) (work_of work.new) result (two_objects (ctx_of env.now) (work_of work.old) at (tree_at (trees_of work.old.nodes.items) test) (operand_in (trees_of work.old.nodes.items) a) (operand_in (trees_of work.old.nodes.items) b)) }
 {
-    let ty = unqualified_type(alloc, &node_at(&work.nodes, a.id).ty)?;
-    let x = class_from(alloc, env, work, &ty, a.at, a)?;
-    let y = class_from(alloc, env, work, &ty, b.at, b)?;
+    let ty = common_class(alloc, &work.nodes, a, b)?;
+    let x = object_as(alloc, env, work, &ty, a)?;
+    let y = object_as(alloc, env, work, &ty, b)?;
     let made = conditional_node(alloc, &mut work.nodes, at, ty, Cat::Prvalue, test, x, y)?;
     Ok(made)
 }
@@ -390,14 +391,6 @@ pub fn is_void(ty: &Ty) -> bool
         | Shape::Closure(_)
         | Shape::TxEx(_) => false,
     }
-}
-
-fn both_throw(nodes: &Vec<TNode>, a: Operand, b: Operand) -> bool
-    requires left { a.id.0 < length (trees_of nodes.now.items) }
-    requires right { b.id.0 < length (trees_of nodes.now.items) }
-    ensures { result ≡ both_throw (operand_in (trees_of nodes.now.items) a) (operand_in (trees_of nodes.now.items) b) }
-{
-    is_throw(nodes, a.id) && is_throw(nodes, b.id)
 }
 
 // Whether two operands are lvalues of one type.
@@ -432,6 +425,40 @@ fn both_of_class(nodes: &Vec<TNode>, a: Operand, b: Operand) -> bool
     is_class_type(first) && equal_shapes(&first.shape, &second.shape)
 }
 
+// Whether two operands are lvalues of one class, whose common type is that of one of them.
+fn is_shared(nodes: &Vec<TNode>, joined: &Ty, a: Operand, b: Operand) -> bool
+    requires left { a.id.0 < length (trees_of nodes.now.items) }
+    requires right { b.id.0 < length (trees_of nodes.now.items) }
+    requires joined { typ_of joined.now ≡ joined_class (operand_in (trees_of nodes.now.items) a) (operand_in (trees_of nodes.now.items) b) }
+    ensures { result ≡ is_shared (operand_in (trees_of nodes.now.items) a) (operand_in (trees_of nodes.now.items) b) }
+{
+    let is_first = equal_types(joined, &node_at(nodes, a.id).ty);
+    let is_second = equal_types(joined, &node_at(nodes, b.id).ty);
+    let same_class = both_of_class(nodes, a, b);
+    is_lvalue(nodes, a.id) && is_lvalue(nodes, b.id) && same_class && (is_first || is_second)
+}
+
+// Such operands, as lvalues of their common type.
+fn shared(
+    alloc: Global,
+    nodes: &mut Vec<TNode>,
+    at: At,
+    joined: Ty,
+    test: TNodeId,
+    a: Operand,
+    b: Operand,
+) -> Result<TNodeId, AllocError>
+    requires test { test.0 < length (trees_of nodes.old.items) }
+    requires left { a.id.0 < length (trees_of nodes.old.items) }
+    requires right { b.id.0 < length (trees_of nodes.old.items) }
+    requires joined { typ_of joined ≡ joined_class (operand_in (trees_of nodes.old.items) a) (operand_in (trees_of nodes.old.items) b) }
+    ensures { IfOk result (λ r. Adds (trees_of nodes.old.items) (trees_of nodes.new.items) r (shared at (tree_at (trees_of nodes.old.items) test) (operand_in (trees_of nodes.old.items) a) (operand_in (trees_of nodes.old.items) b))) }
+{
+    let x = seen_as(alloc, nodes, a.at, &joined, a.id)?;
+    let y = seen_as(alloc, nodes, b.at, &joined, b.id)?;
+    conditional_node(alloc, nodes, at, joined, Cat::Lvalue, test, x, y)
+}
+
 // The type of what gives no value.
 pub fn void_type() -> Ty
     ensures { typ_of result ≡ plain void }
@@ -441,6 +468,96 @@ pub fn void_type() -> Ty
         is_const: false,
         is_volatile: false,
     }
+}
+
+// Two expressions that both throw.
+fn both_thrown(
+    alloc: Global,
+    nodes: &mut Vec<TNode>,
+    at: At,
+    test: TNodeId,
+    a: Operand,
+    b: Operand,
+) -> Result<TNodeId, AllocError>
+    requires left { a.id.0 < length (trees_of nodes.old.items) }
+    requires right { b.id.0 < length (trees_of nodes.old.items) }
+    ensures { IfOk result (λ r. Adds (trees_of nodes.old.items) (trees_of nodes.new.items) r (conditional_node at (plain void) Prvalue (tree_at (trees_of nodes.old.items) test) (bare_throw_of (tree_at (trees_of nodes.old.items) a.id)) (bare_throw_of (tree_at (trees_of nodes.old.items) b.id)))) }
+{
+    let x = bare_throw(nodes, a.id)?;
+    let y = bare_throw(nodes, b.id)?;
+    conditional_node(alloc, nodes, at, void_type(), Cat::Prvalue, test, x, y)
+}
+
+// An operand beside one that throws.
+fn beside_throw(
+    alloc: Global,
+    env: &Env,
+    work: &mut Work,
+    at: At,
+    test: TNodeId,
+    a: Operand,
+    b: Operand,
+) -> Result<TNodeId, AllocError>
+    requires test { test.0 < length (trees_of work.old.nodes.items) }
+    requires left { a.id.0 < length (trees_of work.old.nodes.items) }
+    requires right { b.id.0 < length (trees_of work.old.nodes.items) }
+    ensures { IfOk result (λ r. Puts (trees_of work.old.nodes.items) (trees_of work.new.nodes.items) (work_of work.new) r (beside_throw (ctx_of env.now) (work_of work.old) at (tree_at (trees_of work.old.nodes.items) test) (operand_in (trees_of work.old.nodes.items) a) (operand_in (trees_of work.old.nodes.items) b))) }
+{
+    let x = settled(alloc, env, work, a)?;
+    let y = bare_throw(&work.nodes, b.id)?;
+    conditional_like(alloc, &mut work.nodes, at, x, test, x, y)
+}
+
+// One that throws beside an operand.
+fn behind_throw(
+    alloc: Global,
+    env: &Env,
+    work: &mut Work,
+    at: At,
+    test: TNodeId,
+    a: Operand,
+    b: Operand,
+) -> Result<TNodeId, AllocError>
+    requires test { test.0 < length (trees_of work.old.nodes.items) }
+    requires left { a.id.0 < length (trees_of work.old.nodes.items) }
+    requires right { b.id.0 < length (trees_of work.old.nodes.items) }
+    ensures { IfOk result (λ r. Puts (trees_of work.old.nodes.items) (trees_of work.new.nodes.items) (work_of work.new) r (behind_throw (ctx_of env.now) (work_of work.old) at (tree_at (trees_of work.old.nodes.items) test) (operand_in (trees_of work.old.nodes.items) a) (operand_in (trees_of work.old.nodes.items) b))) }
+{
+    let x = bare_throw(&work.nodes, a.id)?;
+    let y = settled(alloc, env, work, b)?;
+    conditional_like(alloc, &mut work.nodes, at, y, test, x, y)
+}
+
+// Two operands of which none throws.
+fn two_operands(
+    alloc: Global,
+    env: &Env,
+    work: &mut Work,
+    at: At,
+    test: TNodeId,
+    a: Operand,
+    b: Operand,
+) -> Result<TNodeId, ElabFault>
+    requires test { test.0 < length (trees_of work.old.nodes.items) }
+    requires left { a.id.0 < length (trees_of work.old.nodes.items) }
+    requires right { b.id.0 < length (trees_of work.old.nodes.items) }
+    ensures { Makes (trees_of work.old.nodes.items) (trees_of work.new.nodes.items) (work_of work.new) result (two_operands (ctx_of env.now) (work_of work.old) at (tree_at (trees_of work.old.nodes.items) test) (operand_in (trees_of work.old.nodes.items) a) (operand_in (trees_of work.old.nodes.items) b)) }
+{
+    if both_stay(&work.nodes, a, b) {
+        let made = conditional_like(alloc, &mut work.nodes, at, a.id, test, a.id, b.id)?;
+        return Ok(made);
+    }
+    let joined = joined_class(alloc, &work.nodes, a, b)?;
+    if is_shared(&work.nodes, &joined, a, b) {
+        let made = shared(alloc, &mut work.nodes, at, joined, test, a, b)?;
+        return Ok(made);
+    }
+    if both_of_class(&work.nodes, a, b) {
+        return two_objects(alloc, env, work, at, test, a, b);
+    }
+    let left = value_type(alloc, &work.nodes, a)?;
+    let right = value_type(alloc, &work.nodes, b)?;
+    two_values(alloc, &mut work.nodes, at, test, &left, &right, a, b)
 }
 
 // What is behind the test, as one expression.
@@ -458,38 +575,21 @@ fn branches(
     requires right { b.id.0 < length (trees_of work.old.nodes.items) }
     ensures { Makes (trees_of work.old.nodes.items) (trees_of work.new.nodes.items) (work_of work.new) result (branches (ctx_of env.now) (work_of work.old) at (tree_at (trees_of work.old.nodes.items) test) (operand_in (trees_of work.old.nodes.items) a) (operand_in (trees_of work.old.nodes.items) b)) }
 {
-    if both_throw(&work.nodes, a, b) {
-        let nodes = &mut work.nodes;
-        let made = conditional_node(
-            alloc,
-            nodes,
-            at,
-            void_type(),
-            Cat::Prvalue,
-            test,
-            a.id,
-            b.id,
-        )?;
+    let first = throws(&work.nodes, a.id)?;
+    let second = throws(&work.nodes, b.id)?;
+    if first && second {
+        let made = both_thrown(alloc, &mut work.nodes, at, test, a, b)?;
         return Ok(made);
     }
-    if is_throw(&work.nodes, b.id) {
-        let made = conditional_like(alloc, &mut work.nodes, at, a.id, test, a.id, b.id)?;
+    if second {
+        let made = beside_throw(alloc, env, work, at, test, a, b)?;
         return Ok(made);
     }
-    if is_throw(&work.nodes, a.id) {
-        let made = conditional_like(alloc, &mut work.nodes, at, b.id, test, a.id, b.id)?;
+    if first {
+        let made = behind_throw(alloc, env, work, at, test, a, b)?;
         return Ok(made);
     }
-    if both_stay(&work.nodes, a, b) {
-        let made = conditional_like(alloc, &mut work.nodes, at, a.id, test, a.id, b.id)?;
-        return Ok(made);
-    }
-    if both_of_class(&work.nodes, a, b) {
-        return two_objects(alloc, env, work, at, test, a, b);
-    }
-    let left = value_type(alloc, &work.nodes, a)?;
-    let right = value_type(alloc, &work.nodes, b)?;
-    two_values(alloc, &mut work.nodes, at, test, &left, &right, a, b)
+    two_operands(alloc, env, work, at, test, a, b)
 }
 
 // `? :` by the value of the test.

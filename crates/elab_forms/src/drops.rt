@@ -3,13 +3,15 @@
 ghost use Rattle.std.specs.Prelude.{◌≡◌, ◌<◌, length, IfOk};
 ghost use Rattle.elab_make.specs.cpp_types.Typ.{typ_of};
 ghost use Rattle.elab_make.specs.cpp_tree.Trees.{kind_of as kind_in_tree, kids_of};
-ghost use Rattle.elab_make.specs.cpp_tree.Arena.{trees_of, tree_at};
+ghost use Rattle.elab_make.specs.cpp_tree.Arena.{trees_of, tree_at, Adds};
 ghost use Rattle.elab_make.specs.elab_ctx.Ctx.{ctx_of, work_of};
 ghost use Rattle.elab_make.specs.elab_ctx.Operands.{operand_in};
 ghost use Rattle.elab_make.specs.elab_ctx.Says.{Puts};
-ghost use Rattle.elab_make.specs.elab_rules.Operators.{dropped, comma, is_throw, is_volatile_scalar, is_read_when_dropped};
+ghost use Rattle.elab_make.specs.elab_rules.Operators.{dropped, comma_of, comma, is_volatile_scalar, is_read_when_dropped};
 ghost use Rattle.elab_forms.specs.Parts.{is_one_prvalue, is_read_lvalue, is_read_by};
 
+use crate::exceptions::settled;
+use crate::thrown::{bare_throw, is_throw};
 use elab_make::below::{
     At, Cat, Env, Operand, TKind, TNode, TNodeId, Ty, Work, add_binary, copy, kids_at, kind_of,
     node_at,
@@ -17,17 +19,6 @@ use elab_make::below::{
 use elab_make::object_of;
 use elab_ops::value;
 use std::alloc::{AllocError, Global};
-
-/// Whether an expression throws, whatever its type says.
-pub fn is_throw(nodes: &Vec<TNode>, id: TNodeId) -> bool
-    requires { id.0 < length (trees_of nodes.now.items) }
-    ensures { result ≡ is_throw (kind_in_tree (tree_at (trees_of nodes.now.items) id)) }
-{
-    match node_at(nodes, id).kind {
-        TKind::Throw | TKind::Rethrow => true,
-        _ => false,
-    }
-}
 
 // Whether a type is one of scalars that are volatile.
 fn is_volatile_scalar(ty: &Ty) -> bool
@@ -90,14 +81,31 @@ pub fn dropped(alloc: Global, env: &Env, work: &mut Work, o: Operand) -> Result<
     requires { o.id.0 < length (trees_of work.old.nodes.items) }
     ensures { IfOk result (λ r. Puts (trees_of work.old.nodes.items) (trees_of work.new.nodes.items) (work_of work.new) r (dropped (ctx_of env.now) (work_of work.old) (operand_in (trees_of work.old.nodes.items) o))) }
 {
-    if is_throw(&work.nodes, o.id) {
-        return Ok(o.id);
+    let bare = bare_throw(&work.nodes, o.id)?;
+    if is_throw(&work.nodes, bare) {
+        return Ok(bare);
     }
     let is_read = is_read_when_dropped(&work.nodes, o.id)?;
     if is_volatile_scalar(&node_at(&work.nodes, o.id).ty) && is_read {
         return value(alloc, &mut work.nodes, o);
     }
     object_of(alloc, env, work, o.at, o.id)
+}
+
+// `,` of two expressions: it has the type and the category of the second.
+fn comma_of(
+    alloc: Global,
+    nodes: &mut Vec<TNode>,
+    at: At,
+    x: TNodeId,
+    y: TNodeId,
+) -> Result<TNodeId, AllocError>
+    requires { y.0 < length (trees_of nodes.old.items) }
+    ensures { IfOk result (λ r. Adds (trees_of nodes.old.items) (trees_of nodes.new.items) r (comma_of at (tree_at (trees_of nodes.old.items) x) (tree_at (trees_of nodes.old.items) y))) }
+{
+    let cat = node_at(nodes, y).cat;
+    let ty = copy(alloc, &node_at(nodes, y).ty)?;
+    add_binary(alloc, nodes, TKind::Comma, ty, cat, at, x, y)
 }
 
 /// `,`
@@ -113,17 +121,7 @@ pub fn comma(
     requires right { b.id.0 < length (trees_of work.old.nodes.items) }
     ensures { IfOk result (λ r. Puts (trees_of work.old.nodes.items) (trees_of work.new.nodes.items) (work_of work.new) r (comma (ctx_of env.now) (work_of work.old) at (operand_in (trees_of work.old.nodes.items) a) (operand_in (trees_of work.old.nodes.items) b))) }
 {
-    let cat = node_at(&work.nodes, b.id).cat;
-    let ty = copy(alloc, &node_at(&work.nodes, b.id).ty)?;
     let first = dropped(alloc, env, work, a)?;
-    add_binary(
-        alloc,
-        &mut work.nodes,
-        TKind::Comma,
-        ty,
-        cat,
-        at,
-        first,
-        b.id,
-    )
+    let second = settled(alloc, env, work, b)?;
+    comma_of(alloc, &mut work.nodes, at, first, second)
 }

@@ -3,9 +3,13 @@
 
 pub mod assignments;
 pub mod below;
+mod common_types;
 pub mod conditionals;
 pub mod drops;
+pub mod exceptions;
+pub mod thrown;
 
 pub use assignments::assignment;
 pub use conditionals::conditional;
 pub use drops::{comma, dropped};
+pub use thrown::{bare_throw, throws};

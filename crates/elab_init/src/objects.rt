@@ -19,7 +19,9 @@ use crate::scalars::scalar_leaf;
 use crate::temporaries::with_type;
 use crate::types::qualified_type;
 use cpp_types::{At, Cat, Shape, Ty, copy};
-use elab_conv::below::{Env, TKind, TNode, TNodeId, add_leaf, add_node, add_unary, node_at, size_of};
+use elab_conv::below::{
+    Env, TKind, TNode, TNodeId, add_leaf, add_node, add_unary, node_at, size_of,
+};
 use std::alloc::{AllocError, Global};
 
 // How deep calls nest that go into arrays and classes: deeper than types and classes do. A deeper one counts as want

@@ -218,7 +218,7 @@ module _ (cs : List Class) (s : List Lexeme) where
   default_label st at h = search (behind, h)
 
   named : (st : State) (at p : At) (t u : Typ) (o : Option ℕ) → st.ctx.classes ≡ cs → Holds (caught_of cs) (Statements.named_handler s st at p t u o)
-  named st at p t u (Some n) h = h
+  named st at p t u (Some n) h = search (behind, h)
   named st at p t u None h = h
 
   handler : (st : State) (at : At) (x : syntax.Tree) → st.ctx.classes ≡ cs → Holds (caught_of cs) (Statements.handler_type s st at x)

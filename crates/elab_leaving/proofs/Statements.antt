@@ -36,6 +36,7 @@ use Rattle.elab_leaving.proofs.Keeping.{declared_kept, auto_kept, out, of_state,
 use Rattle.elab_leaving.proofs.Growing.{operand_grows, operands_grow, dropped_grows, copy_grows, directly_grows, class_grows, initial_grows, item_grows}
 use Rattle.elab_rules.specs.cpp_types.Spelling.{before}
 use Rattle.elab_rules.specs.Constants.{constant}
+use Rattle.elab_rules.specs.Casts.{within_exception}
 use Rattle.elab_rules.specs.cpp_types.Class.{held}
 use Rattle.std.specs.List.{list_any}
 use Rattle.std.specs.Prelude.{not, ◌||◌, ◌==◌}
@@ -220,7 +221,7 @@ default_kept st at = skip (Ends st) (label_here st at) _ (λ y. skip (Ends st) (
 -- Handlers, and parts of statements
 
 named_kept : (s : List Lexeme) (st : State) (at p : At) (t u : Typ) (o : Option ℕ) → On (λ (h : Caught). Leaves st h.state) (named_handler s st at p t u o)
-named_kept s st at p t u (Some n) = declared_kept st (spelling s n) (Some u)
+named_kept s st at p t u (Some n) = skip (λ (h : Caught). Leaves st h.state) (within_exception st.ctx p u) _ (λ y. declared_kept st (spelling s n) (Some u))
 named_kept s st at p t u None = stays st
 
 handler_kept : (s : List Lexeme) (st : State) (at : At) (t : syntax.Tree) → On (λ (h : Caught). Leaves st h.state) (handler_type s st at t)

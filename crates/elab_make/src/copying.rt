@@ -207,6 +207,9 @@ fn closure_from(
     if !same_number(class, class_number(&node_at(&work.nodes, o.id).ty)) {
         return Err(ill(o.at, IllRule::NoConversion));
     }
+    if node_at(&work.nodes, o.id).ty.is_volatile {
+        return Err(ill(o.at, IllRule::NoCopy));
+    }
     let made = closure_copied(alloc, env, work, class, is_const, is_volatile, at, o)?;
     Ok(made)
 }
@@ -327,6 +330,9 @@ fn exception_from(
         let init = builder(&work.nodes, o.id)?;
         let made = exception_built(alloc, env, &mut work.nodes, &ty, init)?;
         return Ok(made);
+    }
+    if node_at(&work.nodes, o.id).ty.is_volatile {
+        return Err(ill(o.at, IllRule::NoCopy));
     }
     let made = exception_copied(alloc, env, &mut work.nodes, &ty, at, o.id)?;
     Ok(made)

@@ -12,23 +12,18 @@ ghost use Rattle.elab_casts.specs.elab_ctx.Says.{Gives, Makes, MakesAll};
 ghost use Rattle.elab_casts.specs.elab_init.Parts.{part_of};
 ghost use Rattle.elab_casts.specs.elab_rules.Values.{stored as stored_of, valued as valued_of};
 ghost use Rattle.elab_casts.specs.elab_rules.Initialising.{copied_part as copied_part_of, copy_of_held as copy_of_held_of, closure_part as closure_part_of};
-ghost use Rattle.elab_casts.specs.elab_rules.Expressions.{same_at as same_at_of, closure_at as closure_at_of, capture_source as capture_source_of, captured_value as captured_value_of, captured as captured_of, captured_pieces as captured_pieces_of, closure_object as closure_object_of};
+ghost use Rattle.elab_casts.specs.elab_rules.Expressions.{closure_at as closure_at_of, capture_source as capture_source_of, captured_value as captured_value_of, captured as captured_of, captured_pieces as captured_pieces_of, closure_object as closure_object_of};
 ghost use Rattle.elab_rows.specs.Pieces.{piece_tree, one_piece};
 
 use elab_casts::below::{
     At, Capture, Cat, Closure, ElabFault, Env, IllRule, ObjectPart, Operand, Shape, Special, TKind,
     TNode, TNodeId, Ty, Work, add_binary, add_node, class_from, class_number, copies, copy,
-    destroys, each_by, element_type, keep, object_kids, parts_of, stored, traits_at, valued,
+    destroys, each_by, element_type, keep, object_kids, parts_of, same_at, stored, traits_at,
+    valued,
 };
 use elab_names::parts::{ill, plain_type};
 use elab_names::{this_tree, variable_at};
 use std::alloc::{AllocError, Global};
-
-fn same_at(a: At, b: At) -> bool
-    ensures { result ≡ same_at_of a b }
-{
-    a.source == b.source && a.offset == b.offset
-}
 
 // The lambda at a place.
 fn closure_at<'a>(at: At, closures: &'a [Closure]) -> Option<&'a Closure>

@@ -291,15 +291,16 @@ exception_copied c t at s = node CopyFrom t Prvalue at (two s (copies c.classes 
 abbrev pub class_from : Ctx → Work → Typ → At → Operand → Result Made ElabFault
 class_from c w (typ (closure n) q v) at o = if is_closure_itself n q v o.tree then Ok (record { tree = o.tree; work = w }) else
     and_then (check (o.at) NoConversion (same_number n (class_number (typ_in o.tree))))
-    (λ y. Ok (with_tree (closure_copied c n q v at) (object_of c w o.at o.tree)))
+    (λ y. and_then (check (o.at) NoCopy (not (is_volatile_typ (typ_in o.tree)))) (λ z. Ok (with_tree (closure_copied c n q v at) (object_of c w o.at o.tree))))
 class_from c w (typ (class n) q v) at o = and_then (makeable c at n)
     (λ k. if is_prvalue_of_class n o.tree then Ok (record { tree = building c.classes (typ (class n) q v) o.tree; work = w }) else
     and_then (check (o.at) NoConversion (is_same_or_base c.classes (class_number (typ_in o.tree)) (Some n)))
     (λ y. copied_object c w n (typ (class n) q v) at o))
 class_from c w (typ (tx_ex t) q v) at o = and_then (check (o.at) NoConversion (form_eq (form_in (typ_in o.tree)) (tx_ex t))) (λ y.
     if is_class_prvalue (typ_in o.tree) (cat_of o.tree) then Ok
-    (record { tree = exception_built c.classes (typ (tx_ex t) q v) (builder o.tree); work = w }) else Ok
-    (record { tree = exception_copied c (typ (tx_ex t) q v) at o.tree; work = w }))
+    (record { tree = exception_built c.classes (typ (tx_ex t) q v) (builder o.tree); work = w }) else
+    and_then (check (o.at) NoCopy (not (is_volatile_typ (typ_in o.tree))))
+    (λ z. Ok (record { tree = exception_copied c (typ (tx_ex t) q v) at o.tree; work = w })))
 class_from c w t at o = Err (Ill (o.at) NoConversion)
 
 abbrev pub passed : Ctx → Work → Typ → Operand → Result Made ElabFault

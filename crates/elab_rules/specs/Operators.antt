@@ -246,12 +246,18 @@ copy_assigned c w at a b as_object t = and_then (check b.at NoCopy (not (is_vola
 abbrev pub same_object : Tree → Tree
 same_object s = s
 
+-- an object in a `std::tx_exception` is assigned where one by itself would be
+abbrev pub is_assignable_form : Ctx → Form → Bool
+is_assignable_form c (class n) = (traits_at c n).is_assignable
+is_assignable_form c f = true
+
 abbrev pub class_assigned_in : Ctx → Work → At → Operand → Operand → Form → Result Made ElabFault
 class_assigned_in c w at a b (class n) = and_then (check b.at NoConversion (is_same_or_base c.classes (class_number (typ_in b.tree)) (Some n))) (λ x.
     and_then (check at NoCopy ((traits_at c n).is_assignable && not (is_volatile_typ (typ_in a.tree))))
     (λ y. copy_assigned c w at a b (as_source b.at n) (typ_in a.tree)))
 class_assigned_in c w at a b (tx_ex t) = and_then (check b.at NoConversion (form_eq (form_in (typ_in b.tree)) (tx_ex t)))
-    (λ x. copy_assigned c w at a b same_object t)
+    (λ x. and_then (check at NoCopy (is_assignable_form c (form_in t) && not (is_volatile_typ (typ_in a.tree))))
+    (λ y. copy_assigned c w at a b same_object t))
 class_assigned_in c w at a b f = Err (Ill at NoCopy)
 
 abbrev pub class_assigned : Ctx → Work → At → Operand → Operand → Result Made ElabFault

@@ -45,6 +45,7 @@ use Rattle.elab_rules.specs.Values.{place_of, bool_type, retyped, number, stored
 use Rattle.elab_rules.specs.Objects.{destroys, element_of, fields, traits_at, size_of, followed_by}
 use Rattle.elab_rules.specs.Initialising.{conversion, initial, class_from, from_nothing, from_values, scalar_from, func_at, class_number, is_prvalue_of_class, seen_as}
 use Rattle.elab_rules.specs.Constants.{constant}
+use Rattle.elab_rules.specs.Casts.{within_exception}
 use Rattle.elab_rules.specs.Operators.{value, truth, dropped, true_at, arithmetic, is_complete, is_throw, without_value, bare_throw}
 use Rattle.elab_rules.specs.Names.{is_const_typ}
 use Rattle.elab_rules.specs.Sizes.{typ_sized}
@@ -560,7 +561,7 @@ caught_type c at t = and_then (caught_form c at (form_in t)) (λ z. Ok t)
 abbrev pub handler_node : At → Option ℕ → Typ → Tree → Trees → Tree
 handler_node at place t body fs = node (forms.Handler place) t Prvalue at (more body fs)
 
--- what a handler catches, behind its slot
+-- what a handler catches, behind its slot; one that has a name has room for an exception alone (profile)
 pub record Caught : Type 0 where
   pub state : State
   pub typ : Typ
@@ -568,13 +569,13 @@ pub record Caught : Type 0 where
   pub fields : Trees
 
 abbrev pub named_handler : List Lexeme → State → At → At → Typ → Typ → Option ℕ → Result Caught ElabFault
-named_handler s st at p t u (Some n) = Ok (record {
+named_handler s st at p t u (Some n) = and_then (within_exception st.ctx p u) (λ y. Ok (record {
   state = placed_variable st (spelling s n) u;
   typ = t;
   place = Some (next_place st.work);
   fields =
       fields st.ctx.classes at u;
-})
+}))
 named_handler s st at p t u None = Ok (record { state = st; typ = t; place = None; fields = none })
 
 abbrev pub handler_type : List Lexeme → State → At → syntax.Tree → Result Caught ElabFault

@@ -19,7 +19,7 @@ use crate::state::{Caught, State};
 use elab_expr::below::{
     At, ElabFault, Env, IllRule, Kids, NodeId, NodeKind, Nodes, Shape, Tokens, Ty, add_item, copy,
     elab_types_node_at as node_at, fields, ill, kids_of, place, plain_type, spelling,
-    traits_of_class,
+    traits_of_class, within_exception,
 };
 use std::alloc::Global;
 
@@ -122,6 +122,7 @@ fn named_handler(
             fields: Vec::new(alloc),
         });
     };
+    within_exception(&st.env, place, inner)?;
     let Ok(slot) = place_variable(alloc, st, place, spelling(tokens, name), inner) else {
         return Err(ElabFault::Memory);
     };
