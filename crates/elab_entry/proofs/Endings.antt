@@ -8,7 +8,7 @@ use Rattle.elab_stmt.specs.cpp_tree.declared.kinds.TKind.TheVariants as forms
 use Rattle.elab_stmt.specs.cpp_tree.declared.arena.TNodeId.{TNodeId}
 use Rattle.elab_stmt.specs.cpp_tree.Trees.{Tree, node, Trees, none, one, two}
 use Rattle.elab_stmt.specs.cpp_tree.Notation.{plain}
-use Rattle.elab_stmt.specs.cpp_tree.Typing.{is_void, is_class_typ, unqualified}
+use Rattle.elab_stmt.specs.cpp_tree.Typing.{is_void, is_class_typ}
 use Rattle.elab_stmt.specs.cpp_tree.Arena.{tree_at, trees_at, Adds}
 use Rattle.elab_stmt.specs.elab_ctx.Ctx.{Ctx}
 use Rattle.elab_stmt.specs.elab_ctx.Says.{are_within, AddsAll}
@@ -40,16 +40,15 @@ end_value a b c before next r q t at w m n e = end_one a c before next q (void_a
     (ap (λ (z : Tree). void_at forms.Return at (one z)) m.is) n) e
 
 -- an object that is zero in every scalar
-pub zeroed_is : (a b d e : List Tree) (p q : TNodeId) (r : Result TNodeId AllocError) (c : Ctx) (t x y v : Typ) (at : At) → x ≡ y → y ≡ unqualified t
-    → v ≡ plain void → Adds a b p (address_of at x) → Adds b d q (untyped (zeros c.classes at y))
+pub zeroed_is : (a b d e : List Tree) (p q : TNodeId) (r : Result TNodeId AllocError) (c : Ctx) (t x v : Typ) (at : At) → x ≡ t → v ≡ plain void
+    → Adds a b p (address_of at x) → Adds b d q (untyped (zeros c.classes at t))
     → IfOk r (λ (id : TNodeId). Adds d e id (node forms.Init v Prvalue at (two (tree_at d p) (tree_at d q))))
     → IfOk r (λ (id : TNodeId). Adds a e id (result_zeroed c t at))
-zeroed_is a b d e p q r c t x y v at f g h m n o =
-    let first : tree_at d p ≡ address_of at (unqualified t) = at_grown b d p n.grows m.within ∙ m.is ∙ ap (address_of at) (f ∙ g) in
-    let second : tree_at d q ≡ untyped (zeros c.classes at (unqualified t)) = n.is ∙ ap (λ (z : Typ). untyped (zeros c.classes at z)) g in
+zeroed_is a b d e p q r c t x v at f h m n o =
+    let first : tree_at d p ≡ address_of at t = at_grown b d p n.grows m.within ∙ m.is ∙ ap (address_of at) f in
     last_adds a d e r (node forms.Init v Prvalue at (two (tree_at d p) (tree_at d q))) (result_zeroed c t at) (grows_trans m.grows n.grows)
     (ap (λ (z : Typ). node forms.Init z Prvalue at (two (tree_at d p) (tree_at d q))) h ∙ ap (λ (z : Tree). void_at forms.Init at (two z (tree_at d q))) first
-    ∙ ap (λ (z : Tree). void_at forms.Init at (two (address_of at (unqualified t)) z)) second)
+    ∙ ap (λ (z : Tree). void_at forms.Init at (two (address_of at t) z)) n.is)
     o
 
 -- which end a body has

@@ -17,7 +17,7 @@ ghost use Rattle.elab_stmt.specs.elab_rules.Functions.{void_at, untyped as untyp
 ghost use Rattle.elab_entry.specs.Ends.{is_literal as is_literal_of, address_of, object_end, value_end};
 
 use crate::copying::copy_tree;
-use cpp_types::{At, Cat, Shape, Ty};
+use cpp_types::{At, Cat, Shape, Ty, copy};
 use elab_stmt::below::{
     Env, IntKind, TKind, TNode, TNodeId, add_binary, add_leaf, add_node, add_unary, is_class_type,
     keep, kids_at, leaf_statement, node_at, number, plain_type, pointer_to, unary_statement,
@@ -143,9 +143,8 @@ fn result_zeroed(
 ) -> Result<TNodeId, AllocError>
     ensures { IfOk result (λ r. Adds (trees_of nodes.old.items) (trees_of nodes.new.items) r (result_zeroed_of (ctx_of env.now) (typ_of ty.now) at)) }
 {
-    let object = unqualified_type(alloc, ty)?;
-    let address = result_address(alloc, nodes, at, cpp_types::copy(alloc, &object)?)?;
-    let init = untyped_zeros(alloc, env, nodes, at, &object)?;
+    let address = result_address(alloc, nodes, at, copy(alloc, ty)?)?;
+    let init = untyped_zeros(alloc, env, nodes, at, ty)?;
     let void = plain_type(Shape::Void);
     add_binary(
         alloc,

@@ -5,7 +5,7 @@ ghost use Rattle.cpp_types.specs.Typ.{typ_of};
 ghost use Rattle.elab_stmt.specs.elab_rules.Functions.{word_item as word_item_of, result_items, this_items};
 
 use cpp_types::{Ty, copy};
-use elab_stmt::below::{is_class_type, pointer_to, unqualified_type};
+use elab_stmt::below::{is_class_type, pointer_to};
 use std::alloc::{AllocError, Global};
 
 /// The item of a parameter: a pointer to an object of class type.
@@ -26,8 +26,7 @@ fn keep_result(alloc: Global, items: &mut Vec<Ty>, ty: &Ty) -> Result<(), AllocE
     if !is_class_type(ty) {
         return Ok(());
     }
-    let object = unqualified_type(alloc, ty)?;
-    let item = pointer_to(alloc, object)?;
+    let item = pointer_to(alloc, copy(alloc, ty)?)?;
     items.push(item)?;
     Ok(())
 }

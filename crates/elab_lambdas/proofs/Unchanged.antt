@@ -186,7 +186,8 @@ module _ (cs : List Class) (s : List Lexeme) where
       → Holds (done_of cs) (if is_class_typ t then and_then (class_from f.state.ctx f.state.work t f.operand.at f.operand)
       (λ (m : Made). Statements.done (one (Statements.class_returned at t f m)) (Statements.with_work f.state m.work))
       else and_then (initial f.state.ctx f.state.work t f.operand)
-      (λ (m : Made). Statements.done (one (Statements.return_node at (one (Statements.full f.operand.at m.tree)))) (Statements.with_work f.state m.work)))
+      (λ (m : Made). Statements.done (one (Statements.return_node at (one (Statements.full f.operand.at
+      (Statements.result_of t f.operand.at m.tree))))) (Statements.with_work f.state m.work)))
   value at t f h = either (done_of cs) (is_class_typ t) _ _ (search (behind, h)) (search (behind, h))
 
   returned_value : (at : At) (t : Typ) (f : Full) → f.state.ctx.classes ≡ cs → Holds (done_of cs) (Statements.return_value at t f)

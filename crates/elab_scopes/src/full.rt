@@ -5,17 +5,18 @@ ghost use Rattle.elab_expr.specs.cpp_lex.Tokens.{lexemes_of};
 ghost use Rattle.elab_expr.specs.cpp_ast.Orders.{are_below};
 ghost use Rattle.elab_expr.specs.cpp_tree.Trees.{Tree};
 ghost use Rattle.elab_expr.specs.cpp_tree.Arena.{trees_of, tree_at, trees_at, Adds};
-ghost use Rattle.elab_expr.specs.elab_rules.Statements.{is_temporary_with as is_temporary_with_of, holds_temporary as holds_temporary_of, full as full_of, full_operand as full_operand_of, all_lambdas as all_lambdas_of};
+ghost use Rattle.elab_expr.specs.elab_rules.Statements.{is_temporary_with as is_temporary_with_of, holds_temporary as holds_temporary_of, throws_object as throws_object_of, whole_of as whole_of_tree, full as full_of, full_operand as full_operand_of, all_lambdas as all_lambdas_of};
 ghost use Rattle.elab_expr.specs.elab_types.Syntax.{syntax_of, tree_at as syntax_at, trees_at as syntaxes_at};
 ghost use Rattle.elab_scopes.specs.States.{state_of};
+ghost use Rattle.elab_scopes.specs.Wholes.{without_object as without_object_of};
 ghost use Rattle.elab_scopes.specs.Says.{Changes, Fulls};
 
 use crate::lambdas::MakeLambdas;
 use crate::reading::operand;
 use crate::state::State;
 use elab_expr::below::{
-    At, ElabFault, NodeId, Nodes, Operand, TKind, TNode, TNodeId, Tokens, add_unary, copy, kids_at,
-    node_at,
+    At, Cat, ElabFault, NodeId, Nodes, Operand, Shape, TKind, TNode, TNodeId, Tokens, add_unary,
+    copy, elab_names_is_class_type as is_class_type, kids_at, node_at, plain_type,
 };
 use std::alloc::{AllocError, Global};
 
@@ -34,8 +35,8 @@ fn is_temporary(kind: TKind, kids: &[TNodeId]) -> bool
     }
 }
 
-// Whether a temporary with a destructor is in a tree.
-fn holds_temporary(nodes: &Vec<TNode>, id: TNodeId) -> Result<bool, AllocError>
+/// Whether a temporary with a destructor is in a tree.
+pub fn holds_temporary(nodes: &Vec<TNode>, id: TNodeId) -> Result<bool, AllocError>
     requires { id.0 < length (trees_of nodes.now.items) }
     ensures { IfOk result (λ b. b ≡ holds_temporary_of (tree_at (trees_of nodes.now.items) id)) }
 {
@@ -51,6 +52,54 @@ fn holds_temporary(nodes: &Vec<TNode>, id: TNodeId) -> Result<bool, AllocError>
     Ok(false)
 }
 
+// Whether an expression is a `throw` of an object, which makes none.
+fn throws_object(nodes: &Vec<TNode>, id: TNodeId) -> bool
+    requires { id.0 < length (trees_of nodes.now.items) }
+    ensures { result ≡ throws_object_of (tree_at (trees_of nodes.now.items) id) }
+{
+    let node = node_at(nodes, id);
+    match node.kind {
+        TKind::Throw | TKind::Rethrow => is_class_type(&node.ty),
+        _ => false,
+    }
+}
+
+// A `throw` of an object as an expression without a value; every other expression as it is.
+fn without_object(alloc: Global, nodes: &mut Vec<TNode>, id: TNodeId) -> Result<TNodeId, AllocError>
+    requires { id.0 < length (trees_of nodes.old.items) }
+    ensures { IfOk result (λ r. Adds (trees_of nodes.old.items) (trees_of nodes.new.items) r (without_object_of (tree_at (trees_of nodes.old.items) id))) }
+{
+    if !throws_object(nodes, id) {
+        return Ok(id);
+    }
+    let at = node_at(nodes, id).at;
+    add_unary(
+        alloc,
+        nodes,
+        TKind::Retype,
+        plain_type(Shape::Void),
+        Cat::Prvalue,
+        at,
+        id,
+    )
+}
+
+// An expression at whose end temporaries are destroyed.
+fn whole_of(
+    alloc: Global,
+    nodes: &mut Vec<TNode>,
+    at: At,
+    id: TNodeId,
+) -> Result<TNodeId, AllocError>
+    requires { id.0 < length (trees_of nodes.old.items) }
+    ensures { IfOk result (λ r. Adds (trees_of nodes.old.items) (trees_of nodes.new.items) r (whole_of_tree at (tree_at (trees_of nodes.old.items) id))) }
+{
+    let node = node_at(nodes, id);
+    let cat = node.cat;
+    let ty = copy(alloc, &node.ty)?;
+    add_unary(alloc, nodes, TKind::FullExpression, ty, cat, at, id)
+}
+
 /// An expression or an initialiser as a whole.
 pub fn full(
     alloc: Global,
@@ -64,10 +113,8 @@ pub fn full(
     if !holds_temporary(nodes, id)? {
         return Ok(id);
     }
-    let node = node_at(nodes, id);
-    let cat = node.cat;
-    let ty = copy(alloc, &node.ty)?;
-    add_unary(alloc, nodes, TKind::FullExpression, ty, cat, at, id)
+    let inner = without_object(alloc, nodes, id)?;
+    whole_of(alloc, nodes, at, inner)
 }
 
 /// An expression that is no part of another, behind its lambdas.

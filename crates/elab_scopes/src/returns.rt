@@ -5,25 +5,24 @@ ghost use Rattle.elab_expr.specs.cpp_lex.Tokens.{lexemes_of};
 ghost use Rattle.elab_expr.specs.cpp_ast.Orders.{are_below};
 ghost use Rattle.elab_expr.specs.cpp_types.Typ.{typ_of};
 ghost use Rattle.elab_expr.specs.cpp_tree.Arena.{trees_of, tree_at, Adds};
-ghost use Rattle.elab_expr.specs.cpp_tree.Trees.{kind_of};
 ghost use Rattle.elab_expr.specs.elab_ctx.Ctx.{ctx_of, returns_of};
-ghost use Rattle.elab_expr.specs.elab_rules.Operators.{is_throw as is_throw_of};
-ghost use Rattle.elab_expr.specs.elab_rules.Statements.{returned as returned_of, return_by as return_by_of, return_nothing as return_nothing_of, return_value as return_value_of, same_deduction as same_deduction_of, result_object as result_object_of};
+ghost use Rattle.elab_expr.specs.elab_rules.Statements.{returned as returned_of, return_by as return_by_of, return_nothing as return_nothing_of, return_value as return_value_of, same_deduction as same_deduction_of, result_object as result_object_of, result_of as result_of_typ, full as full_of};
 ghost use Rattle.elab_expr.specs.elab_types.Syntax.{syntax_of, trees_at as syntaxes_at};
 ghost use Rattle.elab_scopes.specs.States.{state_of, made, full_in};
 ghost use Rattle.elab_scopes.specs.Returning.{void_returned, object_returned as object_returned_of, return_object as return_object_of, return_void as return_void_of, return_scalar as return_scalar_of, return_known, return_deduced, return_deduced_by, object_built as object_built_of, scalar_returned as scalar_returned_of};
 ghost use Rattle.elab_scopes.specs.Says.{Does};
 
-use crate::full::{full, full_operand};
+use crate::full::{full, full_operand, holds_temporary};
 use crate::lambdas::MakeLambdas;
 use crate::nodes::{binary_statement, leaf_statement, unary_statement};
 use crate::state::State;
 use elab_expr::below::{
     At, Cat, ElabFault, IllRule, IntKind, NodeId, Nodes, Operand, Returns, Shape, TKind, TNode,
-    TNodeId, Tokens, Ty, add_leaf, add_unary, class_from, copy,
+    TNodeId, Tokens, Ty, add_leaf, add_unary, bare_throw, class_from, copy,
     elab_names_is_class_type as is_class_type, equal_types, ill, initial, is_void_type, node_at,
     plain_type, pointer_to, unqualified_type, value,
 };
+use elab_init::seen_as;
 use std::alloc::{AllocError, Global};
 
 // Whether a type is the one that was deduced before, if one was.
@@ -33,16 +32,6 @@ fn same_deduction(before: &Option<Ty>, ty: &Ty) -> bool
     match before {
         Some(found) => equal_types(found, ty),
         None => true,
-    }
-}
-
-fn is_throw(nodes: &Vec<TNode>, id: TNodeId) -> bool
-    requires { id.0 < length (trees_of nodes.now.items) }
-    ensures { result ≡ is_throw_of (kind_of (tree_at (trees_of nodes.now.items) id)) }
-{
-    match node_at(nodes, id).kind {
-        TKind::Throw | TKind::Rethrow => true,
-        _ => false,
     }
 }
 
@@ -73,10 +62,11 @@ fn return_void(alloc: Global, st: &mut State, at: At, o: Operand) -> Result<TNod
     requires { o.id.0 < length (made st.old) }
     ensures { Does st.old st.new result (return_void_of at (full_in st.old o)) }
 {
-    if !is_void_type(&node_at(&st.work.nodes, o.id).ty) && !is_throw(&st.work.nodes, o.id) {
+    if !is_void_type(&node_at(&st.work.nodes, o.id).ty) {
         return Err(ill(at, IllRule::BadReturn));
     }
-    let made = void_block(alloc, &mut st.work.nodes, at, o.at, o.id)?;
+    let thrown = bare_throw(&st.work.nodes, o.id)?;
+    let made = void_block(alloc, &mut st.work.nodes, at, o.at, thrown)?;
     Ok(made)
 }
 
@@ -169,17 +159,53 @@ fn return_object(
     Ok(made)
 }
 
+// Behind temporaries, the object that a result refers to as one of the type that is written.
+fn result_of(
+    alloc: Global,
+    nodes: &mut Vec<TNode>,
+    ty: &Ty,
+    at: At,
+    id: TNodeId,
+) -> Result<TNodeId, AllocError>
+    requires { id.0 < length (trees_of nodes.old.items) }
+    ensures { IfOk result (λ r. Adds (trees_of nodes.old.items) (trees_of nodes.new.items) r (result_of_typ (typ_of ty.now) at (tree_at (trees_of nodes.old.items) id))) }
+{
+    let Shape::Ref(target) = &ty.shape else {
+        return Ok(id);
+    };
+    if !holds_temporary(nodes, id)? {
+        return Ok(id);
+    }
+    seen_as(alloc, nodes, at, target, id)
+}
+
+// What is returned, as a whole.
+fn whole_result(
+    alloc: Global,
+    nodes: &mut Vec<TNode>,
+    ty: &Ty,
+    at: At,
+    id: TNodeId,
+) -> Result<TNodeId, AllocError>
+    requires { id.0 < length (trees_of nodes.old.items) }
+    ensures { IfOk result (λ r. Adds (trees_of nodes.old.items) (trees_of nodes.new.items) r (full_of at (result_of_typ (typ_of ty.now) at (tree_at (trees_of nodes.old.items) id)))) }
+{
+    let result = result_of(alloc, nodes, ty, at, id)?;
+    full(alloc, nodes, at, result)
+}
+
 fn scalar_returned(
     alloc: Global,
     nodes: &mut Vec<TNode>,
     at: At,
     place: At,
+    ty: &Ty,
     id: TNodeId,
 ) -> Result<TNodeId, AllocError>
     requires { id.0 < length (trees_of nodes.old.items) }
-    ensures { IfOk result (λ r. Adds (trees_of nodes.old.items) (trees_of nodes.new.items) r (scalar_returned_of at place (tree_at (trees_of nodes.old.items) id))) }
+    ensures { IfOk result (λ r. Adds (trees_of nodes.old.items) (trees_of nodes.new.items) r (scalar_returned_of at place (typ_of ty.now) (tree_at (trees_of nodes.old.items) id))) }
 {
-    let whole = full(alloc, nodes, place, id)?;
+    let whole = whole_result(alloc, nodes, ty, place, id)?;
     unary_statement(alloc, nodes, TKind::Return, at, whole)
 }
 
@@ -194,7 +220,7 @@ fn return_scalar(
     ensures { Does st.old st.new result (return_scalar_of at (typ_of ty.now) (full_in st.old o)) }
 {
     let value = initial(alloc, &st.env, &mut st.work, ty, o)?;
-    let made = scalar_returned(alloc, &mut st.work.nodes, at, o.at, value)?;
+    let made = scalar_returned(alloc, &mut st.work.nodes, at, o.at, ty, value)?;
     st.env.closures.clear();
     Ok(made)
 }
