@@ -142,7 +142,7 @@ class_from c w (typ (closure n) q v) at o = either (made w) (Initialising.is_clo
 class_from c w (typ (class n) q v) at o = behind (made w) (Initialising.makeable c at n) _
     (λ i. either (made w) (Initialising.is_prvalue_of_class n o.tree) _ _ (same w) (search (behind, copied_object)))
 class_from c w (typ (tx_ex t) q v) at o = behind (made w) (check o.at NoConversion (form_eq (form_in (typ_in o.tree)) (tx_ex t))) _
-    (λ y. either (made w) (is_class_prvalue (typ_in o.tree) (cat_of o.tree)) _ _ (same w) (same w))
+    (λ y. either (made w) (is_class_prvalue (typ_in o.tree) (cat_of o.tree)) _ _ (same w) (search (behind, same)))
 class_from c w t at o = tt
 
 passed : (c : Ctx) (w : Work) (p : Typ) (o : Operand) → Holds (made w) (Initialising.passed c w p o)
@@ -257,8 +257,9 @@ branches c w at test a b =
     either (made w) (Operators.throws b.tree) _ _ (settled c w a) (
     either (made w) (Operators.throws a.tree) _ _ (settled c w b) (
     either (made w) (Operators.same_lvalues a b || (is_void (typ_in a.tree) && is_void (typ_in b.tree))) _ _ (same w) (
+    either (made w) (Operators.is_shared a b) _ _ (same w) (
     either (made w) (Operators.both_of_class a b) _ _ (two_objects c w at test a b)
-    (same_work w (Operators.two_values at test (Operators.value_form a) (Operators.value_form b) a b))))))
+    (same_work w (Operators.two_values at test (Operators.value_form a) (Operators.value_form b) a b)))))))
 
 conditional : (c : Ctx) (w : Work) (at : At) (test a b : Operand) → Holds (made w) (Operators.conditional c w at test a b)
 conditional c w at test a b = behind (made w) (Operators.truth c w test) _ (λ t. branches c w at t a b)

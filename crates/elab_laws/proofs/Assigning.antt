@@ -31,6 +31,7 @@ use Rattle.elab_rules.specs.Initialising.{with_tree, object_of, exception_copied
 use Rattle.elab_rules.specs.Operators.{updated, scaled, value, value_form, arithmetic, assigned, copy_assigned, class_assigned_in, same_object, assignment}
 use Rattle.elab_rules.specs.Operators.{compound_numbers, compound_in, compound, movable, is_sum, same_work, truth, is_throw, is_null, as_pointer}
 use Rattle.elab_rules.specs.Operators.{bare_throw, throws as throws_tree, dropped, is_written_exception, settled, object_type, joined_type, common_class}
+use Rattle.elab_rules.specs.Operators.{is_shared, shared as shared_tree, joined_class, is_assignable_form}
 use Rattle.elab_rules.specs.Operators.{object_as, conditional_like, conditional_node, same_lvalues, both_of_class, two_numbers, two_values, two_objects, branches, conditional}
 use Rattle.elab_rules.specs.Names.{is_const_typ}
 use Rattle.elab_rules.specs.Expressions.{row_of, assignment_of}
@@ -38,7 +39,7 @@ use Rattle.elab_laws.specs.Reading.{On, IsPrvalue, IsLvalue, EachTwo}
 use Rattle.elab_laws.specs.Unary.{IsModifiable}
 use Rattle.elab_laws.specs.Assigning.{Simple, Compound, integer, pointer, simple_words, compound_words, Compounds, IsAs, Second, IsThrow, throws, throws_again}
 use Rattle.elab_laws.specs.Assigning.{Throws, bare, without_value, gives_const, gives_volatile}
-use Rattle.elab_laws.specs.Assigning.{Either, both_throw, first_throws, second_throws, both_void, lvalues, objects, values, numbers_of, or_null, null_or}
+use Rattle.elab_laws.specs.Assigning.{Either, both_throw, first_throws, second_throws, both_void, lvalues, shared, objects, values, numbers_of, or_null, null_or}
 use Rattle.elab_laws.specs.Assigning.{Chosen, Assignments, Commas, Conditionals}
 use Rattle.elab_laws.proofs.Reading.{bind, skip, after, checked, expected, either, weaken, of_two, of_three, made_in, each_word, ForAll}
 use Rattle.elab_laws.proofs.Equal.{typ_same, form_same}
@@ -67,7 +68,8 @@ class_law c w at x y (class n) = checked (Tree_in (Becomes x)) y.at NoConversion
     (λ u. checked (Tree_in (Becomes x)) at NoCopy ((traits_at c n).is_assignable && not (is_volatile_typ (typ_in x.tree))) _
     (λ v. copy_law c w at x y (as_source y.at n) (typ_in x.tree)))
 class_law c w at x y (tx_ex t) = checked (Tree_in (Becomes x)) y.at NoConversion (form_eq (form_in (typ_in y.tree)) (tx_ex t)) _
-    (λ u. copy_law c w at x y same_object t)
+    (λ u. checked (Tree_in (Becomes x)) at NoCopy (is_assignable_form c (form_in t) && not (is_volatile_typ (typ_in x.tree))) _
+    (λ v. copy_law c w at x y same_object t))
 class_law c w at x y f = tt
 
 class_from_typ : (t : Typ) → is_class_typ t ≡ true → is_object_form (form_in t) ≡ true
@@ -311,6 +313,24 @@ objects_law c w at test x y h = skip (Tree_in (Either x y)) (object_as c w (comm
     let o = class_from_typ (typ_in x.tree) p.0 in
     objects (form_in (typ_in x.tree)) o refl (sym f) (record { has_type = common_is x y o (ap is_object_form (sym f) ∙ o); category = refl })))
 
+joined_is : (t u : Typ) → joined_type t u ≡ typ (form_in t) (is_const_typ t || is_const_typ u) (is_volatile_typ t || is_volatile_typ u)
+joined_is (typ f c v) (typ g d w) = refl
+
+is_an_lvalue : (cat : Cat) → is_lvalue cat ≡ true → cat ≡ Lvalue
+is_an_lvalue Lvalue h = refl
+is_an_lvalue Prvalue h = absurd cc
+
+shared_law : (at : At) (test : Tree) (x y : Operand) → is_shared x y ≡ true → Either x y (shared_tree at test x y)
+shared_law at test x y h =
+    let p = and_parts (is_lvalue (cat_of x.tree) && is_lvalue (cat_of y.tree) && both_of_class x y)
+    (typ_eq (joined_class x y) (typ_in x.tree) || typ_eq (joined_class x y) (typ_in y.tree)) h in
+    let q = and_parts (is_lvalue (cat_of x.tree) && is_lvalue (cat_of y.tree)) (both_of_class x y) p.0 in
+    let r = and_parts (is_lvalue (cat_of x.tree)) (is_lvalue (cat_of y.tree)) q.0 in
+    let s = and_parts (is_class_typ (typ_in x.tree)) (form_eq (form_in (typ_in x.tree)) (form_in (typ_in y.tree))) q.1 in
+    shared (form_in (typ_in x.tree)) (class_from_typ (typ_in x.tree) s.0) refl
+    (sym (form_same (form_in (typ_in x.tree)) (form_in (typ_in y.tree)) s.1)) (is_an_lvalue (cat_of x.tree) r.0) (is_an_lvalue (cat_of y.tree) r.1)
+    (record { has_type = joined_is (typ_in x.tree) (typ_in y.tree); category = refl })
+
 branches_law : (c : Ctx) (w : Work) (at : At) (test : Tree) (x y : Operand) → On (Tree_in (Either x y)) (branches c w at test x y)
 branches_law c w at test x y = either (Tree_in (Either x y)) (throws_tree x.tree && throws_tree y.tree) _ _
     (λ h. let p = and_parts (throws_tree x.tree) (throws_tree y.tree) h in
@@ -324,9 +344,10 @@ branches_law c w at test x y = either (Tree_in (Either x y)) (throws_tree x.tree
     (Either x y (conditional_node at (typ_in x.tree) (cat_of x.tree) test x.tree y.tree)) l
     (λ m. lvalues_from x y (conditional_node at (typ_in x.tree) (cat_of x.tree) test x.tree y.tree) m (record { same_type = refl; same_category = refl }))
     (λ m. voids_from x y (conditional_node at (typ_in x.tree) (cat_of x.tree) test x.tree y.tree) m (record { same_type = refl; same_category = refl })))
-    (λ l. either (Tree_in (Either x y)) (both_of_class x y) _ _ (λ m. objects_law c w at test x y m)
+    (λ l. either (Tree_in (Either x y)) (is_shared x y) _ _ (shared_law at test x y)
+    (λ n. either (Tree_in (Either x y)) (both_of_class x y) _ _ (λ m. objects_law c w at test x y m)
     (λ m. with_work (Either x y) w (two_values at test (value_form x) (value_form y) x y)
-    (values_law at test x y (value_form x) (value_form y) refl refl))))))
+    (values_law at test x y (value_form x) (value_form y) refl refl)))))))
 
 conditional_law : (c : Ctx) (w : Work) (at : At) (test x y : Operand) → On (Tree_in (Chosen c test x y)) (conditional c w at test x y)
 conditional_law c w at test x y = after (Tree_in (Chosen c test x y)) (truth c w test) _

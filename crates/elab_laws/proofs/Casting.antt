@@ -22,13 +22,13 @@ use Rattle.elab_rules.specs.cpp_tree.declared.kinds.TKind.{TKind}
 use Rattle.elab_rules.specs.cpp_tree.declared.kinds.TKind.TheVariants.{Retype, Construct, Store, CopyFrom, Pieces}
 use Rattle.elab_rules.specs.cpp_tree.declared.faults.ElabFault.{ElabFault}
 use Rattle.elab_rules.specs.cpp_tree.declared.faults.IllRule.TheVariants.{NoConversion, NoCopy, BadOperand, BadThrow, NotTriviallyCopyable}
-use Rattle.elab_rules.specs.cpp_tree.Trees.{Tree, node, one, typ_in, cat_of, kind_of}
+use Rattle.elab_rules.specs.cpp_tree.Trees.{Tree, node, Trees, none, more, one, typ_in, cat_of, kind_of, kids_of}
 use Rattle.elab_rules.specs.cpp_tree.Typing.{form_in, is_reference, unqualified, is_class_prvalue, is_void, is_volatile_typ, kind_in}
 use Rattle.elab_rules.specs.cpp_tree.Notation.{plain}
 use Rattle.elab_rules.specs.elab_ctx.Ctx.{Ctx, Work, Special, absent, trivial, function}
 use Rattle.elab_rules.specs.elab_ctx.Steps.{and_then, expect, check, Operand, Made, Typed, TypedAll, at_of}
 use Rattle.elab_rules.specs.Values.{place_of, number, valued, converted, stepped, is_exception_form}
-use Rattle.elab_rules.specs.Initialising.{initial, bound_by, is_prvalue_of_class, same_number, class_number, rebuilt, constructed_copy, reference_word}
+use Rattle.elab_rules.specs.Initialising.{initial, bound_by, is_prvalue_of_class, same_number, class_number, rebuilt, copied_anew, constructed_copy, reference_word}
 use Rattle.elab_rules.specs.Initialising.{is_closure_itself, building}
 use Rattle.elab_rules.specs.Initialising.{parameters_at, copied_object, has_copy, meant, makers, argument, arguments, constructor_at, constructed_by, words}
 use Rattle.elab_rules.specs.Initialising.{constructed, from_nothing, makeable, default_by, is_prvalue_itself, class_from, from_values, with_tree}
@@ -183,10 +183,14 @@ zero_is : (depth : ℕ) (leaf : Leaf) (classes : List Class) (at : At) (n : ℕ)
 zero_is zero leaf classes at n q v = refl
 zero_is (suc depth) leaf classes at n q v = refl
 
+copied_anew_is : (classes : List Class) (n : ℕ) (q v : Bool) (e : Tree) (ts : Trees) → IsOf n e → IsOf n (copied_anew classes (typ (class n) q v) e ts)
+copied_anew_is classes n q v e none h = h
+copied_anew_is classes n q v e (more t ts) h = refl
+
 rebuilt_is : (classes : List Class) (kind : TKind) (n : ℕ) (q v : Bool) (e : Tree) → IsOf n e → IsOf n (rebuilt classes kind (typ (class n) q v) e)
 rebuilt_is classes (Construct k) n q v e h = refl
 rebuilt_is classes (Store k s) n q v e h = refl
-rebuilt_is classes CopyFrom n q v e h = refl
+rebuilt_is classes CopyFrom n q v e h = copied_anew_is classes n q v e (kids_of e) h
 rebuilt_is classes Pieces n q v e h = zero_is (length classes) zero_leaf classes (place_of e) n (false || q) (false || v)
 rebuilt_is classes kind n q v e h = h
 
@@ -233,7 +237,8 @@ constructed_law c w n q v at (o ∷ p ∷ os) = skip (InMade (IsOf n)) (makeable
 closure_made : (c : Ctx) (w : Work) (n : ℕ) (q v : Bool) (at : At) (o : Operand) → On (InMade (IsOf n)) (class_from c w (typ (closure n) q v) at o)
 closure_made c w n q v at o = either (InMade (IsOf n)) (is_closure_itself n q v o.tree) _ _
     (λ b. itself_is n o.tree (and_parts (is_prvalue_of_class n o.tree) (typ_eq (typ (closure n) q v) (typ_in o.tree)) b).0)
-    (λ b. skip (InMade (IsOf n)) (check o.at NoConversion (same_number n (class_number (typ_in o.tree)))) _ (λ y. refl))
+    (λ b. skip (InMade (IsOf n)) (check o.at NoConversion (same_number n (class_number (typ_in o.tree)))) _
+    (λ y. skip (InMade (IsOf n)) (check o.at NoCopy (not (is_volatile_typ (typ_in o.tree)))) _ (λ z. refl)))
 
 -- Exceptions
 

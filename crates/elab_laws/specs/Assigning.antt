@@ -4,6 +4,7 @@ use Rattle.elab_rules.specs.tx_ints.declared.kinds.IntKind.{IntKind}
 use Rattle.elab_rules.specs.tx_ints.Integers.{usual_of}
 use Rattle.elab_rules.specs.cpp_types.Typ.{Typ, typ, Form, void, int, ptr}
 use Rattle.elab_rules.specs.cpp_types.Conversion.{is_lvalue, is_object_form, conversion_of}
+use Rattle.elab_rules.specs.cpp_types.declared.ranks.Cat.TheVariants.{Lvalue}
 use Rattle.elab_rules.specs.cpp_ast.declared.kinds.NodeKind.TheVariants as k
 use Rattle.elab_rules.specs.cpp_tree.declared.kinds.TKind.TheVariants.{Retype, Throw, Rethrow}
 use Rattle.elab_rules.specs.cpp_tree.Trees.{Tree, one, kind_of, typ_in, cat_of, kids_of}
@@ -74,6 +75,10 @@ pub data Either (x y : Operand) (e : Tree) : Type 0 where
   both_void : form_in (typ_in x.tree) ≡ void → form_in (typ_in y.tree) ≡ void → IsAs x.tree e → Either x y e
   -- p4: lvalues of one type
   lvalues : (t : Typ) → IsLvalue t x.tree → IsLvalue t y.tree → IsLvalue t e → Either x y e
+  -- p3: lvalues of one class, of which one has all qualifiers of the other
+  shared : (f : Form) → is_object_form f ≡ true → form_in (typ_in x.tree) ≡ f → form_in (typ_in y.tree) ≡ f → cat_of x.tree ≡ Lvalue → cat_of y.tree ≡ Lvalue
+      → IsLvalue (typ f (is_const_typ (typ_in x.tree) || is_const_typ (typ_in y.tree)) (is_volatile_typ (typ_in x.tree) || is_volatile_typ (typ_in y.tree))) e
+      → Either x y e
   -- p3, p6: objects of one class, or values of one type
   objects : (f : Form) → is_object_form f ≡ true → form_in (typ_in x.tree) ≡ f → form_in (typ_in y.tree) ≡ f
       → IsPrvalue (typ f (gives_const x || gives_const y) (gives_volatile x || gives_volatile y)) e → Either x y e

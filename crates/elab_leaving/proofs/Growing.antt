@@ -32,7 +32,7 @@ use Rattle.elab_rules.specs.Initialising.{with_tree, as_source, signature_parame
 use Rattle.elab_rules.specs.Operators.{value, throws, is_volatile_scalar, is_read_when_dropped, dropped, copy_assigned, class_assigned_in, assignment}
 use Rattle.elab_rules.specs.Operators.{same_lvalues, both_of_class, two_objects, same_work, branches, conditional, value_form, assigned, step, target, truth}
 use Rattle.elab_rules.specs.Operators.{compound, compound_operator, same_object, subscript, two_values, is_written_exception, settled, comma}
-use Rattle.elab_rules.specs.Operators.{common_class, is_other_prvalue, object_operand, object_as}
+use Rattle.elab_rules.specs.Operators.{common_class, is_shared, is_assignable_form, is_other_prvalue, object_operand, object_as}
 use Rattle.elab_rules.specs.Names.{is_tx_exception, member_access, class_member, exception_member, is_free, is_method, resolved, is_const_typ}
 use Rattle.elab_rules.specs.Names.{is_volatile_object, members_in, named, offset_at, this_tree}
 use Rattle.elab_rules.specs.Casts.{is_numeric, scalar_cast, cast_in, cast, functional, throw_object, throw_in, throw, string_global, is_thrown_scalar}
@@ -115,13 +115,15 @@ copied_grows c w n t at o = skip (Mades w) (check (o.at) NoCopy (not (is_volatil
 
 pub class_grows : (c : Ctx) (w : Work) (t : Typ) (at : At) (o : Operand) → On (Mades w) (class_from c w t at o)
 class_grows c w (typ (closure n) q v) at o = either (Mades w) (is_closure_itself n q v o.tree) _ _ (same w)
-    (skip (Mades w) (check (o.at) NoConversion (same_number n (class_number (typ_in o.tree)))) _ (λ y. object_grows c w o.at o.tree))
+    (skip (Mades w) (check (o.at) NoConversion (same_number n (class_number (typ_in o.tree)))) _
+    (λ y. skip (Mades w) (check (o.at) NoCopy (not (is_volatile_typ (typ_in o.tree)))) _ (λ z. object_grows c w o.at o.tree)))
 class_grows c w (typ (class n) q v) at o = skip (Mades w) (makeable c at n) _
     (λ k. either (Mades w) (is_prvalue_of_class n o.tree) _ _ (same w)
     (skip (Mades w) (check (o.at) NoConversion (is_same_or_base c.classes (class_number (typ_in o.tree)) (Some n))) _
     (λ y. copied_grows c w n (typ (class n) q v) at o)))
 class_grows c w (typ (tx_ex t) q v) at o = skip (Mades w) (check (o.at) NoConversion (form_eq (form_in (typ_in o.tree)) (tx_ex t))) _
-    (λ y. either (Mades w) (is_class_prvalue (typ_in o.tree) (cat_of o.tree)) _ _ (same w) (same w))
+    (λ y. either (Mades w) (is_class_prvalue (typ_in o.tree) (cat_of o.tree)) _ _ (same w)
+    (skip (Mades w) (check (o.at) NoCopy (not (is_volatile_typ (typ_in o.tree)))) _ (λ z. same w)))
 class_grows c w t at o = tt
 
 passed_grows : (c : Ctx) (w : Work) (p : Typ) (o : Operand) → On (Mades w) (passed c w p o)
@@ -207,7 +209,8 @@ assigned_class c w at a b (class n) = skip (Mades w) (check b.at NoConversion (i
     (λ x. skip (Mades w) (check at NoCopy ((traits_at c n).is_assignable && not (is_volatile_typ (typ_in a.tree)))) _
     (λ y. assigned_copy c w at a b (as_source b.at n) (typ_in a.tree)))
 assigned_class c w at a b (tx_ex t) = skip (Mades w) (check b.at NoConversion (form_eq (form_in (typ_in b.tree)) (tx_ex t))) _
-    (λ x. assigned_copy c w at a b same_object t)
+    (λ x. skip (Mades w) (check at NoCopy (is_assignable_form c (form_in t) && not (is_volatile_typ (typ_in a.tree)))) _
+    (λ y. assigned_copy c w at a b same_object t))
 assigned_class c w at a b f = tt
 
 assignment_grows : (c : Ctx) (w : Work) (at : At) (a b : Operand) → On (Mades w) (assignment c w at a b)
@@ -243,7 +246,8 @@ branches_grow c w at test a b =
     either (Mades w) (throws a.tree && throws b.tree) _ _ (same w)
     (either (Mades w) (throws b.tree) _ _ (settled_grows c w a) (either (Mades w) (throws a.tree) _ _ (settled_grows c w b)
     (either (Mades w) (same_lvalues a b || (is_void (typ_in a.tree) && is_void (typ_in b.tree))) _ _ (same w)
-    (either (Mades w) (both_of_class a b) _ _ (objects_grow c w at test a b) (same_grows w (two_values at test (value_form a) (value_form b) a b))))))
+    (either (Mades w) (is_shared a b) _ _ (same w)
+    (either (Mades w) (both_of_class a b) _ _ (objects_grow c w at test a b) (same_grows w (two_values at test (value_form a) (value_form b) a b)))))))
 
 conditional_grows : (c : Ctx) (w : Work) (at : At) (test a b : Operand) → On (Mades w) (conditional c w at test a b)
 conditional_grows c w at test a b = skip (Mades w) (truth c w test) _ (λ t. branches_grow c w at t a b)
