@@ -1,32 +1,30 @@
 -- Braces: aggregates, arrays and strings (C++14 8.5.1, 8.5.2, 8.5.4).
-use Rattle.std.specs.Prelude.{ℕ, zero, suc, ◌+◌, ◌-◌, ◌*◌, ◌==◌, nat_le, nat_lt, Bool, true, false, not, ◌&&◌, ◌||◌, List, [], ◌∷◌, ◌++◌, length, Option, Some}
+use Rattle.std.specs.Prelude.{ℕ, zero, suc, ◌+◌, ◌-◌, ◌*◌, ◌==◌, nat_lt, Bool, true, false, not, ◌&&◌, ◌||◌, List, [], ◌∷◌, ◌++◌, length, Option, Some}
 use Rattle.std.specs.Prelude.{None, is_some, is_none, Result, Ok, Err, if◌then◌else◌, slice_get, drop, option_map}
 use Rattle.std.specs.Ordering.{int_eq}
 use Rattle.elab_ctx.specs.tx_ints.declared.kinds.IntKind.{IntKind}
-use Rattle.elab_ctx.specs.tx_ints.declared.kinds.IntKind.TheVariants.{Char, Bool as BoolKind, SChar, UChar}
+use Rattle.elab_ctx.specs.tx_ints.declared.kinds.IntKind.TheVariants.{Char, SChar, UChar}
 use Rattle.elab_ctx.specs.tx_ints.Integers.{represents, convert_of}
 use Rattle.elab_ctx.specs.tx_ints.Words.{value_of_word}
-use Rattle.elab_ctx.specs.cpp_types.Typ.{Typ, typ, Form, void, int, enum, null, ptr, ref, array, func, class, closure, tx_ex}
-use Rattle.elab_ctx.specs.cpp_types.Class.{Class, Member, Function, completion_of}
+use Rattle.elab_ctx.specs.cpp_types.Typ.{Typ, typ, Form, int, ptr, array, class}
+use Rattle.elab_ctx.specs.cpp_types.Class.{Class, Member, completion_of}
 use Rattle.elab_ctx.specs.cpp_types.declared.classes.At.{At}
-use Rattle.elab_ctx.specs.cpp_types.declared.ranks.Cat.TheVariants.{Lvalue, Prvalue}
+use Rattle.elab_ctx.specs.cpp_types.declared.ranks.Cat.TheVariants.{Prvalue}
 use Rattle.elab_ctx.specs.cpp_lex.Tokens.{Lexeme}
-use Rattle.elab_ctx.specs.cpp_ast.declared.kinds.NodeKind.{NodeKind}
 use Rattle.elab_ctx.specs.cpp_ast.declared.kinds.NodeKind.TheVariants as k
 use Rattle.elab_ctx.specs.cpp_ast.Trees as syntax
-use Rattle.elab_ctx.specs.cpp_tree.declared.kinds.TKind.{TKind}
-use Rattle.elab_ctx.specs.cpp_tree.declared.kinds.TKind.TheVariants.{Literal, Local, Load, Materialize, Pieces, Piece, Elements, Store, FullExpression}
+use Rattle.elab_ctx.specs.cpp_tree.declared.kinds.TKind.TheVariants.{Literal, Local, Load, Materialize, Pieces, Piece, Elements, Store, FullExpression, Construct, CopyConstruct, CopyScalar, CopyFrom}
 use Rattle.elab_ctx.specs.cpp_tree.declared.faults.ElabFault.{ElabFault}
 use Rattle.elab_ctx.specs.cpp_tree.declared.faults.ElabFault.TheVariants.{Ill}
-use Rattle.elab_ctx.specs.cpp_tree.declared.faults.IllRule.TheVariants.{BadInit, Narrowing, NoConversion, OutOfProfile, Incomplete}
-use Rattle.elab_ctx.specs.cpp_tree.Trees.{Tree, node, Trees, none, more, one, typ_in, cat_of}
+use Rattle.elab_ctx.specs.cpp_tree.declared.faults.IllRule.TheVariants.{BadInit, Narrowing, OutOfProfile, Incomplete}
+use Rattle.elab_ctx.specs.cpp_tree.Trees.{Tree, node, Trees, none, more, one, typ_in}
 use Rattle.elab_ctx.specs.cpp_tree.Notation.{plain}
 use Rattle.elab_ctx.specs.cpp_tree.Typing.{form_in, qualified, unqualified, is_class_typ, kind_in}
 use Rattle.elab_ctx.specs.Ctx.{Ctx, Work, Func, Default}
 use Rattle.elab_ctx.specs.Steps.{and_then, expect, check, Operand, Made, MadeAll, Typed, at_of, spelling}
 use Rattle.elab_rules.specs.Values.{stored, part_at, retyped}
 use Rattle.elab_rules.specs.Objects.{Part, size_of, destroys, zeros}
-use Rattle.elab_rules.specs.Initialising.{class_from, from_nothing, from_values, scalar_from, is_constructor, places_from, same_number, class_number}
+use Rattle.elab_rules.specs.Initialising.{class_from, with_tree, from_nothing, scalar_from, is_constructor, places_from, same_number, class_number}
 use Rattle.elab_rules.specs.Initialising.{is_same_or_base}
 use Rattle.elab_rules.specs.Constants.{constant, word_in}
 use Rattle.elab_rules.specs.Operators.{arithmetic, value}
@@ -124,6 +122,24 @@ as_part e = e
 abbrev pub default_made : Work → ThisAt → Default → Made
 default_made w this d = record { tree = as_part (default_whole w this d).tree; work = (default_whole w this d).work }
 
+-- an initialiser that was made for a member, in an object with these qualifiers
+abbrev mutual
+  pub requalified : Bool → Bool → Tree → Tree
+  requalified q v (node (Store kind marked) t cat at kids) = node (Store kind (marked || v)) (qualified q v t) cat at kids
+  requalified q v (node (CopyScalar kind marked) t cat at kids) = node (CopyScalar kind (marked || v)) (qualified q v t) cat at kids
+  requalified q v (node (Construct k) t cat at kids) = node (Construct k) (qualified q v t) cat at kids
+  requalified q v (node (CopyConstruct k) t cat at kids) = node (CopyConstruct k) (qualified q v t) cat at kids
+  requalified q v (node CopyFrom t cat at (more source kids)) = node CopyFrom (qualified q v t) cat at (more source (all_requalified q v kids))
+  requalified q v (node Pieces t cat at kids) = node Pieces (qualified q v t) cat at (all_requalified q v kids)
+  requalified q v (node (Piece offset) t cat at (more e destroys)) = node (Piece offset) (qualified q v t) cat at (more (requalified q v e) destroys)
+  requalified q v (node (Elements n stride) t cat at (more e destroys)) =
+      node (Elements n stride) (qualified q v t) cat at (more (requalified q v e) destroys)
+  requalified q v e = e
+
+  pub all_requalified : Bool → Bool → Trees → Trees
+  all_requalified q v none = none
+  all_requalified q v (more t ts) = more (requalified q v t) (all_requalified q v ts)
+
 -- Aggregates (8.5.1): a class without base, virtual functions and written constructors
 
 abbrev pub is_virtual_member : ℕ → Func → Bool
@@ -169,9 +185,9 @@ item_in c w t (array e n) o = Err (Ill o.at OutOfProfile)
 item_in c w t (class n) o = if is_aggregate_class c n && not (is_object_of c n o) then Err (Ill o.at OutOfProfile) else class_from c w t o.at o
 item_in c w t f o = if is_class_typ t then class_from c w t o.at o else and_then (scalar_from c w t o) (not_narrowed w t o)
 
-abbrev pub default_member : Ctx → Work → ThisAt → Typ → At → Option Default → Result Made ElabFault
-default_member c w this t at (Some d) = Ok (default_made w this d)
-default_member c w this t at None = and_then (from_nothing c t at) (λ (e : Tree). Ok (record { tree = e; work = w }))
+abbrev pub default_member : Ctx → Work → Bool → Bool → ThisAt → Typ → At → Option Default → Result Made ElabFault
+default_member c w q v this t at (Some d) = Ok (with_tree (requalified q v) (default_made w this d))
+default_member c w q v this t at None = and_then (from_nothing c t at) (λ (e : Tree). Ok (record { tree = e; work = w }))
 
 abbrev pub tree_place : Tree → At
 tree_place (node kind t cat at kids) = at
@@ -179,8 +195,8 @@ tree_place (node kind t cat at kids) = at
 -- members behind the last item: by their default member initialisers, or from nothing
 abbrev pub rest_members : Ctx → Work → At → Tree → Typ → ℕ → ℕ → List Member → Result MadeAll ElabFault
 rest_members c w at object t n i [] = Ok (record { trees = none; work = w })
-rest_members c w at object t n i (m ∷ ms) = and_then (default_member c w (this_of t object) (qualified (is_const_typ t) (is_volatile_object t) m.typ) at
-    (default_at n i c.defaults)) (λ (x : Made).
+rest_members c w at object t n i (m ∷ ms) = and_then (default_member c w (is_const_typ t) (is_volatile_object t) (this_of t object)
+    (qualified (is_const_typ t) (is_volatile_object t) m.typ) at (default_at n i c.defaults)) (λ (x : Made).
     with_piece c (offset_at c.classes n i) (qualified (is_const_typ t) (is_volatile_object t) m.typ)
     (if is_some (default_at n i c.defaults) then tree_place x.tree else at) x (rest_members c x.work at object t n (suc i) ms))
 

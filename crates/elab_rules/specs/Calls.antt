@@ -1,35 +1,33 @@
 -- Calls (C++14 5.2.2, 13.3): by name, of member functions, through pointers, of lambdas.
-use Rattle.std.specs.Prelude.{ℕ, zero, suc, ◌==◌, ◌+◌, Bool, true, false, not, ◌&&◌, ◌||◌, List, [], ◌∷◌, ◌++◌, length, Option, Some, None, is_some, is_none}
+use Rattle.std.specs.Prelude.{ℕ, zero, suc, ◌==◌, ◌+◌, Bool, true, false, not, ◌&&◌, List, [], ◌∷◌, Option, Some, None, is_some}
 use Rattle.std.specs.Prelude.{Result, Ok, Err, if◌then◌else◌, slice_get, unwrap_or, codes}
 use Rattle.std.specs.Str.{bytes_eq}
-use Rattle.elab_ctx.specs.cpp_types.Typ.{Typ, typ, Form, void, ptr, ref, func, class, closure, tx_ex, Signature, signature, Typs}
+use Rattle.elab_ctx.specs.cpp_types.Typ.{Typ, typ, Form, void, ptr, ref, func, class, closure, tx_ex, Signature}
 use Rattle.elab_ctx.specs.cpp_types.Class.{Class, completion_of}
-use Rattle.elab_ctx.specs.cpp_types.Conversion.{bases, referred}
+use Rattle.elab_ctx.specs.cpp_types.Conversion.{bases}
 use Rattle.elab_ctx.specs.cpp_types.declared.classes.At.{At}
 use Rattle.elab_ctx.specs.cpp_types.declared.ranks.Cat.{Cat}
 use Rattle.elab_ctx.specs.cpp_types.declared.ranks.Cat.TheVariants.{Lvalue, Prvalue}
-use Rattle.cpp_overload.specs.Overload.{Candidate}
 use Rattle.cpp_overload.specs.Choosing.{chosen}
-use Rattle.elab_ctx.specs.cpp_layout.Layout.{has_class_pointer, base_items, class_extent, next_multiple, Extent, end_from}
+use Rattle.elab_ctx.specs.cpp_layout.Layout.{has_class_pointer, base_items, class_extent, next_multiple, end_from}
 use Rattle.elab_ctx.specs.cpp_tree.declared.kinds.TKind.{TKind}
-use Rattle.elab_ctx.specs.cpp_tree.declared.kinds.TKind.TheVariants.{Call, VirtualCall, PointerCall, Builtin as BuiltinNode, Function, Default, Retype}
+use Rattle.elab_ctx.specs.cpp_tree.declared.kinds.TKind.TheVariants.{Call, VirtualCall, PointerCall, Builtin as BuiltinNode, Function, Default}
 use Rattle.elab_ctx.specs.cpp_tree.declared.kinds.TKind.TheVariants.{CopyFrom, Load}
 use Rattle.elab_ctx.specs.cpp_tree.declared.kinds.Builtin.{Builtin}
-use Rattle.elab_ctx.specs.cpp_tree.declared.kinds.Builtin.TheVariants.{Abort}
 use Rattle.elab_ctx.specs.cpp_tree.declared.faults.ElabFault.{ElabFault}
 use Rattle.elab_ctx.specs.cpp_tree.declared.faults.ElabFault.TheVariants.{Ill}
-use Rattle.elab_ctx.specs.cpp_tree.declared.faults.IllRule.TheVariants.{NotCallable, NoViable, BadMain, Incomplete, BadOperand, OutOfProfile}
-use Rattle.elab_ctx.specs.cpp_tree.Trees.{Tree, node, Trees, none, more, one, two, typ_in, cat_of}
+use Rattle.elab_ctx.specs.cpp_tree.declared.faults.IllRule.TheVariants.{NotCallable, NoViable, BadMain, Incomplete}
+use Rattle.elab_ctx.specs.cpp_tree.Trees.{Tree, node, Trees, none, more, one, two, typ_in}
 use Rattle.elab_ctx.specs.cpp_tree.Units.{SlotFunc}
 use Rattle.elab_ctx.specs.cpp_tree.Notation.{plain}
-use Rattle.elab_ctx.specs.cpp_tree.Typing.{form_in, unqualified, is_class_typ, kind_in}
+use Rattle.elab_ctx.specs.cpp_tree.Typing.{form_in, unqualified, is_class_typ, is_volatile_typ, kind_in}
 use Rattle.elab_ctx.specs.Ctx.{Ctx, Work, Func}
 use Rattle.elab_ctx.specs.Steps.{and_then, expect, check, Operand, Made, MadeAll}
-use Rattle.elab_rules.specs.Values.{place_of, retyped, valued}
+use Rattle.elab_rules.specs.Values.{retyped, valued}
 use Rattle.elab_rules.specs.Objects.{copies, followed_by}
 use Rattle.elab_rules.specs.Initialising.{candidate, candidates_at, func_at, arguments, meant, words, places_from, same_number, class_number, as_base}
 use Rattle.elab_rules.specs.Initialising.{signature_parameters, signature_result, object_of}
-use Rattle.elab_rules.specs.Names.{is_free, is_method, is_plain_kind}
+use Rattle.elab_rules.specs.Names.{is_free, is_method}
 use Rattle.elab_ctx.specs.tx_ints.declared.kinds.IntKind.{IntKind}
 
 -- What a call gives (C++14 5.2.2 p10): what a reference refers to, a class as it is, a scalar without qualifiers
@@ -142,9 +140,10 @@ abbrev pub value_type : Form → Option Typ
 value_type (tx_ex t) = Some t
 value_type f = None
 
+-- (it takes no object that is volatile)
 abbrev pub call_get : Ctx → Work → At → Tree → List Operand → Result Made ElabFault
 call_get c w at e [] = and_then (expect at NotCallable (value_type (form_in (typ_in e))))
-    (λ (t : Typ). Ok (record { tree = exception_value c at e t; work = w }))
+    (λ (t : Typ). and_then (check at NoViable (not (is_volatile_typ (typ_in e)))) (λ y. Ok (record { tree = exception_value c at e t; work = w })))
 call_get c w at e os = Err (Ill at NoViable)
 
 -- Values that are called

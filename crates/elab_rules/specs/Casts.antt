@@ -1,32 +1,29 @@
 -- Casts, `sizeof`, `throw` and literals (C++14 2.14, 5.2.3, 5.2.9, 5.3.3, 5.4, 15.1).
-use Rattle.std.specs.Prelude.{ℕ, suc, ◌==◌, nat_le, Bool, true, false, not, ◌&&◌, ◌||◌, List, [], ◌∷◌, ◌++◌, length, map, Option, Some, None, is_some, Result}
-use Rattle.std.specs.Prelude.{Ok, Err, if◌then◌else◌, slice_get, unwrap_or, codes, decimal}
-use Rattle.elab_ctx.specs.tx_ints.declared.kinds.IntKind.{IntKind}
-use Rattle.elab_ctx.specs.tx_ints.declared.kinds.IntKind.TheVariants.{Bool as BoolKind, Char, ULong}
-use Rattle.elab_ctx.specs.cpp_types.Typ.{Typ, typ, Form, void, int, enum, null, ptr, ref, array, func, class, closure, tx_ex}
-use Rattle.elab_ctx.specs.cpp_types.Class.{Class, held}
-use Rattle.elab_ctx.specs.cpp_types.Conversion.{referred, is_lvalue}
+use Rattle.std.specs.Prelude.{ℕ, suc, ◌==◌, nat_le, Bool, true, false, not, ◌&&◌, List, [], ◌∷◌, ◌++◌, length, is_some, Result}
+use Rattle.std.specs.Prelude.{Ok, Err, if◌then◌else◌, codes, decimal}
+use Rattle.elab_ctx.specs.tx_ints.declared.kinds.IntKind.TheVariants.{Char, ULong}
+use Rattle.elab_ctx.specs.cpp_types.Typ.{Typ, typ, Form, void, int, enum, ref, array, func, class, tx_ex}
+use Rattle.elab_ctx.specs.cpp_types.Conversion.{referred}
 use Rattle.elab_ctx.specs.cpp_types.declared.classes.At.{At}
-use Rattle.elab_ctx.specs.cpp_types.declared.ranks.Cat.{Cat}
 use Rattle.elab_ctx.specs.cpp_types.declared.ranks.Cat.TheVariants.{Lvalue, Prvalue}
-use Rattle.elab_ctx.specs.cpp_tree.declared.kinds.TKind.{TKind}
-use Rattle.elab_ctx.specs.cpp_tree.declared.kinds.TKind.TheVariants.{Literal, Throw, Rethrow, Retype, Materialize, Global as GlobalNode, Store}
+use Rattle.elab_ctx.specs.cpp_tree.declared.kinds.TKind.TheVariants.{Literal, Throw, Rethrow, Retype, Global as GlobalNode, Store}
 use Rattle.elab_ctx.specs.cpp_tree.declared.program.Linkage.TheVariants.{Internal}
 use Rattle.elab_ctx.specs.cpp_tree.declared.program.CellKind.TheVariants.{Number}
 use Rattle.elab_ctx.specs.cpp_tree.declared.faults.ElabFault.{ElabFault}
 use Rattle.elab_ctx.specs.cpp_tree.declared.faults.ElabFault.TheVariants.{Ill, Limit}
 use Rattle.elab_ctx.specs.cpp_tree.declared.faults.LimitKind.TheVariants.{Exception}
-use Rattle.elab_ctx.specs.cpp_tree.declared.faults.IllRule.TheVariants.{NoConversion, BadOperand, BadInit, Incomplete, BadThrow, NotTriviallyCopyable, NoCopy}
-use Rattle.elab_ctx.specs.cpp_tree.Trees.{Tree, node, Trees, none, more, one, two, typ_in, cat_of}
+use Rattle.elab_ctx.specs.cpp_tree.declared.faults.IllRule.TheVariants.{BadOperand, BadInit, Incomplete, BadThrow, NotTriviallyCopyable, NoCopy}
+use Rattle.elab_ctx.specs.cpp_tree.Trees.{Tree, node, none, more, one, typ_in}
 use Rattle.elab_ctx.specs.cpp_tree.Units.{Global, Cell}
 use Rattle.elab_ctx.specs.cpp_tree.Notation.{plain}
-use Rattle.elab_ctx.specs.cpp_tree.Typing.{form_in, is_volatile_typ, unqualified, is_class_typ, is_void, kind_in, is_class_prvalue}
+use Rattle.elab_ctx.specs.cpp_tree.Typing.{form_in, is_volatile_typ, unqualified, is_class_typ, is_void, is_reference, kind_in}
 use Rattle.elab_ctx.specs.Ctx.{Ctx, Work}
-use Rattle.elab_ctx.specs.Steps.{and_then, expect, check, Operand, Made}
-use Rattle.elab_rules.specs.Values.{size_type, retyped, number, valued, converted, is_exception_form}
+use Rattle.elab_ctx.specs.Steps.{and_then, check, Operand, Made}
+use Rattle.elab_rules.specs.Values.{retyped, number, converted, is_exception_form}
 use Rattle.elab_rules.specs.Objects.{size_of, fields, traits_at}
-use Rattle.elab_rules.specs.Initialising.{initial, object_of, class_from, from_values, with_tree, class_number}
+use Rattle.elab_rules.specs.Initialising.{initial, object_of, from_values, with_tree}
 use Rattle.elab_rules.specs.Operators.{value, dropped, is_function, measurable, without_value}
+use Rattle.elab_rules.specs.Types.{is_bounded}
 use Rattle.elab_ctx.specs.tx_events.declared.TheConstants.{EXCEPTION_SIZE}
 
 -- Casts
@@ -74,14 +71,14 @@ functional c w at t (o ∷ []) = cast c w at t o
 functional c w at t [] = if is_class_typ t then and_then (from_values c w (unqualified t) at [])
     (λ (m : Made). Ok (with_tree (as_expression at (unqualified t)) m)) else (
     if is_void t then Ok (record { tree = node Retype (plain void) Prvalue at (one (number ULong 0 at)); work = w }) else and_then
-    (check at BadInit (is_some (kind_in (form_in t)))) (λ y. Ok (record { tree = node (Literal 0) (unqualified t) Prvalue at none; work = w })))
+    (check at BadInit (is_some (kind_in (form_in t)) && not (is_reference t))) (λ y. Ok (record { tree = node (Literal 0) (unqualified t) Prvalue at none; work = w })))
 functional c w at t os = if is_class_typ t then and_then (from_values c w (unqualified t) at os)
     (λ (m : Made). Ok (with_tree (as_expression at (unqualified t)) m)) else Err (Ill at BadInit)
 
 -- `sizeof` (C++14 5.3.3)
 abbrev pub size_literal : Ctx → At → At → Typ → Result Tree ElabFault
 size_literal c at operand t = and_then (check at BadOperand (not (is_function (referred t)) && not (is_void (referred t))))
-    (λ y. and_then (measurable c at (referred t)) (λ z. Ok (number ULong (size_of c.classes (referred t)) at)))
+    (λ y. and_then (check at Incomplete (is_bounded (referred t))) (λ x. and_then (measurable c at (referred t)) (λ z. Ok (number ULong (size_of c.classes (referred t)) at))))
 
 -- `throw` (C++14 15.1, profile: integers, enums and what is copied byte by byte)
 

@@ -35,10 +35,10 @@ use Rattle.elab_rules.specs.Objects.{no_traits, traits_at, element_of}
 use Rattle.elab_rules.specs.Initialising.{same_number, is_constructor, makes, places_from, func_at, signature_parameters, signature_result, no_function}
 use Rattle.elab_rules.specs.Operators.{is_complete}
 use Rattle.elab_rules.specs.Calls.{is_of_class}
-use Rattle.elab_rules.specs.Types.{Declared, has_auto, type_named, is_abstract_type}
+use Rattle.elab_rules.specs.Types.{Declared, has_auto, type_named, is_abstract_type, is_bounded}
 use Rattle.elab_rules.specs.Sizes.{typ_sized}
 use Rattle.elab_rules.specs.Expressions.{type_of_specifiers, declared_by}
-use Rattle.elab_rules.specs.Statements.{State, is_bounded, is_own_name, name_of, is_const_element, has_written_default, is_trivial}
+use Rattle.elab_rules.specs.Statements.{State, is_own_name, name_of, is_const_element, has_written_default, is_trivial}
 use Rattle.elab_rules.specs.Functions.{Storage, no_storage, with_specifier, Header, new_function, is_same_function, first_from, text_between, header_sized}
 use Rattle.elab_rules.specs.Functions.{text_sized}
 use Rattle.elab_rules.specs.Globals.{with_type}

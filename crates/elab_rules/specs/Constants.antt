@@ -1,19 +1,16 @@
 -- Constant expressions (C++14 5.19, cut to integers and addresses of functions and globals).
-use Rattle.std.specs.Prelude.{ℕ, ◌==◌, Bool, true, false, not, ◌&&◌, List, [], ◌∷◌, ◌^◌, Option, Some, None, Result, Ok, Err, if◌then◌else◌, slice_get}
-use Rattle.std.specs.Prelude.{option_map, option_and_then, ℤ}
+use Rattle.std.specs.Prelude.{ℕ, ◌==◌, Bool, true, false, ◌&&◌, List, [], ◌∷◌, Option, Some, None, Result, Ok, Err, if◌then◌else◌, slice_get}
+use Rattle.std.specs.Prelude.{option_map, ℤ}
 use Rattle.elab_ctx.specs.tx_ints.declared.kinds.IntKind.{IntKind}
 use Rattle.elab_ctx.specs.tx_ints.declared.kinds.IntKind.TheVariants.{ULong}
 use Rattle.elab_ctx.specs.tx_ints.declared.kinds.BinOp.{BinOp}
 use Rattle.elab_ctx.specs.tx_ints.declared.kinds.ArithTrap.{ArithTrap}
 use Rattle.elab_ctx.specs.tx_ints.Integers.{apply_of, is_shift}
 use Rattle.elab_ctx.specs.tx_ints.Words.{word_of, value_of_word}
-use Rattle.elab_ctx.specs.cpp_types.Typ.{Typ, typ, Form, int, enum, ptr}
-use Rattle.elab_ctx.specs.cpp_types.declared.ranks.Cat.TheVariants.{Lvalue, Prvalue}
-use Rattle.elab_ctx.specs.cpp_tree.declared.kinds.TKind.{TKind}
+use Rattle.elab_ctx.specs.cpp_types.Typ.{Typ, typ, int, enum}
+use Rattle.elab_ctx.specs.cpp_types.declared.ranks.Cat.TheVariants.{Prvalue}
 use Rattle.elab_ctx.specs.cpp_tree.declared.kinds.TKind.TheVariants.{Literal, Load, Convert, Retype, Binary, Conditional, Global as GlobalNode, Function}
-use Rattle.elab_ctx.specs.cpp_tree.declared.program.CellKind.{CellKind}
-use Rattle.elab_ctx.specs.cpp_tree.declared.program.CellKind.TheVariants.{Number}
-use Rattle.elab_ctx.specs.cpp_tree.Trees.{Tree, node, Trees, none, more}
+use Rattle.elab_ctx.specs.cpp_tree.Trees.{Tree, node, none, more}
 use Rattle.elab_ctx.specs.cpp_tree.Units.{Global, Cell}
 
 -- a word in a kind

@@ -1,7 +1,6 @@
 -- Typed trees as text: a line for each node, deeper ones indented, with the offset of its place, and its category and type where it has one.
-use Rattle.std.specs.Prelude.{ℕ, zero, suc, Bool, true, false, List, [], ◌∷◌, ◌++◌, ◌+◌, ◌/◌, ◌%◌, nat_lt, length, map, Option, Some, None, Result, Ok, Err}
+use Rattle.std.specs.Prelude.{ℕ, zero, suc, Bool, true, false, List, [], ◌∷◌, ◌++◌, ◌+◌, ◌/◌, ◌%◌, nat_lt, Option, Some, None, Result, Ok, Err}
 use Rattle.std.specs.Prelude.{if◌then◌else◌, slice_get, codes}
-use Rattle.std.specs.Str.{bytes_eq}
 use Rattle.elab_ctx.specs.tx_events.declared.BlockKind.{BlockKind}
 use Rattle.elab_ctx.specs.tx_events.declared.BlockKind.TheVariants.{NoExcept, Cancel, Commit}
 use Rattle.elab_ctx.specs.tx_ints.declared.kinds.IntKind.{IntKind}
@@ -10,7 +9,6 @@ use Rattle.elab_ctx.specs.tx_ints.declared.kinds.IntKind.TheVariants.{ULLong}
 use Rattle.elab_ctx.specs.tx_ints.declared.kinds.BinOp.{BinOp}
 use Rattle.elab_ctx.specs.tx_ints.declared.kinds.BinOp.TheVariants.{Add, Sub, Mul, Div, Rem, Shl, Shr, And, Xor, Or, Lt, Gt, Le, Ge, Eq, Ne}
 use Rattle.elab_ctx.specs.cpp_types.Typ.{Typ, typ, void, null, class, int, ptr, array, closure}
-use Rattle.elab_ctx.specs.cpp_types.Equal.{typ_eq}
 use Rattle.elab_ctx.specs.cpp_types.Spelling.{spelling as type_spelling, before, behind}
 use Rattle.elab_ctx.specs.cpp_types.declared.classes.At.{At}
 use Rattle.elab_ctx.specs.cpp_types.declared.ranks.Cat.{Cat}

@@ -1,12 +1,12 @@
 -- The typed form of an expression, a type-id and a declarator: what stands in it first, from left to right, then the form itself.
-use Rattle.std.specs.Prelude.{ℕ, suc, ◌==◌, Bool, true, false, not, ◌&&◌, ◌||◌, List, [], ◌∷◌, ◌++◌, length, Option, Some, None, is_some, Result, Ok, Err}
-use Rattle.std.specs.Prelude.{if◌then◌else◌, slice_get, codes}
+use Rattle.std.specs.Prelude.{ℕ, ◌==◌, true, false, not, List, [], ◌∷◌, ◌++◌, Option, Some, None, Result, Ok, Err}
+use Rattle.std.specs.Prelude.{if◌then◌else◌, codes}
 use Rattle.std.specs.Str.{bytes_eq}
 use Rattle.elab_ctx.specs.tx_ints.declared.kinds.IntKind.{IntKind}
-use Rattle.elab_ctx.specs.tx_ints.declared.kinds.IntKind.TheVariants.{Char, Int, Bool as BoolKind, ULong}
+use Rattle.elab_ctx.specs.tx_ints.declared.kinds.IntKind.TheVariants.{Char, Bool as BoolKind}
 use Rattle.elab_ctx.specs.tx_ints.declared.kinds.BinOp.{BinOp}
 use Rattle.elab_ctx.specs.tx_ints.declared.kinds.BinOp.TheVariants.{Add, Sub}
-use Rattle.elab_ctx.specs.cpp_types.Typ.{Typ, typ, Form, void, int, enum, null, ptr, ref, array, func, class, closure, tx_ex}
+use Rattle.elab_ctx.specs.cpp_types.Typ.{Typ, typ, void, int, enum, null, ref, array, class, closure, tx_ex}
 use Rattle.elab_ctx.specs.cpp_types.declared.classes.At.{At}
 use Rattle.elab_ctx.specs.cpp_types.declared.ranks.Cat.TheVariants.{Lvalue, Prvalue}
 use Rattle.elab_ctx.specs.cpp_lex.Tokens.{Lexeme}
@@ -16,21 +16,20 @@ use Rattle.elab_ctx.specs.cpp_ast.declared.kinds.NodeKind.TheVariants as k
 use Rattle.elab_ctx.specs.cpp_ast.Trees as syntax
 use Rattle.elab_ctx.specs.cpp_names.Names.{found_in}
 use Rattle.elab_ctx.specs.cpp_names.declared.entity.Entity.{Entity}
-use Rattle.elab_ctx.specs.cpp_tree.declared.kinds.TKind.{TKind}
 use Rattle.elab_ctx.specs.cpp_tree.declared.kinds.TKind.TheVariants.{Literal, Builtin as BuiltinNode, Pieces, Piece, CopyFrom}
 use Rattle.elab_ctx.specs.cpp_tree.declared.kinds.Builtin.TheVariants.{Abort}
 use Rattle.elab_ctx.specs.cpp_tree.declared.faults.ElabFault.{ElabFault}
 use Rattle.elab_ctx.specs.cpp_tree.declared.faults.ElabFault.TheVariants.{Ill}
-use Rattle.elab_ctx.specs.cpp_tree.declared.faults.IllRule.TheVariants.{UnknownName, BadDeclaration, BadOperand, NotConstant, NotTriviallyCopyable, NoMember}
+use Rattle.elab_ctx.specs.cpp_tree.declared.faults.IllRule.TheVariants.{UnknownName, BadOperand, NotConstant, NotTriviallyCopyable, NoMember}
 use Rattle.elab_ctx.specs.cpp_tree.declared.faults.IllRule.TheVariants.{OutOfProfile}
-use Rattle.elab_ctx.specs.cpp_tree.Trees.{Tree, node, Trees, none, more, one, typ_in, cat_of, two}
+use Rattle.elab_ctx.specs.cpp_tree.Trees.{Tree, node, none, more, typ_in, two}
 use Rattle.elab_ctx.specs.cpp_tree.Notation.{plain}
 use Rattle.elab_ctx.specs.cpp_tree.Typing.{form_in}
 use Rattle.elab_ctx.specs.Ctx.{Ctx, Work, Capture, Closure}
 use Rattle.elab_ctx.specs.Steps.{and_then, expect, check, Operand, Made, MadeAll, Typed, TypedAll, at_of, spelling, value_at, token_place}
-use Rattle.elab_rules.specs.Values.{same_at, retyped, valued, stored, part_at}
+use Rattle.elab_rules.specs.Values.{same_at, valued, stored}
 use Rattle.elab_rules.specs.Objects.{Part, parts_of, destroys}
-use Rattle.elab_rules.specs.Initialising.{class_from, same_number, class_number, closure_part}
+use Rattle.elab_rules.specs.Initialising.{class_from, closure_part}
 use Rattle.elab_rules.specs.Constants.{word_in, constant}
 use Rattle.elab_rules.specs.Operators.{value, arithmetic, binary_operator, compound_operator, binary, logical, negation, minus, complement, plus, indirection}
 use Rattle.elab_rules.specs.Operators.{address_of, subscript, assignment, compound, step, comma, conditional, same_work}
@@ -38,7 +37,7 @@ use Rattle.elab_rules.specs.Names.{named, this_tree, resolved, member_access, va
 use Rattle.elab_rules.specs.Calls.{call}
 use Rattle.elab_rules.specs.Casts.{cast, functional, size_literal, throw, string_made}
 use Rattle.elab_rules.specs.Strings.{string_bytes}
-use Rattle.elab_rules.specs.Types.{Specifiers, no_specifiers, type_named, specified_type, may_be_thrown, Parameter, Qualifiers, Declared, declared_name}
+use Rattle.elab_rules.specs.Types.{Specifiers, no_specifiers, has_auto, type_named, specified_type, may_be_thrown, Parameter, Declared, declared_name}
 use Rattle.elab_rules.specs.Types.{pointer_to, reference_to, array_of, open_array, parameter_type, function_of, is_name, qualifiers_of, is_declared_safe}
 use Rattle.elab_rules.specs.Types.{with_function, with_qualifiers, owner_token}
 
@@ -188,6 +187,10 @@ bounded c w at t o = and_then (bound_kind o.at (arithmetic (form_in (typ_in (val
 -- Everything that holds expressions. The lambdas that may stand in a form are given beside the context: there are none in an operand that is not evaluated
 -- (C++14 5.1.2 p2).
 
+-- a type that an expression names; `auto` stands for none there (7.1.6.4 p5)
+abbrev pub written_type : At → Typ → Result Typ ElabFault
+written_type at t = and_then (check at OutOfProfile (not (has_auto t))) (λ y. Ok t)
+
 abbrev mutual
   pub expression_with : List Lexeme → Ctx → List Closure → Work → syntax.Tree → Result Typed ElabFault
   expression_with s c l w (syntax.node k.ParenthesizedExpression p token (syntax.more e syntax.none)) =
@@ -197,19 +200,19 @@ abbrev mutual
       (λ (xs : TypedAll). an_operand (at_of p) (call c xs.work (at_of p) x.operand xs.operands)))
   expression_with s c l w (syntax.node k.FunctionalCast p token (syntax.more base es)) =
       and_then (specified_with s c l w no_specifiers base)
-      (λ (d : Specifiers). and_then (specified_type (at_of p) d)
+      (λ (d : Specifiers). and_then (and_then (specified_type (at_of p) d) (written_type (at_of p)))
       (λ (t : Typ). and_then (operands_with s c l w es) (λ (xs : TypedAll). an_operand (at_of p) (functional c xs.work (at_of p) t xs.operands))))
   expression_with s c l w (syntax.node k.StaticCast p token (syntax.more t (syntax.more e syntax.none))) =
-      and_then (type_id_with s c l w t) (λ (u : Typ). and_then (and_then (expression_with s c l w e) (chosen_operand c))
+      and_then (and_then (type_id_with s c l w t) (written_type (at_of p))) (λ (u : Typ). and_then (and_then (expression_with s c l w e) (chosen_operand c))
       (λ (x : Typed). an_operand (at_of p) (cast c x.work (at_of p) u x.operand)))
   expression_with s c l w (syntax.node k.CastExpression p token (syntax.more t (syntax.more e syntax.none))) =
-      and_then (type_id_with s c l w t) (λ (u : Typ). and_then (and_then (expression_with s c l w e) (chosen_operand c))
+      and_then (and_then (type_id_with s c l w t) (written_type (at_of p))) (λ (u : Typ). and_then (and_then (expression_with s c l w e) (chosen_operand c))
       (λ (x : Typed). an_operand (at_of p) (cast c x.work (at_of p) u x.operand)))
   expression_with s c l w (syntax.node k.SizeofExpression p token (syntax.more e syntax.none)) =
       and_then (and_then (expression_with s c [] w e) (chosen_operand c))
       (λ (x : Typed). a_tree (at_of p) w (size_literal c (at_of p) x.operand.at (typ_in x.operand.tree)))
   expression_with s c l w (syntax.node k.SizeofType p token (syntax.more t syntax.none)) =
-      and_then (type_id_with s c [] w t) (λ (u : Typ). a_tree (at_of p) w (size_literal c (at_of p) (at_of p) u))
+      and_then (and_then (type_id_with s c [] w t) (written_type (at_of p))) (λ (u : Typ). a_tree (at_of p) w (size_literal c (at_of p) (at_of p) u))
   expression_with s c l w (syntax.node k.Lambda p token kids) = an_operand (at_of p) (closure_object c l w (at_of p))
   expression_with s c l w (syntax.node k.QualifiedId p (Some n) (syntax.more (syntax.node kind q (Some t) kids) syntax.none)) =
       a_tree (at_of p) w (qualified_name c w (at_of p) (spelling s t) (spelling s n))

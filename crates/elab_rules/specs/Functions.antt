@@ -1,9 +1,9 @@
 -- Functions: declarations that agree, and bodies (C++14 3.5, 7.1.1, 7.1.2, 8.3.5, 8.4; the TS, [dcl.fct]).
-use Rattle.std.specs.Prelude.{ℕ, zero, suc, ◌+◌, ◌==◌, nat_le, Bool, true, false, not, ◌&&◌, ◌||◌, List, [], ◌∷◌, ◌++◌, length, map, Option, Some, None}
-use Rattle.std.specs.Prelude.{is_some, is_none, Result, Ok, Err, if◌then◌else◌, slice_get, slice_set, slice_range, codes, drop}
+use Rattle.std.specs.Prelude.{ℕ, suc, nat_le, Bool, true, false, not, ◌&&◌, ◌||◌, List, [], ◌∷◌, ◌++◌, length, map, Option, Some, None}
+use Rattle.std.specs.Prelude.{is_some, is_none, Result, Ok, Err, if◌then◌else◌, slice_set, slice_range, codes}
 use Rattle.std.specs.Str.{bytes_eq}
 use Rattle.elab_ctx.specs.tx_ints.declared.kinds.IntKind.TheVariants.{Int, ULong}
-use Rattle.elab_ctx.specs.cpp_types.Typ.{Typ, typ, Form, void, int, enum, null, ptr, ref, array, func, class, closure, tx_ex, Signature, signature, Typs}
+use Rattle.elab_ctx.specs.cpp_types.Typ.{Typ, typ, void, int, ptr, ref, func, Signature, Typs}
 use Rattle.elab_ctx.specs.cpp_types.Typ.{none as no_typs}
 use Rattle.elab_ctx.specs.cpp_types.Equal.{typ_eq, typs_eq, flag_eq}
 use Rattle.elab_ctx.specs.cpp_types.Class.{Function, held}
@@ -12,7 +12,6 @@ use Rattle.elab_ctx.specs.cpp_types.declared.classes.Safety.{Safety}
 use Rattle.elab_ctx.specs.cpp_types.declared.classes.Safety.TheVariants.{None as NoSafety, Safe, Dynamic}
 use Rattle.elab_ctx.specs.cpp_types.declared.ranks.Cat.TheVariants.{Lvalue, Prvalue}
 use Rattle.elab_ctx.specs.cpp_lex.Tokens.{Lexeme}
-use Rattle.elab_ctx.specs.cpp_ast.declared.kinds.NodeKind.TheVariants as k
 use Rattle.elab_ctx.specs.cpp_ast.Trees as syntax
 use Rattle.elab_ctx.specs.cpp_layout.Layout.{frame_size, extent_of}
 use Rattle.elab_ctx.specs.cpp_layout.declared.frames.TheConstants.{GREATEST_FRAME}
@@ -23,30 +22,29 @@ use Rattle.elab_ctx.specs.cpp_names.Names.{innermost_of, with_name}
 use Rattle.elab_ctx.specs.cpp_tree.declared.kinds.TKind.{TKind}
 use Rattle.elab_ctx.specs.cpp_tree.declared.kinds.TKind.TheVariants as forms
 use Rattle.elab_ctx.specs.cpp_tree.declared.program.FuncKind.{FuncKind}
-use Rattle.elab_ctx.specs.cpp_tree.declared.program.FuncKind.TheVariants.{Plain, Constructor, Destructor, ClosureCall}
 use Rattle.elab_ctx.specs.cpp_tree.declared.program.Linkage.{Linkage}
 use Rattle.elab_ctx.specs.cpp_tree.declared.program.Linkage.TheVariants.{External, Internal, Inline}
 use Rattle.elab_ctx.specs.cpp_tree.declared.faults.ElabFault.{ElabFault}
-use Rattle.elab_ctx.specs.cpp_tree.declared.faults.ElabFault.TheVariants.{Ill, Override, Limit}
+use Rattle.elab_ctx.specs.cpp_tree.declared.faults.ElabFault.TheVariants.{Override, Limit}
 use Rattle.elab_ctx.specs.cpp_tree.declared.faults.OverrideRule.TheVariants.{DynamicNotVirtual}
 use Rattle.elab_ctx.specs.cpp_tree.declared.faults.LimitKind.TheVariants.{Frame}
 use Rattle.elab_ctx.specs.cpp_tree.declared.faults.IllRule.TheVariants.{Redeclared, TypeDiffers, SafetyDiffers, BadDeclaration, Incomplete, BadMain}
 use Rattle.elab_ctx.specs.cpp_tree.declared.faults.IllRule.TheVariants.{OutOfProfile}
-use Rattle.elab_ctx.specs.cpp_tree.Trees.{Tree, node, Trees, none, more, one, two, typ_in}
+use Rattle.elab_ctx.specs.cpp_tree.Trees.{Tree, node, Trees, none, more, one, two}
 use Rattle.elab_ctx.specs.cpp_tree.Units.{Param}
 use Rattle.elab_ctx.specs.cpp_tree.Notation.{plain}
-use Rattle.elab_ctx.specs.cpp_tree.Typing.{form_in, unqualified, is_void, is_class_typ}
+use Rattle.elab_ctx.specs.cpp_tree.Typing.{unqualified, is_void, is_class_typ}
 use Rattle.elab_ctx.specs.declared.env.Label.TheVariants.{Outside}
-use Rattle.elab_ctx.specs.Ctx.{Ctx, Work, Func, Variable, This, Returns, known, Lambda, with_item, with_variable, next_place}
-use Rattle.elab_ctx.specs.Steps.{and_then, expect, check, at_of, spelling}
+use Rattle.elab_ctx.specs.Ctx.{Ctx, Func, This, known, with_item, with_variable, next_place}
+use Rattle.elab_ctx.specs.Steps.{and_then, check, at_of, spelling}
 use Rattle.elab_rules.specs.Values.{number}
 use Rattle.elab_rules.specs.Objects.{zeros, followed_by}
 use Rattle.elab_rules.specs.Initialising.{func_at, signature_parameters, signature_result}
 use Rattle.elab_rules.specs.Operators.{is_complete}
 use Rattle.elab_rules.specs.Names.{same_variable}
 use Rattle.elab_rules.specs.Sizes.{typ_sized, sized, symbol_length}
-use Rattle.elab_rules.specs.Types.{Parameter, Qualifiers, Declared}
-use Rattle.elab_rules.specs.Statements.{Body, State, Done, Lambdas, statements_of, statement, is_fresh, next_variable, name_of, no_labels}
+use Rattle.elab_rules.specs.Types.{Parameter, Qualifiers}
+use Rattle.elab_rules.specs.Statements.{State, Done, Lambdas, statements_of, statement, is_fresh, next_variable, no_labels}
 
 -- What stands before the type of a declaration
 pub record Storage : Type 0 where

@@ -1,17 +1,17 @@
 -- Variables at file scope, with constant initialisers, and enums (C++14 3.5, 3.6.2, 7.1.1, 7.2).
-use Rattle.std.specs.Prelude.{ℕ, zero, suc, pred, ◌+◌, ◌*◌, ◌%◌, ◌^◌, ◌==◌, Bool, true, false, not, ◌&&◌, ◌||◌, List, [], ◌∷◌, ◌++◌, length, map, Option, Some}
-use Rattle.std.specs.Prelude.{None, is_some, is_none, Result, Ok, Err, if◌then◌else◌, slice_get, slice_set, codes, unwrap_or, ℤ, pos, ◌+ℤ◌}
+use Rattle.std.specs.Prelude.{ℕ, zero, suc, pred, ◌+◌, ◌*◌, ◌%◌, ◌^◌, ◌==◌, Bool, true, false, not, ◌&&◌, List, [], ◌∷◌, ◌++◌, length, map, Option, Some}
+use Rattle.std.specs.Prelude.{None, is_none, Result, Ok, Err, if◌then◌else◌, slice_get, slice_set, codes, unwrap_or, ℤ, pos, ◌+ℤ◌}
 use Rattle.std.specs.Str.{bytes_eq}
 use Rattle.elab_ctx.specs.tx_ints.declared.kinds.IntKind.{IntKind}
-use Rattle.elab_ctx.specs.tx_ints.declared.kinds.IntKind.TheVariants.{Int, ULong}
+use Rattle.elab_ctx.specs.tx_ints.declared.kinds.IntKind.TheVariants.{Int}
 use Rattle.elab_ctx.specs.tx_ints.Integers.{is_in_range}
 use Rattle.elab_ctx.specs.tx_ints.Words.{word_of, value_of_word}
-use Rattle.elab_ctx.specs.cpp_types.Typ.{Typ, typ, Form, void, int, enum, null, ptr, ref, array, func, class, closure, tx_ex, Signature}
+use Rattle.elab_ctx.specs.cpp_types.Typ.{Typ, typ, Form, void, int, enum, ref, class, closure}
 use Rattle.elab_ctx.specs.cpp_types.Equal.{typ_eq}
 use Rattle.elab_ctx.specs.cpp_types.Class.{Class, held, Function}
 use Rattle.elab_ctx.specs.cpp_types.Spelling.{spelling as type_spelling, listed}
 use Rattle.elab_ctx.specs.cpp_types.declared.classes.At.{At}
-use Rattle.elab_ctx.specs.cpp_types.declared.ranks.Cat.TheVariants.{Lvalue, Prvalue}
+use Rattle.elab_ctx.specs.cpp_types.declared.ranks.Cat.TheVariants.{Lvalue}
 use Rattle.elab_ctx.specs.cpp_lex.Tokens.{Lexeme}
 use Rattle.elab_ctx.specs.cpp_layout.Layout.{kind_size}
 use Rattle.elab_ctx.specs.cpp_ast.declared.kinds.NodeKind.TheVariants as k
@@ -20,33 +20,30 @@ use Rattle.elab_ctx.specs.cpp_names.declared.entity.Entity.{Entity}
 use Rattle.elab_ctx.specs.cpp_names.declared.entity.EntityKind.{EntityKind}
 use Rattle.elab_ctx.specs.cpp_names.declared.entity.EntityKind.TheVariants as entities
 use Rattle.elab_ctx.specs.cpp_names.Names.{innermost_of, with_name}
-use Rattle.elab_ctx.specs.cpp_tree.declared.kinds.TKind.{TKind}
 use Rattle.elab_ctx.specs.cpp_tree.declared.kinds.TKind.TheVariants as forms
 use Rattle.elab_ctx.specs.cpp_tree.declared.program.Linkage.{Linkage}
-use Rattle.elab_ctx.specs.cpp_tree.declared.program.Linkage.TheVariants.{External, Internal, Inline}
-use Rattle.elab_ctx.specs.cpp_tree.declared.program.CellKind.{CellKind}
+use Rattle.elab_ctx.specs.cpp_tree.declared.program.Linkage.TheVariants.{External, Internal}
 use Rattle.elab_ctx.specs.cpp_tree.declared.program.CellKind.TheVariants.{Number, GlobalAddr, FuncAddr}
 use Rattle.elab_ctx.specs.cpp_tree.declared.faults.ElabFault.{ElabFault}
 use Rattle.elab_ctx.specs.cpp_tree.declared.faults.ElabFault.TheVariants.{Ill}
 use Rattle.elab_ctx.specs.cpp_tree.declared.faults.IllRule.TheVariants.{Redeclared, TypeDiffers, BadDeclaration, NotConstant, Narrowing, BadMain, Incomplete}
 use Rattle.elab_ctx.specs.cpp_tree.declared.faults.IllRule.TheVariants.{OutOfProfile, BadOperand}
-use Rattle.elab_ctx.specs.cpp_tree.Trees.{Tree, node, Trees, none, more, one, typ_in}
+use Rattle.elab_ctx.specs.cpp_tree.Trees.{Tree, node, Trees, none, more, typ_in}
 use Rattle.elab_ctx.specs.cpp_tree.Units.{Global, Cell}
 use Rattle.elab_ctx.specs.cpp_tree.Notation.{plain}
-use Rattle.elab_ctx.specs.cpp_tree.Typing.{form_in, unqualified}
-use Rattle.elab_ctx.specs.Ctx.{Ctx, Work, Func, Enumerator, Special, trivial}
+use Rattle.elab_ctx.specs.cpp_tree.Typing.{form_in}
+use Rattle.elab_ctx.specs.Ctx.{Ctx, Work, Func, Enumerator}
 use Rattle.elab_ctx.specs.Types.{named_too}
 use Rattle.elab_ctx.specs.Steps.{and_then, expect, check, Operand, Made, Typed, TypedAll, at_of, spelling}
 use Rattle.elab_rules.specs.Objects.{element_of, traits_at}
 use Rattle.elab_rules.specs.Initialising.{class_number, func_at, signature_parameters}
 use Rattle.elab_rules.specs.Constants.{constant, Address, of_global, of_function, address}
 use Rattle.elab_rules.specs.Operators.{value, is_complete, arithmetic}
-use Rattle.elab_rules.specs.Names.{is_const_typ}
 use Rattle.elab_rules.specs.Strings.{string_bytes}
-use Rattle.elab_rules.specs.Types.{Declared, has_auto, type_named}
+use Rattle.elab_rules.specs.Types.{has_auto, type_named, is_bounded}
 use Rattle.elab_rules.specs.Braces.{item_of, string_token, string_object, is_char_array, syntax_place, tree_place}
 use Rattle.elab_rules.specs.Expressions.{expression_of, operands_of, chosen_operand, scope_name}
-use Rattle.elab_rules.specs.Statements.{State, default_object, copy_initialised, directly_initialised, is_bounded, bound_by_initialiser, is_trivial}
+use Rattle.elab_rules.specs.Statements.{State, default_object, copy_initialised, directly_initialised, is_trivial}
 use Rattle.elab_rules.specs.Sizes.{typ_sized}
 use Rattle.elab_rules.specs.Functions.{Storage}
 use Rattle.elab_ctx.specs.cpp_tree.declared.program.FuncKind.{FuncKind}

@@ -1,24 +1,21 @@
 -- What initialises an object: conversions, bindings, constructors and copies (C++14 8.5, 12.1, 12.8, 13.3.1).
-use Rattle.std.specs.Prelude.{◌==◌, ◌&&◌, ◌||◌, not, ℕ, suc, Bool, true, false, List, [], ◌∷◌, ◌++◌, length, map, Option, Some, None, is_some, is_none}
-use Rattle.std.specs.Prelude.{option_map, Result, Ok, Err, if◌then◌else◌, slice_get, unwrap_or}
-use Rattle.elab_ctx.specs.cpp_types.Typ.{Typ, typ, Form, void, int, enum, null, ptr, ref, array, func, class, closure, tx_ex, Signature, signature, Typs}
+use Rattle.std.specs.Prelude.{◌==◌, ◌&&◌, ◌||◌, not, ℕ, suc, Bool, true, false, List, [], ◌∷◌, ◌++◌, map, Option, Some, None, is_some}
+use Rattle.std.specs.Prelude.{Result, Ok, Err, if◌then◌else◌, slice_get, unwrap_or}
+use Rattle.elab_ctx.specs.cpp_types.Typ.{Typ, typ, Form, void, ref, array, func, class, closure, tx_ex, Signature, signature, Typs}
 use Rattle.elab_ctx.specs.cpp_types.Typ.{none as no_typs, more as and_typ}
-use Rattle.elab_ctx.specs.cpp_types.Equal.{kind_eq, typ_eq, form_eq}
+use Rattle.elab_ctx.specs.cpp_types.Equal.{typ_eq, form_eq}
 use Rattle.elab_ctx.specs.cpp_types.Class.{Class, completion_of}
-use Rattle.elab_ctx.specs.cpp_types.Conversion.{conversion_of, base_steps, referred, is_object_form}
+use Rattle.elab_ctx.specs.cpp_types.Conversion.{conversion_of, base_steps, referred}
 use Rattle.elab_ctx.specs.cpp_types.declared.classes.At.{At}
-use Rattle.elab_ctx.specs.cpp_types.declared.ranks.Cat.{Cat}
 use Rattle.elab_ctx.specs.cpp_types.declared.ranks.Cat.TheVariants.{Lvalue, Prvalue}
 use Rattle.elab_ctx.specs.cpp_types.declared.ranks.Step.{Step}
-use Rattle.elab_ctx.specs.cpp_types.declared.ranks.Step.TheVariants.{Identity}
 use Rattle.elab_ctx.specs.cpp_types.declared.ranks.Binding.{Binding}
 use Rattle.elab_ctx.specs.cpp_types.declared.ranks.Binding.TheVariants.{Value, Direct, Temporary}
 use Rattle.elab_ctx.specs.cpp_types.declared.ranks.Conversion.{Conversion}
 use Rattle.cpp_overload.specs.Overload.{Candidate, Argument}
 use Rattle.cpp_overload.specs.Choosing.{Choice, best, none_viable, none_best, chosen}
 use Rattle.elab_ctx.specs.cpp_tree.declared.kinds.TKind.{TKind}
-use Rattle.elab_ctx.specs.cpp_tree.declared.kinds.TKind.TheVariants.{Retype, Materialize, Store, Construct, CopyConstruct, CopyFrom, Pieces, Piece, Elements}
-use Rattle.elab_ctx.specs.cpp_tree.declared.kinds.TKind.TheVariants.{Conditional, Comma, FullExpression}
+use Rattle.elab_ctx.specs.cpp_tree.declared.kinds.TKind.TheVariants.{Materialize, Store, Construct, CopyConstruct, CopyFrom, Pieces, Piece, Elements}
 use Rattle.elab_ctx.specs.cpp_tree.declared.program.FuncKind.{FuncKind}
 use Rattle.elab_ctx.specs.cpp_tree.declared.program.FuncKind.TheVariants.{Constructor, Plain, ClosureCall}
 use Rattle.elab_ctx.specs.cpp_tree.declared.program.Linkage.TheVariants.{External}
@@ -27,14 +24,14 @@ use Rattle.elab_ctx.specs.cpp_tree.declared.faults.ElabFault.{ElabFault}
 use Rattle.elab_ctx.specs.cpp_tree.declared.faults.ElabFault.TheVariants.{Ill}
 use Rattle.elab_ctx.specs.cpp_tree.declared.faults.IllRule.TheVariants.{NoConversion, NoViable, Ambiguous, Incomplete, AbstractObject, NoDefault, NoCopy}
 use Rattle.elab_ctx.specs.cpp_tree.declared.faults.IllRule.TheVariants.{BadInit, OutOfProfile, BadDeclaration}
-use Rattle.elab_ctx.specs.cpp_tree.Trees.{Tree, node, Trees, none, more, one, two, three, kind_of, typ_in, cat_of, kids_of, nowhere}
+use Rattle.elab_ctx.specs.cpp_tree.Trees.{Tree, node, Trees, none, more, one, two, kind_of, typ_in, cat_of, kids_of, nowhere}
 use Rattle.elab_ctx.specs.cpp_tree.Notation.{plain}
-use Rattle.elab_ctx.specs.cpp_tree.Typing.{form_in, is_volatile_typ, unqualified, qualified, is_class_typ, without_exception, kind_in, is_class_prvalue}
-use Rattle.elab_ctx.specs.Ctx.{Ctx, Work, Func, Traits, Special, absent, trivial, function, with_item, next_place}
+use Rattle.elab_ctx.specs.cpp_tree.Typing.{form_in, is_volatile_typ, unqualified, qualified, is_class_typ, without_exception, is_class_prvalue}
+use Rattle.elab_ctx.specs.Ctx.{Ctx, Work, Func, Special, absent, trivial, function, with_item, next_place}
 use Rattle.elab_ctx.specs.Steps.{and_then, expect, check, Operand, Made, MadeAll}
-use Rattle.elab_rules.specs.Values.{place_of, retyped, valued, stepped, stored, builder, temporary, converted}
-use Rattle.elab_rules.specs.Objects.{class_in, element_of, count_in, size_of, is_array, zeros, copies, destroys, followed_by, traits_at, no_traits, parts_of}
-use Rattle.elab_rules.specs.Objects.{Part, pieces}
+use Rattle.elab_rules.specs.Values.{place_of, retyped, valued, stepped, stored, builder, temporary}
+use Rattle.elab_rules.specs.Objects.{class_in, element_of, count_in, size_of, is_array, zeros, copies, destroys, traits_at, parts_of}
+use Rattle.elab_rules.specs.Objects.{Part}
 
 -- Temporaries and references
 
@@ -231,7 +228,8 @@ constructor_at c n i = slice_get (constructors c n) i
 -- Words (C++14 5.2.2), where a parameter of class type is copied: its own constructor takes the argument by reference, so words nest once
 
 abbrev pub reference_word : Ctx → Work → Typs → Operand → Result MadeAll ElabFault
-reference_word c w (and_typ p no_typs) o = and_then (initial c w p o) (λ (m : Made). Ok (record { trees = one m.tree; work = m.work }))
+reference_word c w (and_typ p no_typs) o = and_then (check o.at OutOfProfile (not (is_class_typ p)))
+    (λ y. and_then (initial c w p o) (λ (m : Made). Ok (record { trees = one m.tree; work = m.work })))
 reference_word c w ps o = Err (Ill (o.at) OutOfProfile)
 
 abbrev pub constructed_copy : Ctx → Work → ℕ → Typ → At → Operand → Option ℕ → Result Made ElabFault

@@ -3,7 +3,7 @@ use Rattle.std.specs.Prelude.{ℕ, Bool, true, false, not, ◌&&◌, ◌||◌, L
 use Rattle.std.specs.Prelude.{if◌then◌else◌, slice_get, codes, count_by}
 use Rattle.std.specs.List.{list_all, list_any}
 use Rattle.std.specs.Str.{bytes_eq}
-use Rattle.elab_ctx.specs.cpp_types.Typ.{Typ, typ, Form, void, ptr, ref, func, closure, Signature, signature, none as no_typs}
+use Rattle.elab_ctx.specs.cpp_types.Typ.{Typ, typ, Form, void, ptr, ref, array, func, closure, Signature, signature, none as no_typs}
 use Rattle.elab_ctx.specs.cpp_types.Class.{Member, Function, held}
 use Rattle.elab_ctx.specs.cpp_types.Conversion.{referred, volatile_of}
 use Rattle.elab_ctx.specs.cpp_types.declared.classes.At.{At}
@@ -18,7 +18,7 @@ use Rattle.elab_ctx.specs.cpp_tree.declared.program.Linkage.TheVariants.{Interna
 use Rattle.elab_ctx.specs.cpp_tree.declared.faults.ElabFault.{ElabFault}
 use Rattle.elab_ctx.specs.cpp_tree.declared.faults.ElabFault.TheVariants.{Ill, Override}
 use Rattle.elab_ctx.specs.cpp_tree.declared.faults.OverrideRule.TheVariants.{DynamicNotVirtual}
-use Rattle.elab_ctx.specs.cpp_tree.declared.faults.IllRule.TheVariants.{UnknownName, BadInit, Capture as CaptureRule, Incomplete, OutOfProfile}
+use Rattle.elab_ctx.specs.cpp_tree.declared.faults.IllRule.TheVariants.{UnknownName, BadInit, Capture as CaptureRule, Incomplete, NoCopy, OutOfProfile}
 use Rattle.elab_ctx.specs.cpp_tree.Notation.{plain}
 use Rattle.elab_ctx.specs.cpp_tree.Typing.{form_in}
 use Rattle.elab_ctx.specs.declared.env.Label.TheVariants.{Outside}
@@ -33,7 +33,7 @@ use Rattle.elab_rules.specs.Sizes.{typ_sized}
 use Rattle.elab_rules.specs.Expressions.{type_id_of, parameters_in}
 use Rattle.elab_rules.specs.Statements.{State, Done, Lambdas, statements_of, statement, no_labels, is_trivial}
 use Rattle.elab_rules.specs.Functions.{safety_of, param_of, result_items, with_parameters, end_of, body_made}
-use Rattle.elab_rules.specs.Classes.{class_named, is_completed, or_place}
+use Rattle.elab_rules.specs.Classes.{class_named, is_completed, or_place, copies_member}
 
 -- Where lambdas stand
 
@@ -147,10 +147,17 @@ abbrev pub copies_closure : Ctx → Form → Bool
 copies_closure c (closure n) = is_trivial (traits_at c n).copy
 copies_closure c f = true
 
+-- each element of an array is copied
+abbrev pub copies_elements : Ctx → Typ → Bool
+copies_elements c (typ (array e n) d v) = copies_member c e (held e)
+copies_elements c t = true
+
 abbrev pub capture_variable : Ctx → List Capture → At → ℕ → Bool → Result (List Capture) ElabFault
 capture_variable c xs at i by_ref = and_then (variable_type c at i)
     (λ (t : Typ). and_then (check at OutOfProfile (by_ref || copies_closure c (form_in (referred t))))
-    (λ y. Ok (xs ++ record { variable = Some i; by_ref = by_ref; typ = captured_as by_ref t; at = at } ∷ [])))
+    (λ y. and_then (check at Incomplete (by_ref || is_complete c (held (referred t))))
+    (λ z. and_then (check at NoCopy (by_ref || copies_elements c (referred t))) (λ x.
+    Ok (xs ++ record { variable = Some i; by_ref = by_ref; typ = captured_as by_ref t; at = at } ∷ [])))))
 
 abbrev pub capture_this : Ctx → List Capture → At → Result (List Capture) ElabFault
 capture_this c xs at = and_then (expect at CaptureRule c.this)

@@ -1,9 +1,9 @@
 -- Names, members and `this` (C++14 3.4, 5.1.1, 5.2.5, 10.2).
-use Rattle.std.specs.Prelude.{ℕ, suc, ◌==◌, nat_lt, Bool, true, false, not, ◌&&◌, ◌||◌, List, [], ◌∷◌, ◌++◌, length, Option, Some, None, is_some, Result, Ok}
-use Rattle.std.specs.Prelude.{Err, if◌then◌else◌, slice_get, unwrap_or, option_map, codes}
+use Rattle.std.specs.Prelude.{ℕ, suc, ◌==◌, nat_lt, Bool, true, false, not, ◌&&◌, List, [], ◌∷◌, Option, Some, None, is_some, Result, Ok}
+use Rattle.std.specs.Prelude.{Err, if◌then◌else◌, slice_get, unwrap_or, codes}
 use Rattle.std.specs.Str.{bytes_eq}
 use Rattle.elab_ctx.specs.tx_ints.declared.kinds.IntKind.TheVariants.{ULong}
-use Rattle.elab_ctx.specs.cpp_types.Typ.{Typ, typ, Form, void, ptr, ref, class, closure, func, tx_ex, enum}
+use Rattle.elab_ctx.specs.cpp_types.Typ.{Typ, typ, Form, void, ptr, ref, func, tx_ex}
 use Rattle.elab_ctx.specs.cpp_types.Class.{Class, Member, completion_of}
 use Rattle.elab_ctx.specs.cpp_types.Conversion.{bases}
 use Rattle.elab_ctx.specs.cpp_types.declared.classes.At.{At}
@@ -12,24 +12,22 @@ use Rattle.elab_ctx.specs.cpp_names.Names.{found_in}
 use Rattle.elab_ctx.specs.cpp_names.declared.entity.Entity.{Entity}
 use Rattle.elab_ctx.specs.cpp_names.declared.entity.EntityKind.{EntityKind}
 use Rattle.elab_ctx.specs.cpp_names.declared.entity.EntityKind.TheVariants as entities
-use Rattle.elab_ctx.specs.cpp_tree.declared.kinds.TKind.{TKind}
 use Rattle.elab_ctx.specs.cpp_tree.declared.kinds.TKind.TheVariants.{Literal, Local, Global as GlobalNode, Function, Load, Default, Builtin}
 use Rattle.elab_ctx.specs.cpp_tree.declared.program.FuncKind.{FuncKind}
-use Rattle.elab_ctx.specs.cpp_tree.declared.program.FuncKind.TheVariants.{Plain, ClosureCall}
+use Rattle.elab_ctx.specs.cpp_tree.declared.program.FuncKind.TheVariants.{Plain}
 use Rattle.elab_ctx.specs.cpp_tree.declared.faults.ElabFault.{ElabFault}
 use Rattle.elab_ctx.specs.cpp_tree.declared.faults.ElabFault.TheVariants.{Ill}
 use Rattle.elab_ctx.specs.cpp_tree.declared.faults.IllRule.TheVariants.{UnknownName, BadInit, Capture as CaptureRule, OutOfProfile, BadOperand, Incomplete}
 use Rattle.elab_ctx.specs.cpp_tree.declared.faults.IllRule.TheVariants.{NoMember, Ambiguous}
-use Rattle.elab_ctx.specs.cpp_tree.Trees.{Tree, node, Trees, none, more, one, typ_in, cat_of}
+use Rattle.elab_ctx.specs.cpp_tree.Trees.{Tree, node, Trees, none, one, typ_in}
 use Rattle.elab_ctx.specs.cpp_tree.Units.{Global}
 use Rattle.elab_ctx.specs.cpp_tree.Notation.{plain}
-use Rattle.elab_ctx.specs.cpp_tree.Typing.{form_in, qualified, is_class_typ, is_void}
+use Rattle.elab_ctx.specs.cpp_tree.Typing.{form_in, qualified, is_class_typ}
 use Rattle.elab_ctx.specs.cpp_layout.Measured.{member_offset}
 use Rattle.elab_ctx.specs.Ctx.{Ctx, Work, Func, Variable, This, Capture, Lambda}
 use Rattle.elab_ctx.specs.Steps.{and_then, expect, check, Operand, Made}
 use Rattle.elab_rules.specs.Values.{retyped, part_at, valued}
-use Rattle.elab_rules.specs.Objects.{class_in}
-use Rattle.elab_rules.specs.Initialising.{func_at, places_from, same_number, class_number, with_tree, object_of}
+use Rattle.elab_rules.specs.Initialising.{func_at, places_from, same_number, class_number, object_of}
 
 -- What is looked up and not yet chosen. An expression that names functions is a `Function` of type `void`, with its object where they are members; the
 -- functions are those

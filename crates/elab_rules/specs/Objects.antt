@@ -1,21 +1,21 @@
 -- Objects part by part: zeros, copies and destructions (C++14 8.5, 12.4, 12.8).
-use Rattle.std.specs.Prelude.{ℕ, zero, suc, Bool, true, false, ◌||◌, ◌+◌, ◌*◌, List, [], ◌∷◌, ◌++◌, Option, Some, None, slice_get, unwrap_or, option_and_then}
-use Rattle.std.specs.Prelude.{option_map, take, map, length, if◌then◌else◌}
+use Rattle.std.specs.Prelude.{ℕ, zero, suc, Bool, true, false, ◌||◌, ◌+◌, ◌*◌, List, [], ◌∷◌, ◌++◌, Option, Some, None, slice_get, unwrap_or}
+use Rattle.std.specs.Prelude.{length, if◌then◌else◌}
 use Rattle.elab_ctx.specs.tx_ints.declared.kinds.IntKind.{IntKind}
-use Rattle.elab_ctx.specs.cpp_types.Typ.{Typ, typ, Form, void, int, enum, null, ptr, ref, array, func, class, closure, tx_ex}
-use Rattle.elab_ctx.specs.cpp_types.Class.{Class, Member, completion_of}
+use Rattle.elab_ctx.specs.tx_ints.declared.kinds.IntKind.TheVariants.{ULong}
+use Rattle.elab_ctx.specs.cpp_types.Typ.{Typ, typ, Form, void, int, ref, array, class, closure, tx_ex}
+use Rattle.elab_ctx.specs.cpp_types.Class.{Class, Member}
 use Rattle.elab_ctx.specs.cpp_types.declared.classes.At.{At}
-use Rattle.elab_ctx.specs.cpp_types.declared.ranks.Cat.TheVariants.{Lvalue, Prvalue}
-use Rattle.elab_ctx.specs.cpp_layout.Layout.{extent_of, Extent}
+use Rattle.elab_ctx.specs.cpp_types.declared.ranks.Cat.TheVariants.{Prvalue}
+use Rattle.elab_ctx.specs.cpp_layout.Layout.{extent_of}
 use Rattle.elab_ctx.specs.cpp_layout.Measured.{member_offset}
-use Rattle.elab_ctx.specs.cpp_tree.declared.kinds.TKind.{TKind}
-use Rattle.elab_ctx.specs.cpp_tree.declared.kinds.TKind.TheVariants.{Literal, Store, CopyScalar, CopyConstruct, Construct, Pieces, Piece, Elements, Destroy}
+use Rattle.elab_ctx.specs.cpp_tree.declared.kinds.TKind.TheVariants.{Literal, CopyScalar, Pieces, Piece, Elements, Destroy}
 use Rattle.elab_ctx.specs.cpp_tree.declared.kinds.TKind.TheVariants.{Field}
-use Rattle.elab_ctx.specs.cpp_tree.Trees.{Tree, node, Trees, none, more, one, two, kind_of, cat_of, kids_of}
+use Rattle.elab_ctx.specs.cpp_tree.Trees.{Tree, node, Trees, none, more, one, kind_of, cat_of, kids_of}
 use Rattle.elab_ctx.specs.cpp_tree.Notation.{plain}
 use Rattle.elab_ctx.specs.cpp_tree.Typing.{form_in, is_volatile_typ, unqualified, qualified, kind_in}
 use Rattle.elab_ctx.specs.Ctx.{Ctx, Traits, Special, absent, trivial, function}
-use Rattle.elab_rules.specs.Values.{place_of, stored, stored_as}
+use Rattle.elab_rules.specs.Values.{place_of, stored}
 
 abbrev pub size_of : List Class → Typ → ℕ
 size_of classes t = (extent_of classes t).size
@@ -92,7 +92,9 @@ class_whole (suc depth) leaf classes at n c v = node Pieces (typ (class n) c v) 
 abbrev pub each_scalar : Leaf → List Class → At → Typ → Tree
 each_scalar leaf classes at t = whole (class_whole (length classes) leaf classes at) leaf classes at false false t
 
+-- a reference, which a lambda may have captured, is the word 0
 abbrev pub zero_leaf : Leaf
+zero_leaf (typ (ref u) c v) at = stored at (typ (ref u) c v) (node (Literal 0) (plain (int ULong)) Prvalue at none)
 zero_leaf t at = stored at t (node (Literal 0) (unqualified t) Prvalue at none)
 
 -- an object whose scalars are all zero

@@ -1,13 +1,13 @@
 -- Operators on scalars (C++14 5.2.1, 5.2.6, 5.3.1, 5.6 to 5.18), from operands that are typed.
-use Rattle.std.specs.Prelude.{ℕ, ◌==◌, nat_le, Bool, true, false, not, ◌&&◌, ◌||◌, List, [], ◌∷◌, ◌^◌, ◌-◌, Option, Some, None, is_some, is_none, Result, Ok, Err}
-use Rattle.std.specs.Prelude.{if◌then◌else◌, slice_get, option_map, codes}
+use Rattle.std.specs.Prelude.{ℕ, nat_le, Bool, true, false, not, ◌&&◌, ◌||◌, List, ◌^◌, ◌-◌, Option, Some, None, is_some, Result, Ok, Err}
+use Rattle.std.specs.Prelude.{if◌then◌else◌, codes}
 use Rattle.std.specs.Str.{bytes_eq}
 use Rattle.elab_ctx.specs.tx_ints.declared.kinds.IntKind.{IntKind}
 use Rattle.elab_ctx.specs.tx_ints.declared.kinds.IntKind.TheVariants.{Bool as BoolKind, Int, ULong, Long}
 use Rattle.elab_ctx.specs.tx_ints.declared.kinds.BinOp.{BinOp}
 use Rattle.elab_ctx.specs.tx_ints.declared.kinds.BinOp.TheVariants.{Add, Sub, Mul, Div, Rem, Shl, Shr, And, Xor, Or, Lt, Gt, Le, Ge, Eq, Ne}
 use Rattle.elab_ctx.specs.tx_ints.Integers.{usual_of, promote_of, is_shift}
-use Rattle.elab_ctx.specs.cpp_types.Typ.{Typ, typ, Form, void, int, enum, null, ptr, ref, array, func, class, closure, tx_ex}
+use Rattle.elab_ctx.specs.cpp_types.Typ.{Typ, typ, Form, void, int, enum, null, ptr, func, class, tx_ex}
 use Rattle.elab_ctx.specs.cpp_types.Equal.{kind_eq, typ_eq, form_eq}
 use Rattle.elab_ctx.specs.cpp_types.Class.{completion_of}
 use Rattle.elab_ctx.specs.cpp_types.Conversion.{is_lvalue, const_of}
@@ -16,19 +16,19 @@ use Rattle.elab_ctx.specs.cpp_types.declared.ranks.Cat.{Cat}
 use Rattle.elab_ctx.specs.cpp_types.declared.ranks.Cat.TheVariants.{Lvalue, Prvalue}
 use Rattle.elab_ctx.specs.cpp_types.Class.{held}
 use Rattle.elab_ctx.specs.cpp_tree.declared.kinds.TKind.{TKind}
-use Rattle.elab_ctx.specs.cpp_tree.declared.kinds.TKind.TheVariants.{Literal, Local, Global, Load, Retype, Binary, Conditional, Comma, Assign, Update}
+use Rattle.elab_ctx.specs.cpp_tree.declared.kinds.TKind.TheVariants.{Local, Global, Load, Retype, Binary, Conditional, Comma, Assign, Update}
 use Rattle.elab_ctx.specs.cpp_tree.declared.kinds.TKind.TheVariants.{CopyAssign, Throw, Rethrow}
 use Rattle.elab_ctx.specs.cpp_tree.declared.faults.ElabFault.{ElabFault}
 use Rattle.elab_ctx.specs.cpp_tree.declared.faults.ElabFault.TheVariants.{Ill, Limit}
 use Rattle.elab_ctx.specs.cpp_tree.declared.faults.LimitKind.TheVariants.{Size}
 use Rattle.elab_ctx.specs.cpp_layout.declared.extents.TheConstants.{GREATEST_SIZE}
-use Rattle.elab_ctx.specs.cpp_tree.declared.faults.IllRule.TheVariants.{NoConversion, BadOperand, NotLvalue, ConstTarget, Incomplete, NoCopy, OutOfProfile}
-use Rattle.elab_ctx.specs.cpp_tree.Trees.{Tree, node, Trees, none, more, one, two, three, typ_in, cat_of, kind_of}
+use Rattle.elab_ctx.specs.cpp_tree.declared.faults.IllRule.TheVariants.{NoConversion, BadOperand, NotLvalue, ConstTarget, Incomplete, NoCopy}
+use Rattle.elab_ctx.specs.cpp_tree.Trees.{Tree, node, none, more, one, two, three, typ_in, cat_of, kind_of}
 use Rattle.elab_ctx.specs.cpp_tree.Notation.{plain}
 use Rattle.elab_ctx.specs.cpp_tree.Typing.{form_in, is_volatile_typ, unqualified, is_class_typ, is_void, kind_in, is_class_prvalue, goes_both_ways}
 use Rattle.elab_ctx.specs.Ctx.{Ctx, Work}
 use Rattle.elab_ctx.specs.Steps.{and_then, expect, check, Operand, Made}
-use Rattle.elab_rules.specs.Values.{place_of, same_at, bool_type, int_type, size_type, retyped, number, operated, valued, converted, in_kind, stepped, is_exception_form}
+use Rattle.elab_rules.specs.Values.{place_of, same_at, bool_type, size_type, retyped, number, operated, valued, in_kind, is_exception_form}
 use Rattle.elab_rules.specs.Objects.{size_of, copies, traits_at}
 use Rattle.elab_rules.specs.Constants.{word_in}
 use Rattle.elab_rules.specs.Initialising.{initial, object_of, class_from, class_number, as_source, is_same_or_base, with_tree, exception_copied, seen_as}

@@ -1,26 +1,24 @@
 -- Statements and variables (C++14 clause 6, 8.5, 15; the TS, [stmt.sync], [stmt.tx]).
-use Rattle.std.specs.Prelude.{ℕ, zero, suc, ◌+◌, ◌==◌, nat_le, Bool, true, false, not, ◌&&◌, ◌||◌, List, [], ◌∷◌, ◌++◌, length, map, Option, Some, None}
-use Rattle.std.specs.Prelude.{is_some, is_none, Result, Ok, Err, if◌then◌else◌, slice_get, slice_set, codes, option_map}
+use Rattle.std.specs.Prelude.{ℕ, zero, suc, ◌==◌, Bool, true, false, not, ◌&&◌, ◌||◌, List, [], ◌∷◌, ◌++◌, length, Option, Some, None}
+use Rattle.std.specs.Prelude.{is_none, Result, Ok, Err, if◌then◌else◌, slice_set, codes}
 use Rattle.std.specs.List.{list_any}
 use Rattle.std.specs.Str.{bytes_eq}
 use Rattle.std.specs.Ordering.{int_eq}
 use Rattle.elab_ctx.specs.tx_events.declared.BlockKind.{BlockKind}
 use Rattle.elab_ctx.specs.tx_events.declared.BlockKind.TheVariants.{NoExcept, Cancel, Commit}
 use Rattle.elab_ctx.specs.tx_ints.declared.kinds.IntKind.{IntKind}
-use Rattle.elab_ctx.specs.tx_ints.declared.kinds.IntKind.TheVariants.{Int, ULong, Bool as BoolKind}
+use Rattle.elab_ctx.specs.tx_ints.declared.kinds.IntKind.TheVariants.{Int, ULong}
 use Rattle.elab_ctx.specs.tx_ints.Integers.{promote_of, convert_of}
 use Rattle.elab_ctx.specs.tx_ints.Words.{value_of_word}
-use Rattle.elab_ctx.specs.cpp_types.Typ.{Typ, typ, Form, void, int, enum, null, ptr, ref, array, func, class, closure, tx_ex}
+use Rattle.elab_ctx.specs.cpp_types.Typ.{Typ, typ, Form, void, int, enum, null, ptr, ref, array, func, class, tx_ex}
 use Rattle.elab_ctx.specs.cpp_types.Equal.{typ_eq}
 use Rattle.elab_ctx.specs.cpp_types.Class.{held}
-use Rattle.elab_ctx.specs.cpp_types.Conversion.{referred, conversion_of}
 use Rattle.elab_ctx.specs.cpp_types.declared.classes.At.{At}
 use Rattle.elab_ctx.specs.cpp_types.declared.ranks.Cat.TheVariants.{Lvalue, Prvalue}
 use Rattle.elab_ctx.specs.cpp_types.declared.ranks.Binding.{Binding}
-use Rattle.elab_ctx.specs.cpp_types.declared.ranks.Binding.TheVariants.{Value, Direct, Temporary}
+use Rattle.elab_ctx.specs.cpp_types.declared.ranks.Binding.TheVariants.{Temporary}
 use Rattle.elab_ctx.specs.cpp_types.declared.ranks.Conversion.{Conversion}
 use Rattle.elab_ctx.specs.cpp_lex.Tokens.{Lexeme}
-use Rattle.elab_ctx.specs.cpp_ast.declared.kinds.NodeKind.{NodeKind}
 use Rattle.elab_ctx.specs.cpp_ast.declared.kinds.NodeKind.TheVariants as k
 use Rattle.elab_ctx.specs.cpp_ast.Trees as syntax
 use Rattle.elab_ctx.specs.cpp_names.declared.entity.Entity.{Entity}
@@ -35,24 +33,24 @@ use Rattle.elab_ctx.specs.cpp_tree.declared.faults.IllRule.TheVariants.{NoDefaul
 use Rattle.elab_ctx.specs.cpp_tree.declared.faults.IllRule.TheVariants.{OutOfProfile}
 use Rattle.elab_ctx.specs.cpp_tree.Trees.{Tree, node, Trees, none, more, one, two, three, typ_in, cat_of, kind_of}
 use Rattle.elab_ctx.specs.cpp_tree.Notation.{plain}
-use Rattle.elab_ctx.specs.cpp_tree.Typing.{form_in, unqualified, is_void, is_class_typ, kind_in, is_class_prvalue, is_reference}
+use Rattle.elab_ctx.specs.cpp_tree.Typing.{form_in, unqualified, is_void, is_class_typ, kind_in, is_class_prvalue}
 use Rattle.elab_ctx.specs.declared.env.Label.{Label}
 use Rattle.elab_ctx.specs.declared.env.Label.TheVariants.{Outside, Direct as DirectLabel, Inside, InBlock}
-use Rattle.elab_ctx.specs.Ctx.{Ctx, Work, Variable, Returns, known, deduced, Labels, Func, Special, absent, trivial, function, opened, closed, with_variable}
+use Rattle.elab_ctx.specs.Ctx.{Ctx, Work, Returns, known, deduced, Labels, Special, trivial, function, opened, closed, with_variable}
 use Rattle.elab_ctx.specs.Ctx.{with_item, next_place}
 use Rattle.elab_ctx.specs.Steps.{and_then, expect, check, Operand, Made, Typed, TypedAll, at_of, spelling, token_place}
-use Rattle.elab_rules.specs.Values.{place_of, bool_type, retyped, number, stored, converted}
-use Rattle.elab_rules.specs.Objects.{destroys, element_of, fields, traits_at, size_of, followed_by}
+use Rattle.elab_rules.specs.Values.{place_of, converted}
+use Rattle.elab_rules.specs.Objects.{destroys, element_of, fields, traits_at, followed_by}
 use Rattle.elab_rules.specs.Initialising.{conversion, initial, class_from, from_nothing, from_values, scalar_from, func_at, class_number, is_prvalue_of_class, seen_as}
 use Rattle.elab_rules.specs.Constants.{constant}
 use Rattle.elab_rules.specs.Casts.{within_exception}
-use Rattle.elab_rules.specs.Operators.{value, truth, dropped, true_at, arithmetic, is_complete, is_throw, without_value, bare_throw}
+use Rattle.elab_rules.specs.Operators.{value, truth, dropped, true_at, is_complete, is_throw, without_value, bare_throw}
 use Rattle.elab_rules.specs.Names.{is_const_typ}
 use Rattle.elab_rules.specs.Sizes.{typ_sized}
 use Rattle.elab_rules.specs.Strings.{string_bytes}
-use Rattle.elab_rules.specs.Types.{Declared, has_auto, auto_in, may_be_thrown}
+use Rattle.elab_rules.specs.Types.{Declared, has_auto, is_bounded, is_nothing}
 use Rattle.elab_rules.specs.Braces.{item_of, string_token, string_object, is_char_array, syntax_place}
-use Rattle.elab_rules.specs.Expressions.{expression_of, operands_of, chosen_operand, type_of_specifiers, declared_by, parameter_of}
+use Rattle.elab_rules.specs.Expressions.{expression_of, operands_of, chosen_operand, type_of_specifiers, declared_by}
 
 -- The body of a function, and what is known and made so far
 pub record Body : Type 0 where
@@ -250,10 +248,6 @@ bound_by_initialiser s t (syntax.more (syntax.node k.EqualInitializer p token
 bound_by_initialiser s t (syntax.more (syntax.node k.EqualInitializer p token (syntax.more e syntax.none)) syntax.none) =
     closed_bound (string_length s (string_token e)) t
 bound_by_initialiser s t kids = t
-
-abbrev pub is_bounded : Typ → Bool
-is_bounded (typ (array e zero) d v) = false
-is_bounded t = true
 
 -- the initialiser of the variable whose place comes next in `st`, where `v` is behind its declaration
 abbrev pub by_expression : Lambdas → List Lexeme → State → State → Typ → At → syntax.Tree → Bool → Option ℕ → Result Done ElabFault
@@ -549,7 +543,7 @@ left before d = record { trees = d.trees; state = outer before d.state }
 
 abbrev pub caught_form : Ctx → At → Form → Result Bool ElabFault
 caught_form c at (int j) = Ok true
-caught_form c at (enum n x) = Ok true
+caught_form c at (enum n x) = check at BadCatch (not (is_nothing n))
 caught_form c at (class n) = check at BadCatch (traits_at c n).is_trivially_copyable
 caught_form c at (tx_ex t) = Ok true
 caught_form c at f = Err (Ill at BadCatch)

@@ -1,5 +1,5 @@
 -- The bytes of a string literal (C++14 2.14.3, 2.14.5), by reading its spelling once from the left.
-use Rattle.std.specs.Prelude.{ℕ, zero, suc, ◌+◌, ◌-◌, ◌*◌, nat_le, nat_eq, Bool, true, false, ◌&&◌, List, [], ◌∷◌, ◌++◌, fold, Option, Some, None}
+use Rattle.std.specs.Prelude.{ℕ, zero, suc, ◌+◌, ◌*◌, nat_eq, List, [], ◌∷◌, ◌++◌, fold}
 use Rattle.std.specs.Prelude.{if◌then◌else◌, unwrap_or}
 use Rattle.elab_ctx.specs.cpp_lex.Bytes.{digit_value, is_digit}
 use Rattle.elab_ctx.specs.cpp_lex.Quoted.{simple_escape}

@@ -1,24 +1,22 @@
 -- Types of specifiers and declarators (C++14 7.1.6, 8.1, 8.3), but for what they hold of expressions.
-use Rattle.std.specs.Prelude.{ℕ, suc, ◌+◌, ◌*◌, ◌^◌, ◌==◌, nat_le, nat_lt, Bool, true, false, not, ◌&&◌, ◌||◌, List, [], ◌∷◌, ◌++◌, length, map, count_by}
-use Rattle.std.specs.Prelude.{Option, Some, None, is_some, Result, Ok, Err, if◌then◌else◌, slice_get, codes, ℤ, pos, int_lt}
+use Rattle.std.specs.Prelude.{ℕ, zero, ◌+◌, ◌*◌, ◌==◌, nat_le, nat_lt, Bool, true, false, not, ◌&&◌, ◌||◌, List, [], ◌∷◌, length, count_by}
+use Rattle.std.specs.Prelude.{Option, Some, None, Result, Ok, Err, if◌then◌else◌, codes, pos, int_lt}
 use Rattle.std.specs.Str.{bytes_eq}
 use Rattle.elab_ctx.specs.tx_ints.declared.kinds.IntKind.{IntKind}
 use Rattle.elab_ctx.specs.tx_ints.declared.kinds.IntKind.TheVariants.{Bool as BoolKind, Char, SChar, UChar, Short, UShort, Int, UInt, Long, ULong, LLong}
 use Rattle.elab_ctx.specs.tx_ints.declared.kinds.IntKind.TheVariants.{ULLong}
 use Rattle.elab_ctx.specs.tx_ints.Words.{value_of_word}
-use Rattle.elab_ctx.specs.cpp_types.Typ.{Typ, typ, Form, void, int, enum, null, ptr, ref, array, func, class, closure, tx_ex, Signature, signature, Typs}
+use Rattle.elab_ctx.specs.cpp_types.Typ.{Typ, typ, Form, void, int, enum, ptr, ref, array, func, class, Signature, signature, Typs}
 use Rattle.elab_ctx.specs.cpp_types.Typ.{none as no_typs, more as and_typ}
-use Rattle.elab_ctx.specs.cpp_types.Class.{held, completion_of}
+use Rattle.elab_ctx.specs.cpp_types.Class.{held}
 use Rattle.elab_ctx.specs.cpp_types.declared.classes.At.{At}
 use Rattle.elab_ctx.specs.cpp_lex.Tokens.{Lexeme}
-use Rattle.elab_ctx.specs.cpp_ast.declared.kinds.NodeKind.{NodeKind}
 use Rattle.elab_ctx.specs.cpp_ast.declared.kinds.NodeKind.TheVariants as k
 use Rattle.elab_ctx.specs.cpp_ast.Trees as syntax
 use Rattle.elab_ctx.specs.cpp_tree.declared.faults.ElabFault.{ElabFault}
-use Rattle.elab_ctx.specs.cpp_tree.declared.faults.ElabFault.TheVariants.{Ill, Limit}
+use Rattle.elab_ctx.specs.cpp_tree.declared.faults.ElabFault.TheVariants.{Limit}
 use Rattle.elab_ctx.specs.cpp_tree.declared.faults.LimitKind.TheVariants.{Size, Params}
-use Rattle.elab_ctx.specs.cpp_tree.declared.faults.IllRule.TheVariants.{BadDeclaration, OutOfProfile, NotTriviallyCopyable, AbstractObject, UnknownName}
-use Rattle.elab_ctx.specs.cpp_tree.declared.faults.IllRule.TheVariants.{NotConstant}
+use Rattle.elab_ctx.specs.cpp_tree.declared.faults.IllRule.TheVariants.{BadDeclaration, OutOfProfile, AbstractObject}
 use Rattle.elab_ctx.specs.cpp_tree.Notation.{plain}
 use Rattle.elab_ctx.specs.cpp_tree.Typing.{form_in, qualified, unqualified, is_void}
 use Rattle.elab_ctx.specs.Ctx.{Ctx}
@@ -138,7 +136,7 @@ specified_type at s = and_then (expect at BadDeclaration (base_type s.named s.wo
 -- what a `std::tx_exception` may hold (language: integers, enums, trivially copyable classes)
 abbrev pub may_be_thrown : Ctx → Typ → Bool
 may_be_thrown c (typ (int k) false false) = true
-may_be_thrown c (typ (enum n s) false false) = true
+may_be_thrown c (typ (enum n s) false false) = not (is_nothing n)
 may_be_thrown c (typ (class n) false false) = (traits_at c n).is_trivially_copyable
 may_be_thrown c t = false
 
@@ -188,21 +186,28 @@ abbrev pub is_array_form : Form → Bool
 is_array_form (array t n) = true
 is_array_form f = false
 
+-- no array whose bound is not known
+abbrev pub is_bounded : Typ → Bool
+is_bounded (typ (array e zero) d v) = false
+is_bounded t = true
+
 abbrev pub is_function_form : Form → Bool
 is_function_form (func s) = true
 is_function_form f = false
 
--- a pointer (C++14 8.3.1); none to `void` (profile)
+-- a pointer (C++14 8.3.1); none to `void` or to an array without a bound (profile)
 abbrev pub pointer_to : At → Typ → Result Typ ElabFault
 pointer_to at t = and_then (check at BadDeclaration (not (is_reference_form (form_in t))))
-    (λ y. and_then (check at OutOfProfile (not (is_void t))) (λ z. Ok (plain (ptr t))))
+    (λ y. and_then (check at OutOfProfile (not (is_void t) && is_bounded t)) (λ z. Ok (plain (ptr t))))
 
--- a reference (8.3.2)
+-- a reference (8.3.2); none to an array without a bound (profile)
 abbrev pub reference_to : At → Typ → Result Typ ElabFault
-reference_to at t = and_then (check at BadDeclaration (not (is_reference_form (form_in t)) && not (is_void t))) (λ y. Ok (plain (ref t)))
+reference_to at t = and_then (check at BadDeclaration (not (is_reference_form (form_in t)) && not (is_void t)))
+    (λ y. and_then (check at OutOfProfile (is_bounded t)) (λ z. Ok (plain (ref t))))
 
+-- elements have a type that is known, and a bound where they are arrays (8.3.4 p1, p3)
 abbrev pub is_element : Typ → Bool
-is_element t = not (is_reference_form (form_in t)) && not (is_void t) && not (is_function_form (form_in t)) && not (auto_in (form_in t))
+is_element t = not (is_reference_form (form_in t)) && not (is_void t) && not (is_function_form (form_in t)) && not (auto_in (form_in t)) && is_bounded t
 
 abbrev pub is_within_size : Ctx → Typ → ℕ → Bool
 is_within_size c t n = not (is_complete c (held t)) || nat_le (size_of c.classes t * n) GREATEST_SIZE

@@ -1,30 +1,24 @@
 -- Values, conversions as nodes, and temporaries (C++14 clause 4, 8.5.3, 12.2).
-use Rattle.std.specs.Prelude.{ℕ, ◌==◌, Bool, true, false, ◌&&◌, ◌+◌, List, [], ◌∷◌, Option, Some, None, Result, Ok, Err, if◌then◌else◌}
+use Rattle.std.specs.Prelude.{ℕ, ◌==◌, Bool, true, false, ◌&&◌, Option, Some, None, if◌then◌else◌}
 use Rattle.elab_ctx.specs.tx_ints.declared.kinds.IntKind.{IntKind}
-use Rattle.elab_ctx.specs.tx_ints.declared.kinds.IntKind.TheVariants.{Bool as BoolKind, Int, ULong, Long}
+use Rattle.elab_ctx.specs.tx_ints.declared.kinds.IntKind.TheVariants.{Bool as BoolKind, Int, ULong}
 use Rattle.elab_ctx.specs.tx_ints.declared.kinds.BinOp.{BinOp}
 use Rattle.elab_ctx.specs.tx_ints.declared.kinds.BinOp.TheVariants.{Add}
-use Rattle.elab_ctx.specs.cpp_types.Typ.{Typ, typ, Form, void, int, enum, null, ptr, ref, array, func, class, closure, tx_ex}
+use Rattle.elab_ctx.specs.cpp_types.Typ.{Typ, typ, Form, int, array, func, tx_ex}
 use Rattle.elab_ctx.specs.cpp_types.Equal.{kind_eq, typ_eq}
-use Rattle.elab_ctx.specs.cpp_types.Class.{Class}
-use Rattle.elab_ctx.specs.cpp_types.Conversion.{conversion_of, decayed, referred, is_object_form}
+use Rattle.elab_ctx.specs.cpp_types.Conversion.{decayed}
 use Rattle.elab_ctx.specs.cpp_types.declared.classes.At.{At}
 use Rattle.elab_ctx.specs.cpp_types.declared.ranks.Cat.{Cat}
 use Rattle.elab_ctx.specs.cpp_types.declared.ranks.Cat.TheVariants.{Lvalue, Prvalue}
 use Rattle.elab_ctx.specs.cpp_types.declared.ranks.Step.{Step}
-use Rattle.elab_ctx.specs.cpp_types.declared.ranks.Step.TheVariants.{Identity, NullPointer}
-use Rattle.elab_ctx.specs.cpp_types.declared.ranks.Binding.{Binding}
-use Rattle.elab_ctx.specs.cpp_types.declared.ranks.Binding.TheVariants.{Value, Direct, Temporary}
-use Rattle.elab_ctx.specs.cpp_types.declared.ranks.Conversion.{Conversion}
+use Rattle.elab_ctx.specs.cpp_types.declared.ranks.Step.TheVariants.{NullPointer}
 use Rattle.elab_ctx.specs.cpp_tree.declared.kinds.TKind.{TKind}
 use Rattle.elab_ctx.specs.cpp_tree.declared.kinds.TKind.TheVariants.{Literal, Load, Convert, Retype, Binary, Materialize, Store}
-use Rattle.elab_ctx.specs.cpp_tree.declared.faults.ElabFault.{ElabFault}
-use Rattle.elab_ctx.specs.cpp_tree.declared.faults.IllRule.TheVariants.{NoConversion}
 use Rattle.elab_ctx.specs.cpp_tree.Trees.{Tree, node, Trees, none, more, one, two, kind_of, typ_in, cat_of, kids_of}
 use Rattle.elab_ctx.specs.cpp_tree.Notation.{plain}
-use Rattle.elab_ctx.specs.cpp_tree.Typing.{form_in, is_volatile_typ, unqualified, is_class_typ, kind_in, is_class_prvalue}
-use Rattle.elab_ctx.specs.Ctx.{Ctx, Work, with_item, next_place}
-use Rattle.elab_ctx.specs.Steps.{and_then, expect, Operand, Made}
+use Rattle.elab_ctx.specs.cpp_tree.Typing.{form_in, is_volatile_typ, unqualified, kind_in}
+use Rattle.elab_ctx.specs.Ctx.{Work, with_item, next_place}
+use Rattle.elab_ctx.specs.Steps.{Made}
 
 -- Nodes
 
