@@ -3,7 +3,6 @@
 ghost use Rattle.std.specs.Prelude.{◌≡◌, ◌<◌, IfOk, length, slice_get};
 ghost use Rattle.elab_init.specs.cpp_types.Typ.{typ_of, typs_of, tx_ex, typ, closure, class as class_form};
 ghost use Rattle.elab_init.specs.cpp_types.Class.{classes_of};
-ghost use Rattle.elab_init.specs.cpp_tree.Trees.{node};
 ghost use Rattle.elab_init.specs.cpp_tree.Arena.{trees_of, tree_at, Adds};
 ghost use Rattle.elab_init.specs.elab_ctx.Ctx.{ctx_of, work_of, special_of};
 ghost use Rattle.elab_init.specs.elab_ctx.Operands.{operand_in};
