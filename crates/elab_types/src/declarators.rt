@@ -11,7 +11,7 @@ ghost use Rattle.elab_types.specs.Shown.{Says, declared_of, parameter_of, qualif
 use crate::records::{Declared, Parameter, Qualifiers};
 use crate::specifiers::ill;
 use crate::types::{
-    adjusted, has_auto, is_abstract, is_element, is_reference, is_result, is_void_type,
+    adjusted, has_auto, is_abstract, is_bounded, is_element, is_reference, is_result, is_void_type,
 };
 use cpp_types::{At, FnTy, Shape, Ty, copy};
 use elab_conv::below::{ElabFault, Env, IllRule, LimitKind, MOST_PARAMETERS};
@@ -56,7 +56,7 @@ pub fn pointer_to(alloc: Global, at: At, ty: &Ty) -> Result<Ty, ElabFault>
     if is_reference(ty) {
         return Err(ill(at, IllRule::BadDeclaration));
     }
-    if is_void_type(ty) {
+    if is_void_type(ty) || !is_bounded(ty) {
         return Err(ill(at, IllRule::OutOfProfile));
     }
     let made = pointer_type(alloc, ty)?;
@@ -69,6 +69,9 @@ pub fn reference_to(alloc: Global, at: At, ty: &Ty) -> Result<Ty, ElabFault>
 {
     if is_reference(ty) || is_void_type(ty) {
         return Err(ill(at, IllRule::BadDeclaration));
+    }
+    if !is_bounded(ty) {
+        return Err(ill(at, IllRule::OutOfProfile));
     }
     let made = reference_type(alloc, ty)?;
     Ok(made)

@@ -8,7 +8,7 @@ ghost use Rattle.elab_conv.specs.elab_ctx.Ctx.{ctx_of};
 ghost use Rattle.elab_conv.specs.elab_ctx.Types.{named_of};
 ghost use Rattle.elab_conv.specs.elab_rules.Objects.{traits_at};
 ghost use Rattle.elab_conv.specs.elab_rules.Operators.{is_complete};
-ghost use Rattle.elab_conv.specs.elab_rules.Types.{has_auto as has_auto_of, type_named as type_named_of, with_qualifiers as with_qualifiers_of, may_be_thrown as may_be_thrown_of, is_reference_form, is_array_form, is_function_form, is_element as is_element_of, is_result as is_result_of, adjusted as adjusted_of, is_abstract_type as is_abstract_of};
+ghost use Rattle.elab_conv.specs.elab_rules.Types.{has_auto as has_auto_of, type_named as type_named_of, with_qualifiers as with_qualifiers_of, may_be_thrown as may_be_thrown_of, is_reference_form, is_array_form, is_function_form, is_bounded as is_bounded_of, is_element as is_element_of, is_result as is_result_of, adjusted as adjusted_of, is_abstract_type as is_abstract_of};
 
 use cpp_types::copyability::held_class;
 use cpp_types::{Shape, Ty, copy};
@@ -138,7 +138,8 @@ pub fn may_be_thrown(env: &Env, ty: &Ty) -> bool
         return false;
     }
     match &ty.shape {
-        Shape::Int(_) | Shape::Enum { .. } => true,
+        Shape::Int(_) => true,
+        Shape::Enum { name, .. } => !name.is_empty(),
         Shape::Class(class) => is_copied_bytewise(env, *class),
         Shape::Void
         | Shape::Null
@@ -179,11 +180,30 @@ pub fn is_void_type(ty: &Ty) -> bool
     matches!(&ty.shape, Shape::Void)
 }
 
+/// Whether a type is no array without a bound.
+pub fn is_bounded(ty: &Ty) -> bool
+    ensures { result ≡ is_bounded_of (typ_of ty.now) }
+{
+    match &ty.shape {
+        Shape::Array(_, count) => *count != 0,
+        Shape::Void
+        | Shape::Int(_)
+        | Shape::Enum { .. }
+        | Shape::Null
+        | Shape::Ptr(_)
+        | Shape::Ref(_)
+        | Shape::Func(_)
+        | Shape::Class(_)
+        | Shape::Closure(_)
+        | Shape::TxEx(_) => true,
+    }
+}
+
 /// Whether an array may have elements of the type.
 pub fn is_element(ty: &Ty) -> bool
     ensures { result ≡ is_element_of (typ_of ty.now) }
 {
-    !is_reference(ty) && !is_void_type(ty) && !is_function(ty) && !has_auto(ty)
+    !is_reference(ty) && !is_void_type(ty) && !is_function(ty) && !has_auto(ty) && is_bounded(ty)
 }
 
 /// Whether a function may give a value of the type.
