@@ -1,17 +1,40 @@
 // Scalars of objects that are zero or copied.
 
-ghost use Rattle.std.specs.Prelude.{IfOk};
+ghost use Rattle.std.specs.Prelude.{◌≡◌, IfOk};
 ghost use Rattle.cpp_types.specs.Typ.{typ_of};
 ghost use Rattle.elab_conv.specs.cpp_tree.Arena.{trees_of, Adds};
 ghost use Rattle.elab_conv.specs.elab_rules.Objects.{zero_leaf, copy_leaf};
-ghost use Rattle.elab_init.specs.Leaves.{leaf_of};
+ghost use Rattle.elab_init.specs.Leaves.{leaf_of, zero_word};
 
 use crate::leaves::Leaf;
-use cpp_types::{At, Cat, Ty, copy};
-use elab_conv::below::{TKind, TNode, TNodeId, add_leaf};
+use cpp_types::{At, Cat, Shape, Ty, copy};
+use elab_conv::below::{IntKind, TKind, TNode, TNodeId, add_leaf};
 use elab_conv::stored;
 use elab_conv::types::{kind_of, unqualified_type};
 use std::alloc::{AllocError, Global};
+
+// The type of the zero that a scalar is initialised by: the word of a reference, which a lambda may have captured.
+fn zero_type(alloc: Global, ty: &Ty) -> Result<Ty, AllocError>
+    ensures { IfOk result (λ t. typ_of t ≡ zero_word (typ_of ty.now)) }
+{
+    match &ty.shape {
+        Shape::Ref(_) => Ok(Ty {
+            shape: Shape::Int(IntKind::ULong),
+            is_const: false,
+            is_volatile: false,
+        }),
+        Shape::Void
+        | Shape::Int(_)
+        | Shape::Enum { .. }
+        | Shape::Null
+        | Shape::Ptr(_)
+        | Shape::Array(_, _)
+        | Shape::Func(_)
+        | Shape::Class(_)
+        | Shape::Closure(_)
+        | Shape::TxEx(_) => unqualified_type(alloc, ty),
+    }
+}
 
 // A scalar that is zero.
 fn zero_scalar(
@@ -22,7 +45,7 @@ fn zero_scalar(
 ) -> Result<TNodeId, AllocError>
     ensures { IfOk result (λ r. Adds (trees_of nodes.old.items) (trees_of nodes.new.items) r (zero_leaf (typ_of ty.now) at)) }
 {
-    let target = unqualified_type(alloc, ty)?;
+    let target = zero_type(alloc, ty)?;
     let zero = add_leaf(
         alloc,
         nodes,
