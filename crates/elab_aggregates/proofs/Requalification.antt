@@ -132,15 +132,16 @@ as_it_stands old id kind ids q v empty b k h n e f w = record {
   is = sym (tree_is q v (tree_at old id) false (sym f ∙ has_same old id kind ids empty b k h n e) ∙ as_it_was (tree_at old id));
 }
 
-pub node_requalified : (old now new : List Tree) (id : TNodeId) (kind : TKind) (ids parts : List TNodeId) (q v empty b : Bool) (r : Result TNodeId AllocError)
+pub node_requalified : (old now new : List Tree) (id : TNodeId) (kind : TKind) (ids copied parts : List TNodeId) (q v empty b : Bool)
+    (r : Result TNodeId AllocError)
     → kind_of (tree_at old id) ≡ kind → kids_of (tree_at old id) ≡ trees_at old ids → empty ≡ (length ids == 0) → b ≡ has_qualifiers kind (not empty)
-    → b ≡ true → id.0 < length old → AddsAll old now parts (kids_requalified q v kind 0 (trees_at old ids))
+    → b ≡ true → id.0 < length old → copied ≡ ids → AddsAll old now parts (kids_requalified q v kind 0 (trees_at old copied))
     → IfOk r (λ (z : TNodeId). Adds now new z (node (marked_kind v (kind_of (tree_at now id))) (qualified q v (typ_in (tree_at now id)))
     (cat_of (tree_at now id)) (place_in (tree_at now id)) (trees_at now parts)))
     → IfOk r (λ (z : TNodeId). Adds old new z (requalified q v (tree_at old id)))
-node_requalified old now new id kind ids parts q v empty b r k h n e f w all m =
+node_requalified old now new id kind ids copied parts q v empty b r k h n e f w c all m =
     let same : tree_at now id ≡ tree_at old id = at_grown old now id all.grows w in
-    let kids : trees_at now parts ≡ kids_requalified q v (kind_of (tree_at old id)) 0 (kids_of (tree_at old id)) = all.are ∙ rw (k, h) refl in
+    let kids : trees_at now parts ≡ kids_requalified q v (kind_of (tree_at old id)) 0 (kids_of (tree_at old id)) = all.are ∙ rw (k, h, c) refl in
     last_adds old now new r _ _ all.grows (rw (same, kids) refl
     ∙ sym (tree_is q v (tree_at old id) true (sym f ∙ has_same old id kind ids empty b k h n e))) m
 
