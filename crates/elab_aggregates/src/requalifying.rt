@@ -10,7 +10,9 @@ ghost use Rattle.elab_make.specs.elab_rules.Names.{is_const_typ, is_volatile_obj
 ghost use Rattle.elab_make.specs.elab_rules.Braces.{requalified as requalified_of};
 ghost use Rattle.elab_aggregates.specs.Requalified.{has_qualifiers as has_qualifiers_of, marked_kind as marked_kind_of, is_part as is_part_of, kid_requalified, kids_requalified};
 
-use elab_make::below::{TKind, TNode, TNodeId, Ty, add_node, keep, kids_at, node_at, qualified_type};
+use elab_make::below::{
+    TKind, TNode, TNodeId, Ty, add_node, keep, kids_at, node_at, qualified_type,
+};
 use std::alloc::{AllocError, Global};
 
 // Whether a node has the qualifiers of the object that it initialises.

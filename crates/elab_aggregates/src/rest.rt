@@ -21,8 +21,8 @@ use crate::relocating::Pointed;
 use crate::requalifying::requalified_in;
 use crate::strings::array_type;
 use elab_make::below::{
-    At, DefaultInit, ElabFault, Env, MemberRec, Shape, TNode, TNodeId, Ty, Work, keep, node_at, qualified_type,
-    size_of,
+    At, DefaultInit, ElabFault, Env, MemberRec, Shape, TNode, TNodeId, Ty, Work, keep, node_at,
+    qualified_type, size_of,
 };
 use elab_make::{from_nothing, one_of};
 use elab_names::members::members_at;
