@@ -1,16 +1,16 @@
 -- Initialisers by their parts, in objects with qualifiers.
-use Rattle.std.proofs.Common.{◌≡◌, ◌<◌, ◌≤◌, ℕ, zero, suc, ◌+◌, ◌==◌, ◌||◌, Bool, true, false, not, List, [], ◌∷◌, ◌++◌, length, drop, get_or, IfOk, Result}
+use Rattle.std.proofs.Common.{◌≡◌, ◌<◌, ◌≤◌, ℕ, suc, ◌+◌, ◌==◌, ◌||◌, Bool, true, false, not, List, [], ◌∷◌, ◌++◌, length, drop, get_or, IfOk, Result}
 use Rattle.std.proofs.Common.{refl, sym, ◌∙◌, ap, subst, add-one}
 use Rattle.std.proofs.Math.Dec.{eqb-suc-zero}
 use Rattle.std.specs.declared.alloc.AllocError.{AllocError}
-use Rattle.elab_make.specs.cpp_types.Typ.{Typ, typ, Form, array, ref}
+use Rattle.elab_make.specs.cpp_types.Typ.{Typ, typ, array, ref}
 use Rattle.elab_make.specs.cpp_types.declared.classes.At.{At}
 use Rattle.elab_make.specs.cpp_types.declared.ranks.Cat.{Cat}
 use Rattle.elab_make.specs.cpp_tree.declared.kinds.TKind.{TKind}
 use Rattle.elab_make.specs.cpp_tree.declared.kinds.TKind.TheVariants.{Store, CopyScalar, Construct, CopyConstruct, CopyFrom, Pieces, Piece, Elements}
 use Rattle.elab_make.specs.cpp_tree.declared.arena.TNodeId.{TNodeId}
 use Rattle.elab_make.specs.cpp_tree.Trees.{Tree, node, Trees, none, more, kind_of, typ_in, cat_of, kids_of}
-use Rattle.elab_make.specs.cpp_tree.Arena.{tree_at, trees_at, are_below, Grows, Adds}
+use Rattle.elab_make.specs.cpp_tree.Arena.{tree_at, trees_at, Adds}
 use Rattle.elab_make.specs.cpp_tree.Typing.{qualified}
 use Rattle.elab_make.specs.elab_ctx.Says.{place_in, are_within, AddsAll}
 use Rattle.elab_make.proofs.elab_ctx.Looks.{at_grown, within_grown, grows_refl}
