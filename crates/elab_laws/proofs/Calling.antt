@@ -14,7 +14,7 @@ use Rattle.elab_rules.specs.cpp_tree.declared.kinds.TKind.TheVariants.{Call, Poi
 use Rattle.elab_rules.specs.cpp_tree.declared.kinds.Builtin.{Builtin as BuiltinKind}
 use Rattle.elab_rules.specs.cpp_tree.declared.faults.IllRule.TheVariants.{BadMain, NotCallable, NoViable}
 use Rattle.elab_rules.specs.cpp_tree.Trees.{Tree, node, Trees, none, more, one, typ_in, kind_of, kids_of}
-use Rattle.elab_rules.specs.cpp_tree.Typing.{form_in, unqualified, is_class_typ, kind_in}
+use Rattle.elab_rules.specs.cpp_tree.Typing.{form_in, unqualified, is_class_typ, is_volatile_typ, kind_in}
 use Rattle.elab_rules.specs.elab_ctx.Ctx.{Ctx, Work}
 use Rattle.elab_rules.specs.elab_ctx.Steps.{and_then, expect, Operand, Typed, at_of}
 use Rattle.elab_rules.specs.Values.{valued}
@@ -110,11 +110,29 @@ exception_law : (c : Ctx) (at : At) (e : Tree) (t : Typ) → IsPrvalue (unqualif
 exception_law c at e (typ f d v) = either_prvalue (is_class_typ (typ f d v)) (typ f false false) _ (loaded_value at (kind_in f) (typ f false false) e)
     (record { has_type = refl; category = refl }) (loaded_law at (kind_in f) (typ f false false) e)
 
-get_law : (c : Ctx) (w : Work) (at : At) (callee : Operand) (e : Tree) (os : List Operand) → kind_of callee.tree ≡ Default
+exception_of : (f : Form) (t : Typ) → rules.value_type f ≡ Some t → f ≡ tx_ex t
+exception_of (tx_ex u) t h = cc
+exception_of void t h = absurd cc
+exception_of (int j) t h = absurd cc
+exception_of (enum n s) t h = absurd cc
+exception_of null t h = absurd cc
+exception_of (ptr u) t h = absurd cc
+exception_of (ref u) t h = absurd cc
+exception_of (array u n) t h = absurd cc
+exception_of (func s) t h = absurd cc
+exception_of (class n) t h = absurd cc
+exception_of (closure n) t h = absurd cc
+
+is_not : (b : Bool) → not b ≡ true → b ≡ false
+is_not false h = refl
+is_not true h = absurd cc
+
+get_law : (c : Ctx) (w : Work) (at : At) (callee : Operand) (e : Tree) (os : List Operand) → kind_of callee.tree ≡ Default → kids_of callee.tree ≡ one e
     → On (InMade (OfCall c callee os)) (call_get c w at e os)
-get_law c w at callee e [] h = expected (InMade (OfCall c callee [])) at NotCallable (rules.value_type (form_in (typ_in e))) _
-    (λ t i. of_get t h refl (exception_law c at e t))
-get_law c w at callee e (o ∷ os) h = tt
+get_law c w at callee e [] h g = expected (InMade (OfCall c callee [])) at NotCallable (rules.value_type (form_in (typ_in e))) _
+    (λ t i. checked (InMade (OfCall c callee [])) at NoViable (not (is_volatile_typ (typ_in e))) _
+    (λ n. of_get t e h g (exception_of (form_in (typ_in e)) t i) (is_not (is_volatile_typ (typ_in e)) n) refl (exception_law c at e t)))
+get_law c w at callee e (o ∷ os) h g = tt
 
 abort_law : (c : Ctx) (w : Work) (at : At) (b : BuiltinKind) (callee : Operand) (os : List Operand) → kind_of callee.tree ≡ Builtin b
     → On (InMade (OfCall c callee os)) (call_abort w at b os)
@@ -153,7 +171,7 @@ form_law : (c : Ctx) (w : Work) (at : At) (callee : Operand) (e : Tree) (os : Li
     → On (InMade (OfCall c callee os)) (call_form c w at callee e os)
 form_law c w at callee (node (Function k) (typ void d v) Lvalue p none) os h = free_law c w at k callee os (ap kind_of h) (ap kids_of h)
 form_law c w at callee (node (Function k) (typ void d v) Lvalue p (more object none)) os h = member_law c w at k callee object os (ap kind_of h) (ap kids_of h)
-form_law c w at callee (node Default t cat p (more e none)) os h = get_law c w at callee e os (ap kind_of h)
+form_law c w at callee (node Default t cat p (more e none)) os h = get_law c w at callee e os (ap kind_of h) (ap kids_of h)
 form_law c w at callee (node (Builtin b) (typ void d v) Lvalue p none) os h = abort_law c w at b callee os (ap kind_of h)
 form_law c w at callee e os h = value_law c w at (form_in (typ_in e)) callee os (ap (λ (z : Tree). form_in (typ_in z)) h)
 

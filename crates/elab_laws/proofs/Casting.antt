@@ -21,7 +21,7 @@ use Rattle.elab_rules.specs.cpp_ast.declared.kinds.NodeKind.TheVariants as k
 use Rattle.elab_rules.specs.cpp_tree.declared.kinds.TKind.{TKind}
 use Rattle.elab_rules.specs.cpp_tree.declared.kinds.TKind.TheVariants.{Retype, Construct, Store, CopyFrom, Pieces}
 use Rattle.elab_rules.specs.cpp_tree.declared.faults.ElabFault.{ElabFault}
-use Rattle.elab_rules.specs.cpp_tree.declared.faults.IllRule.TheVariants.{NoConversion, NoCopy, BadOperand, BadThrow, NotTriviallyCopyable}
+use Rattle.elab_rules.specs.cpp_tree.declared.faults.IllRule.TheVariants.{NoConversion, NoCopy, BadOperand, Incomplete, OutOfProfile, BadThrow, NotTriviallyCopyable}
 use Rattle.elab_rules.specs.cpp_tree.Trees.{Tree, node, Trees, none, more, one, typ_in, cat_of, kind_of, kids_of}
 use Rattle.elab_rules.specs.cpp_tree.Typing.{form_in, is_reference, unqualified, is_class_prvalue, is_void, is_volatile_typ, kind_in}
 use Rattle.elab_rules.specs.cpp_tree.Notation.{plain}
@@ -38,8 +38,8 @@ use Rattle.elab_rules.specs.cpp_overload.Choosing.{chosen}
 use Rattle.elab_rules.specs.Operators.{value, measurable, is_function}
 use Rattle.elab_rules.specs.Casts.{is_numeric, scalar_cast, reference_cast, cast, functional, as_expression, stored_at, size_literal}
 use Rattle.elab_rules.specs.Casts.{throw_object, throw_in, throw_node, throw, within_exception, is_thrown_scalar}
-use Rattle.elab_rules.specs.Expressions.{an_operand, a_tree, row_of, expression_with, chosen_operand, type_id_of, type_id_with, operands_of, specified_with}
-use Rattle.elab_rules.specs.Types.{no_specifiers, specified_type}
+use Rattle.elab_rules.specs.Expressions.{an_operand, a_tree, row_of, expression_with, chosen_operand, type_id_of, type_id_with, operands_of, specified_with, written_type}
+use Rattle.elab_rules.specs.Types.{has_auto, is_bounded, no_specifiers, specified_type}
 use Rattle.elab_laws.specs.Reading.{On, IsPrvalue, IsLvalue, operand_of}
 use Rattle.elab_rules.specs.cpp_overload.Overload.{Argument}
 use Rattle.elab_rules.specs.cpp_overload.Choosing.{choice_of}
@@ -312,13 +312,24 @@ cast_law c w at (typ (enum n s) d v) o = scalar_case c w at (enum n s) d v o Int
 cast_law c w at (typ null d v) o = scalar_case c w at null d v o ULong refl refl
 cast_law c w at (typ (ptr t) d v) o = scalar_case c w at (ptr t) d v o ULong refl refl
 
+-- behind a type that an expression names
+written_by : {B : Type 0} (Q : B → Type 0) (at : At) (u : Typ) (b : Bool) (f : Typ → Result B ElabFault) → (b ≡ false → On Q (f u))
+    → On Q (and_then (and_then (check at OutOfProfile (not b)) (λ y. Ok u)) f)
+written_by Q at u true f h = tt
+written_by Q at u false f h = h refl
+
+written : {B : Type 0} (Q : B → Type 0) (at : At) (x : Result Typ ElabFault) (f : Typ → Result B ElabFault)
+    → ((u : Typ) → x ≡ Ok u → has_auto u ≡ false → On Q (f u)) → On Q (and_then (and_then x (written_type at)) f)
+written Q at (Ok u) f h = written_by Q at u (has_auto u) f (h u refl)
+written Q at (Err e) f h = tt
+
 cast_in_form : (s : List Lexeme) (c : Ctx) (w : Work) (at : At) (a b : syntax.Tree)
-    → On (OfCast s c w a b) (and_then (type_id_of s c w a)
+    → On (OfCast s c w a b) (and_then (and_then (type_id_of s c w a) (written_type at))
     (λ (u : Typ). and_then (operand_of s c w b) (λ (x : Typed). an_operand at (cast c x.work at u x.operand))))
-cast_in_form s c w at a b = after (OfCast s c w a b) (type_id_of s c w a) _
-    (λ u h. after (OfCast s c w a b) (operand_of s c w b) _
+cast_in_form s c w at a b = written (OfCast s c w a b) at (type_id_of s c w a) _
+    (λ u h n. after (OfCast s c w a b) (operand_of s c w b) _
     (λ x g. weaken (λ (r : Typed). CastTo u r.operand.tree) (OfCast s c w a b) (an_operand at (cast c x.work at u x.operand))
-    (λ r m. record { typ = u; typ_is = h; operand = x; operand_is = g; holds = m })
+    (λ r m. record { typ = u; typ_is = h; no_auto = n; operand = x; operand_is = g; holds = m })
     (made_in (CastTo u) at (cast c x.work at u x.operand) (cast_law c x.work at u x.operand))))
 
 pub static_casts_law : StaticCasts
@@ -329,54 +340,58 @@ casts_law s c w p t a b = cast_in_form s c w (at_of p) a b
 
 -- `T(a, ..)`
 
-none_law : (c : Ctx) (w : Work) (at : At) (f : Form) (d v : Bool) → is_reference (typ f d v) ≡ false
-    → On (Casts_to (typ f d v)) (functional c w at (typ f d v) [])
-none_law c w at (class n) d v h = objects_case c w at (class n) d v [] refl
-none_law c w at (closure n) d v h = objects_case c w at (closure n) d v [] refl
-none_law c w at (tx_ex u) d v h = objects_case c w at (tx_ex u) d v [] refl
-none_law c w at void d v h = to_void refl (record { has_type = refl; category = refl })
-none_law c w at (int j) d v h = to_scalar refl (record { has_type = refl; category = refl })
-none_law c w at (enum n s) d v h = to_scalar refl (record { has_type = refl; category = refl })
-none_law c w at null d v h = to_scalar refl (record { has_type = refl; category = refl })
-none_law c w at (ptr t) d v h = to_scalar refl (record { has_type = refl; category = refl })
-none_law c w at (array t n) d v h = tt
-none_law c w at (func s) d v h = tt
-none_law c w at (ref t) d v h = absurd cc
+none_law : (c : Ctx) (w : Work) (at : At) (f : Form) (d v : Bool) → On (Casts_to (typ f d v)) (functional c w at (typ f d v) [])
+none_law c w at (class n) d v = objects_case c w at (class n) d v [] refl
+none_law c w at (closure n) d v = objects_case c w at (closure n) d v [] refl
+none_law c w at (tx_ex u) d v = objects_case c w at (tx_ex u) d v [] refl
+none_law c w at void d v = to_void refl (record { has_type = refl; category = refl })
+none_law c w at (int j) d v = to_scalar refl (record { has_type = refl; category = refl })
+none_law c w at (enum n s) d v = to_scalar refl (record { has_type = refl; category = refl })
+none_law c w at null d v = to_scalar refl (record { has_type = refl; category = refl })
+none_law c w at (ptr t) d v = to_scalar refl (record { has_type = refl; category = refl })
+none_law c w at (array t n) d v = tt
+none_law c w at (func s) d v = tt
+none_law c w at (ref t) d v = tt
 
 many_law : (c : Ctx) (w : Work) (at : At) (f : Form) (d v : Bool) (o p : Operand) (os : List Operand)
     → On (Casts_to (typ f d v)) (functional c w at (typ f d v) (o ∷ p ∷ os))
 many_law c w at f d v o p os = either (Casts_to (typ f d v)) (is_object_form f) _ _ (λ h. objects_case c w at f d v (o ∷ p ∷ os) h) (λ h. tt)
 
-functional_law : (c : Ctx) (w : Work) (at : At) (t : Typ) (os : List Operand) → is_reference t ≡ false → On (Casts_to t) (functional c w at t os)
-functional_law c w at t (o ∷ []) h = cast_law c w at t o
-functional_law c w at (typ f d v) [] h = none_law c w at f d v h
-functional_law c w at (typ f d v) (o ∷ p ∷ os) h = many_law c w at f d v o p os
+functional_law : (c : Ctx) (w : Work) (at : At) (t : Typ) (os : List Operand) → On (Casts_to t) (functional c w at t os)
+functional_law c w at t (o ∷ []) = cast_law c w at t o
+functional_law c w at (typ f d v) [] = none_law c w at f d v
+functional_law c w at (typ f d v) (o ∷ p ∷ os) = many_law c w at f d v o p os
 
-one_law : (c : Ctx) (w : Work) (at : At) (t : Typ) (os : List Operand) (o : Operand) → os ≡ o ∷ [] → On (Casts_to t) (functional c w at t os)
-one_law c w at t os o h = subst (λ (z : List Operand). On (Casts_to t) (functional c w at t z)) (sym h) (cast_law c w at t o)
+-- what holds whatever the answer
+always : {A : Type 0} (P : Type 0) (r : Result A ElabFault) → P → On (λ (a : A). P) r
+always P (Ok a) h = h
+always P (Err e) h = tt
 
--- what holds of an answer under a premise
-under : {A : Type 0} (B : Type 0) (P : A → Type 0) (r : Result A ElabFault) → (B → On P r) → On (λ (a : A). B → P a) r
-under B P (Ok a) h = h
-under B P (Err e) h = tt
+-- there is no `T()` of a reference
+abbrev NoReference : Typ → Type 0
+NoReference t = is_reference t ≡ false
+
+no_reference : (c : Ctx) (w : Work) (at : At) (t : Typ) → On (λ (m : Made). NoReference t) (functional c w at t [])
+no_reference c w at (typ (ref u) d v) = tt
+no_reference c w at (typ f d v) = always (NoReference (typ f d v)) (functional c w at (typ f d v) []) refl
 
 both_on : {A : Type 0} (P Q : A → Type 0) (r : Result A ElabFault) → On P r → On Q r → On (λ (a : A). P a × Q a) r
 both_on P Q (Ok a) h g = (h, g)
 both_on P Q (Err e) h g = tt
 
-abbrev FromOne : Typ → TypedAll → Typed → Type 0
-FromOne t xs r = (x : Operand) → xs.operands ≡ x ∷ [] → CastTo t r.operand.tree
+abbrev FromNone : Typ → TypedAll → Typed → Type 0
+FromNone t xs r = xs.operands ≡ [] → NoReference t
 
-ones : (c : Ctx) (at : At) (t : Typ) (xs : TypedAll) (r : Result Made ElabFault) → ((x : Operand) → xs.operands ≡ x ∷ [] → On (Casts_to t) r)
-    → On (FromOne t xs) (an_operand at r)
-ones c at t xs (Ok m) h = h
-ones c at t xs (Err e) h = tt
+none_in : (at : At) (t : Typ) (xs : TypedAll) (r : Result Made ElabFault) → (xs.operands ≡ [] → On (λ (m : Made). NoReference t) r)
+    → On (FromNone t xs) (an_operand at r)
+none_in at t xs (Ok m) h = h
+none_in at t xs (Err e) h = tt
 
--- two steps that give a type
-nested : {A B D : Type 0} (Q : D → Type 0) (x : Result A ElabFault) (f : A → Result B ElabFault) (g : B → Result D ElabFault)
-    → ((b : B) → and_then x f ≡ Ok b → On Q (g b)) → On Q (and_then x (λ (a : A). and_then (f a) g))
-nested Q (Ok a) f g h = after Q (f a) g h
-nested Q (Err e) f g h = tt
+-- two steps that give a type, which an expression names
+nested : {A D : Type 0} (Q : D → Type 0) (at : At) (x : Result A ElabFault) (f : A → Result Typ ElabFault) (g : Typ → Result D ElabFault)
+    → ((u : Typ) → and_then x f ≡ Ok u → has_auto u ≡ false → On Q (g u)) → On Q (and_then x (λ (a : A). and_then (and_then (f a) (written_type at)) g))
+nested Q at (Ok a) f g h = written Q at (f a) g h
+nested Q at (Err e) f g h = tt
 
 -- constructors
 
@@ -434,45 +449,44 @@ class_in c at t xs (Err e) h = tt
 class_on : (c : Ctx) (at : At) (t : Typ) (xs : TypedAll) → On (FromClass c t xs) (an_operand at (functional c xs.work at t xs.operands))
 class_on c at t xs = class_in c at t xs (functional c xs.work at t xs.operands) (λ n x ys h g i. class_law c xs.work at t n xs.operands x ys h g i)
 
-one_on : (c : Ctx) (at : At) (t : Typ) (xs : TypedAll) → On (FromOne t xs) (an_operand at (functional c xs.work at t xs.operands))
-one_on c at t xs = ones c at t xs (functional c xs.work at t xs.operands) (λ x h. one_law c xs.work at t xs.operands x h)
+none_on : (c : Ctx) (at : At) (t : Typ) (xs : TypedAll) → On (FromNone t xs) (an_operand at (functional c xs.work at t xs.operands))
+none_on c at t xs = none_in at t xs (functional c xs.work at t xs.operands)
+    (λ h. subst (λ (z : List Operand). On (λ (m : Made). NoReference t) (functional c xs.work at t z)) (sym h) (no_reference c xs.work at t))
 
-abbrev FromAny : Typ → Typed → Type 0
-FromAny t r = is_reference t ≡ false → CastTo t r.operand.tree
+any_on : (c : Ctx) (at : At) (t : Typ) (xs : TypedAll) → On (λ (r : Typed). CastTo t r.operand.tree) (an_operand at (functional c xs.work at t xs.operands))
+any_on c at t xs = made_in (CastTo t) at (functional c xs.work at t xs.operands) (functional_law c xs.work at t xs.operands)
 
-any_on : (c : Ctx) (at : At) (t : Typ) (xs : TypedAll) → On (FromAny t) (an_operand at (functional c xs.work at t xs.operands))
-any_on c at t xs = under (is_reference t ≡ false) (λ (r : Typed). CastTo t r.operand.tree) (an_operand at (functional c xs.work at t xs.operands))
-    (λ i. made_in (CastTo t) at (functional c xs.work at t xs.operands) (functional_law c xs.work at t xs.operands i))
-
-abbrev FromOneOrAny : Typ → TypedAll → Typed → Type 0
-FromOneOrAny t xs r = FromOne t xs r × FromAny t r
+abbrev FromNoneOrAny : Typ → TypedAll → Typed → Type 0
+FromNoneOrAny t xs r = FromNone t xs r × CastTo t r.operand.tree
 
 pub functional_casts_law : FunctionalCasts
-functional_casts_law s c w p t base es = nested (OfFunctional s c w p base es) (specified_with s c c.closures w no_specifiers base) (specified_type (at_of p)) _
-    (λ u h. after (OfFunctional s c w p base es) (operands_of s c w es) _ (λ xs g.
-    weaken (λ (r : Typed). FromOneOrAny u xs r × FromClass c u xs r) (OfFunctional s c w p base es)
+functional_casts_law s c w p t base es =
+    nested (OfFunctional s c w p base es) (at_of p) (specified_with s c c.closures w no_specifiers base) (specified_type (at_of p)) _
+    (λ u h n. after (OfFunctional s c w p base es) (operands_of s c w es) _ (λ xs g.
+    weaken (λ (r : Typed). FromNoneOrAny u xs r × FromClass c u xs r) (OfFunctional s c w p base es)
     (an_operand (at_of p) (functional c xs.work (at_of p) u xs.operands))
-    (λ r m. record { typ = u; typ_is = h; args = xs; args_are = g; of_one = m.0.0; of_class = m.1; of_any = m.0.1 })
-    (both_on (FromOneOrAny u xs) (FromClass c u xs) (an_operand (at_of p) (functional c xs.work (at_of p) u xs.operands))
-    (both_on (FromOne u xs) (FromAny u) (an_operand (at_of p) (functional c xs.work (at_of p) u xs.operands)) (one_on c (at_of p) u xs)
-    (any_on c (at_of p) u xs)) (class_on c (at_of p) u xs))))
+    (λ r m. record { typ = u; typ_is = h; no_auto = n; args = xs; args_are = g; holds = m.0.1; of_none = m.0.0; of_class = m.1 })
+    (both_on (FromNoneOrAny u xs) (FromClass c u xs) (an_operand (at_of p) (functional c xs.work (at_of p) u xs.operands))
+    (both_on (FromNone u xs) (λ (r : Typed). CastTo u r.operand.tree) (an_operand (at_of p) (functional c xs.work (at_of p) u xs.operands))
+    (none_on c (at_of p) u xs) (any_on c (at_of p) u xs)) (class_on c (at_of p) u xs))))
 
 -- `sizeof`
 
-size_in : (c : Ctx) (w : Work) (at : At) (t : Typ) (b : Bool) (r : Result Bool ElabFault)
+size_in : (c : Ctx) (w : Work) (at : At) (t : Typ) (b d : Bool) (r : Result Bool ElabFault) → is_bounded (referred t) ≡ d
     → On (SizeOf c w t) (a_tree at w (and_then (check at BadOperand b)
-    (λ y. and_then r (λ z. Ok (number ULong (size_of c.classes (referred t)) at)))))
-size_in c w at t true (Ok y) = record { value = refl; result = record { has_type = refl; category = refl }; nothing_made = refl }
-size_in c w at t true (Err e) = tt
-size_in c w at t false r = tt
+    (λ y. and_then (check at Incomplete d) (λ x. and_then r (λ z. Ok (number ULong (size_of c.classes (referred t)) at))))))
+size_in c w at t true true (Ok y) e = record { value = refl; result = record { has_type = refl; category = refl }; bounded = e; nothing_made = refl }
+size_in c w at t true true (Err f) e = tt
+size_in c w at t true false r e = tt
+size_in c w at t false d r e = tt
 
 size_law : (c : Ctx) (w : Work) (at place : At) (t : Typ) → On (SizeOf c w t) (a_tree at w (size_literal c at place t))
-size_law c w at place t = size_in c w at t (not (is_function (referred t)) && not (is_void (referred t))) (measurable c at (referred t))
+size_law c w at place t = size_in c w at t (not (is_function (referred t)) && not (is_void (referred t))) (is_bounded (referred t)) (measurable c at (referred t)) refl
 
 pub sizes_of_types_law : SizesOfTypes
-sizes_of_types_law s c w p t a = after (OfSizeType s c w a) (type_id_with s c [] w a) _
-    (λ u h. weaken (SizeOf c w u) (OfSizeType s c w a) (a_tree (at_of p) w (size_literal c (at_of p) (at_of p) u))
-    (λ r g. record { typ = u; typ_is = h; size = g }) (size_law c w (at_of p) (at_of p) u))
+sizes_of_types_law s c w p t a = written (OfSizeType s c w a) (at_of p) (type_id_with s c [] w a) _
+    (λ u h n. weaken (SizeOf c w u) (OfSizeType s c w a) (a_tree (at_of p) w (size_literal c (at_of p) (at_of p) u))
+    (λ r g. record { typ = u; typ_is = h; no_auto = n; size = g }) (size_law c w (at_of p) (at_of p) u))
 
 pub sizes_of_expressions_law : SizesOfExpressions
 sizes_of_expressions_law s c w p t a = after (OfSizeExpression s c w a) (and_then (expression_with s c [] w a) (chosen_operand c)) _

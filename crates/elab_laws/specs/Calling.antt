@@ -1,6 +1,6 @@
 -- Calls (C++14 5.2.2), and which function they mean (13.3).
 use Rattle.std.specs.Prelude.{◌≡◌, ℕ, Bool, true, false, List, [], ◌∷◌, Option, Some, slice_get, Result, Ok, Err}
-use Rattle.elab_rules.specs.cpp_types.Typ.{Typ, typ, void, ref, ptr, func, closure, Signature}
+use Rattle.elab_rules.specs.cpp_types.Typ.{Typ, typ, void, ref, ptr, func, closure, tx_ex, Signature}
 use Rattle.elab_rules.specs.cpp_types.Conversion.{is_object_form}
 use Rattle.elab_rules.specs.cpp_overload.Overload.{Argument, IsChosen}
 use Rattle.elab_rules.specs.cpp_overload.declared.calls.NoBest.{NoBest}
@@ -11,7 +11,7 @@ use Rattle.elab_rules.specs.cpp_ast.declared.kinds.NodeKind.TheVariants as k
 use Rattle.elab_rules.specs.cpp_tree.declared.kinds.TKind.TheVariants.{Function, Default, Builtin}
 use Rattle.elab_rules.specs.cpp_tree.declared.kinds.Builtin.{Builtin as BuiltinKind}
 use Rattle.elab_rules.specs.cpp_tree.Trees.{Tree, none, one, kind_of, kids_of, typ_in, cat_of}
-use Rattle.elab_rules.specs.cpp_tree.Typing.{form_in, unqualified}
+use Rattle.elab_rules.specs.cpp_tree.Typing.{form_in, unqualified, is_volatile_typ}
 use Rattle.elab_rules.specs.cpp_tree.Notation.{plain}
 use Rattle.elab_rules.specs.elab_ctx.Ctx.{Ctx, Work}
 use Rattle.elab_rules.specs.elab_ctx.Steps.{Operand, Typed, TypedAll}
@@ -61,8 +61,9 @@ pub data OfCall (c : Ctx) (callee : Operand) (args : List Operand) (e : Tree) : 
       Means c (places_from (is_closure_call n) 0 c.funcs) (object_argument object ∷ arguments args) i → Returns (result_at c i) e → OfCall c callee args e
   -- of a function by its address
   of_pointer : (sig : Signature) (d v : Bool) → value_type callee ≡ ptr (typ (func sig) d v) → Returns (signature_result sig) e → OfCall c callee args e
-  -- `get()` of a `std::tx_exception`: the value in it
-  of_get : (t : Typ) → kind_of callee.tree ≡ Default → args ≡ [] → IsPrvalue (unqualified t) e → OfCall c callee args e
+  -- `get()` of a `std::tx_exception`, which is not volatile: the value in it
+  of_get : (t : Typ) (object : Tree) → kind_of callee.tree ≡ Default → kids_of callee.tree ≡ one object → form_in (typ_in object) ≡ tx_ex t
+      → is_volatile_typ (typ_in object) ≡ false → args ≡ [] → IsPrvalue (unqualified t) e → OfCall c callee args e
   -- `std::abort()`
   of_abort : (b : BuiltinKind) → kind_of callee.tree ≡ Builtin b → args ≡ [] → IsPrvalue (plain void) e → OfCall c callee args e
 

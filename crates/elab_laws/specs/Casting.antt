@@ -21,7 +21,7 @@ use Rattle.elab_rules.specs.cpp_overload.Overload.{Argument, IsChosen}
 use Rattle.elab_rules.specs.cpp_overload.declared.calls.NoBest.{NoBest}
 use Rattle.elab_rules.specs.Names.{is_tx_exception}
 use Rattle.elab_rules.specs.Expressions.{expression_of, expression_with, operands_of, specified_with, chosen_operand, type_id_of, type_id_with}
-use Rattle.elab_rules.specs.Types.{no_specifiers, specified_type}
+use Rattle.elab_rules.specs.Types.{has_auto, is_bounded, no_specifiers, specified_type}
 use Rattle.elab_laws.specs.Reading.{On, IsPrvalue, IsLvalue, value_type, operand_of, AnyOne}
 
 -- what is cast to a type has that type: an lvalue exactly for a reference (5.4 p1), and else a prvalue, without qualifiers where it is no object (5 p6)
@@ -33,10 +33,11 @@ pub data CastTo (t : Typ) (e : Tree) : Type 0 where
   to_class : (n : ℕ) → class_number t ≡ Some n → class_number (typ_in e) ≡ Some n → CastTo t e
   to_exception : is_tx_exception t ≡ true → is_tx_exception (typ_in e) ≡ true → CastTo t e
 
--- the type is read, then the operand
+-- the type is read, then the operand; `auto` stands for no type there (7.1.6.4 p5)
 pub record OfCast (s : List Lexeme) (c : Ctx) (w : Work) (a b : syntax.Tree) (r : Typed) : Type 0 where
   pub typ : Typ
   pub typ_is : type_id_of s c w a ≡ Ok typ
+  pub no_auto : has_auto typ ≡ false
   pub operand : Typed
   pub operand_is : operand_of s c w b ≡ Ok operand
   pub holds : CastTo typ r.operand.tree
@@ -57,27 +58,31 @@ pub record Built (c : Ctx) (n : ℕ) (args : List Argument) (e : Tree) : Type 0 
   pub made : MadeBy e (constructor_at c n index)
 
 -- `T(a, ..)`: the type of a specifier (5.2.3). With one operand it is a cast; an object of a class is made by a constructor, but for a prvalue of that class.
--- `T()` of a reference is left open: C++14 refuses it (8.5 p9)
+-- There is no `T()` of a reference (8.5 p9)
 pub record OfFunctional (s : List Lexeme) (c : Ctx) (w : Work) (p : SyntaxAt) (base : syntax.Tree) (es : syntax.Trees) (r : Typed) : Type 0 where
   pub typ : Typ
   pub typ_is : and_then (specified_with s c c.closures w no_specifiers base) (specified_type (at_of p)) ≡ Ok typ
+  pub no_auto : has_auto typ ≡ false
   pub args : TypedAll
   pub args_are : operands_of s c w es ≡ Ok args
-  pub of_one : (x : Operand) → args.operands ≡ x ∷ [] → CastTo typ r.operand.tree
+  pub holds : CastTo typ r.operand.tree
+  pub of_none : args.operands ≡ [] → is_reference typ ≡ false
   pub of_class : (n : ℕ) (x : Operand) (xs : List Operand) → form_in typ ≡ class n → args.operands ≡ x ∷ xs → is_prvalue_itself n (x ∷ xs) ≡ false
       → Built c n (arguments (x ∷ xs)) r.operand.tree
-  pub of_any : is_reference typ ≡ false → CastTo typ r.operand.tree
 
 -- the size of objects of a type, or of the type to which it refers (p2), a prvalue of type `std::size_t`, which is `unsigned long` (p6)
 pub record SizeOf (c : Ctx) (w : Work) (t : Typ) (r : Typed) : Type 0 where
   pub value : kind_of r.operand.tree ≡ Literal (size_of c.classes (referred t))
   pub result : IsPrvalue (plain (int ULong)) r.operand.tree
+  -- an array has a bound (p1)
+  pub bounded : is_bounded (referred t) ≡ true
   -- the operand is not evaluated (p1): nothing is made for it
   pub nothing_made : r.work ≡ w
 
 pub record OfSizeType (s : List Lexeme) (c : Ctx) (w : Work) (a : syntax.Tree) (r : Typed) : Type 0 where
   pub typ : Typ
   pub typ_is : type_id_with s c [] w a ≡ Ok typ
+  pub no_auto : has_auto typ ≡ false
   pub size : SizeOf c w typ r
 
 pub record OfSizeExpression (s : List Lexeme) (c : Ctx) (w : Work) (a : syntax.Tree) (r : Typed) : Type 0 where
