@@ -407,7 +407,7 @@ fn exception_value(
     }
 }
 
-// `get()` of a `std::tx_exception`: the value in it.
+// `get()` of a `std::tx_exception`, which is not volatile: the value in it.
 fn call_get(
     alloc: Global,
     env: &Env,
@@ -425,6 +425,9 @@ fn call_get(
     let Some(ty) = exception_type(alloc, &node_at(&work.nodes, exception).ty)? else {
         return Err(ill(at, IllRule::NotCallable));
     };
+    if node_at(&work.nodes, exception).ty.is_volatile {
+        return Err(ill(at, IllRule::NoViable));
+    }
     let made = exception_value(alloc, env, &mut work.nodes, at, exception, &ty)?;
     Ok(made)
 }

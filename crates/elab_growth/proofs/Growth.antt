@@ -1,5 +1,5 @@
 -- Each form of an expression: what is made for it stands behind what was made before.
-use Rattle.std.proofs.Common.{◌≡◌, refl, sym, ap, ◌∙◌, ℕ, Bool, true, false, ◌&&◌, ◌||◌, List, [], ◌∷◌, ◌++◌, append_assoc, append-nil, Option, Some, None}
+use Rattle.std.proofs.Common.{◌≡◌, refl, sym, ap, ◌∙◌, ℕ, Bool, true, false, not, ◌&&◌, ◌||◌, List, [], ◌∷◌, ◌++◌, append_assoc, append-nil, Option, Some, None}
 use Rattle.std.proofs.Common.{Result, Ok, Err, if◌then◌else◌, codes}
 use Rattle.std.specs.Str.{bytes_eq}
 use Rattle.elab_rules.specs.tx_ints.declared.kinds.BinOp.{BinOp}
@@ -126,7 +126,8 @@ pub initial : (c : Ctx) (w : Work) (t : Typ) (o : Operand) → Holds (made w) (I
 initial c w t o = search (behind, bound)
 
 reference_word : (c : Ctx) (w : Work) (ps : Typs) (o : Operand) → Holds (all_made w) (Initialising.reference_word c w ps o)
-reference_word c w (and_typ p no_typs) o = passes (made w) (all_made w) (Initialising.initial c w p o) _ (initial c w p o) (λ m g. g)
+reference_word c w (and_typ p no_typs) o = behind (all_made w) (check o.at OutOfProfile (not (is_class_typ p))) _
+    (λ y. passes (made w) (all_made w) (Initialising.initial c w p o) _ (initial c w p o) (λ m g. g))
 reference_word c w ps o = tt
 
 constructed_copy : (c : Ctx) (w : Work) (n : ℕ) (t : Typ) (at : At) (o : Operand) (f : Option ℕ) → Holds (made w) (Initialising.constructed_copy c w n t at o f)
@@ -443,16 +444,17 @@ module _ (s : List Lexeme) (c : Ctx) where
         an_operand_after (at_of p) w xs.work (Calls.call c xs.work (at_of p) x.operand xs.operands) (after g h)
         (call_form c xs.work (at_of p) x.operand x.operand.tree xs.operands)))
     expression l w (syntax.node k.FunctionalCast p token (syntax.more base es)) =
-        behind (typed w) (Expressions.specified_with s c l w no_specifiers base) _ (λ d. behind (typed w) (specified_type (at_of p) d) _ (λ t.
+        behind (typed w) (Expressions.specified_with s c l w no_specifiers base) _ (λ d.
+        behind (typed w) (and_then (specified_type (at_of p) d) (Expressions.written_type (at_of p))) _ (λ t.
         passes (all_typed w) (typed w) (Expressions.operands_with s c l w es) _ (operands l w es)
         (λ xs h. an_operand_after (at_of p) w xs.work (Casts.functional c xs.work (at_of p) t xs.operands) h
         (functional c xs.work (at_of p) t xs.operands))))
     expression l w (syntax.node k.StaticCast p token (syntax.more t (syntax.more e syntax.none))) =
-        behind (typed w) (Expressions.type_id_with s c l w t) _ (λ u.
+        behind (typed w) (and_then (Expressions.type_id_with s c l w t) (Expressions.written_type (at_of p))) _ (λ u.
         passes (typed w) (typed w) (and_then (Expressions.expression_with s c l w e) (Expressions.chosen_operand c)) _
         (chosen c w (Expressions.expression_with s c l w e) (expression l w e)) (λ x h. cast_after c w x.work (at_of p) u x.operand h))
     expression l w (syntax.node k.CastExpression p token (syntax.more t (syntax.more e syntax.none))) =
-        behind (typed w) (Expressions.type_id_with s c l w t) _ (λ u.
+        behind (typed w) (and_then (Expressions.type_id_with s c l w t) (Expressions.written_type (at_of p))) _ (λ u.
         passes (typed w) (typed w) (and_then (Expressions.expression_with s c l w e) (Expressions.chosen_operand c)) _
         (chosen c w (Expressions.expression_with s c l w e) (expression l w e)) (λ x h. cast_after c w x.work (at_of p) u x.operand h))
     expression l w (syntax.node k.SizeofExpression p token (syntax.more e syntax.none)) = search (behind, same)

@@ -12,8 +12,8 @@ use Rattle.elab_rules.specs.cpp_tree.declared.program.FuncKind.TheVariants.{Plai
 use Rattle.elab_rules.specs.cpp_tree.declared.faults.ElabFault.{ElabFault}
 use Rattle.elab_rules.specs.elab_ctx.Ctx.{Ctx, Closure}
 use Rattle.elab_rules.specs.elab_ctx.Steps.{and_then, at_of, check}
-use Rattle.elab_rules.specs.Types.{Declared, has_auto, is_abstract_type, type_named}
-use Rattle.elab_rules.specs.Statements.{State, Lambdas, statements_of, initialised, is_bounded, is_own_name, is_trivial, name_of}
+use Rattle.elab_rules.specs.Types.{Declared, has_auto, is_bounded, is_abstract_type, type_named}
+use Rattle.elab_rules.specs.Statements.{State, Lambdas, statements_of, initialised, is_own_name, is_trivial, name_of}
 use Rattle.elab_rules.specs.Functions.{Header, Storage, function_body, text_sized, with_parameters, entered, first_from, header_sized, is_same_function}
 use Rattle.elab_rules.specs.Functions.{new_function, no_storage, within_frame}
 use Rattle.elab_rules.specs.Classes.{Home, Members, Begun, begun, begun_in, members_of, member_of, completed, closed_class, Method, method_of, body_in}

@@ -20,7 +20,7 @@ use Rattle.elab_rules.specs.cpp_tree.declared.kinds.Builtin.{Builtin}
 use Rattle.elab_rules.specs.cpp_tree.declared.faults.ElabFault.{ElabFault}
 use Rattle.elab_rules.specs.cpp_tree.Trees.{Tree, node, Trees, none, more, one, typ_in, cat_of}
 use Rattle.elab_rules.specs.cpp_tree.Typing.{form_in, unqualified, is_void, is_class_typ, is_class_prvalue, is_volatile_typ, kind_in, qualified}
-use Rattle.elab_rules.specs.cpp_tree.Typing.{without_exception}
+use Rattle.elab_rules.specs.cpp_tree.Typing.{without_exception, is_reference}
 use Rattle.elab_rules.specs.elab_ctx.Ctx.{Ctx, Work, Closure, Capture, Default, with_item}
 use Rattle.elab_rules.specs.elab_ctx.Steps.{and_then, Operand, Made, MadeAll, Typed, TypedAll, at_of, spelling, token_place, check, expect, value_at}
 use Rattle.elab_rules.specs.Objects.{Part, parts_of, traits_at}
@@ -42,7 +42,7 @@ use Rattle.elab_rules.specs.Calls.{call, best_of, complete_result, is_closure_ca
 use Rattle.elab_rules.specs.Strings.{string_bytes}
 use Rattle.elab_rules.specs.Expressions.{an_operand, a_tree, chosen_operand, leaf_of, assignment_of, row_of, leaf_or_row, captured_value, captured}
 use Rattle.elab_rules.specs.Expressions.{captured_pieces, closure_object, expression_with, operands_with, expression_of, operands_of, capture_source}
-use Rattle.elab_rules.specs.Expressions.{closure_at, pointed_operand, specified_with, type_id_with, operator_of, postfix_operator, qualified_name, unary_of}
+use Rattle.elab_rules.specs.Expressions.{closure_at, pointed_operand, specified_with, type_id_with, written_type, operator_of, postfix_operator, qualified_name, unary_of}
 use Rattle.elab_rules.specs.Braces.{is_char_array, string_token, is_aggregate_class, is_object_of, item_in, not_narrowed, default_member, rest_piece}
 use Rattle.elab_rules.specs.Braces.{rest_members, with_piece, rest_in, item_expression, item_of, items_of, braceable, is_not_narrowed, part_in, string_object}
 use Rattle.elab_rules.specs.Braces.{syntax_place, default_at, this_of, tree_place}
@@ -101,7 +101,8 @@ pub initial_grows : (c : Ctx) (w : Work) (t : Typ) (o : Operand) → On (Mades w
 initial_grows c w t o = skip (Mades w) (expect (o.at) NoConversion (conversion c t o)) _ (λ v. bound_grows c w v.binding v.step t o.at o.tree)
 
 reference_grows : (c : Ctx) (w : Work) (ps : Typs) (o : Operand) → On (Alls w) (reference_word c w ps o)
-reference_grows c w (and_typ p no_typs) o = bind (Mades w) (Alls w) (initial c w p o) _ (initial_grows c w p o) (λ m g. g)
+reference_grows c w (and_typ p no_typs) o = skip (Alls w) (check o.at OutOfProfile (not (is_class_typ p))) _
+    (λ y. bind (Mades w) (Alls w) (initial c w p o) _ (initial_grows c w p o) (λ m g. g))
 reference_grows c w ps o = tt
 
 copy_made : (c : Ctx) (w : Work) (n : ℕ) (t : Typ) (at : At) (o : Operand) (k : Option ℕ) → On (Mades w) (constructed_copy c w n t at o k)
@@ -276,7 +277,8 @@ functional_grows : (c : Ctx) (w : Work) (at : At) (t : Typ) (os : List Operand) 
 functional_grows c w at t (o ∷ []) = cast_in_grows c w at t (form_in t) o
 functional_grows c w at t [] = either (Mades w) (is_class_typ t) _ _
     (bind (Mades w) (Mades w) (from_values c w (unqualified t) at []) _ (values_grow c w (unqualified t) at []) (λ m g. g))
-    (either (Mades w) (is_void t) _ _ (same w) (skip (Mades w) (check at BadInit (is_some (kind_in (form_in t)))) _ (λ y. same w)))
+    (either (Mades w) (is_void t) _ _ (same w) (skip (Mades w) (check at BadInit (is_some (kind_in (form_in t)) && not (is_reference t))) _
+    (λ y. same w)))
 functional_grows c w at t os = either (Mades w) (is_class_typ t) _ _
     (bind (Mades w) (Mades w) (from_values c w (unqualified t) at os) _ (values_grow c w (unqualified t) at os) (λ m g. g)) tt
 
@@ -320,7 +322,8 @@ method_grows : (c : Ctx) (w : Work) (at : At) (k : ℕ) (object : Tree) (os : Li
 method_grows c w at k object os = skip (Mades w) (expect at NotCallable (func_at c.funcs k).class) _ (λ n. method_of_grows c w at n k object os)
 
 get_grows : (c : Ctx) (w : Work) (at : At) (e : Tree) (os : List Operand) → On (Mades w) (call_get c w at e os)
-get_grows c w at e [] = skip (Mades w) (expect at NotCallable (value_type (form_in (typ_in e)))) _ (λ t. same w)
+get_grows c w at e [] = skip (Mades w) (expect at NotCallable (value_type (form_in (typ_in e)))) _
+    (λ t. skip (Mades w) (check at NoViable (not (is_volatile_typ (typ_in e)))) _ (λ y. same w))
 get_grows c w at e os = tt
 
 closure_call_grows : (c : Ctx) (w : Work) (at : At) (n : ℕ) (callee : Operand) (os : List Operand) → On (Mades w) (call_closure c w at n callee os)
@@ -440,22 +443,25 @@ mutual
       (form_grows c xs.work (at_of p) x.operand x.operand.tree xs.operands)))
   expression_grows s c l w (syntax.node k.FunctionalCast p token (syntax.more base es)) =
       skip (Types w) (specified_with s c l w no_specifiers base) _
-      (λ d. skip (Types w) (specified_type (at_of p) d) _
+      (λ d. skip (Types w) (and_then (specified_type (at_of p) d) (written_type (at_of p))) _
       (λ t. bind (TypesAll w) (Types w) (operands_with s c l w es) _ (operands_grow_with s c l w es)
       (λ xs g. made_operand w xs.work (at_of p) (functional c xs.work (at_of p) t xs.operands) g (functional_grows c xs.work (at_of p) t xs.operands))))
   expression_grows s c l w (syntax.node k.StaticCast p token (syntax.more t (syntax.more e syntax.none))) =
-      skip (Types w) (type_id_with s c l w t) _ (λ u. bind (Types w) (Types w) (and_then (expression_with s c l w e) (chosen_operand c)) _
+      skip (Types w) (and_then (type_id_with s c l w t) (written_type (at_of p))) _
+      (λ u. bind (Types w) (Types w) (and_then (expression_with s c l w e) (chosen_operand c)) _
       (chosen_after c w (expression_with s c l w e) (expression_grows s c l w e))
       (λ x g. made_operand w x.work (at_of p) (cast c x.work (at_of p) u x.operand) g (cast_in_grows c x.work (at_of p) u (form_in u) x.operand)))
   expression_grows s c l w (syntax.node k.CastExpression p token (syntax.more t (syntax.more e syntax.none))) =
-      skip (Types w) (type_id_with s c l w t) _ (λ u. bind (Types w) (Types w) (and_then (expression_with s c l w e) (chosen_operand c)) _
+      skip (Types w) (and_then (type_id_with s c l w t) (written_type (at_of p))) _
+      (λ u. bind (Types w) (Types w) (and_then (expression_with s c l w e) (chosen_operand c)) _
       (chosen_after c w (expression_with s c l w e) (expression_grows s c l w e))
       (λ x g. made_operand w x.work (at_of p) (cast c x.work (at_of p) u x.operand) g (cast_in_grows c x.work (at_of p) u (form_in u) x.operand)))
   expression_grows s c l w (syntax.node k.SizeofExpression p token (syntax.more e syntax.none)) =
       skip (Types w) (and_then (expression_with s c [] w e) (chosen_operand c)) _
       (λ x. tree_operand (at_of p) w (size_literal c (at_of p) x.operand.at (typ_in x.operand.tree)))
   expression_grows s c l w (syntax.node k.SizeofType p token (syntax.more t syntax.none)) =
-      skip (Types w) (type_id_with s c [] w t) _ (λ u. tree_operand (at_of p) w (size_literal c (at_of p) (at_of p) u))
+      skip (Types w) (and_then (type_id_with s c [] w t) (written_type (at_of p))) _
+      (λ u. tree_operand (at_of p) w (size_literal c (at_of p) (at_of p) u))
   expression_grows s c l w (syntax.node k.Lambda p token kids) =
       made_operand w w (at_of p) (closure_object c l w (at_of p)) (same w) (closure_grows c l w (at_of p))
   expression_grows s c l w (syntax.node k.QualifiedId p (Some n) (syntax.more (syntax.node kind q (Some t) kids) syntax.none)) =

@@ -16,7 +16,7 @@ use Rattle.elab_rules.specs.elab_ctx.Ctx.{next_place, Returns, known, deduced}
 use Rattle.elab_rules.specs.elab_ctx.Steps.{and_then, check, expect, at_of, spelling, Made, Typed, TypedAll}
 use Rattle.elab_rules.specs.Initialising.{class_from, initial}
 use Rattle.elab_rules.specs.Operators.{value, truth, dropped, is_complete}
-use Rattle.elab_rules.specs.Types.{Parameter, has_auto}
+use Rattle.elab_rules.specs.Types.{Parameter, has_auto, is_bounded}
 use Rattle.elab_rules.specs.Braces.{item_of, string_token, is_char_array, syntax_place, string_object}
 use Rattle.elab_rules.specs.Expressions.{expression_of, operands_of, chosen_operand, declared_by, type_of_specifiers}
 use Rattle.elab_rules.specs.Functions.{with_parameters, parameter_named}
@@ -27,7 +27,7 @@ use Rattle.elab_rules.specs.Statements.{by_expression, with_initialiser, deduced
 use Rattle.elab_rules.specs.Statements.{next_variable, variable_by, variable, name_of, block_declarator, block_declarators, block_declaration, return_value}
 use Rattle.elab_rules.specs.Statements.{return_by, return_nothing, returned, case_label, default_label, inner, in_loop, in_block, in_switch, outer}
 use Rattle.elab_rules.specs.Statements.{named_handler, handler_type, in_order, switched, jump, a_part, for_first, for_test, for_step, statement_of}
-use Rattle.elab_rules.specs.Statements.{statements_of, handlers_of, case_fits, caught_type, declarable, is_bounded, is_fresh, is_own_name, label_here}
+use Rattle.elab_rules.specs.Statements.{statements_of, handlers_of, case_fits, caught_type, declarable, is_fresh, is_own_name, label_here}
 use Rattle.elab_rules.specs.Statements.{only_expression, same_deduction, switched_type, class_returned, full, result_of, return_node, block, statement, the_tree}
 use Rattle.std.specs.Prelude.{if◌then◌else◌}
 use Rattle.elab_leaving.specs.Kept.{Leaves, On, Lawful}

@@ -1,5 +1,5 @@
 -- Words of calls, and the values of constructors.
-use Rattle.std.proofs.Common.{◌≡◌, ◌≢◌, ◌≤◌, ℕ, zero, suc, true, List, [], ◌∷◌, length, Option, Some, Ok, Err, Result, slice_get, get_or, refl, sym, subst}
+use Rattle.std.proofs.Common.{◌≡◌, ◌≢◌, ◌≤◌, ℕ, zero, suc, true, List, [], ◌∷◌, length, Option, Some, Err, Result, slice_get, get_or, refl, sym, subst}
 use Rattle.std.proofs.Common.{arith, Vec, Global}
 use Rattle.elab_init.specs.cpp_types.declared.types.Ty.{Ty}
 use Rattle.elab_init.specs.cpp_types.Typ.{Typ, typ_of, typs_of}
@@ -7,13 +7,13 @@ use Rattle.elab_init.specs.cpp_tree.declared.faults.ElabFault.{ElabFault}
 use Rattle.elab_init.specs.cpp_tree.declared.faults.ElabFault.TheVariants.{Ill}
 use Rattle.elab_init.specs.cpp_tree.declared.faults.IllRule.TheVariants.{OutOfProfile}
 use Rattle.elab_init.specs.cpp_tree.declared.arena.TNodeId.{TNodeId}
-use Rattle.elab_init.specs.cpp_tree.Trees.{Tree, one}
+use Rattle.elab_init.specs.cpp_tree.Trees.{Tree}
 use Rattle.elab_init.specs.cpp_tree.Typing.{is_class_typ, unqualified}
 use Rattle.elab_init.specs.elab_ctx.Ctx.{Ctx, Work}
-use Rattle.elab_init.specs.elab_ctx.Steps.{and_then, Operand, Made, MadeAll}
+use Rattle.elab_init.specs.elab_ctx.Steps.{Operand, Made, MadeAll}
 use Rattle.elab_init.specs.elab_ctx.Says.{Faults, Makes, MakesAll}
-use Rattle.elab_init.specs.elab_rules.Initialising.{initial, reference_word, passed}
-use Rattle.elab_make.specs.Passing.{passed_object}
+use Rattle.elab_init.specs.elab_rules.Initialising.{reference_word, passed}
+use Rattle.elab_make.specs.Passing.{passed_object, copying_word}
 
 other_count : (c : Ctx) (w : Work) (ps : List Ty) (o : Operand) → length ps ≢ 1 → reference_word c w (typs_of ps) o ≡ Err (Ill o.at OutOfProfile)
 other_count c w [] o n = refl
@@ -50,13 +50,12 @@ pub refused_all : (old new : List Tree) (v : Work) (r : Result (Vec TNodeId Glob
 refused_all old new v r e x h f = subst (λ (z : Result (Vec TNodeId Global) ElabFault). MakesAll old new v z x) (sym h) f
 
 word_is : (c : Ctx) (w : Work) (ps : List Ty) (p d : Ty) (o : Operand) → length ps ≡ 1 → p ≡ get_or ps 0 d
-    → reference_word c w (typs_of ps) o ≡ and_then (initial c w (typ_of p) o) (λ (m : Made). Ok (record { trees = one m.tree; work = m.work }))
+    → reference_word c w (typs_of ps) o ≡ copying_word c w (typ_of p) o
 word_is c w [] p d o n h = absurd cc
 word_is c w (q ∷ []) p d o n h = rw h refl
 word_is c w (q ∷ (s ∷ ps)) p d o n h = absurd (omega arith)
 
 pub word_makes : (old new : List Tree) (v : Work) (r : Result (Vec TNodeId Global) ElabFault) (c : Ctx) (w : Work) (ps : List Ty) (p d : Ty) (o : Operand)
-    → length ps ≡ 1 → p ≡ get_or ps 0 d → MakesAll old new v r
-    (and_then (initial c w (typ_of p) o) (λ (m : Made). Ok (record { trees = one m.tree; work = m.work })))
+    → length ps ≡ 1 → p ≡ get_or ps 0 d → MakesAll old new v r (copying_word c w (typ_of p) o)
     → MakesAll old new v r (reference_word c w (typs_of ps) o)
 word_makes old new v r c w ps p d o n h m = subst (λ (z : Result MadeAll ElabFault). MakesAll old new v r z) (sym (word_is c w ps p d o n h)) m

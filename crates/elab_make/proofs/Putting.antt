@@ -1,18 +1,16 @@
 -- Trees with which something is made, in several steps.
 use Rattle.std.proofs.Common.{◌≡◌, Bool, ℕ, ◌+◌, ◌<◌, ◌≤◌, List, [], ◌∷◌, ◌++◌, length, drop, map, refl, ◌∙◌, ap, subst, get_or, Result, Ok, Err, IfOk}
 use Rattle.std.specs.declared.alloc.AllocError.{AllocError}
-use Rattle.elab_init.specs.cpp_types.Typ.{Typ, typ_of}
+use Rattle.elab_init.specs.cpp_types.Typ.{Typ}
 use Rattle.elab_init.specs.cpp_types.declared.classes.At.{At}
-use Rattle.elab_init.specs.cpp_types.declared.ranks.Cat.TheVariants.{Prvalue}
-use Rattle.elab_init.specs.cpp_tree.declared.kinds.TKind.TheVariants.{Piece}
 use Rattle.elab_init.specs.cpp_tree.declared.arena.TNodeId.{TNodeId}
-use Rattle.elab_init.specs.cpp_tree.Trees.{Tree, node, Trees, more}
+use Rattle.elab_init.specs.cpp_tree.Trees.{Tree, Trees, more}
 use Rattle.elab_init.specs.cpp_tree.Arena.{tree_at, trees_at, Grows, Adds}
 use Rattle.elab_init.specs.elab_ctx.Ctx.{Ctx, Work}
 use Rattle.elab_init.specs.elab_ctx.Steps.{Made}
 use Rattle.elab_init.specs.elab_ctx.Says.{AddsAll, Puts}
 use Rattle.elab_init.proofs.elab_ctx.Looks.{grows_trans, at_grown}
-use Rattle.elab_init.specs.elab_rules.Objects.{Part, backwards, destroys}
+use Rattle.elab_init.specs.elab_rules.Objects.{Part, backwards}
 use Rattle.elab_init.specs.elab_rules.Values.{temporary}
 use Rattle.elab_init.specs.elab_rules.Initialising.{with_tree, closure_piece, qualified_part, closure_pieces}
 use Rattle.elab_init.specs.Parts.{part_of}

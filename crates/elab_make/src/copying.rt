@@ -1,15 +1,14 @@
 // Objects of classes from one expression (C++14 8.5 p17, 12.8).
 
-ghost use Rattle.std.specs.Prelude.{◌≡◌, ◌<◌, IfOk, Ok, length, slice_get};
+ghost use Rattle.std.specs.Prelude.{◌≡◌, ◌<◌, IfOk, length, slice_get};
 ghost use Rattle.elab_init.specs.cpp_types.Typ.{typ_of, typs_of, tx_ex, typ, closure, class as class_form};
 ghost use Rattle.elab_init.specs.cpp_types.Class.{classes_of};
-ghost use Rattle.elab_init.specs.cpp_tree.Trees.{node, one, two};
 ghost use Rattle.elab_init.specs.cpp_tree.Arena.{trees_of, tree_at, Adds};
 ghost use Rattle.elab_init.specs.elab_ctx.Ctx.{ctx_of, work_of, special_of};
 ghost use Rattle.elab_init.specs.elab_ctx.Operands.{operand_in};
-ghost use Rattle.elab_init.specs.elab_ctx.Steps.{and_then, Made};
 ghost use Rattle.elab_init.specs.elab_ctx.Says.{Makes, MakesAll, Puts};
 ghost use Rattle.elab_init.specs.elab_rules.Initialising.{initial as initial_of, has_copy as has_copy_of, reference_word as reference_word_of, constructed_copy as constructed_copy_of, copied_object as copied_object_of, class_from as class_from_of, copied_in_place as copied_in_place_of, with_tree, object_of as object_by, is_closure_itself as is_closure_itself_of, closure_copied as closure_copied_of, exception_built as exception_built_of, exception_copied as exception_copied_of};
+ghost use Rattle.elab_make.specs.Passing.{copying_word};
 
 use crate::binding::initial;
 use crate::closures::{closure_copy, closure_type};
@@ -21,8 +20,8 @@ use elab_init::below::{
 };
 use elab_init::{
     builder, building, class_number, construct, constructors, copies, copy_in_place, ill,
-    is_class_prvalue, is_prvalue_of_class, is_same_or_base, makeable, makers, meant, parameters_at,
-    same_number, traits_at, without_exception,
+    is_class_prvalue, is_class_type, is_prvalue_of_class, is_same_or_base, makeable, makers, meant,
+    parameters_at, same_number, traits_at, without_exception,
 };
 use std::alloc::{AllocError, Global};
 
@@ -43,7 +42,7 @@ pub fn copied_in_place(
     copy_in_place(alloc, env, &mut work.nodes, class, ty, at, o.at, object)
 }
 
-// The word of a constructor that copies.
+// The word of a constructor that copies, by a reference: an object of a class would need a copy itself.
 fn one_word(
     alloc: Global,
     env: &Env,
@@ -52,8 +51,11 @@ fn one_word(
     o: Operand,
 ) -> Result<Vec<TNodeId>, ElabFault>
     requires { o.id.0 < length (trees_of work.old.nodes.items) }
-    ensures { MakesAll (trees_of work.old.nodes.items) (trees_of work.new.nodes.items) (work_of work.new) result (and_then (initial_of (ctx_of env.now) (work_of work.old) (typ_of param.now) (operand_in (trees_of work.old.nodes.items) o)) (λ (m : Made). Ok (record { trees = one m.tree; work = m.work }))) }
+    ensures { MakesAll (trees_of work.old.nodes.items) (trees_of work.new.nodes.items) (work_of work.new) result (copying_word (ctx_of env.now) (work_of work.old) (typ_of param.now) (operand_in (trees_of work.old.nodes.items) o)) }
 {
+    if is_class_type(param) {
+        return Err(ill(o.at, IllRule::OutOfProfile));
+    }
     let word = initial(alloc, env, work, param, o)?;
     let words = one_of(alloc, word)?;
     Ok(words)
