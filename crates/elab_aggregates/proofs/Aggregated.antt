@@ -1,5 +1,5 @@
 -- Parts of objects that have no item.
-use Rattle.std.proofs.Common.{◌≡◌, ◌≢◌, ◌<◌, ◌≤◌, ℕ, zero, suc, ◌+◌, ◌*◌, Ok, Err, Result, IfOk, Option, Some, None, refl, List, [], ◌∷◌, ◌++◌, length, drop}
+use Rattle.std.proofs.Common.{◌≡◌, ◌≢◌, ◌<◌, ◌≤◌, ℕ, zero, suc, ◌+◌, ◌*◌, Bool, Ok, Err, Result, IfOk, Option, Some, None, refl, List, [], ◌∷◌, ◌++◌, length, drop}
 use Rattle.std.proofs.Common.{map, get_or, ap, sym, ◌∙◌, subst, is_some, if◌then◌else◌, Vec, Global, append_assoc, append-nil, add-one}
 use Rattle.std.proofs.lemmas.List.{drop-map}
 use Rattle.std.specs.declared.alloc.AllocError.{AllocError}
@@ -18,10 +18,11 @@ use Rattle.elab_make.specs.elab_ctx.Ctx.{Ctx, Work, Default, with_item}
 use Rattle.elab_make.specs.elab_ctx.Steps.{and_then, Made, MadeAll}
 use Rattle.elab_make.specs.elab_ctx.Says.{Faults, Puts, MadeAt, Makes, MakesAll, AllMade, place_in}
 use Rattle.elab_make.proofs.elab_ctx.Looks.{at_grown}
+use Rattle.elab_make.specs.elab_rules.Initialising.{with_tree}
 use Rattle.elab_make.specs.elab_rules.Objects.{size_of}
 use Rattle.elab_make.specs.elab_rules.Names.{offset_at, is_const_typ, is_volatile_object}
-use Rattle.elab_make.specs.elab_rules.Braces.{ThisAt, this_of, relocated, as_part, default_at, default_whole, default_made, default_member, piece, tree_place}
-use Rattle.elab_make.specs.elab_rules.Braces.{rest_members, rest_piece, with_piece}
+use Rattle.elab_make.specs.elab_rules.Braces.{ThisAt, this_of, relocated, as_part, default_at, default_whole, default_made, requalified, default_member, piece}
+use Rattle.elab_make.specs.elab_rules.Braces.{tree_place, rest_members, rest_piece, with_piece}
 use Rattle.elab_make.proofs.elab_init.Listing.{drop_step, drop_past}
 use Rattle.elab_aggregates.specs.MemberPieces.{with_items, default_piece, member_piece, piece_from_nothing}
 use Rattle.elab_aggregates.proofs.Making.{Making, then_rest, making_step, making_fails, making_done}
@@ -67,14 +68,16 @@ puts_made old new w r m p = record {
 
 -- Members
 
-default_there : (c : Ctx) (w : Work) (this : ThisAt) (t : Typ) (at : At) (x : Option Default) (d : Default) → x ≡ Some d
-    → default_member c w this t at x ≡ Ok (default_made w this d)
-default_there c w this t at x d e = rw e refl
+default_there : (c : Ctx) (w : Work) (q u : Bool) (this : ThisAt) (t : Typ) (at : At) (x : Option Default) (d : Default) → x ≡ Some d
+    → default_member c w q u this t at x ≡ Ok (with_tree (requalified q u) (default_made w this d))
+default_there c w q u this t at x d e = rw e refl
 
-pub default_makes : (c : Ctx) (w v : Work) (this : ThisAt) (t : Typ) (at : At) (x : Option Default) (d : Default) (old new : List Tree) (r : TNodeId)
-    → x ≡ Some d → Puts old new v r (default_made w this d) → MadeAt old new v r (default_member c w this t at x)
-default_makes c w v this t at x d old new r e p = subst (λ (z : Result Made ElabFault). MadeAt old new v r z) (sym (default_there c w this t at x d e))
-    (puts_made old new v r (default_made w this d) p)
+pub default_makes : (c : Ctx) (w v : Work) (q u : Bool) (this : ThisAt) (t : Typ) (at : At) (x : Option Default) (d : Default) (old new : List Tree)
+    (r : TNodeId) → x ≡ Some d → Puts old new v r (with_tree (requalified q u) (default_made w this d))
+    → MadeAt old new v r (default_member c w q u this t at x)
+default_makes c w v q u this t at x d old new r e p =
+    subst (λ (z : Result Made ElabFault). MadeAt old new v r z) (sym (default_there c w q u this t at x d e))
+    (puts_made old new v r (with_tree (requalified q u) (default_made w this d)) p)
 
 pub place_is : (t : Tree) → tree_place t ≡ place_in t
 place_is (node kind t cat at kids) = refl
@@ -103,7 +106,8 @@ member_then : (c : Ctx) (w : Work) (at : At) (object : Tree) (t : Typ) (n i : �
 member_then c w at object t n i m ms = rw (add-one i)
     (piece_then c (offset_at c.classes n i) (qualified (is_const_typ t) (is_volatile_object t) m.typ)
     (λ (x : Made). if is_some (default_at n i c.defaults) then tree_place x.tree else at)
-    (default_member c w (this_of t object) (qualified (is_const_typ t) (is_volatile_object t) m.typ) at (default_at n i c.defaults))
+    (default_member c w (is_const_typ t) (is_volatile_object t) (this_of t object) (qualified (is_const_typ t) (is_volatile_object t) m.typ) at
+    (default_at n i c.defaults))
     (λ (v : Work). rest_members c v at object t n (suc i) ms))
 
 next_member : (c : Ctx) (w : Work) (at : At) (object : Tree) (t : Typ) (n i : ℕ) (ms : List MemberRec) (m d : MemberRec) → i < length ms → m ≡ get_or ms i d

@@ -1,5 +1,5 @@
 -- Functions of which none passes a test.
-use Rattle.std.proofs.Common.{◌≡◌, ◌∙◌, ◌||◌, ℕ, suc, Bool, true, false, not, List, [], ◌∷◌, refl}
+use Rattle.std.proofs.Common.{◌≡◌, ◌||◌, ℕ, suc, Bool, true, false, not, List, [], ◌∷◌, refl}
 use Rattle.std.specs.List.{list_any}
 use Rattle.elab_make.specs.elab_ctx.Ctx.{Func}
 use Rattle.elab_make.specs.elab_rules.Initialising.{places_from, kept_if}

@@ -1,3 +1,4 @@
 pub mod MemberPieces
 pub mod Relocated
+pub mod Requalified
 pub mod StringForms

@@ -18,8 +18,8 @@ with_items w ts = record w { frame = w.frame ++ map typ_of ts }
 
 -- a member of a type as part of the object
 abbrev pub default_piece : Ctx → Work → At → Tree → Typ → ℕ → ℕ → Typ → Result Made ElabFault
-default_piece c w at object t n i u = and_then (default_member c w (this_of t object) u at (default_at n i c.defaults)) (λ (x : Made).
-    Ok (record { tree = piece c (offset_at c.classes n i) u (if is_some (default_at n i c.defaults) then tree_place x.tree else at) x.tree; work = x.work }))
+default_piece c w at object t n i u = and_then (default_member c w (is_const_typ t) (is_volatile_object t) (this_of t object) u at (default_at n i c.defaults))
+    (λ (x : Made). Ok (record { tree = piece c (offset_at c.classes n i) u (if is_some (default_at n i c.defaults) then tree_place x.tree else at) x.tree; work = x.work }))
 
 abbrev pub member_piece : Ctx → Work → At → Tree → Typ → ℕ → ℕ → Typ → Result Made ElabFault
 member_piece c w at object t n i u = default_piece c w at object t n i (qualified (is_const_typ t) (is_volatile_object t) u)

@@ -7,6 +7,7 @@ pub mod items;
 pub mod narrowing;
 pub mod pieces;
 pub mod relocating;
+pub mod requalifying;
 pub mod rest;
 pub mod strings;
 

@@ -6,26 +6,44 @@ ghost use Rattle.elab_make.specs.cpp_types.Class.{classes_of, member_of};
 ghost use Rattle.elab_make.specs.cpp_tree.Arena.{trees_of, tree_at, Adds};
 ghost use Rattle.elab_make.specs.cpp_tree.Notation.{plain};
 ghost use Rattle.elab_make.specs.cpp_tree.Typing.{form_in};
-ghost use Rattle.elab_make.specs.elab_ctx.Ctx.{ctx_of, work_of};
-ghost use Rattle.elab_make.specs.elab_ctx.Says.{Makes, MakesAll};
+ghost use Rattle.elab_make.specs.elab_ctx.Ctx.{ctx_of, work_of, default_of};
+ghost use Rattle.elab_make.specs.elab_ctx.Says.{Puts, Makes, MakesAll};
+ghost use Rattle.elab_make.specs.elab_rules.Initialising.{with_tree};
 ghost use Rattle.elab_make.specs.elab_rules.Objects.{size_of as size_by};
-ghost use Rattle.elab_make.specs.elab_rules.Names.{offset_at as offset_by, members_in};
-ghost use Rattle.elab_make.specs.elab_rules.Braces.{this_of, default_at as default_at_of, default_member as default_member_of, piece as piece_of, tree_place, rest_piece as rest_piece_of, rest_members as rest_members_of, rest_in as rest_in_of};
+ghost use Rattle.elab_make.specs.elab_rules.Names.{offset_at as offset_by, members_in, is_const_typ, is_volatile_object};
+ghost use Rattle.elab_make.specs.elab_rules.Braces.{this_of, default_at as default_at_of, default_made as default_made_of, requalified, default_member as default_member_of, piece as piece_of, tree_place, rest_piece as rest_piece_of, rest_members as rest_members_of, rest_in as rest_in_of};
 ghost use Rattle.elab_aggregates.specs.MemberPieces.{default_piece as default_piece_of, member_piece as member_piece_of, piece_from_nothing as piece_from_nothing_of};
 
 use crate::aggregates::offset_of;
 use crate::defaults::{default_at, default_made};
 use crate::pieces::piece;
 use crate::relocating::Pointed;
+use crate::requalifying::requalified_in;
 use crate::strings::array_type;
 use elab_make::below::{
-    At, ElabFault, Env, MemberRec, Shape, TNode, TNodeId, Ty, Work, keep, node_at, qualified_type,
-    size_of,
+    At, DefaultInit, ElabFault, Env, MemberRec, Shape, TNode, TNodeId, Ty, Work, keep, node_at,
+    qualified_type, size_of,
 };
 use elab_make::{from_nothing, one_of};
 use elab_names::members::members_at;
 use elab_names::offset_at;
 use std::alloc::{AllocError, Global};
+
+// A default initialiser of a member of an object, whose qualifiers it has.
+fn default_in_object(
+    alloc: Global,
+    env: &Env,
+    work: &mut Work,
+    whole: &Ty,
+    object: TNodeId,
+    found: &DefaultInit,
+) -> Result<TNodeId, AllocError>
+    requires { object.0 < length (trees_of work.old.nodes.items) }
+    ensures { IfOk result (λ r. Puts (trees_of work.old.nodes.items) (trees_of work.new.nodes.items) (work_of work.new) r (with_tree (requalified (is_const_typ (typ_of whole.now)) (is_volatile_object (typ_of whole.now))) (default_made_of (work_of work.old) (this_of (typ_of whole.now) (tree_at (trees_of work.old.nodes.items) object)) (default_of (trees_of env.now.default_nodes.items) found.now)))) }
+{
+    let made = default_made(alloc, env, work, whole, Pointed::Object(object), found)?;
+    requalified_in(alloc, &mut work.nodes, whole, made)
+}
 
 // A member by its default initialiser, or from nothing.
 fn default_member(
@@ -40,11 +58,11 @@ fn default_member(
     at: At,
 ) -> Result<TNodeId, ElabFault>
     requires { object.0 < length (trees_of work.old.nodes.items) }
-    ensures { Makes (trees_of work.old.nodes.items) (trees_of work.new.nodes.items) (work_of work.new) result (default_member_of (ctx_of env.now) (work_of work.old) (this_of (typ_of whole.now) (tree_at (trees_of work.old.nodes.items) object)) (typ_of ty.now) at (default_at_of class index (ctx_of env.now).defaults)) }
+    ensures { Makes (trees_of work.old.nodes.items) (trees_of work.new.nodes.items) (work_of work.new) result (default_member_of (ctx_of env.now) (work_of work.old) (is_const_typ (typ_of whole.now)) (is_volatile_object (typ_of whole.now)) (this_of (typ_of whole.now) (tree_at (trees_of work.old.nodes.items) object)) (typ_of ty.now) at (default_at_of class index (ctx_of env.now).defaults)) }
 {
     match default_at(env, class, index) {
         Some(found) => {
-            let made = default_made(alloc, env, work, whole, Pointed::Object(object), found)?;
+            let made = default_in_object(alloc, env, work, whole, object, found)?;
             Ok(made)
         }
         None => from_nothing(alloc, env, &mut work.nodes, ty, at),

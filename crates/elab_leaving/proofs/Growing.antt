@@ -492,15 +492,18 @@ rest_piece_grows : (c : Ctx) (w : Work) (e : Typ) (i n : ℕ) (at : At) → On (
 rest_piece_grows c w e i zero at = same w
 rest_piece_grows c w e i (suc n) at = skip (Alls w) (from_nothing c (plain (array e (suc n))) at) _ (λ t. same w)
 
-default_grows : (c : Ctx) (w : Work) (this : At → Tree) (t : Typ) (at : At) (d : Option Default) → On (Mades w) (default_member c w this t at d)
-default_grows c w this t at (Some d) = same w
-default_grows c w this t at None = skip (Mades w) (from_nothing c t at) _ (λ e. same w)
+default_grows : (c : Ctx) (w : Work) (q v : Bool) (this : At → Tree) (t : Typ) (at : At) (d : Option Default)
+    → On (Mades w) (default_member c w q v this t at d)
+default_grows c w q v this t at (Some d) = same w
+default_grows c w q v this t at None = skip (Mades w) (from_nothing c t at) _ (λ e. same w)
 
 members_grow : (c : Ctx) (w : Work) (at : At) (object : Tree) (t : Typ) (n i : ℕ) (ms : List Member) → On (Alls w) (rest_members c w at object t n i ms)
 members_grow c w at object t n i [] = same w
 members_grow c w at object t n i (m ∷ ms) = bind (Mades w) (Alls w)
-    (default_member c w (this_of t object) (qualified (is_const_typ t) (is_volatile_object t) m.typ) at (default_at n i c.defaults)) _
-    (default_grows c w (this_of t object) (qualified (is_const_typ t) (is_volatile_object t) m.typ) at (default_at n i c.defaults))
+    (default_member c w (is_const_typ t) (is_volatile_object t) (this_of t object) (qualified (is_const_typ t) (is_volatile_object t) m.typ) at
+    (default_at n i c.defaults)) _
+    (default_grows c w (is_const_typ t) (is_volatile_object t) (this_of t object) (qualified (is_const_typ t) (is_volatile_object t) m.typ) at
+    (default_at n i c.defaults))
     (λ x g. piece_grows w x.work c (offset_at c.classes n i) (qualified (is_const_typ t) (is_volatile_object t) m.typ)
     (if is_some (default_at n i c.defaults) then tree_place x.tree else at) x (rest_members c x.work at object t n (suc i) ms) g
     (members_grow c x.work at object t n (suc i) ms))
