@@ -13,10 +13,10 @@ use Rattle.elab_init.specs.cpp_tree.Typing.{form_in}
 use Rattle.elab_init.specs.elab_ctx.Steps.{and_then, check}
 use Rattle.elab_init.specs.elab_rules.Objects.{element_of}
 use Rattle.elab_init.specs.elab_rules.Operators.{is_complete}
-use Rattle.elab_init.specs.elab_rules.Types.{has_auto, is_abstract_type}
+use Rattle.elab_init.specs.elab_rules.Types.{has_auto, is_abstract_type, is_bounded}
 use Rattle.elab_init.specs.elab_rules.Sizes.{typ_sized}
 use Rattle.elab_init.specs.elab_ctx.Says.{Faults}
-use Rattle.elab_init.specs.elab_rules.Statements.{Body, is_bounded}
+use Rattle.elab_init.specs.elab_rules.Statements.{Body}
 use Rattle.elab_init.specs.elab_rules.Functions.{Header, function_record, is_same_function, first_from, header_sized}
 use Rattle.elab_init.specs.elab_rules.Classes.{Home, Members, Marks, Definition, index_if, with_member, with_function, data_member, member_function}
 use Rattle.elab_init.specs.elab_rules.Classes.{member_form, has_member, has_function, overridden, overrides_well, marks_fit, definition_sized, as_defined}

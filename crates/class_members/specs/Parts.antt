@@ -15,9 +15,8 @@ use Rattle.elab_init.specs.elab_ctx.Steps.{and_then, check}
 use Rattle.elab_init.specs.elab_rules.Objects.{element_of}
 use Rattle.elab_init.specs.elab_rules.Initialising.{same_number}
 use Rattle.elab_init.specs.elab_rules.Operators.{is_complete}
-use Rattle.elab_init.specs.elab_rules.Types.{has_auto, is_abstract_type}
+use Rattle.elab_init.specs.elab_rules.Types.{has_auto, is_abstract_type, is_bounded}
 use Rattle.elab_init.specs.elab_rules.Sizes.{typ_sized}
-use Rattle.elab_init.specs.elab_rules.Statements.{is_bounded}
 use Rattle.elab_init.specs.elab_rules.Functions.{Header, function_record, new_function, is_same_function, first_from, header_sized}
 use Rattle.elab_init.specs.elab_rules.Classes.{Home, Marks, Definition, keeps, is_final_class, member_form, has_member, has_function, overridden_by}
 use Rattle.elab_init.specs.elab_rules.Classes.{slot_function, chosen_if, overridden, is_considered, overrides_well, marks_fit, definition_sized, as_defined}

@@ -9,7 +9,7 @@ ghost use Rattle.elab_init.specs.elab_ctx.Places.{passes};
 ghost use Rattle.elab_init.specs.elab_ctx.Says.{Tells};
 ghost use Rattle.elab_init.specs.elab_rules.Objects.{element_of};
 ghost use Rattle.elab_init.specs.elab_rules.Types.{is_abstract_type};
-ghost use Rattle.elab_init.specs.elab_rules.Statements.{Body, is_bounded as is_bounded_of};
+ghost use Rattle.elab_init.specs.elab_rules.Statements.{Body};
 ghost use Rattle.elab_init.specs.elab_rules.Classes.{member_form as member_form_of, has_member as has_member_of, has_function as has_function_of, index_if, data_member as data_member_of};
 ghost use Rattle.class_members.specs.Shown.{reading, Answers};
 ghost use Rattle.class_members.specs.Parts.{fits_member, is_named};
@@ -20,7 +20,7 @@ use cpp_types::{At, MemberRec, Shape, Ty, copy};
 use elab_init::below::{ElabFault, Env, FuncDecl, Functions, IllRule};
 use elab_init::{element_type, ill};
 use elab_sizes::typ_sized;
-use elab_types::types::{has_auto, is_abstract, is_complete_type};
+use elab_types::types::{has_auto, is_abstract, is_bounded, is_complete_type};
 use std::alloc::{AllocError, Global};
 
 // Whether members may be of a type as far as its form says.
@@ -39,25 +39,6 @@ fn member_form(at: At, ty: &Ty) -> Result<bool, ElabFault>
         | Shape::Class(_)
         | Shape::Closure(_)
         | Shape::TxEx(_) => Ok(true),
-    }
-}
-
-// Whether it is no array whose bound is not known.
-fn is_bounded(ty: &Ty) -> bool
-    ensures { result ≡ is_bounded_of (typ_of ty.now) }
-{
-    match &ty.shape {
-        Shape::Array(_, count) => *count != 0,
-        Shape::Void
-        | Shape::Int(_)
-        | Shape::Enum { .. }
-        | Shape::Null
-        | Shape::Ptr(_)
-        | Shape::Ref(_)
-        | Shape::Func(_)
-        | Shape::Class(_)
-        | Shape::Closure(_)
-        | Shape::TxEx(_) => true,
     }
 }
 

@@ -272,7 +272,8 @@ fn copies_object(env: &Env, class: u32, is_const: bool, is_volatile: bool) -> bo
     is_there(traits.copy) && !is_volatile && (!is_const || traits.copies_const)
 }
 
-fn copies_member(alloc: Global, env: &Env, ty: &Ty) -> Result<bool, AllocError>
+/// Whether an object of this type, with its qualifiers, is copied as a part of another.
+pub fn copies_member(alloc: Global, env: &Env, ty: &Ty) -> Result<bool, AllocError>
     ensures { IfOk result (λ b. b ≡ copies_member_of (ctx_of env.now) (typ_of ty.now) (held (typ_of ty.now))) }
 {
     match held_class(&ty.shape) {

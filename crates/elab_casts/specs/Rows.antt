@@ -1,5 +1,5 @@
 -- Parts of rows, as functions of what they read.
-use Rattle.std.specs.Prelude.{Bool, ◌&&◌, List, [], ◌∷◌, is_some, Result, Ok, Err, if◌then◌else◌}
+use Rattle.std.specs.Prelude.{Bool, not, ◌&&◌, List, [], ◌∷◌, is_some, Result, Ok, Err, if◌then◌else◌}
 use Rattle.elab_forms.specs.cpp_types.Typ.{Typ, void}
 use Rattle.elab_forms.specs.cpp_types.declared.classes.At.{At}
 use Rattle.elab_forms.specs.cpp_types.declared.ranks.Cat.TheVariants.{Prvalue}
@@ -10,7 +10,7 @@ use Rattle.elab_forms.specs.cpp_tree.declared.kinds.TKind.TheVariants.{Literal, 
 use Rattle.elab_forms.specs.tx_ints.declared.kinds.IntKind.TheVariants.{ULong}
 use Rattle.elab_forms.specs.cpp_tree.Trees.{Tree, node, none, one, typ_in}
 use Rattle.elab_forms.specs.cpp_tree.Notation.{plain}
-use Rattle.elab_forms.specs.cpp_tree.Typing.{form_in, unqualified, is_class_typ, is_void, kind_in}
+use Rattle.elab_forms.specs.cpp_tree.Typing.{form_in, unqualified, is_class_typ, is_void, is_reference, kind_in}
 use Rattle.elab_forms.specs.elab_ctx.Ctx.{Ctx, Work}
 use Rattle.elab_forms.specs.elab_ctx.Steps.{and_then, check, Operand, Made}
 use Rattle.elab_forms.specs.elab_rules.Values.{converted, number, retyped}
@@ -30,7 +30,7 @@ class_made c w at t os = and_then (from_values c w (unqualified t) at os) (λ (m
 -- `T()` of a type that is no class
 abbrev pub zero_made : Work → At → Typ → Result Made ElabFault
 zero_made w at t = if is_void t then Ok (record { tree = node Retype (plain void) Prvalue at (one (number ULong 0 at)); work = w }) else and_then
-    (check at BadInit (is_some (kind_in (form_in t)))) (λ y. Ok (record { tree = node (Literal 0) (unqualified t) Prvalue at none; work = w }))
+    (check at BadInit (is_some (kind_in (form_in t)) && not (is_reference t))) (λ y. Ok (record { tree = node (Literal 0) (unqualified t) Prvalue at none; work = w }))
 
 -- `T(a, b, ..)` of any number of values but one
 abbrev pub many_made : Ctx → Work → At → Typ → List Operand → Result Made ElabFault

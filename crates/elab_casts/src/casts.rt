@@ -25,6 +25,7 @@ use elab_forms::below::{
 use elab_forms::conditionals::{is_void, void_type};
 use elab_forms::dropped;
 use elab_forms::exceptions::is_exception_type;
+use elab_types::types::{is_bounded, is_reference};
 use std::alloc::{AllocError, Global};
 
 // Whether a type is one of integers or enums.
@@ -329,7 +330,7 @@ fn zero_made(alloc: Global, work: &mut Work, at: At, ty: &Ty) -> Result<TNodeId,
         let made = nothing(alloc, &mut work.nodes, at)?;
         return Ok(made);
     }
-    if kind_of(ty).is_none() {
+    if kind_of(ty).is_none() || is_reference(ty) {
         return Err(ill(at, IllRule::BadInit));
     }
     let made = zero(alloc, &mut work.nodes, at, ty)?;
@@ -389,6 +390,9 @@ pub fn size_literal(
     let target = referred_type(ty);
     if is_function(target) || is_void(target) {
         return Err(ill(at, IllRule::BadOperand));
+    }
+    if !is_bounded(target) {
+        return Err(ill(at, IllRule::Incomplete));
     }
     let _ = measurable(env, at, target)?;
     let size = size_of(env, target)?;

@@ -156,6 +156,7 @@ pub use elab_types::syntax::place;
 pub use elab_types::syntax::spelling;
 pub use elab_types::syntax::token_place;
 pub use elab_types::types::has_auto;
+pub use elab_types::types::is_bounded;
 pub use elab_types::types::is_complete_type;
 pub use elab_types::types::is_void_type;
 pub use elab_types::types::type_named;

@@ -10,9 +10,11 @@ pub mod leaves;
 pub mod names;
 pub mod over;
 pub mod rows;
+pub mod written;
 
 pub use bounds::bounded;
 pub use calls::{call_row, cast_row, chosen_row, closure_row, functional_row, sized_row};
 pub use leaves::leaf_row;
 pub use names::qualified_row;
 pub use rows::row;
+pub use written::{written_specifiers, written_type};

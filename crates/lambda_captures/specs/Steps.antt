@@ -2,17 +2,19 @@
 use Rattle.std.specs.Prelude.{ℕ, Bool, false, not, ◌&&◌, ◌||◌, List, [], ◌∷◌, ◌++◌, Option, Some, None, Result, Ok, if◌then◌else◌}
 use Rattle.std.specs.Str.{bytes_eq}
 use Rattle.elab_init.specs.cpp_types.Typ.{Typ}
+use Rattle.elab_init.specs.cpp_types.Class.{held}
 use Rattle.elab_init.specs.cpp_types.Conversion.{referred}
 use Rattle.elab_init.specs.cpp_types.declared.classes.At.{At}
 use Rattle.elab_init.specs.cpp_ast.Trees.{Trees, none, more}
 use Rattle.elab_init.specs.cpp_lex.Tokens.{Lexeme}
 use Rattle.elab_init.specs.cpp_tree.declared.faults.ElabFault.{ElabFault}
-use Rattle.elab_init.specs.cpp_tree.declared.faults.IllRule.TheVariants.{OutOfProfile, Capture as CaptureRule}
+use Rattle.elab_init.specs.cpp_tree.declared.faults.IllRule.TheVariants.{OutOfProfile, Incomplete, NoCopy, Capture as CaptureRule}
 use Rattle.elab_init.specs.cpp_tree.Typing.{form_in}
 use Rattle.elab_init.specs.elab_ctx.Ctx.{Ctx, Capture}
 use Rattle.elab_init.specs.elab_ctx.Steps.{and_then, check, spelling}
 use Rattle.elab_init.specs.elab_rules.Types.{Parameter}
-use Rattle.elab_init.specs.elab_rules.Lambdas.{Otherwise, captured_as, copies_closure, is_captured, capture_used, capture_this, adds, explicit_variable, Scan}
+use Rattle.elab_init.specs.elab_rules.Operators.{is_complete}
+use Rattle.elab_init.specs.elab_rules.Lambdas.{Otherwise, captured_as, copies_closure, copies_elements, is_captured, capture_used, capture_this, adds, explicit_variable, Scan}
 use Rattle.elab_init.specs.elab_rules.Lambdas.{declaring, scanned, scanned_all}
 
 -- Names
@@ -44,10 +46,14 @@ declarator_scanned s c x token (more d init) = scanned_all s c (declaring s (sca
 abbrev pub with_capture : List Capture → Option ℕ → Bool → Typ → At → List Capture
 with_capture xs variable by_ref t at = xs ++ record { variable = variable; by_ref = by_ref; typ = t; at = at } ∷ []
 
+-- a variable of this type is captured by reference, or its object is complete and can be copied
+abbrev pub capturable : Ctx → At → Bool → Typ → Result Bool ElabFault
+capturable c at by_ref t = and_then (check at OutOfProfile (by_ref || copies_closure c (form_in (referred t))))
+    (λ y. and_then (check at Incomplete (by_ref || is_complete c (held (referred t)))) (λ z. check at NoCopy (by_ref || copies_elements c (referred t))))
+
 -- a variable whose type is known
 abbrev pub capture_typed : Ctx → List Capture → At → ℕ → Bool → Typ → Result (List Capture) ElabFault
-capture_typed c xs at i by_ref t = and_then (check at OutOfProfile (by_ref || copies_closure c (form_in (referred t))))
-    (λ y. Ok (with_capture xs (Some i) by_ref (captured_as by_ref t) at))
+capture_typed c xs at i by_ref t = and_then (capturable c at by_ref t) (λ y. Ok (with_capture xs (Some i) by_ref (captured_as by_ref t) at))
 
 -- what is named is captured, unless that is done
 abbrev pub capture_once : Ctx → Bool → List Capture → At → Option ℕ → Result (List Capture) ElabFault

@@ -6,12 +6,13 @@ ghost use Rattle.elab_init.specs.cpp_tree.Notation.{plain};
 ghost use Rattle.elab_init.specs.cpp_tree.Typing.{form_in};
 ghost use Rattle.elab_init.specs.elab_ctx.Ctx.{ctx_of, special_of, capture_of};
 ghost use Rattle.elab_init.specs.elab_rules.Statements.{is_trivial as is_trivial_of};
-ghost use Rattle.elab_init.specs.elab_rules.Lambdas.{copied_as as copied_as_of, captured_as as captured_as_of, copies_closure as copies_closure_of, is_captured as is_captured_of, capture_variable as capture_variable_of, capture_this as capture_this_of, capture_used as capture_used_of, captured_uses};
+ghost use Rattle.elab_init.specs.elab_rules.Lambdas.{copied_as as copied_as_of, captured_as as captured_as_of, copies_closure as copies_closure_of, copies_elements as copies_elements_of, is_captured as is_captured_of, variable_type as variable_type_of, capture_variable as capture_variable_of, capture_this as capture_this_of, capture_used as capture_used_of, captured_uses};
 ghost use Rattle.lambda_captures.specs.Shown.{used_of};
-ghost use Rattle.lambda_captures.specs.Steps.{capture_typed as capture_typed_of, capture_once};
-ghost use Rattle.lambda_captures.specs.Says.{Collects};
+ghost use Rattle.lambda_captures.specs.Steps.{capturable as capturable_of, capture_typed as capture_typed_of, capture_once};
+ghost use Rattle.lambda_captures.specs.Says.{Collects, Knows, Passes};
 
 use crate::scanning::Used;
+use class_specials::part_tests::copies_member;
 use elab_init::below::{
     At, Capture, ElabFault, Env, IllRule, Shape, Special, Ty, copy, pointer_to,
 };
@@ -19,6 +20,7 @@ use elab_init::{referred_type, traits_at};
 use elab_names::captures::is_same_variable;
 use elab_names::parts::plain_type;
 use elab_types::specifiers::ill;
+use elab_types::types::is_complete_type;
 use std::alloc::{AllocError, Global};
 
 // A reference to a type.
@@ -106,6 +108,58 @@ fn keep_capture(captures: &mut Vec<Capture>, capture: Capture) -> Result<(), All
     Ok(())
 }
 
+// The type of a variable, which is known behind its initialiser.
+fn variable_type(env: &Env, at: At, variable: u32) -> Result<&Ty, ElabFault>
+    ensures { Knows result (variable_type_of (ctx_of env.now) at variable) }
+{
+    let Some(found) = env.variables.get(variable as usize) else {
+        return Err(ill(at, IllRule::UnknownName));
+    };
+    match &found.ty {
+        Some(ty) => Ok(ty),
+        None => Err(ill(at, IllRule::BadInit)),
+    }
+}
+
+// Whether each element of an array is copied; another type has none.
+fn copies_elements(alloc: Global, env: &Env, ty: &Ty) -> Result<bool, AllocError>
+    ensures { IfOk result (λ b. b ≡ copies_elements_of (ctx_of env.now) (typ_of ty.now)) }
+{
+    match &ty.shape {
+        Shape::Array(element, _) => copies_member(alloc, env, element),
+        Shape::Void
+        | Shape::Int(_)
+        | Shape::Enum { .. }
+        | Shape::Null
+        | Shape::Ptr(_)
+        | Shape::Ref(_)
+        | Shape::Func(_)
+        | Shape::Class(_)
+        | Shape::Closure(_)
+        | Shape::TxEx(_) => Ok(true),
+    }
+}
+
+// A variable of this type is captured by reference, or its object is complete and can be copied.
+fn capturable(alloc: Global, env: &Env, at: At, by_ref: bool, ty: &Ty) -> Result<(), ElabFault>
+    ensures { Passes result (capturable_of (ctx_of env.now) at by_ref (typ_of ty.now)) }
+{
+    if by_ref {
+        return Ok(());
+    }
+    let object = referred_type(ty);
+    if !copies_closure(env, object) {
+        return Err(ill(at, IllRule::OutOfProfile));
+    }
+    if !is_complete_type(env, object) {
+        return Err(ill(at, IllRule::Incomplete));
+    }
+    if !copies_elements(alloc, env, object)? {
+        return Err(ill(at, IllRule::NoCopy));
+    }
+    Ok(())
+}
+
 // One more capture: of a variable of a type.
 fn capture_typed(
     alloc: Global,
@@ -118,9 +172,7 @@ fn capture_typed(
 ) -> Result<(), ElabFault>
     ensures { Collects captures.new.items result (capture_typed_of (ctx_of env.now) (map capture_of captures.old.items) at variable by_ref (typ_of ty.now)) }
 {
-    if !by_ref && !copies_closure(env, referred_type(ty)) {
-        return Err(ill(at, IllRule::OutOfProfile));
-    }
+    capturable(alloc, env, at, by_ref, ty)?;
     let ty = captured_as(alloc, by_ref, ty)?;
     keep_capture(
         captures,
@@ -145,13 +197,8 @@ pub fn capture_variable(
 ) -> Result<(), ElabFault>
     ensures { Collects captures.new.items result (capture_variable_of (ctx_of env.now) (map capture_of captures.old.items) at variable by_ref) }
 {
-    let Some(found) = env.variables.get(variable as usize) else {
-        return Err(ill(at, IllRule::UnknownName));
-    };
-    match &found.ty {
-        Some(ty) => capture_typed(alloc, env, captures, at, variable, by_ref, ty),
-        None => Err(ill(at, IllRule::BadInit)),
-    }
+    let ty = variable_type(env, at, variable)?;
+    capture_typed(alloc, env, captures, at, variable, by_ref, ty)
 }
 
 /// One more capture: of `this`.
