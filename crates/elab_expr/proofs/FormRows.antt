@@ -17,7 +17,7 @@ use Rattle.elab_rows.specs.elab_ctx.Steps.{and_then, at_of, spelling, Typed, Typ
 use Rattle.elab_rows.specs.elab_rules.Calls.{call}
 use Rattle.elab_rows.specs.elab_rules.Casts.{cast, functional, size_literal}
 use Rattle.elab_rows.specs.elab_rules.Types.{Specifiers, no_specifiers, specified_type}
-use Rattle.elab_rows.specs.elab_rules.Expressions.{expression_with, operands_with, specified_with, type_id_with, chosen_operand, an_operand, a_tree}
+use Rattle.elab_rows.specs.elab_rules.Expressions.{expression_with, operands_with, specified_with, type_id_with, chosen_operand, an_operand, a_tree, written_type}
 use Rattle.elab_rows.specs.elab_rules.Expressions.{leaf_or_row, row_of, closure_object, qualified_name}
 use Rattle.elab_rows.specs.elab_types.Syntax.{trees_at}
 use Rattle.elab_expr.specs.Forms.{is_over_operands, is_cast}
@@ -117,7 +117,7 @@ values_row s c l w at t es = and_then (operands_with s c l w es) (λ (xs : Typed
 
 abbrev pub functional_row_of : List Lexeme → Ctx → List Closure → Work → At → Tree → Trees → Result Typed ElabFault
 functional_row_of s c l w at base es = and_then (specified_with s c l w no_specifiers base)
-    (λ (d : Specifiers). and_then (specified_type at d) (λ (t : Typ). values_row s c l w at t es))
+    (λ (d : Specifiers). and_then (and_then (specified_type at d) (written_type at)) (λ (t : Typ). values_row s c l w at t es))
 
 pub functional_is : (s : List Lexeme) (c : Ctx) (l : List Closure) (w : Work) (t base : Tree) (es : Trees) (kind : NodeKind) (p : SyntaxAt) (token : Option ℕ)
     (kids : Trees) → t ≡ node kind p token kids → kind_of t ≡ k.FunctionalCast → kids ≡ more base es
@@ -129,7 +129,7 @@ abbrev pub value_row : List Lexeme → Ctx → List Closure → Work → At → 
 value_row s c l w at u e = and_then (and_then (expression_with s c l w e) (chosen_operand c)) (λ (x : Typed). an_operand at (cast c x.work at u x.operand))
 
 abbrev pub cast_row_of : List Lexeme → Ctx → List Closure → Work → At → Tree → Tree → Result Typed ElabFault
-cast_row_of s c l w at t e = and_then (type_id_with s c l w t) (λ (u : Typ). value_row s c l w at u e)
+cast_row_of s c l w at t e = and_then (and_then (type_id_with s c l w t) (written_type at)) (λ (u : Typ). value_row s c l w at u e)
 
 cast_by : (s : List Lexeme) (c : Ctx) (l : List Closure) (w : Work) (kind : NodeKind) (p : SyntaxAt) (token : Option ℕ) (t e : Tree) → is_cast kind ≡ true
     → expression_with s c l w (node kind p token (more t (more e none))) ≡ cast_row_of s c l w (at_of p) t e
@@ -153,7 +153,7 @@ size_is s c l w t e kind p token kids n h g = rw (n, kind_is t kind _ p token ki
 
 -- `sizeof(T)`
 abbrev pub type_row : List Lexeme → Ctx → Work → At → Tree → Result Typed ElabFault
-type_row s c w at t = and_then (type_id_with s c [] w t) (λ (u : Typ). a_tree at w (size_literal c at at u))
+type_row s c w at t = and_then (and_then (type_id_with s c [] w t) (written_type at)) (λ (u : Typ). a_tree at w (size_literal c at at u))
 
 pub type_is : (s : List Lexeme) (c : Ctx) (l : List Closure) (w : Work) (t e : Tree) (kind : NodeKind) (p : SyntaxAt) (token : Option ℕ) (kids : Trees)
     → t ≡ node kind p token kids → kind_of t ≡ k.SizeofType → kids ≡ more e none → expression_with s c l w t ≡ type_row s c w (at_of p) e

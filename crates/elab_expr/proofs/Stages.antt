@@ -21,7 +21,7 @@ use Rattle.elab_rows.proofs.elab_ctx.Making.{faults_in, faults_same}
 use Rattle.elab_rows.specs.elab_rules.Calls.{call}
 use Rattle.elab_rows.specs.elab_rules.Casts.{cast, functional, size_literal}
 use Rattle.elab_rows.specs.elab_rules.Types.{Specifiers, no_specifiers, specified_type}
-use Rattle.elab_rows.specs.elab_rules.Expressions.{expression_with, operands_with, specified_with, type_id_with, chosen_operand, an_operand, a_tree, row_of}
+use Rattle.elab_rows.specs.elab_rules.Expressions.{expression_with, operands_with, specified_with, type_id_with, chosen_operand, an_operand, a_tree, row_of, written_type}
 use Rattle.elab_rows.specs.Typed.{TypedAt, Types, AllTyped, TypesAll}
 use Rattle.elab_expr.proofs.FormRows.{over_row, wrapped, call_row_of, values_row, functional_row_of, value_row, cast_row_of, size_row, type_row}
 
@@ -145,14 +145,14 @@ argument_fault s c l w w1 at f es n0 n1 o e m h =
 
 -- a type and values in parentheses
 functional_by : (s : List Lexeme) (c : Ctx) (l : List Closure) (w : Work) (at : At) (base : syntax.Tree) (es : syntax.Trees) (d : Specifiers) (t : Typ)
-    → specified_with s c l w no_specifiers base ≡ Ok d → specified_type at d ≡ Ok t → functional_row_of s c l w at base es ≡ values_row s c l w at t es
+    → specified_with s c l w no_specifiers base ≡ Ok d → and_then (specified_type at d) (written_type at) ≡ Ok t → functional_row_of s c l w at base es ≡ values_row s c l w at t es
 functional_by s c l w at base es d t h g = ap (λ (z : Result Specifiers ElabFault). and_then z
-    (λ (y : Specifiers). and_then (specified_type at y) (λ (u : Typ). values_row s c l w at u es))) h
+    (λ (y : Specifiers). and_then (and_then (specified_type at y) (written_type at)) (λ (u : Typ). values_row s c l w at u es))) h
     ∙ ap (λ (z : Result Typ ElabFault). and_then z (λ (u : Typ). values_row s c l w at u es)) g
 
 pub functional_typed : (s : List Lexeme) (c : Ctx) (l : List Closure) (w w1 w2 : Work) (at : At) (base : syntax.Tree) (es : syntax.Trees) (d : Specifiers)
     (t : Typ) (n0 n1 n2 : List Tree) (os : List OperandRec) (r : Result OperandRec ElabFault) → specified_with s c l w no_specifiers base ≡ Ok d
-    → specified_type at d ≡ Ok t → AllTyped n0 n1 w1 os (operands_with s c l w es) → Types n1 n2 w2 r (an_operand at (functional c w1 at t (operands_in n1 os)))
+    → and_then (specified_type at d) (written_type at) ≡ Ok t → AllTyped n0 n1 w1 os (operands_with s c l w es) → Types n1 n2 w2 r (an_operand at (functional c w1 at t (operands_in n1 os)))
     → Types n0 n2 w2 r (functional_row_of s c l w at base es)
 functional_typed s c l w w1 w2 at base es d t n0 n1 n2 os r h g m q =
     types_same n0 n2 w2 r (values_row s c l w at t es) (functional_row_of s c l w at base es) (functional_by s c l w at base es d t h g)
@@ -161,16 +161,16 @@ functional_typed s c l w w1 w2 at base es d t n0 n1 n2 os r h g m q =
 pub base_fault : (s : List Lexeme) (c : Ctx) (l : List Closure) (w : Work) (at : At) (base : syntax.Tree) (es : syntax.Trees) (e : ElabFault)
     → Faults e (specified_with s c l w no_specifiers base) → Faults e (functional_row_of s c l w at base es)
 base_fault s c l w at base es e h = first_fault e (specified_with s c l w no_specifiers base)
-    (λ (y : Specifiers). and_then (specified_type at y) (λ (u : Typ). values_row s c l w at u es)) h
+    (λ (y : Specifiers). and_then (and_then (specified_type at y) (written_type at)) (λ (u : Typ). values_row s c l w at u es)) h
 
 pub made_type_fault : (s : List Lexeme) (c : Ctx) (l : List Closure) (w : Work) (at : At) (base : syntax.Tree) (es : syntax.Trees) (d : Specifiers)
-    (e : ElabFault) → specified_with s c l w no_specifiers base ≡ Ok d → Faults e (specified_type at d) → Faults e (functional_row_of s c l w at base es)
+    (e : ElabFault) → specified_with s c l w no_specifiers base ≡ Ok d → Faults e (and_then (specified_type at d) (written_type at)) → Faults e (functional_row_of s c l w at base es)
 made_type_fault s c l w at base es d e h g =
-    later_fault e (specified_with s c l w no_specifiers base) d (λ (y : Specifiers). and_then (specified_type at y) (λ (u : Typ). values_row s c l w at u es)) h
-    (first_fault e (specified_type at d) (λ (u : Typ). values_row s c l w at u es) g)
+    later_fault e (specified_with s c l w no_specifiers base) d (λ (y : Specifiers). and_then (and_then (specified_type at y) (written_type at)) (λ (u : Typ). values_row s c l w at u es)) h
+    (first_fault e (and_then (specified_type at d) (written_type at)) (λ (u : Typ). values_row s c l w at u es) g)
 
 pub value_fault : (s : List Lexeme) (c : Ctx) (l : List Closure) (w : Work) (at : At) (base : syntax.Tree) (es : syntax.Trees) (d : Specifiers) (t : Typ)
-    (e : ElabFault) → specified_with s c l w no_specifiers base ≡ Ok d → specified_type at d ≡ Ok t → Faults e (operands_with s c l w es)
+    (e : ElabFault) → specified_with s c l w no_specifiers base ≡ Ok d → and_then (specified_type at d) (written_type at) ≡ Ok t → Faults e (operands_with s c l w es)
     → Faults e (functional_row_of s c l w at base es)
 value_fault s c l w at base es d t e h g q =
     faults_same e (values_row s c l w at t es) (functional_row_of s c l w at base es) (functional_by s c l w at base es d t h g)
@@ -178,7 +178,7 @@ value_fault s c l w at base es d t e h g q =
 
 -- casts
 pub cast_typed : (s : List Lexeme) (c : Ctx) (l : List Closure) (w w1 w2 : Work) (at : At) (t e : syntax.Tree) (u : Typ) (n0 n1 n2 : List Tree) (o : OperandRec)
-    (r : Result OperandRec ElabFault) → type_id_with s c l w t ≡ Ok u → TypedAt n0 n1 w1 o (and_then (expression_with s c l w e) (chosen_operand c))
+    (r : Result OperandRec ElabFault) → and_then (type_id_with s c l w t) (written_type at) ≡ Ok u → TypedAt n0 n1 w1 o (and_then (expression_with s c l w e) (chosen_operand c))
     → Types n1 n2 w2 r (an_operand at (cast c w1 at u (operand_in n1 o))) → Types n0 n2 w2 r (cast_row_of s c l w at t e)
 cast_typed s c l w w1 w2 at t e u n0 n1 n2 o r h m q =
     types_same n0 n2 w2 r (value_row s c l w at u e) (cast_row_of s c l w at t e)
@@ -186,13 +186,13 @@ cast_typed s c l w w1 w2 at t e u n0 n1 n2 o r h m q =
     (typed_after n0 n1 n2 w1 w2 o r (and_then (expression_with s c l w e) (chosen_operand c)) (λ (x : Typed). an_operand at (cast c x.work at u x.operand)) m q)
 
 pub cast_type_fault : (s : List Lexeme) (c : Ctx) (l : List Closure) (w : Work) (at : At) (t e : syntax.Tree) (f : ElabFault)
-    → Faults f (type_id_with s c l w t) → Faults f (cast_row_of s c l w at t e)
-cast_type_fault s c l w at t e f h = first_fault f (type_id_with s c l w t) (λ (y : Typ). value_row s c l w at y e) h
+    → Faults f (and_then (type_id_with s c l w t) (written_type at)) → Faults f (cast_row_of s c l w at t e)
+cast_type_fault s c l w at t e f h = first_fault f (and_then (type_id_with s c l w t) (written_type at)) (λ (y : Typ). value_row s c l w at y e) h
 
 pub cast_value_fault : (s : List Lexeme) (c : Ctx) (l : List Closure) (w : Work) (at : At) (t e : syntax.Tree) (u : Typ) (f : ElabFault)
-    → type_id_with s c l w t ≡ Ok u → Faults f (and_then (expression_with s c l w e) (chosen_operand c)) → Faults f (cast_row_of s c l w at t e)
+    → and_then (type_id_with s c l w t) (written_type at) ≡ Ok u → Faults f (and_then (expression_with s c l w e) (chosen_operand c)) → Faults f (cast_row_of s c l w at t e)
 cast_value_fault s c l w at t e u f g h =
-    later_fault f (type_id_with s c l w t) u (λ (y : Typ). value_row s c l w at y e) g
+    later_fault f (and_then (type_id_with s c l w t) (written_type at)) u (λ (y : Typ). value_row s c l w at y e) g
     (first_fault f (and_then (expression_with s c l w e) (chosen_operand c)) (λ (x : Typed). an_operand at (cast c x.work at u x.operand)) h)
 
 -- sizes: what is made for the operand is not kept
@@ -213,10 +213,10 @@ size_fault s c w v at e f h g = first_fault f (and_then (expression_with s c [] 
     (subst (λ (z : Work). Faults f (and_then (expression_with s c [] z e) (chosen_operand c))) h g)
 
 pub type_typed : (s : List Lexeme) (c : Ctx) (w w2 : Work) (at : At) (t : syntax.Tree) (u : Typ) (a b : List Tree) (r : Result OperandRec ElabFault)
-    → type_id_with s c [] w t ≡ Ok u → Types a b w2 r (a_tree at w (size_literal c at at u)) → Types a b w2 r (type_row s c w at t)
+    → and_then (type_id_with s c [] w t) (written_type at) ≡ Ok u → Types a b w2 r (a_tree at w (size_literal c at at u)) → Types a b w2 r (type_row s c w at t)
 type_typed s c w w2 at t u a b r h m = types_same a b w2 r (a_tree at w (size_literal c at at u)) (type_row s c w at t)
     (ap (λ (z : Result Typ ElabFault). and_then z (λ (y : Typ). a_tree at w (size_literal c at at y))) h) m
 
-pub type_fault : (s : List Lexeme) (c : Ctx) (w : Work) (at : At) (t : syntax.Tree) (f : ElabFault) → Faults f (type_id_with s c [] w t)
+pub type_fault : (s : List Lexeme) (c : Ctx) (w : Work) (at : At) (t : syntax.Tree) (f : ElabFault) → Faults f (and_then (type_id_with s c [] w t) (written_type at))
     → Faults f (type_row s c w at t)
-type_fault s c w at t f h = first_fault f (type_id_with s c [] w t) (λ (y : Typ). a_tree at w (size_literal c at at y)) h
+type_fault s c w at t f h = first_fault f (and_then (type_id_with s c [] w t) (written_type at)) (λ (y : Typ). a_tree at w (size_literal c at at y)) h

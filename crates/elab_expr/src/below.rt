@@ -98,6 +98,7 @@ pub use elab_rows::below::has_auto;
 pub use elab_rows::below::ill;
 pub use elab_rows::below::initial;
 pub use elab_rows::below::int_type;
+pub use elab_rows::below::is_bounded;
 pub use elab_rows::below::is_class_prvalue;
 pub use elab_rows::below::is_class_type;
 pub use elab_rows::below::is_complete_type;

@@ -5,10 +5,12 @@ ghost use Rattle.elab_rows.specs.cpp_lex.Tokens.{lexemes_of};
 ghost use Rattle.elab_rows.specs.cpp_ast.Orders.{are_below};
 ghost use Rattle.elab_rows.specs.cpp_ast.Trees.{kind_of};
 ghost use Rattle.elab_rows.specs.cpp_ast.declared.kinds.NodeKind.TheVariants as syntax;
+ghost use Rattle.elab_rows.specs.cpp_types.Typ.{typ_of};
 ghost use Rattle.elab_rows.specs.cpp_tree.Arena.{trees_of};
 ghost use Rattle.elab_rows.specs.elab_ctx.Ctx.{ctx_of, work_of, closure_of};
 ghost use Rattle.elab_rows.specs.elab_ctx.Steps.{and_then};
-ghost use Rattle.elab_rows.specs.elab_rules.Expressions.{expression_with, operands_with, chosen_operand};
+ghost use Rattle.elab_rows.specs.elab_rules.Expressions.{expression_with, operands_with, type_id_with, chosen_operand, written_type as written_type_of};
+ghost use Rattle.elab_rows.specs.elab_types.Shown.{Says};
 ghost use Rattle.elab_rows.specs.elab_types.Syntax.{syntax_of, tree_at, trees_at};
 ghost use Rattle.elab_rows.specs.Typed.{Types, TypesAll};
 ghost use Rattle.elab_expr.specs.Forms.{is_over_operands as is_over_operands_of, is_cast};
@@ -17,13 +19,13 @@ use crate::declarators::{specified, type_id};
 use crate::forms::{is_over_operands, keep_operand};
 use crate::scratch::copy_work;
 use elab_rows::below::{
-    Closure, ElabFault, Env, IllRule, Kids, NodeId, NodeKind, Nodes, Operand, Tokens, Work,
+    At, Closure, ElabFault, Env, IllRule, Kids, NodeId, NodeKind, Nodes, Operand, Tokens, Ty, Work,
     elab_types_node_at as node_at, first_kid, ill, kids_of, no_specifiers,
-    node_at as typed_node_at, place, specified_type, spelling,
+    node_at as typed_node_at, place, spelling,
 };
 use elab_rows::{
     call_row, cast_row, chosen_row, closure_row, functional_row, leaf_row, qualified_row, row,
-    sized_row,
+    sized_row, written_specifiers, written_type,
 };
 use std::alloc::Global;
 
@@ -220,7 +222,7 @@ fn functional_cast(
         kid,
         work,
     )?;
-    let ty = specified_type(alloc, tokens, at, &base)?;
+    let ty = written_specifiers(alloc, tokens, at, &base)?;
     let values = operands(
         alloc,
         env,
@@ -232,6 +234,25 @@ fn functional_cast(
         work,
     )?;
     functional_row(alloc, env, at, &ty, &values, work)
+}
+
+// The type that a type-id names, in a form at a place.
+#[cycle(expressions)]
+fn written_type_id(
+    alloc: Global,
+    env: &Env,
+    closures: &[Closure],
+    tokens: &Tokens,
+    nodes: &Nodes,
+    at: At,
+    id: NodeId,
+    work: &Work,
+) -> Result<Ty, ElabFault>
+    requires within { id.0 < length nodes.now }
+    ensures { Says typ_of result (and_then (type_id_with (lexemes_of tokens.now) (ctx_of env.now) (map closure_of closures.now) (work_of work.now) (tree_at (syntax_of nodes.now) id)) (written_type_of at)) }
+{
+    let ty = type_id(alloc, env, closures, tokens, nodes, id, work)?;
+    written_type(at, ty)
 }
 
 // `static_cast<T>(e)` and `(T)e`
@@ -250,12 +271,13 @@ fn casted(
     ensures { Types (trees_of work.old.nodes.items) (trees_of work.new.nodes.items) (work_of work.new) result (expression_with (lexemes_of tokens.now) (ctx_of env.now) (map closure_of closures.now) (work_of work.old) (tree_at (syntax_of nodes.now) id)) }
 {
     let node = node_at(nodes, id);
+    let at = place(node.at);
     let Kids::Two(first, second) = kids_of(&node.kids) else {
         return Err(ElabFault::Memory);
     };
-    let ty = type_id(alloc, env, closures, tokens, nodes, first, work)?;
+    let ty = written_type_id(alloc, env, closures, tokens, nodes, at, first, work)?;
     let value = chosen_expression(alloc, env, closures, tokens, nodes, second, work)?;
-    cast_row(alloc, env, place(node.at), &ty, value, work)
+    cast_row(alloc, env, at, &ty, value, work)
 }
 
 // `sizeof e`: what is made for the operand is not kept, and no lambda stands in it.
@@ -303,7 +325,7 @@ fn sized_type(
     let Kids::One(kid) = kids_of(&node.kids) else {
         return Err(ElabFault::Memory);
     };
-    let ty = type_id(alloc, env, &[], tokens, nodes, kid, work)?;
+    let ty = written_type_id(alloc, env, &[], tokens, nodes, at, kid, work)?;
     sized_row(alloc, env, at, at, &ty, work)
 }
 

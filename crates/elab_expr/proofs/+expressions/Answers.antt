@@ -336,7 +336,7 @@ expressions::casted-returns t c =
     (tree_at (syntax_of c.args.nodes.now) c.in-Two.second) _ _ _ _ c.node_at-node.ensures.node c.requires.kind
     (ap (trees_at (syntax_of c.args.nodes.now)) (sym c.deref.ensures.value) ∙ c.in-Two.ensures.trees (syntax_of c.args.nodes.now)))
     ∙ ap (λ z. cast_row_of (lexemes_of c.args.tokens.now) (ctx_of c.args.env.now) (map closure_of c.args.closures.now) (work_of c.args.work.now) z
-    (tree_at (syntax_of c.args.nodes.now) c.in-Two.first) (tree_at (syntax_of c.args.nodes.now) c.in-Two.second)) (sym c.place.ensures))
+    (tree_at (syntax_of c.args.nodes.now) c.in-Two.first) (tree_at (syntax_of c.args.nodes.now) c.in-Two.second)) (sym c.place-at.ensures))
     (cast_typed (lexemes_of c.args.tokens.now) (ctx_of c.args.env.now) (map closure_of c.args.closures.now) (work_of c.args.work.now) _ _ _
     (tree_at (syntax_of c.args.nodes.now) c.in-Two.first) (tree_at (syntax_of c.args.nodes.now) c.in-Two.second) _
     (trees_of c.args.work.now.nodes.items) _ _ _ _ c.in_ok-ty.ensures c.in_ok-value.ensures c.cast_row.ensures)
@@ -344,20 +344,24 @@ expressions::casted-returns t c =
 pub expressions::casted-returns-in_err-ty : goal.expressions::casted-returns-in_err-ty
 expressions::casted-returns-in_err-ty t c =
     let is_error : c.from_residual.result ≡ Err c.in_err-ty.field-0.0 = search rules in
-    refused_typed _ _ _ _ _ _ _ is_error (cast_is (lexemes_of c.args.tokens.now) (ctx_of c.args.env.now) (map closure_of c.args.closures.now)
+    refused_typed _ _ _ _ _ _ _ is_error ((cast_is (lexemes_of c.args.tokens.now) (ctx_of c.args.env.now) (map closure_of c.args.closures.now)
     (work_of c.args.work.now) (tree_at (syntax_of c.args.nodes.now) c.args.id) (tree_at (syntax_of c.args.nodes.now) c.in-Two.first)
     (tree_at (syntax_of c.args.nodes.now) c.in-Two.second) _ _ _ _ c.node_at-node.ensures.node c.requires.kind
     (ap (trees_at (syntax_of c.args.nodes.now)) (sym c.deref.ensures.value) ∙ c.in-Two.ensures.trees (syntax_of c.args.nodes.now)))
+    ∙ ap (λ z. cast_row_of (lexemes_of c.args.tokens.now) (ctx_of c.args.env.now) (map closure_of c.args.closures.now) (work_of c.args.work.now) z
+    (tree_at (syntax_of c.args.nodes.now) c.in-Two.first) (tree_at (syntax_of c.args.nodes.now) c.in-Two.second)) (sym c.place-at.ensures))
     (cast_type_fault (lexemes_of c.args.tokens.now) (ctx_of c.args.env.now) (map closure_of c.args.closures.now) (work_of c.args.work.now) _
     (tree_at (syntax_of c.args.nodes.now) c.in-Two.first) (tree_at (syntax_of c.args.nodes.now) c.in-Two.second) _ c.in_err-ty.ensures)
 
 pub expressions::casted-returns-in_err-value : goal.expressions::casted-returns-in_err-value
 expressions::casted-returns-in_err-value t c =
     let is_error : c.from_residual-in_err-value.result ≡ Err c.in_err-value.field-0.0 = search rules in
-    refused_typed _ _ _ _ _ _ _ is_error (cast_is (lexemes_of c.args.tokens.now) (ctx_of c.args.env.now) (map closure_of c.args.closures.now)
+    refused_typed _ _ _ _ _ _ _ is_error ((cast_is (lexemes_of c.args.tokens.now) (ctx_of c.args.env.now) (map closure_of c.args.closures.now)
     (work_of c.args.work.now) (tree_at (syntax_of c.args.nodes.now) c.args.id) (tree_at (syntax_of c.args.nodes.now) c.in-Two.first)
     (tree_at (syntax_of c.args.nodes.now) c.in-Two.second) _ _ _ _ c.node_at-node.ensures.node c.requires.kind
     (ap (trees_at (syntax_of c.args.nodes.now)) (sym c.deref.ensures.value) ∙ c.in-Two.ensures.trees (syntax_of c.args.nodes.now)))
+    ∙ ap (λ z. cast_row_of (lexemes_of c.args.tokens.now) (ctx_of c.args.env.now) (map closure_of c.args.closures.now) (work_of c.args.work.now) z
+    (tree_at (syntax_of c.args.nodes.now) c.in-Two.first) (tree_at (syntax_of c.args.nodes.now) c.in-Two.second)) (sym c.place-at.ensures))
     (cast_value_fault (lexemes_of c.args.tokens.now) (ctx_of c.args.env.now) (map closure_of c.args.closures.now) (work_of c.args.work.now) _
     (tree_at (syntax_of c.args.nodes.now) c.in-Two.first)
     (tree_at (syntax_of c.args.nodes.now) c.in-Two.second) _ _ c.in_ok-ty.ensures c.in_err-value.ensures)

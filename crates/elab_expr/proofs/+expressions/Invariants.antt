@@ -29,6 +29,9 @@ decreases-expressions::functional_cast l = l.id.0 * 8 + 1
 abbrev pub decreases-expressions::casted : goal.decreases-expressions::casted
 decreases-expressions::casted l = l.id.0 * 8 + 1
 
+abbrev pub decreases-expressions::written_type_id : goal.decreases-expressions::written_type_id
+decreases-expressions::written_type_id l = l.id.0 * 8 + 2
+
 abbrev pub decreases-expressions::sized_operand : goal.decreases-expressions::sized_operand
 decreases-expressions::sized_operand l = l.id.0 * 8 + 1
 
