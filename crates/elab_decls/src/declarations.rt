@@ -7,7 +7,7 @@ ghost use Rattle.elab_expr.specs.cpp_tree.Units.{cell_of, global_of};
 ghost use Rattle.elab_expr.specs.cpp_names.Names.{innermost_of};
 ghost use Rattle.elab_expr.specs.elab_ctx.Ctx.{Ctx, Work as WorkOf, ctx_of, work_of, special_of};
 ghost use Rattle.elab_expr.specs.elab_ctx.Says.{Tells};
-ghost use Rattle.elab_expr.specs.elab_rules.Statements.{Body, is_bounded, is_trivial};
+ghost use Rattle.elab_expr.specs.elab_rules.Statements.{Body, is_trivial};
 ghost use Rattle.elab_expr.specs.elab_rules.Globals.{is_trivial_class, is_constant_object, is_internal_linkage, not_void, global_linkage, new_global, global_agrees, global_again, global_named, global_declarable};
 ghost use Rattle.elab_expr.specs.elab_types.Shown.{Says};
 ghost use Rattle.class_members.specs.Shown.{storage_of};
@@ -17,7 +17,7 @@ use class_members::Storage;
 use cpp_types::{At, Shape, Ty, copy, equal_types};
 use elab_expr::below::{
     ElabFault, Entity, EntityKind, Env, IllRule, InitCell, Linkage, NameFault, Special, TGlobal,
-    Work, element_type, has_auto, ill, traits_at,
+    Work, element_type, has_auto, ill, is_bounded, traits_at,
 };
 use elab_sizes::typ_sized;
 use std::alloc::{AllocError, Global};
@@ -61,25 +61,6 @@ fn not_void(at: At, ty: &Ty) -> Result<bool, ElabFault>
         | Shape::Class(_)
         | Shape::Closure(_)
         | Shape::TxEx(_) => Ok(true),
-    }
-}
-
-// Whether the bound of an array is known.
-fn is_bounded(ty: &Ty) -> bool
-    ensures { result ≡ is_bounded (typ_of ty.now) }
-{
-    match &ty.shape {
-        Shape::Array(_, count) => *count != 0,
-        Shape::Void
-        | Shape::Int(_)
-        | Shape::Enum { .. }
-        | Shape::Null
-        | Shape::Ptr(_)
-        | Shape::Ref(_)
-        | Shape::Func(_)
-        | Shape::Class(_)
-        | Shape::Closure(_)
-        | Shape::TxEx(_) => true,
     }
 }
 

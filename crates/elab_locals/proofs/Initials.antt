@@ -12,11 +12,11 @@ use Rattle.elab_scopes.specs.cpp_tree.Trees.{Tree}
 use Rattle.elab_scopes.specs.elab_ctx.Ctx.{Variable}
 use Rattle.elab_scopes.specs.elab_ctx.Steps.{and_then, expect, check}
 use Rattle.elab_scopes.specs.elab_rules.Braces.{is_char_array, string_token}
-use Rattle.elab_scopes.specs.elab_rules.Types.{has_auto}
+use Rattle.elab_scopes.specs.elab_rules.Types.{has_auto, is_bounded}
 use Rattle.elab_scopes.specs.elab_rules.Sizes.{typ_sized}
 use Rattle.elab_scopes.specs.elab_rules.Statements.{Lambdas, State, Done, Full, by_expression, with_initialiser, variable_tree, variable, variable_by}
 use Rattle.elab_scopes.specs.elab_rules.Statements.{plain_variable, placed_variable, declared_variable, without_auto, bound_by_initialiser, only_expression}
-use Rattle.elab_scopes.specs.elab_rules.Statements.{auto_variable, is_fresh, declarable, is_bounded, full_operand}
+use Rattle.elab_scopes.specs.elab_rules.Statements.{auto_variable, is_fresh, declarable, full_operand}
 use Rattle.elab_braces.specs.Forms.{form_of}
 use Rattle.elab_locals.specs.Inits.{by_expression_in, initialised_by}
 use Rattle.elab_locals.specs.Variables.{auto_from, auto_declared, auto_read, plain_made, plain_read}

@@ -11,7 +11,8 @@ use Rattle.elab_scopes.specs.elab_ctx.Steps.{and_then, expect, check, Made}
 use Rattle.elab_scopes.specs.elab_rules.Sizes.{typ_sized}
 use Rattle.elab_scopes.specs.elab_rules.Statements.{Lambdas, State, Done, Full, Deduction, done, full_operand, with_work, init_node, variable_tree}
 use Rattle.elab_scopes.specs.elab_rules.Statements.{declared_variable, placed_variable, auto_placed, copy_initialised, deduced_type, replaced, same_deduction}
-use Rattle.elab_scopes.specs.elab_rules.Statements.{with_auto, is_fresh, declarable, is_bounded, only_expression}
+use Rattle.elab_scopes.specs.elab_rules.Statements.{with_auto, is_fresh, declarable, only_expression}
+use Rattle.elab_scopes.specs.elab_rules.Types.{is_bounded}
 use Rattle.elab_braces.specs.Forms.{form_of}
 use Rattle.elab_locals.specs.Inits.{initialised_by}
 

@@ -7,7 +7,7 @@ ghost use Rattle.elab_scopes.specs.cpp_types.Typ.{typ_of};
 ghost use Rattle.elab_scopes.specs.cpp_tree.Arena.{tree_at as tree_in};
 ghost use Rattle.elab_scopes.specs.elab_ctx.Ctx.{ctx_of};
 ghost use Rattle.elab_scopes.specs.elab_ctx.Says.{Tells};
-ghost use Rattle.elab_scopes.specs.elab_rules.Statements.{declarable as declarable_of, is_bounded as is_bounded_of, variable as variable_of};
+ghost use Rattle.elab_scopes.specs.elab_rules.Statements.{declarable as declarable_of, variable as variable_of};
 ghost use Rattle.elab_scopes.specs.elab_types.Syntax.{syntax_of, trees_at};
 ghost use Rattle.elab_scopes.specs.States.{state_of, made};
 ghost use Rattle.elab_scopes.specs.Says.{Does};
@@ -20,7 +20,7 @@ use crate::written::initialised;
 use elab_braces::bound_by_initialiser;
 use elab_scopes::below::{
     At, ElabFault, Env, IllRule, NodeId, Nodes, Shape, TNodeId, Tokens, Ty, has_auto, ill,
-    is_complete_type,
+    is_bounded, is_complete_type,
 };
 use elab_scopes::handlers::place_variable;
 use elab_scopes::{MakeLambdas, State};
@@ -49,25 +49,6 @@ fn declarable(env: &Env, at: At, ty: &Ty) -> Result<bool, ElabFault>
                 Err(ill(at, IllRule::Incomplete))
             }
         }
-    }
-}
-
-// Whether a type is no array without a bound.
-fn is_bounded(ty: &Ty) -> bool
-    ensures { result ≡ is_bounded_of (typ_of ty.now) }
-{
-    match &ty.shape {
-        Shape::Array(_, count) => *count != 0,
-        Shape::Void
-        | Shape::Int(_)
-        | Shape::Enum { .. }
-        | Shape::Null
-        | Shape::Ptr(_)
-        | Shape::Ref(_)
-        | Shape::Func(_)
-        | Shape::Class(_)
-        | Shape::Closure(_)
-        | Shape::TxEx(_) => true,
     }
 }
 

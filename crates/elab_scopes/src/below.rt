@@ -77,6 +77,7 @@ pub use elab_expr::below::function_at;
 pub use elab_expr::below::function_of;
 pub use elab_expr::below::has_auto;
 pub use elab_expr::below::ill;
+pub use elab_expr::below::is_bounded;
 pub use elab_expr::below::is_class_type;
 pub use elab_expr::below::is_complete_type;
 pub use elab_expr::below::is_declared_safe;

@@ -5,7 +5,9 @@ ghost use Rattle.elab_expr.specs.cpp_lex.Tokens.{lexemes_of};
 ghost use Rattle.elab_expr.specs.cpp_types.Typ.{typ_of};
 ghost use Rattle.elab_expr.specs.cpp_tree.Typing.{form_in};
 ghost use Rattle.elab_expr.specs.elab_ctx.Ctx.{ctx_of};
+ghost use Rattle.elab_expr.specs.cpp_tree.declared.faults.IllRule.TheVariants.{BadCatch};
 ghost use Rattle.elab_expr.specs.elab_ctx.Says.{Tells};
+ghost use Rattle.elab_expr.specs.elab_ctx.Steps.{check};
 ghost use Rattle.elab_expr.specs.elab_rules.Objects.{traits_at as traits_at_of};
 ghost use Rattle.elab_expr.specs.elab_rules.Statements.{caught_form as caught_form_of, caught_type as caught_type_of, named_handler as named_handler_of, handler_type as handler_type_of};
 ghost use Rattle.elab_expr.specs.elab_types.Shown.{Says};
@@ -32,19 +34,25 @@ fn is_copied_bytewise(env: &Env, class: u32) -> bool
     }
 }
 
+// Tests that values are thrown, where it is known whether they are.
+fn caught_if(at: At, are_thrown: bool) -> Result<bool, ElabFault>
+    ensures { Tells result (check at BadCatch are_thrown) }
+{
+    if are_thrown {
+        Ok(true)
+    } else {
+        Err(ill(at, IllRule::BadCatch))
+    }
+}
+
 // Tests that values of a type are thrown.
 fn caught_form(env: &Env, at: At, ty: &Ty) -> Result<bool, ElabFault>
     ensures { Tells result (caught_form_of (ctx_of env.now) at (form_in (typ_of ty.now))) }
 {
     match &ty.shape {
-        Shape::Int(_) | Shape::Enum { .. } | Shape::TxEx(_) => Ok(true),
-        Shape::Class(class) => {
-            if is_copied_bytewise(env, *class) {
-                Ok(true)
-            } else {
-                Err(ill(at, IllRule::BadCatch))
-            }
-        }
+        Shape::Int(_) | Shape::TxEx(_) => Ok(true),
+        Shape::Enum { name, .. } => caught_if(at, !name.is_empty()),
+        Shape::Class(class) => caught_if(at, is_copied_bytewise(env, *class)),
         Shape::Void
         | Shape::Null
         | Shape::Ptr(_)
