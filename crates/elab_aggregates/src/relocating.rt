@@ -11,6 +11,7 @@ ghost use Rattle.elab_aggregates.specs.Relocated.{is_first_item, is_only_first_i
 
 use elab_make::below::{
     At, Cat, TKind, TNode, TNodeId, This, Ty, add_node, copy, keep, kids_at, node_at, pointer_to,
+    unqualified_type,
 };
 use elab_names::parts::retyped;
 use elab_names::variables::this_pointer;
@@ -82,7 +83,7 @@ fn moved_kind(by: u32, kind: TKind) -> Result<TKind, AllocError>
     }
 }
 
-// The address of an object at hand.
+// The address of an object at hand, as of one without qualifiers.
 fn address_of(
     alloc: Global,
     nodes: &mut Vec<TNode>,
@@ -93,7 +94,7 @@ fn address_of(
     requires { object.0 < length (trees_of nodes.old.items) }
     ensures { IfOk result (λ r. Adds (trees_of nodes.old.items) (trees_of nodes.new.items) r (this_of (typ_of target.now) (tree_at (trees_of nodes.old.items) object) at)) }
 {
-    let pointer = pointer_to(alloc, copy(alloc, target)?)?;
+    let pointer = pointer_to(alloc, unqualified_type(alloc, target)?)?;
     retyped(alloc, nodes, at, pointer, Cat::Prvalue, object)
 }
 

@@ -139,6 +139,7 @@ pub use elab_rows::below::unqualified_type;
 pub use elab_rows::below::value;
 pub use elab_rows::below::value_of_word;
 pub use elab_rows::below::valued;
+pub use elab_rows::below::with_qualifiers;
 pub use elab_rows::below::within_exception;
 pub use elab_rows::below::word_of;
 pub use elab_rows::below::zeros;

@@ -12,9 +12,9 @@ use Rattle.elab_make.specs.cpp_tree.Typing.{form_in, unqualified, is_void, kind_
 use Rattle.elab_make.specs.elab_ctx.Ctx.{Ctx, Work}
 use Rattle.elab_make.specs.elab_ctx.Steps.{and_then, check, Operand, Made}
 use Rattle.elab_make.specs.elab_rules.Values.{bool_type}
-use Rattle.elab_make.specs.elab_rules.Initialising.{initial, as_source, object_of, class_from, with_tree}
+use Rattle.elab_make.specs.elab_rules.Initialising.{initial, as_source, with_tree}
 use Rattle.elab_make.specs.elab_rules.Operators.{value, arithmetic, as_pointer, is_null, assigned, same_lvalues, conditional_node, two_numbers}
-use Rattle.elab_make.specs.elab_rules.Operators.{branches, bare_throw, settled, object_operand, conditional_like, both_of_class, two_objects, two_values}
+use Rattle.elab_make.specs.elab_rules.Operators.{branches, bare_throw, settled, conditional_like, both_of_class, two_objects, two_values}
 use Rattle.elab_make.specs.elab_rules.Operators.{value_form, same_work, is_shared, shared}
 use Rattle.elab_ops.specs.Forms.{value_initial}
 
@@ -52,10 +52,6 @@ same_scalars f g = form_eq f g && is_some (kind_in f)
 abbrev pub two_scalars : At → Tree → Form → Form → Operand → Operand → Result Tree ElabFault
 two_scalars at test f g a b = if same_scalars f g then Ok (conditional_node at (plain f) Prvalue test (value a) (value b)) else two_numbers at test
     (arithmetic f) (arithmetic g) a b
-
--- an object of a type that is copied from the one that a class prvalue makes
-abbrev pub object_copied : Ctx → Work → Typ → Operand → Result Made ElabFault
-object_copied c w t o = class_from c (object_of c w o.at o.tree).work t o.at (object_operand o (object_of c w o.at o.tree).tree)
 
 -- an operand beside one that throws, and the other way about
 abbrev pub beside_throw : Ctx → Work → At → Tree → Operand → Operand → Made

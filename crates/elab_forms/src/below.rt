@@ -108,6 +108,7 @@ pub use elab_make::fields;
 pub use elab_make::from_nothing;
 pub use elab_make::from_values;
 pub use elab_make::initial;
+pub use elab_make::is_exception_type;
 pub use elab_make::lists::one_of;
 pub use elab_make::object_of;
 pub use elab_make::scalar_from;

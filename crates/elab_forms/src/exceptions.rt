@@ -3,52 +3,16 @@
 ghost use Rattle.std.specs.Prelude.{◌≡◌, ◌<◌, length, IfOk};
 ghost use Rattle.elab_make.specs.cpp_types.Typ.{typ_of};
 ghost use Rattle.elab_make.specs.cpp_tree.Arena.{trees_of, tree_at};
-ghost use Rattle.elab_make.specs.cpp_tree.Typing.{form_in};
 ghost use Rattle.elab_make.specs.cpp_tree.Trees.{typ_in};
 ghost use Rattle.elab_make.specs.elab_ctx.Ctx.{ctx_of, work_of};
 ghost use Rattle.elab_make.specs.elab_ctx.Operands.{operand_in};
 ghost use Rattle.elab_make.specs.elab_ctx.Says.{Puts};
-ghost use Rattle.elab_make.specs.elab_rules.Values.{is_exception_form};
 ghost use Rattle.elab_make.specs.elab_rules.Initialising.{object_of as object_by, exception_copied as exception_copied_of, with_tree};
-ghost use Rattle.elab_make.specs.elab_rules.Operators.{is_written_exception, settled};
+ghost use Rattle.elab_make.specs.elab_rules.Operators.{settled};
 
-use elab_make::below::{Cat, Env, Operand, Shape, TKind, TNode, TNodeId, Ty, Work, copy, node_at};
-use elab_make::{exception_copied, object_of};
+use elab_make::below::{Env, Operand, TNodeId, Work, copy, node_at};
+use elab_make::{exception_copied, is_written_exception, object_of};
 use std::alloc::{AllocError, Global};
-
-/// Whether a type is `std::tx_exception` of another.
-pub fn is_exception_type(ty: &Ty) -> bool
-    ensures { result ≡ is_exception_form (form_in (typ_of ty.now)) }
-{
-    match &ty.shape {
-        Shape::TxEx(_) => true,
-        Shape::Void
-        | Shape::Int(_)
-        | Shape::Enum { .. }
-        | Shape::Null
-        | Shape::Ptr(_)
-        | Shape::Ref(_)
-        | Shape::Array(_, _)
-        | Shape::Func(_)
-        | Shape::Class(_)
-        | Shape::Closure(_) => false,
-    }
-}
-
-/// Whether an expression is such an exception that is written with its value.
-pub fn is_written_exception(nodes: &Vec<TNode>, id: TNodeId) -> bool
-    requires { id.0 < length (trees_of nodes.now.items) }
-    ensures { result ≡ is_written_exception (tree_at (trees_of nodes.now.items) id) }
-{
-    let node = node_at(nodes, id);
-    match node.kind {
-        TKind::Retype => match node.cat {
-            Cat::Prvalue => is_exception_type(&node.ty),
-            Cat::Lvalue => false,
-        },
-        _ => false,
-    }
-}
 
 // A copy of the object that is built of a `std::tx_exception`.
 fn object_copied(

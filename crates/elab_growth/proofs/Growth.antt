@@ -172,9 +172,19 @@ constructed c w n t at (o ∷ os) = behind (made w) (Initialising.makeable c at 
 scalar_from : (c : Ctx) (w : Work) (t : Typ) (o : Operand) → Holds (made w) (Initialising.scalar_from c w t o)
 scalar_from c w t o = passes (made w) (made w) (Initialising.initial c w t o) _ (initial c w t o) (λ m g. g)
 
+exact_object : (c : Ctx) (w : Work) (t : Typ) (at : At) (o : Operand) → Holds (made w) (Initialising.exact_object c w t at o)
+exact_object c w t at o = either (made w) (Initialising.is_other_prvalue t o.tree) _ _ (moved w x.work (Initialising.class_from c x.work t at p)
+    (object c w o.at o.tree) (class_from c x.work t at p)) (class_from c w t at o)
+  where
+    x : Made
+    x = Initialising.object_of c w o.at o.tree
+
+    p : Operand
+    p = Initialising.object_operand o x.tree
+
 exception_from : (c : Ctx) (w : Work) (t : Typ) (at : At) (os : List Operand) → Holds (made w) (Initialising.exception_from c w t at os)
 exception_from c w t at os = behind (made w) (expect at NoViable (Initialising.only os)) _ (λ o. either (made w) (is_class_typ t) _ _
-    (passes (made w) (made w) (Initialising.class_from c w t at o) _ (class_from c w t at o) (λ m g. g)) (scalar_from c w t o))
+    (exact_object c w t at o) (scalar_from c w t o))
 
 one_value : (c : Ctx) (w : Work) (t : Typ) (at : At) (o : Operand) (os : List Operand)
     → Holds (made w) (if is_class_typ t then Initialising.class_from c w t at o else and_then (expect at BadInit (Initialising.only (o ∷ os)))
@@ -227,24 +237,14 @@ settled_by c w o true = object c w o.at o.tree
 settled_by c w o false = same w
 
 settled : (c : Ctx) (w : Work) (o : Operand) → Behind w (Operators.settled c w o).work
-settled c w o = settled_by c w o (Operators.is_written_exception o.tree)
+settled c w o = settled_by c w o (Initialising.is_written_exception o.tree)
 
 comma : (c : Ctx) (w : Work) (at : At) (a b : Operand) → Behind w (Operators.comma c w at a b).work
 comma c w at a b = after (dropped c w a) (settled c (Operators.dropped c w a).work b)
 
-object_as : (c : Ctx) (w : Work) (t : Typ) (o : Operand) → Holds (made w) (Operators.object_as c w t o)
-object_as c w t o = either (made w) (Operators.is_other_prvalue t o.tree) _ _ (moved w x.work (Initialising.class_from c x.work t o.at p)
-    (object c w o.at o.tree) (class_from c x.work t o.at p)) (class_from c w t o.at o)
-  where
-    x : Made
-    x = Initialising.object_of c w o.at o.tree
-
-    p : Operand
-    p = Operators.object_operand o x.tree
-
 two_objects : (c : Ctx) (w : Work) (at : At) (test : Tree) (a b : Operand) → Holds (made w) (Operators.two_objects c w at test a b)
-two_objects c w at test a b = passes (made w) (made w) (Operators.object_as c w t a) _ (object_as c w t a)
-    (λ x g. passes (made x.work) (made w) (Operators.object_as c x.work t b) _ (object_as c x.work t b) (λ y h. after g h))
+two_objects c w at test a b = passes (made w) (made w) (Initialising.exact_object c w t a.at a) _ (exact_object c w t a.at a)
+    (λ x g. passes (made x.work) (made w) (Initialising.exact_object c x.work t b.at b) _ (exact_object c x.work t b.at b) (λ y h. after g h))
   where
     t : Typ
     t = Operators.common_class a b

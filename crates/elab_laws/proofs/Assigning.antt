@@ -27,12 +27,12 @@ use Rattle.elab_rules.specs.elab_ctx.Steps.{and_then, check, expect, Operand, Ma
 use Rattle.elab_rules.specs.Objects.{traits_at}
 use Rattle.elab_rules.specs.Values.{place_of, same_at}
 use Rattle.elab_rules.specs.Initialising.{initial, conversion, class_number, is_same_or_base, as_source}
-use Rattle.elab_rules.specs.Initialising.{with_tree, object_of, exception_copied}
+use Rattle.elab_rules.specs.Initialising.{with_tree, object_of, exception_copied, is_written_exception, exact_object}
 use Rattle.elab_rules.specs.Operators.{updated, scaled, value, value_form, arithmetic, assigned, copy_assigned, class_assigned_in, same_object, assignment}
 use Rattle.elab_rules.specs.Operators.{compound_numbers, compound_in, compound, movable, is_sum, same_work, truth, is_throw, is_null, as_pointer}
-use Rattle.elab_rules.specs.Operators.{bare_throw, throws as throws_tree, dropped, is_written_exception, settled, object_type, joined_type, common_class}
+use Rattle.elab_rules.specs.Operators.{bare_throw, throws as throws_tree, dropped, settled, object_type, joined_type, common_class}
 use Rattle.elab_rules.specs.Operators.{is_shared, shared as shared_tree, joined_class, is_assignable_form}
-use Rattle.elab_rules.specs.Operators.{object_as, conditional_like, conditional_node, same_lvalues, both_of_class, two_numbers, two_values, two_objects, branches, conditional}
+use Rattle.elab_rules.specs.Operators.{conditional_like, conditional_node, same_lvalues, both_of_class, two_numbers, two_values, two_objects, branches, conditional}
 use Rattle.elab_rules.specs.Names.{is_const_typ}
 use Rattle.elab_rules.specs.Expressions.{row_of, assignment_of}
 use Rattle.elab_laws.specs.Reading.{On, IsPrvalue, IsLvalue, EachTwo}
@@ -306,8 +306,8 @@ common_is x y h g = ap (λ (z : Typ). joined_type z (object_type y.tree)) (objec
     ∙ ap (joined_type (typ (form_in (typ_in x.tree)) (gives_const x) (gives_volatile x))) (object_is (typ_in y.tree) (cat_of y.tree) g)
 
 objects_law : (c : Ctx) (w : Work) (at : At) (test : Tree) (x y : Operand) → both_of_class x y ≡ true → On (Tree_in (Either x y)) (two_objects c w at test x y)
-objects_law c w at test x y h = skip (Tree_in (Either x y)) (object_as c w (common_class x y) x) _
-    (λ u. skip (Tree_in (Either x y)) (object_as c u.work (common_class x y) y) _ (λ v.
+objects_law c w at test x y h = skip (Tree_in (Either x y)) (exact_object c w (common_class x y) x.at x) _
+    (λ u. skip (Tree_in (Either x y)) (exact_object c u.work (common_class x y) y.at y) _ (λ v.
     let p = and_parts (is_class_typ (typ_in x.tree)) (form_eq (form_in (typ_in x.tree)) (form_in (typ_in y.tree))) h in
     let f = form_same (form_in (typ_in x.tree)) (form_in (typ_in y.tree)) p.1 in
     let o = class_from_typ (typ_in x.tree) p.0 in

@@ -27,12 +27,13 @@ use Rattle.elab_rules.specs.Objects.{Part, parts_of, traits_at}
 use Rattle.elab_rules.specs.Initialising.{object_of, bound_by, initial, is_prvalue_of_class, parameters_at, reference_word, constructed_copy, constructor_at}
 use Rattle.elab_rules.specs.Initialising.{copied_object, class_from, passed, words, constructed_by, is_prvalue_itself, constructed, only, scalar_from}
 use Rattle.elab_rules.specs.Initialising.{exception_from, is_exception_itself, from_values, func_at, argument, arguments, class_number, conversion}
+use Rattle.elab_rules.specs.Initialising.{is_written_exception, is_other_prvalue, object_operand, exact_object}
 use Rattle.elab_rules.specs.Initialising.{from_nothing, has_copy, is_same_or_base, makeable, makers, meant, places_from, same_number, signature_result}
 use Rattle.elab_rules.specs.Initialising.{with_tree, as_source, signature_parameters, is_closure_itself}
 use Rattle.elab_rules.specs.Operators.{value, throws, is_volatile_scalar, is_read_when_dropped, dropped, copy_assigned, class_assigned_in, assignment}
 use Rattle.elab_rules.specs.Operators.{same_lvalues, both_of_class, two_objects, same_work, branches, conditional, value_form, assigned, step, target, truth}
-use Rattle.elab_rules.specs.Operators.{compound, compound_operator, same_object, subscript, two_values, is_written_exception, settled, comma}
-use Rattle.elab_rules.specs.Operators.{common_class, is_shared, is_assignable_form, is_other_prvalue, object_operand, object_as}
+use Rattle.elab_rules.specs.Operators.{compound, compound_operator, same_object, subscript, two_values, settled, comma}
+use Rattle.elab_rules.specs.Operators.{common_class, is_shared, is_assignable_form}
 use Rattle.elab_rules.specs.Names.{is_tx_exception, member_access, class_member, exception_member, is_free, is_method, resolved, is_const_typ}
 use Rattle.elab_rules.specs.Names.{is_volatile_object, members_in, named, offset_at, this_tree}
 use Rattle.elab_rules.specs.Casts.{is_numeric, scalar_cast, cast_in, cast, functional, throw_object, throw_in, throw, string_global, is_thrown_scalar}
@@ -151,9 +152,19 @@ constructed_grows c w n t at (o ∷ os) = skip (Mades w) (makeable c at n) _
 scalar_grows : (c : Ctx) (w : Work) (t : Typ) (o : Operand) → On (Mades w) (scalar_from c w t o)
 scalar_grows c w t o = bind (Mades w) (Mades w) (initial c w t o) _ (initial_grows c w t o) (λ m g. g)
 
+exact_grows : (c : Ctx) (w : Work) (t : Typ) (at : At) (o : Operand) → On (Mades w) (exact_object c w t at o)
+exact_grows c w t at o = either (Mades w) (is_other_prvalue t o.tree) _ _
+    (made_after w x.work (class_from c x.work t at p) (object_grows c w o.at o.tree) (class_grows c x.work t at p)) (class_grows c w t at o)
+  where
+    x : Made
+    x = object_of c w o.at o.tree
+
+    p : Operand
+    p = object_operand o x.tree
+
 exception_grows : (c : Ctx) (w : Work) (t : Typ) (at : At) (os : List Operand) → On (Mades w) (exception_from c w t at os)
 exception_grows c w t at os = skip (Mades w) (expect at NoViable (only os)) _
-    (λ o. either (Mades w) (is_class_typ t) _ _ (bind (Mades w) (Mades w) (class_from c w t at o) _ (class_grows c w t at o) (λ m g. g)) (scalar_grows c w t o))
+    (λ o. either (Mades w) (is_class_typ t) _ _ (exact_grows c w t at o) (scalar_grows c w t o))
 
 nothing_grows : (c : Ctx) (w : Work) (t : Typ) (at : At) → On (Mades w) (and_then (from_nothing c t at) (λ (e : Tree). Ok (record { tree = e; work = w })))
 nothing_grows c w t at = skip (Mades w) (from_nothing c t at) _ (λ e. same w)
@@ -225,19 +236,9 @@ assigned_grows : (c : Ctx) (w : Work) (at : At) (name : List ℕ) (a b : Operand
 assigned_grows c w at name a b = either (Mades w) (bytes_eq name (codes "=")) _ _ (assignment_grows c w at a b)
     (same_grows w (and_then (expect at OutOfProfile (compound_operator name)) (λ (op : BinOp). compound c op at a b)))
 
-object_as_grows : (c : Ctx) (w : Work) (t : Typ) (o : Operand) → On (Mades w) (object_as c w t o)
-object_as_grows c w t o = either (Mades w) (is_other_prvalue t o.tree) _ _
-    (made_after w x.work (class_from c x.work t o.at p) (object_grows c w o.at o.tree) (class_grows c x.work t o.at p)) (class_grows c w t o.at o)
-  where
-    x : Made
-    x = object_of c w o.at o.tree
-
-    p : Operand
-    p = object_operand o x.tree
-
 objects_grow : (c : Ctx) (w : Work) (at : At) (test : Tree) (a b : Operand) → On (Mades w) (two_objects c w at test a b)
-objects_grow c w at test a b = bind (Mades w) (Mades w) (object_as c w t a) _ (object_as_grows c w t a)
-    (λ x g. bind (Mades x.work) (Mades w) (object_as c x.work t b) _ (object_as_grows c x.work t b) (λ y h. grown w x.work y.work g h))
+objects_grow c w at test a b = bind (Mades w) (Mades w) (exact_object c w t a.at a) _ (exact_grows c w t a.at a)
+    (λ x g. bind (Mades x.work) (Mades w) (exact_object c x.work t b.at b) _ (exact_grows c x.work t b.at b) (λ y h. grown w x.work y.work g h))
   where
     t : Typ
     t = common_class a b

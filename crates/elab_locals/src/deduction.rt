@@ -7,25 +7,15 @@ ghost use Rattle.elab_scopes.specs.cpp_tree.Trees.{typ_in};
 ghost use Rattle.elab_scopes.specs.cpp_tree.Typing.{form_in};
 ghost use Rattle.elab_scopes.specs.elab_ctx.Steps.{Operand as OperandOf};
 ghost use Rattle.elab_scopes.specs.elab_ctx.Operands.{operand_in};
-ghost use Rattle.elab_scopes.specs.elab_rules.Statements.{with_cv as with_cv_of, less_qualified as less_qualified_of, deduced_from as deduced_from_of, replaced as replaced_of, auto_of as auto_of_of, deduced_type as deduced_type_of, is_null_type as is_null_type_of};
+ghost use Rattle.elab_scopes.specs.elab_rules.Statements.{less_qualified as less_qualified_of, deduced_from as deduced_from_of, replaced as replaced_of, auto_of as auto_of_of, deduced_type as deduced_type_of, is_null_type as is_null_type_of};
 ghost use Rattle.elab_scopes.specs.elab_rules.Operators.{value as value_of};
 ghost use Rattle.elab_locals.specs.Deducing.{auto_in_value as auto_in_value_of, Deduces};
 
 use elab_scopes::below::{
     At, ElabFault, IllRule, Operand, Shape, TNode, Ty, copy, ill, is_void_type, node_at,
-    unqualified_type, value,
+    unqualified_type, value, with_qualifiers,
 };
 use std::alloc::{AllocError, Global};
-
-// A type with further qualifiers.
-fn with_cv(alloc: Global, is_const: bool, is_volatile: bool, ty: &Ty) -> Result<Ty, AllocError>
-    ensures { IfOk result (λ t. typ_of t ≡ with_cv_of is_const is_volatile (typ_of ty.now)) }
-{
-    let mut found = copy(alloc, ty)?;
-    found.is_const = is_const || ty.is_const;
-    found.is_volatile = is_volatile || ty.is_volatile;
-    Ok(found)
-}
 
 // A type without the qualifiers that another has.
 fn less_qualified(alloc: Global, by: &Ty, ty: &Ty) -> Result<Ty, AllocError>
@@ -81,7 +71,7 @@ pub fn replaced(alloc: Global, auto: &Ty, ty: &Ty) -> Result<Ty, AllocError>
     match &ty.shape {
         Shape::Enum { name, .. } => {
             if name.is_empty() {
-                with_cv(alloc, ty.is_const, ty.is_volatile, auto)
+                with_qualifiers(alloc, ty.is_const, ty.is_volatile, auto)
             } else {
                 copy(alloc, ty)
             }

@@ -1,18 +1,24 @@
 -- Words of calls, and the values of constructors.
-use Rattle.std.proofs.Common.{◌≡◌, ◌≢◌, ◌≤◌, ℕ, zero, suc, true, List, [], ◌∷◌, length, Option, Some, Err, Result, slice_get, get_or, refl, sym, subst}
-use Rattle.std.proofs.Common.{arith, Vec, Global}
+use Rattle.std.proofs.Common.{◌≡◌, ◌≢◌, ◌≤◌, ℕ, zero, suc, true, false, List, [], ◌∷◌, length, Option, Some, Ok, Err, Result, slice_get, get_or, refl, sym}
+use Rattle.std.proofs.Common.{subst, ap, ◌∙◌, arith, Vec, Global}
 use Rattle.elab_init.specs.cpp_types.declared.types.Ty.{Ty}
 use Rattle.elab_init.specs.cpp_types.Typ.{Typ, typ_of, typs_of}
+use Rattle.elab_init.specs.cpp_types.declared.classes.At.{At}
 use Rattle.elab_init.specs.cpp_tree.declared.faults.ElabFault.{ElabFault}
 use Rattle.elab_init.specs.cpp_tree.declared.faults.ElabFault.TheVariants.{Ill}
 use Rattle.elab_init.specs.cpp_tree.declared.faults.IllRule.TheVariants.{OutOfProfile}
 use Rattle.elab_init.specs.cpp_tree.declared.arena.TNodeId.{TNodeId}
 use Rattle.elab_init.specs.cpp_tree.Trees.{Tree}
+use Rattle.elab_init.specs.cpp_tree.Arena.{tree_at, Grows}
 use Rattle.elab_init.specs.cpp_tree.Typing.{is_class_typ, unqualified}
 use Rattle.elab_init.specs.elab_ctx.Ctx.{Ctx, Work}
 use Rattle.elab_init.specs.elab_ctx.Steps.{Operand, Made, MadeAll}
-use Rattle.elab_init.specs.elab_ctx.Says.{Faults, Makes, MakesAll}
-use Rattle.elab_init.specs.elab_rules.Initialising.{reference_word, passed}
+use Rattle.elab_init.specs.elab_ctx.Says.{Faults, Makes, MakesAll, Puts}
+use Rattle.elab_init.specs.elab_ctx.Operands.{operand_in}
+use Rattle.elab_init.specs.elab_ctx.declared.operand.Operand.{Operand as OperandRec}
+use Rattle.elab_init.proofs.elab_ctx.Looks.{grows_trans}
+use Rattle.elab_init.specs.elab_rules.Initialising.{reference_word, passed, object_of, class_from}
+use Rattle.elab_make.specs.Exact.{copied_object}
 use Rattle.elab_make.specs.Passing.{passed_object, copying_word}
 
 other_count : (c : Ctx) (w : Work) (ps : List Ty) (o : Operand) → length ps ≢ 1 → reference_word c w (typs_of ps) o ≡ Err (Ill o.at OutOfProfile)
@@ -59,3 +65,20 @@ pub word_makes : (old new : List Tree) (v : Work) (r : Result (Vec TNodeId Globa
     → length ps ≡ 1 → p ≡ get_or ps 0 d → MakesAll old new v r (copying_word c w (typ_of p) o)
     → MakesAll old new v r (reference_word c w (typs_of ps) o)
 word_makes old new v r c w ps p d o n h m = subst (λ (z : Result MadeAll ElabFault). MakesAll old new v r z) (sym (word_is c w ps p d o n h)) m
+
+-- an object of a type that is copied from the one that a class prvalue makes
+
+makes_behind : (a b c : List Tree) (w : Work) (r : Result TNodeId ElabFault) (x y : Result Made ElabFault) → Grows a b → y ≡ x → Makes b c w r x
+    → Makes a c w r y
+makes_behind a b c w (Ok r) x y g e m = record { grows = grows_trans g m.grows; within = m.within; is = e ∙ m.is }
+makes_behind a b c w (Err f) x y g e m = subst (λ (z : Result Made ElabFault). Faults f z) (sym e) m
+
+pub copied_makes : (c : Ctx) (w w1 w2 : Work) (t : Typ) (at : At) (o : OperandRec) (id : TNodeId) (r : Result TNodeId ElabFault) (n0 n1 n2 : List Tree)
+    → Puts n0 n1 w1 id (object_of c w o.at (tree_at n0 o.id))
+    → Makes n1 n2 w2 r (class_from c w1 t at (record { tree = tree_at n1 id; at = o.at; zero = false }))
+    → Makes n0 n2 w2 r (copied_object c w t at (operand_in n0 o))
+copied_makes c w w1 w2 t at o id r n0 n1 n2 p m =
+    let made : Made = object_of c w o.at (tree_at n0 o.id) in
+    makes_behind n0 n1 n2 w2 r _ _ p.grows
+    (ap (λ (z : Work). class_from c z t at (record { tree = made.tree; at = o.at; zero = false })) (sym p.work_is)
+    ∙ ap (λ (z : Tree). class_from c w1 t at (record { tree = z; at = o.at; zero = false })) (sym p.is)) m

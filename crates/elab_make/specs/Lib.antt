@@ -10,6 +10,7 @@ pub use Rattle.elab_init.specs as elab_init
 pub use Rattle.elab_init.specs.elab_rules as elab_rules
 pub use Rattle.elab_init.specs.tx_ints as tx_ints
 pub mod Each
+pub mod Exact
 pub mod Fields
 pub mod Others
 pub mod Passing

@@ -14,6 +14,7 @@ ghost use Rattle.elab_make.specs.Others.{other_values};
 use crate::binding::initial;
 use crate::call_words::words;
 use crate::copying::{class_from, copied_in_place, place_at};
+use crate::exact::exact_object;
 use crate::lists::first_operand;
 use crate::nothing::from_nothing;
 use elab_init::below::{
@@ -162,7 +163,7 @@ fn exception_from(
     }
     let o = os[0];
     if is_class_type(value) {
-        return class_from(alloc, env, work, value, at, o);
+        return exact_object(alloc, env, work, value, at, o);
     }
     scalar_from(alloc, env, work, value, o)
 }

@@ -160,3 +160,4 @@ pub use elab_types::types::is_bounded;
 pub use elab_types::types::is_complete_type;
 pub use elab_types::types::is_void_type;
 pub use elab_types::types::type_named;
+pub use elab_types::types::with_qualifiers;

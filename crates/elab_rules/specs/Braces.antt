@@ -160,9 +160,9 @@ abbrev pub is_aggregate_class : Ctx → ℕ → Bool
 is_aggregate_class c n = has_no_base (slice_get c.classes n) && is_empty (places_from (is_virtual_member n) 0 c.funcs)
     && is_empty (places_from (is_written_constructor n) 0 c.funcs)
 
--- the object that the braces initialise: where `this` points in default member initialisers
+-- the object that the braces initialise: where `this` points in default member initialisers, as to an object without qualifiers (9.3.2 p1)
 abbrev pub this_of : Typ → Tree → ThisAt
-this_of t object at = retyped at (plain (ptr t)) Prvalue object
+this_of t object at = retyped at (plain (ptr (unqualified t))) Prvalue object
 
 -- a piece of an object with its destructions
 abbrev pub piece : Ctx → ℕ → Typ → At → Tree → Tree

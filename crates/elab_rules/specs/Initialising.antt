@@ -15,7 +15,7 @@ use Rattle.elab_ctx.specs.cpp_types.declared.ranks.Conversion.{Conversion}
 use Rattle.cpp_overload.specs.Overload.{Candidate, Argument}
 use Rattle.cpp_overload.specs.Choosing.{Choice, best, none_viable, none_best, chosen}
 use Rattle.elab_ctx.specs.cpp_tree.declared.kinds.TKind.{TKind}
-use Rattle.elab_ctx.specs.cpp_tree.declared.kinds.TKind.TheVariants.{Materialize, Store, Construct, CopyConstruct, CopyFrom, Pieces, Piece, Elements}
+use Rattle.elab_ctx.specs.cpp_tree.declared.kinds.TKind.TheVariants.{Materialize, Retype, Store, Construct, CopyConstruct, CopyFrom, Pieces, Piece, Elements}
 use Rattle.elab_ctx.specs.cpp_tree.declared.program.FuncKind.{FuncKind}
 use Rattle.elab_ctx.specs.cpp_tree.declared.program.FuncKind.TheVariants.{Constructor, Plain, ClosureCall}
 use Rattle.elab_ctx.specs.cpp_tree.declared.program.Linkage.TheVariants.{External}
@@ -26,10 +26,10 @@ use Rattle.elab_ctx.specs.cpp_tree.declared.faults.IllRule.TheVariants.{NoConver
 use Rattle.elab_ctx.specs.cpp_tree.declared.faults.IllRule.TheVariants.{BadInit, OutOfProfile, BadDeclaration}
 use Rattle.elab_ctx.specs.cpp_tree.Trees.{Tree, node, Trees, none, more, one, two, kind_of, typ_in, cat_of, kids_of, nowhere}
 use Rattle.elab_ctx.specs.cpp_tree.Notation.{plain}
-use Rattle.elab_ctx.specs.cpp_tree.Typing.{form_in, is_volatile_typ, unqualified, qualified, is_class_typ, without_exception, is_class_prvalue}
+use Rattle.elab_ctx.specs.cpp_tree.Typing.{form_in, is_volatile_typ, unqualified, qualified, is_class_typ, without_exception, is_class_prvalue, goes_both_ways}
 use Rattle.elab_ctx.specs.Ctx.{Ctx, Work, Func, Special, absent, trivial, function, with_item, next_place}
 use Rattle.elab_ctx.specs.Steps.{and_then, expect, check, Operand, Made, MadeAll}
-use Rattle.elab_rules.specs.Values.{place_of, retyped, valued, stepped, stored, builder, temporary}
+use Rattle.elab_rules.specs.Values.{place_of, retyped, valued, stepped, stored, builder, temporary, is_exception_form}
 use Rattle.elab_rules.specs.Objects.{class_in, element_of, count_in, size_of, is_array, zeros, copies, destroys, traits_at, parts_of}
 use Rattle.elab_rules.specs.Objects.{Part}
 
@@ -301,6 +301,31 @@ class_from c w (typ (tx_ex t) q v) at o = and_then (check (o.at) NoConversion (f
     (λ z. Ok (record { tree = exception_copied c (typ (tx_ex t) q v) at o.tree; work = w })))
 class_from c w t at o = Err (Ill (o.at) NoConversion)
 
+-- Objects of exactly one type
+
+-- a `std::tx_exception` that is written with its value
+abbrev pub is_written_exception : Tree → Bool
+is_written_exception (node Retype (typ (tx_ex t) d v) Prvalue at kids) = true
+is_written_exception e = false
+
+-- a class prvalue that builds no object of exactly this type: what is called or chosen has its own
+abbrev pub has_own_type : Typ → Tree → Bool
+has_own_type t e = is_written_exception e
+    || (not (typ_eq t (typ_in e)) && (goes_both_ways (kind_of e) || is_exception_form (form_in (typ_in e))))
+
+abbrev pub is_other_prvalue : Typ → Tree → Bool
+is_other_prvalue t e = is_class_prvalue (typ_in e) (cat_of e) && has_own_type t e
+
+abbrev pub object_operand : Operand → Tree → Operand
+object_operand o e = record { tree = e; at = o.at; zero = false }
+
+-- an object of exactly this type: of such a prvalue, a copy
+abbrev pub exact_object : Ctx → Work → Typ → At → Operand → Result Made ElabFault
+exact_object c w t at o = if is_other_prvalue t o.tree then
+    class_from c (object_of c w o.at o.tree).work t at (object_operand o (object_of c w o.at o.tree).tree) else class_from c w t at o
+
+-- Words of calls (C++14 5.2.2)
+
 abbrev pub passed : Ctx → Work → Typ → Operand → Result Made ElabFault
 passed c w p o = if is_class_typ p then and_then (class_from c (with_item w (unqualified p)) (unqualified p) (o.at) o)
     (λ (m : Made). Ok (argument_object w (unqualified p) (o.at) (destroys c (o.at) (unqualified p)) m)) else initial c w p o
@@ -365,10 +390,10 @@ only os = None
 abbrev pub scalar_from : Ctx → Work → Typ → Operand → Result Made ElabFault
 scalar_from c w t o = and_then (initial c w t o) (λ (m : Made). Ok (record { tree = stored o.at t m.tree; work = m.work }))
 
--- the value in a `std::tx_exception`, which its constructor takes
+-- the value in a `std::tx_exception`, which its constructor takes: the exception is that object, so it has exactly the value's type
 abbrev pub exception_from : Ctx → Work → Typ → At → List Operand → Result Made ElabFault
 exception_from c w t at os = and_then (expect at NoViable (only os))
-    (λ (o : Operand). if is_class_typ t then and_then (class_from c w t at o) (λ (m : Made). Ok m) else scalar_from c w t o)
+    (λ (o : Operand). if is_class_typ t then exact_object c w t at o else scalar_from c w t o)
 
 abbrev pub is_exception_itself : Typ → List Operand → Bool
 is_exception_itself t (o ∷ []) = form_eq (form_in (typ_in o.tree)) (tx_ex t)

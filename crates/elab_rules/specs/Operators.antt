@@ -25,13 +25,14 @@ use Rattle.elab_ctx.specs.cpp_layout.declared.extents.TheConstants.{GREATEST_SIZ
 use Rattle.elab_ctx.specs.cpp_tree.declared.faults.IllRule.TheVariants.{NoConversion, BadOperand, NotLvalue, ConstTarget, Incomplete, NoCopy}
 use Rattle.elab_ctx.specs.cpp_tree.Trees.{Tree, node, none, more, one, two, three, typ_in, cat_of, kind_of}
 use Rattle.elab_ctx.specs.cpp_tree.Notation.{plain}
-use Rattle.elab_ctx.specs.cpp_tree.Typing.{form_in, is_volatile_typ, unqualified, is_class_typ, is_void, kind_in, is_class_prvalue, goes_both_ways}
+use Rattle.elab_ctx.specs.cpp_tree.Typing.{form_in, is_volatile_typ, unqualified, is_class_typ, is_void, kind_in, is_class_prvalue}
 use Rattle.elab_ctx.specs.Ctx.{Ctx, Work}
 use Rattle.elab_ctx.specs.Steps.{and_then, expect, check, Operand, Made}
-use Rattle.elab_rules.specs.Values.{place_of, same_at, bool_type, size_type, retyped, number, operated, valued, in_kind, is_exception_form}
+use Rattle.elab_rules.specs.Values.{place_of, same_at, bool_type, size_type, retyped, number, operated, valued, in_kind}
 use Rattle.elab_rules.specs.Objects.{size_of, copies, traits_at}
 use Rattle.elab_rules.specs.Constants.{word_in}
-use Rattle.elab_rules.specs.Initialising.{initial, object_of, class_from, class_number, as_source, is_same_or_base, with_tree, exception_copied, seen_as}
+use Rattle.elab_rules.specs.Initialising.{initial, object_of, class_number, as_source, is_same_or_base, with_tree, exception_copied, seen_as, is_written_exception}
+use Rattle.elab_rules.specs.Initialising.{exact_object}
 
 -- Names of operators
 
@@ -332,11 +333,6 @@ abbrev pub dropped : Ctx → Work → Operand → Made
 dropped c w o = if throws o.tree then record { tree = bare_throw o.tree; work = w } else (
     if is_volatile_scalar (typ_in o.tree) && is_read_when_dropped o.tree then record { tree = value o; work = w } else object_of c w o.at o.tree)
 
--- a `std::tx_exception` that is written with its value
-abbrev pub is_written_exception : Tree → Bool
-is_written_exception (node Retype (typ (tx_ex t) d v) Prvalue at kids) = true
-is_written_exception e = false
-
 -- an operand beside another: such an exception is a copy of the object that is built
 abbrev pub settled : Ctx → Work → Operand → Made
 settled c w o = if is_written_exception o.tree then with_tree (exception_copied c (typ_in o.tree) o.at) (object_of c w o.at o.tree) else
@@ -397,25 +393,9 @@ is_shared a b = is_lvalue (cat_of a.tree) && is_lvalue (cat_of b.tree) && both_o
 abbrev pub shared : At → Tree → Operand → Operand → Tree
 shared at test a b = conditional_node at (joined_class a b) Lvalue test (seen_as a.at (joined_class a b) a.tree) (seen_as b.at (joined_class a b) b.tree)
 
--- a class prvalue that builds no object of exactly this type: what is called or chosen has its own
-abbrev pub has_own_type : Typ → Tree → Bool
-has_own_type t e = is_written_exception e
-    || (not (typ_eq t (typ_in e)) && (goes_both_ways (kind_of e) || is_exception_form (form_in (typ_in e))))
-
-abbrev pub is_other_prvalue : Typ → Tree → Bool
-is_other_prvalue t e = is_class_prvalue (typ_in e) (cat_of e) && has_own_type t e
-
-abbrev pub object_operand : Operand → Tree → Operand
-object_operand o e = record { tree = e; at = o.at; zero = false }
-
--- an object of exactly this type: of such a prvalue, a copy
-abbrev pub object_as : Ctx → Work → Typ → Operand → Result Made ElabFault
-object_as c w t o = if is_other_prvalue t o.tree then
-    class_from c (object_of c w o.at o.tree).work t o.at (object_operand o (object_of c w o.at o.tree).tree) else class_from c w t o.at o
-
 abbrev pub two_objects : Ctx → Work → At → Tree → Operand → Operand → Result Made ElabFault
-two_objects c w at test a b = and_then (object_as c w (common_class a b) a)
-    (λ (x : Made). and_then (object_as c x.work (common_class a b) b)
+two_objects c w at test a b = and_then (exact_object c w (common_class a b) a.at a)
+    (λ (x : Made). and_then (exact_object c x.work (common_class a b) b.at b)
     (λ (y : Made). Ok (record { tree = conditional_node at (common_class a b) Prvalue test x.tree y.tree; work = y.work })))
 
 -- an operand beside one that throws: an lvalue, a class prvalue or nothing stays as it is

@@ -48,7 +48,7 @@ use Rattle.elab_rules.specs.Operators.{value, truth, dropped, true_at, is_comple
 use Rattle.elab_rules.specs.Names.{is_const_typ}
 use Rattle.elab_rules.specs.Sizes.{typ_sized}
 use Rattle.elab_rules.specs.Strings.{string_bytes}
-use Rattle.elab_rules.specs.Types.{Declared, has_auto, is_bounded, is_nothing}
+use Rattle.elab_rules.specs.Types.{Declared, has_auto, is_bounded, is_nothing, with_qualifiers}
 use Rattle.elab_rules.specs.Braces.{item_of, string_token, string_object, is_char_array, syntax_place}
 use Rattle.elab_rules.specs.Expressions.{expression_of, operands_of, chosen_operand, type_of_specifiers, declared_by}
 
@@ -270,9 +270,6 @@ with_initialiser lams s st v t at kids = Err (Ill at OutOfProfile)
 
 -- `auto` (7.1.6.4): what stands for it in the type of a declarator, from the type of the initialiser
 
-abbrev pub with_cv : Bool → Bool → Typ → Typ
-with_cv c v (typ f d w) = typ f (c || d) (v || w)
-
 -- without the qualifiers that the first type has
 abbrev pub less_qualified : Typ → Typ → Typ
 less_qualified (typ g c v) (typ f d w) = typ f (d && not c) (w && not v)
@@ -283,7 +280,7 @@ deduced_from (typ (ptr t) c v) (typ (ptr u) d w) = deduced_from t u
 deduced_from t u = None
 
 abbrev pub replaced : Typ → Typ → Typ
-replaced u (typ (enum [] x) c v) = with_cv c v u
+replaced u (typ (enum [] x) c v) = with_qualifiers c v u
 replaced u (typ (ptr t) c v) = typ (ptr (replaced u t)) c v
 replaced u (typ (ref t) c v) = typ (ref (replaced u t)) c v
 replaced u t = t

@@ -111,6 +111,7 @@ pub use elab_expr::below::type_named;
 pub use elab_expr::below::unqualified_type;
 pub use elab_expr::below::value;
 pub use elab_expr::below::valued;
+pub use elab_expr::below::with_qualifiers;
 pub use elab_expr::below::zeros;
 pub use elab_expr::parameters;
 pub use elab_expr::type_id;
