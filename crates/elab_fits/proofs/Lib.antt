@@ -1,0 +1,1 @@
+pub use Rattle.elab_rules.proofs as elab_rules
