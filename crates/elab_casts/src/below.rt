@@ -68,6 +68,7 @@ pub use elab_forms::below::add_three;
 pub use elab_forms::below::add_unary;
 pub use elab_forms::below::address_of;
 pub use elab_forms::below::arithmetic;
+pub use elab_forms::below::as_source;
 pub use elab_forms::below::binary;
 pub use elab_forms::below::binary_operator;
 pub use elab_forms::below::class_at;

@@ -19,8 +19,8 @@ ghost use Rattle.elab_casts.specs.Rows.{value_cast, void_made, class_made, zero_
 use elab_forms::below::{
     At, Cat, ElabFault, Env, IllRule, IntKind, Operand, Shape, TKind, TNode, TNodeId, Ty, Work,
     add_leaf, add_node, add_unary, converted, copy, elab_ops_ill as ill, from_values, initial,
-    is_class_type, is_exception_type, is_function, kids_at, kind_of, measurable, node_at, number, referred_type,
-    size_of, unqualified_type, value,
+    is_class_type, is_exception_type, is_function, kids_at, kind_of, measurable, node_at, number,
+    referred_type, size_of, unqualified_type, value,
 };
 use elab_forms::conditionals::{is_void, void_type};
 use elab_forms::dropped;

@@ -73,6 +73,7 @@ pub use elab_stmt::below::add_item;
 pub use elab_stmt::below::add_leaf;
 pub use elab_stmt::below::add_unary;
 pub use elab_stmt::below::all_lambdas;
+pub use elab_stmt::below::as_source;
 pub use elab_stmt::below::block;
 pub use elab_stmt::below::bound_by_initialiser;
 pub use elab_stmt::below::class_at;

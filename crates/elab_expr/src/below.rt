@@ -67,6 +67,7 @@ pub use elab_rows::below::add_node;
 pub use elab_rows::below::add_three;
 pub use elab_rows::below::add_unary;
 pub use elab_rows::below::arithmetic;
+pub use elab_rows::below::as_source;
 pub use elab_rows::below::bare_throw;
 pub use elab_rows::below::class_at;
 pub use elab_rows::below::class_from;

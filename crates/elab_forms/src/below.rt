@@ -65,6 +65,7 @@ pub use elab_make::below::add_item;
 pub use elab_make::below::add_leaf;
 pub use elab_make::below::add_node;
 pub use elab_make::below::add_unary;
+pub use elab_make::below::as_source;
 pub use elab_make::below::class_at;
 pub use elab_make::below::class_number;
 pub use elab_make::below::completion;

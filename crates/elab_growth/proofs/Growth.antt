@@ -138,12 +138,21 @@ constructed_copy c w n t at o (Some i) = passes (all_made w) (made w) (Initialis
 copied_object : (c : Ctx) (w : Work) (n : ℕ) (t : Typ) (at : At) (o : Operand) → Holds (made w) (Initialising.copied_object c w n t at o)
 copied_object c w n t at o = search (behind, constructed_copy)
 
+exception_by : (c : Ctx) (w : Work) (t : Typ) (at : At) (o : Operand) (b : Bool)
+    → Behind w (if b then Initialising.with_tree (Initialising.exception_copied c t at) (Initialising.object_of c w o.at o.tree) else
+    record { tree = Initialising.exception_built c.classes t (Values.builder o.tree); work = w }).work
+exception_by c w t at o true = object c w o.at o.tree
+exception_by c w t at o false = same w
+
+exception_made : (c : Ctx) (w : Work) (t : Typ) (at : At) (o : Operand) → Behind w (Initialising.exception_made c w t at o).work
+exception_made c w t at o = exception_by c w t at o (Initialising.is_given_value (Values.builder o.tree))
+
 class_from : (c : Ctx) (w : Work) (t : Typ) (at : At) (o : Operand) → Holds (made w) (Initialising.class_from c w t at o)
 class_from c w (typ (closure n) q v) at o = either (made w) (Initialising.is_closure_itself n q v o.tree) _ _ (same w) (search (behind, object))
 class_from c w (typ (class n) q v) at o = behind (made w) (Initialising.makeable c at n) _
     (λ i. either (made w) (Initialising.is_prvalue_of_class n o.tree) _ _ (same w) (search (behind, copied_object)))
 class_from c w (typ (tx_ex t) q v) at o = behind (made w) (check o.at NoConversion (form_eq (form_in (typ_in o.tree)) (tx_ex t))) _
-    (λ y. either (made w) (is_class_prvalue (typ_in o.tree) (cat_of o.tree)) _ _ (same w) (search (behind, same)))
+    (λ y. either (made w) (is_class_prvalue (typ_in o.tree) (cat_of o.tree)) _ _ (exception_made c w (typ (tx_ex t) q v) at o) (search (behind, same)))
 class_from c w t at o = tt
 
 passed : (c : Ctx) (w : Work) (p : Typ) (o : Operand) → Holds (made w) (Initialising.passed c w p o)

@@ -25,7 +25,7 @@ use Rattle.elab_entry.specs.elab_rules.Objects.{followed_by, is_array}
 use Rattle.elab_entry.specs.elab_rules.Names.{held_by, members_in, offset_at}
 use Rattle.elab_entry.specs.elab_rules.Calls.{pointer_offset, base_of_class}
 use Rattle.elab_entry.specs.elab_rules.Statements.{State, Done, done, joined, with_work}
-use Rattle.elab_entry.specs.elab_rules.Initialising.{class_from, closure_part}
+use Rattle.elab_entry.specs.elab_rules.Initialising.{class_from, as_source, closure_part}
 use Rattle.elab_entry.specs.elab_rules.Members.{as_base_of, member_type, pointer_stored}
 use Rattle.elab_entry.specs.elab_rules.Implicit.{source_object, own_operand, part_copied, part_of_source, members_copied, base_copied, parts_copied}
 use Rattle.elab_entry.specs.elab_scopes.declared.state.State.{State as StateRec}
@@ -248,27 +248,29 @@ members_done a b at n source c i ms before now x m h = so_far_done a b before no
 -- The base, and the state behind it
 
 base_is : (st : State) (at : At) (n b : ℕ) (source : Tree)
-    → base_copied st at n source (Some b) ≡ and_then (base_from st.ctx st.work at n b source) (λ (m : Made). done (one m.tree) (with_work st m.work))
-base_is st at n b source = sym (nest_made (class_from (as_base_of st.ctx b) st.work (plain (class b)) at (own_operand at source)) (base_init st.ctx at at n b)
+    → base_copied st at n source (Some b) ≡ and_then (base_from st.ctx st.work at n b (as_source at b source))
+    (λ (m : Made). done (one m.tree) (with_work st m.work))
+base_is st at n b source = sym (nest_made (class_from (as_base_of st.ctx b) st.work (plain (class b)) at (own_operand at (as_source at b source)))
+    (base_init st.ctx at at n b)
     (λ (m : Made). done (one m.tree) (with_work st m.work)))
 
 pub base_listed : (a c : StateRec) (at : At) (n b : ℕ) (source : Tree) (r : TNodeId) (w : Work) (ids : List TNodeId)
-    → MadeAt (made a) (made c) w r (base_from (ctx_of a.env) (work_of a.work) at n b source) → state_of c ≡ with_work (state_of a) w → ids ≡ r ∷ []
+    → MadeAt (made a) (made c) w r (base_from (ctx_of a.env) (work_of a.work) at n b (as_source at b source)) → state_of c ≡ with_work (state_of a) w → ids ≡ r ∷ []
     → Listed a c ids (base_copied (state_of a) at n source (Some b))
 base_listed a c at n b source r w ids m s e =
-    let one : OneDone a c r (and_then (base_from (ctx_of a.env) (work_of a.work) at n b source)
-    (λ (k : Made). done (one k.tree) (with_work (state_of a) k.work))) = one_ready a c r w (base_from (ctx_of a.env) (work_of a.work) at n b source) m s in
+    let one : OneDone a c r (and_then (base_from (ctx_of a.env) (work_of a.work) at n b (as_source at b source))
+    (λ (k : Made). done (one k.tree) (with_work (state_of a) k.work))) = one_ready a c r w (base_from (ctx_of a.env) (work_of a.work) at n b (as_source at b source)) m s in
     record {
       grown = one.grown;
       within = rw e (within_one (length (made c)) r one.within);
       is = base_is (state_of a) at n b source ∙ one.is ∙ ap (λ (z : List TNodeId). done (trees_at (made c) z) (state_of c)) (sym e);
     }
 
-pub base_refused : (a : StateRec) (at : At) (n b : ℕ) (source : Tree) (e : ElabFault) → Faults e (base_from (ctx_of a.env) (work_of a.work) at n b source)
+pub base_refused : (a : StateRec) (at : At) (n b : ℕ) (source : Tree) (e : ElabFault) → Faults e (base_from (ctx_of a.env) (work_of a.work) at n b (as_source at b source))
     → Faults e (base_copied (state_of a) at n source (Some b))
 base_refused a at n b source e m = faults_same e _ _ (base_is (state_of a) at n b source)
     (faults_in (λ (z : Result Made ElabFault). and_then z (λ (k : Made). done (one k.tree) (with_work (state_of a) k.work))) e
-    (base_from (ctx_of a.env) (work_of a.work) at n b source) (λ d. refl) m)
+    (base_from (ctx_of a.env) (work_of a.work) at n b (as_source at b source)) (λ d. refl) m)
 
 -- The base, the class pointer, then the members
 

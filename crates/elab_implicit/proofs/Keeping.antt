@@ -15,7 +15,7 @@ use Rattle.elab_entry.specs.elab_rules.Objects.{followed_by}
 use Rattle.elab_entry.specs.elab_rules.Names.{members_in, offset_at}
 use Rattle.elab_entry.specs.elab_rules.Calls.{pointer_offset, base_of_class}
 use Rattle.elab_entry.specs.elab_rules.Braces.{default_at}
-use Rattle.elab_entry.specs.elab_rules.Initialising.{class_from}
+use Rattle.elab_entry.specs.elab_rules.Initialising.{class_from, as_source}
 use Rattle.elab_entry.specs.elab_rules.Statements.{Body, State, Done, done, with_work}
 use Rattle.elab_entry.specs.elab_rules.Members.{Given, as_base_of, own_part, own_base, part_init, given_for, pointer_stored, default_built, base_built}
 use Rattle.elab_entry.specs.elab_rules.Members.{member_built, members_built, parts_built, constructor_tree}
@@ -95,8 +95,8 @@ copies_keep at n source c st i (m ∷ ms) bs h = made_keeps bs (part_copied st a
 
 base_keeps : (st : State) (at : At) (n : ℕ) (source : Tree) (o : Option ℕ) (bs : Standing) → standing st ≡ bs → Keeps bs (base_copied st at n source o)
 base_keeps st at n source None bs h = h
-base_keeps st at n source (Some b) bs h = made_keeps bs (class_from (as_base_of st.ctx b) st.work (plain (class b)) at (own_operand at source))
-    (λ (m : Made). Ok (part_done st at (plain (class b)) (own_base n at b) m)) (λ m. h)
+base_keeps st at n source (Some b) bs h = made_keeps bs (class_from (as_base_of st.ctx b) st.work (plain (class b)) at
+    (own_operand at (as_source at b source))) (λ (m : Made). Ok (part_done st at (plain (class b)) (own_base n at b) m)) (λ m. h)
 
 all_keep : (st : State) (at : At) (n : ℕ) (source : Tree) (c : Bool) (bs : Standing) → standing st ≡ bs → Keeps bs (parts_copied st at n source c)
 all_keep st at n source c bs h = done_keeps bs (base_copied st at n source (base_of_class (slice_get st.ctx.classes n)))

@@ -11,7 +11,7 @@ ghost use Rattle.elab_entry.specs.elab_ctx.Says.{Makes, are_within};
 ghost use Rattle.elab_entry.specs.elab_rules.Values.{stored as stored_of, valued as valued_of};
 ghost use Rattle.elab_entry.specs.elab_rules.Names.{held_by as held_by_of, members_in};
 ghost use Rattle.elab_entry.specs.elab_rules.Objects.{is_array as is_array_of};
-ghost use Rattle.elab_entry.specs.elab_rules.Initialising.{copied_part as copied_part_of, copy_of_held as copy_of_held_of, closure_part as closure_part_of, class_from as class_from_of};
+ghost use Rattle.elab_entry.specs.elab_rules.Initialising.{copied_part as copied_part_of, copy_of_held as copy_of_held_of, closure_part as closure_part_of, class_from as class_from_of, as_source as as_source_of};
 ghost use Rattle.elab_entry.specs.elab_rules.Calls.{base_of_class as base_of_class_of};
 ghost use Rattle.elab_entry.specs.elab_rules.Members.{as_base_of, member_type as member_type_of};
 ghost use Rattle.elab_entry.specs.elab_rules.Implicit.{source_object as source_object_of, source_const as source_const_of, own_operand, part_of_source, members_copied as members_copied_of, base_copied as base_copied_of, parts_copied as parts_copied_of, with_source};
@@ -26,9 +26,9 @@ use crate::parts::{base_of_class, member_count, member_type};
 use cpp_types::{At, Cat, Shape, Ty, copy};
 use elab_entry::below::{
     ElabFault, Env, Operand, Special, State, TKind, TNode, TNodeId, Work, add_binary, add_item,
-    class_from, class_number, copies, each_by, elab_names_qualified_type as qualified_type,
-    element_type, is_class_type, keep, keep_all, offset_at, one_of, part_at, referred_type, stored,
-    traits_at, valued,
+    as_source, class_from, class_number, copies, each_by,
+    elab_names_qualified_type as qualified_type, element_type, is_class_type, keep, keep_all,
+    offset_at, one_of, part_at, referred_type, stored, traits_at, valued,
 };
 use std::alloc::{AllocError, Global};
 
@@ -302,6 +302,20 @@ fn base_object(
     copied
 }
 
+// The base of the object that is copied.
+fn source_base(
+    alloc: Global,
+    nodes: &mut Vec<TNode>,
+    base: u32,
+    param: &Ty,
+    at: At,
+) -> Result<TNodeId, AllocError>
+    ensures { (class : ℕ) → IfOk result (λ r. Adds (trees_of nodes.old.items) (trees_of nodes.new.items) r (as_source_of at base (source_object_of class (typ_of param.now) at))) }
+{
+    let source = source_object(alloc, nodes, param, at)?;
+    as_source(alloc, nodes, at, base, source)
+}
+
 // The base from the object that is copied.
 fn base_copied(
     alloc: Global,
@@ -313,9 +327,9 @@ fn base_copied(
     param: &Ty,
 ) -> Result<TNodeId, ElabFault>
     ensures ctx { OnOk result (ctx_of env.new ≡ ctx_of env.old) }
-    ensures made { Makes (trees_of work.old.nodes.items) (trees_of work.new.nodes.items) (work_of work.new) result (base_from (ctx_of env.old) (work_of work.old) at class base (source_object_of class (typ_of param.now) at)) }
+    ensures made { Makes (trees_of work.old.nodes.items) (trees_of work.new.nodes.items) (work_of work.new) result (base_from (ctx_of env.old) (work_of work.old) at class base (as_source_of at base (source_object_of class (typ_of param.now) at))) }
 {
-    let source = source_object(alloc, &mut work.nodes, param, at)?;
+    let source = source_base(alloc, &mut work.nodes, base, param, at)?;
     let init = base_object(alloc, env, work, at, base, source)?;
     let made = base_init(alloc, env, &mut work.nodes, at, at, class, base, init)?;
     Ok(made)

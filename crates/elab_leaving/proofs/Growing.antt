@@ -27,7 +27,7 @@ use Rattle.elab_rules.specs.Objects.{Part, parts_of, traits_at}
 use Rattle.elab_rules.specs.Initialising.{object_of, bound_by, initial, is_prvalue_of_class, parameters_at, reference_word, constructed_copy, constructor_at}
 use Rattle.elab_rules.specs.Initialising.{copied_object, class_from, passed, words, constructed_by, is_prvalue_itself, constructed, only, scalar_from}
 use Rattle.elab_rules.specs.Initialising.{exception_from, is_exception_itself, from_values, func_at, argument, arguments, class_number, conversion}
-use Rattle.elab_rules.specs.Initialising.{is_written_exception, is_other_prvalue, object_operand, exact_object}
+use Rattle.elab_rules.specs.Initialising.{is_written_exception, is_given_value, is_other_prvalue, object_operand, exact_object}
 use Rattle.elab_rules.specs.Initialising.{from_nothing, has_copy, is_same_or_base, makeable, makers, meant, places_from, same_number, signature_result}
 use Rattle.elab_rules.specs.Initialising.{with_tree, as_source, signature_parameters, is_closure_itself}
 use Rattle.elab_rules.specs.Operators.{value, throws, is_volatile_scalar, is_read_when_dropped, dropped, copy_assigned, class_assigned_in, assignment}
@@ -58,7 +58,7 @@ use Rattle.elab_rules.specs.cpp_lex.Ints.{int_type_of}
 use Rattle.elab_rules.specs.Types.{no_specifiers, specified_type}
 use Rattle.elab_rules.specs.cpp_tree.Notation.{plain}
 use Rattle.elab_rules.specs.tx_ints.declared.kinds.BinOp.{BinOp}
-use Rattle.elab_rules.specs.Values.{part_at, valued}
+use Rattle.elab_rules.specs.Values.{part_at, valued, builder}
 
 -- Answers
 
@@ -124,7 +124,8 @@ class_grows c w (typ (class n) q v) at o = skip (Mades w) (makeable c at n) _
     (skip (Mades w) (check (o.at) NoConversion (is_same_or_base c.classes (class_number (typ_in o.tree)) (Some n))) _
     (λ y. copied_grows c w n (typ (class n) q v) at o)))
 class_grows c w (typ (tx_ex t) q v) at o = skip (Mades w) (check (o.at) NoConversion (form_eq (form_in (typ_in o.tree)) (tx_ex t))) _
-    (λ y. either (Mades w) (is_class_prvalue (typ_in o.tree) (cat_of o.tree)) _ _ (same w)
+    (λ y. either (Mades w) (is_class_prvalue (typ_in o.tree) (cat_of o.tree)) _ _
+    (if_made w (is_given_value (builder o.tree)) _ _ (object_grows c w o.at o.tree) (same w))
     (skip (Mades w) (check (o.at) NoCopy (not (is_volatile_typ (typ_in o.tree)))) _ (λ z. same w)))
 class_grows c w t at o = tt
 

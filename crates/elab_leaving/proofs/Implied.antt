@@ -11,9 +11,9 @@ use Rattle.elab_rules.specs.cpp_tree.Notation.{plain}
 use Rattle.elab_rules.specs.cpp_tree.Trees.{Tree, none}
 use Rattle.elab_rules.specs.cpp_tree.Typing.{is_class_typ}
 use Rattle.elab_rules.specs.elab_ctx.Ctx.{Func}
-use Rattle.elab_rules.specs.elab_ctx.Steps.{and_then}
+use Rattle.elab_rules.specs.elab_ctx.Steps.{and_then, Operand}
 use Rattle.elab_rules.specs.Objects.{is_array}
-use Rattle.elab_rules.specs.Initialising.{func_at, signature_parameters, class_from}
+use Rattle.elab_rules.specs.Initialising.{func_at, signature_parameters, class_from, as_source}
 use Rattle.elab_rules.specs.Names.{members_in}
 use Rattle.elab_rules.specs.Calls.{base_of_class}
 use Rattle.elab_rules.specs.Statements.{State, Done, with_work, the_tree}
@@ -51,8 +51,11 @@ members_kept at n source is_const st i (m ∷ ms) =
 
 base_kept : (st : State) (at : At) (n : ℕ) (source : Tree) (o : Option ℕ) → On (Ends st) (base_copied st at n source o)
 base_kept st at n source None = stays st
-base_kept st at n source (Some b) = bind (Mades st.work) (Ends st) (class_from (as_base_of st.ctx b) st.work (plain (class b)) at (own_operand at source)) _
-    (class_grows (as_base_of st.ctx b) st.work (plain (class b)) at (own_operand at source)) (λ m g. work_kept st m.work g)
+base_kept st at n source (Some b) = bind (Mades st.work) (Ends st) (class_from (as_base_of st.ctx b) st.work (plain (class b)) at o) _
+    (class_grows (as_base_of st.ctx b) st.work (plain (class b)) at o) (λ m g. work_kept st m.work g)
+  where
+    o : Operand
+    o = own_operand at (as_source at b source)
 
 copied_kept : (st : State) (at : At) (n : ℕ) (source : Tree) (is_const : Bool) → On (Ends st) (parts_copied st at n source is_const)
 copied_kept st at n source is_const = follow of_done of_done st (base_copied st at n source (base_of_class (slice_get st.ctx.classes n))) _

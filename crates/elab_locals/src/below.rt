@@ -74,6 +74,7 @@ pub use elab_scopes::below::add_item;
 pub use elab_scopes::below::add_leaf;
 pub use elab_scopes::below::add_node;
 pub use elab_scopes::below::add_unary;
+pub use elab_scopes::below::as_source;
 pub use elab_scopes::below::class_at;
 pub use elab_scopes::below::class_from;
 pub use elab_scopes::below::class_number;

@@ -7,13 +7,14 @@ ghost use Rattle.elab_init.specs.cpp_tree.Arena.{trees_of, tree_at, Adds};
 ghost use Rattle.elab_init.specs.elab_ctx.Ctx.{ctx_of, work_of, special_of};
 ghost use Rattle.elab_init.specs.elab_ctx.Operands.{operand_in};
 ghost use Rattle.elab_init.specs.elab_ctx.Says.{Makes, MakesAll, Puts};
-ghost use Rattle.elab_init.specs.elab_rules.Initialising.{initial as initial_of, has_copy as has_copy_of, reference_word as reference_word_of, constructed_copy as constructed_copy_of, copied_object as copied_object_of, class_from as class_from_of, copied_in_place as copied_in_place_of, with_tree, object_of as object_by, is_closure_itself as is_closure_itself_of, closure_copied as closure_copied_of, exception_built as exception_built_of, exception_copied as exception_copied_of};
+ghost use Rattle.elab_init.specs.elab_rules.Initialising.{initial as initial_of, has_copy as has_copy_of, reference_word as reference_word_of, constructed_copy as constructed_copy_of, copied_object as copied_object_of, class_from as class_from_of, copied_in_place as copied_in_place_of, with_tree, object_of as object_by, is_closure_itself as is_closure_itself_of, closure_copied as closure_copied_of, exception_built as exception_built_of, exception_copied as exception_copied_of, exception_made as exception_made_of};
 ghost use Rattle.elab_make.specs.Passing.{copying_word};
 
 use crate::binding::initial;
 use crate::closures::{closure_copy, closure_type};
 use crate::lists::one_of;
 use crate::objects::object_of;
+use crate::own_types::is_given_value;
 use elab_init::below::{
     At, Cat, ElabFault, Env, IllRule, Operand, Shape, Special, TKind, TNode, TNodeId, Ty, Work,
     add_binary, copy, equal_shapes, equal_types, node_at,
@@ -309,6 +310,41 @@ fn exception_built(
     building(alloc, env, nodes, &value, id)
 }
 
+// A `std::tx_exception` of a type, copied from the temporary that an expression makes.
+fn exception_given(
+    alloc: Global,
+    env: &Env,
+    work: &mut Work,
+    ty: &Ty,
+    at: At,
+    o: Operand,
+) -> Result<TNodeId, AllocError>
+    requires { o.id.0 < length (trees_of work.old.nodes.items) }
+    ensures { IfOk result (λ r. Puts (trees_of work.old.nodes.items) (trees_of work.new.nodes.items) (work_of work.new) r (with_tree (exception_copied_of (ctx_of env.now) (typ_of ty.now) at) (object_by (ctx_of env.now) (work_of work.old) o.at (tree_at (trees_of work.old.nodes.items) o.id)))) }
+{
+    let object = object_of(alloc, env, work, o.at, o.id)?;
+    exception_copied(alloc, env, &mut work.nodes, ty, at, object)
+}
+
+// A `std::tx_exception` of a type that is written with its value.
+fn exception_made(
+    alloc: Global,
+    env: &Env,
+    work: &mut Work,
+    ty: &Ty,
+    at: At,
+    o: Operand,
+) -> Result<TNodeId, AllocError>
+    requires { o.id.0 < length (trees_of work.old.nodes.items) }
+    ensures { IfOk result (λ r. Puts (trees_of work.old.nodes.items) (trees_of work.new.nodes.items) (work_of work.new) r (exception_made_of (ctx_of env.now) (work_of work.old) (typ_of ty.now) at (operand_in (trees_of work.old.nodes.items) o))) }
+{
+    let init = builder(&work.nodes, o.id)?;
+    if is_given_value(&work.nodes, init) {
+        return exception_given(alloc, env, work, ty, at, o);
+    }
+    exception_built(alloc, env, &mut work.nodes, ty, init)
+}
+
 // A `std::tx_exception` from an expression.
 fn exception_from(
     alloc: Global,
@@ -329,8 +365,7 @@ fn exception_from(
         return Err(ill(o.at, IllRule::NoConversion));
     }
     if is_class_prvalue(&node.ty, node.cat) {
-        let init = builder(&work.nodes, o.id)?;
-        let made = exception_built(alloc, env, &mut work.nodes, &ty, init)?;
+        let made = exception_made(alloc, env, work, &ty, at, o)?;
         return Ok(made);
     }
     if node_at(&work.nodes, o.id).ty.is_volatile {

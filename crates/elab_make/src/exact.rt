@@ -3,72 +3,20 @@
 ghost use Rattle.std.specs.Prelude.{◌≡◌, ◌<◌, length};
 ghost use Rattle.elab_init.specs.cpp_types.Typ.{typ_of};
 ghost use Rattle.elab_init.specs.cpp_tree.Arena.{trees_of, tree_at};
-ghost use Rattle.elab_init.specs.cpp_tree.Typing.{form_in, goes_both_ways as goes_both_ways_of};
 ghost use Rattle.elab_init.specs.elab_ctx.Ctx.{ctx_of, work_of};
 ghost use Rattle.elab_init.specs.elab_ctx.Operands.{operand_in};
 ghost use Rattle.elab_init.specs.elab_ctx.Says.{Makes};
-ghost use Rattle.elab_init.specs.elab_rules.Values.{is_exception_form};
-ghost use Rattle.elab_init.specs.elab_rules.Initialising.{is_written_exception as is_written_exception_of, has_own_type as has_own_type_of, is_other_prvalue as is_other_prvalue_of, exact_object as exact_object_of};
+ghost use Rattle.elab_init.specs.elab_rules.Initialising.{has_own_type as has_own_type_of, is_other_prvalue as is_other_prvalue_of, exact_object as exact_object_of};
 ghost use Rattle.elab_make.specs.Exact.{copied_object as copied_object_of};
 
 use crate::copying::class_from;
 use crate::objects::object_of;
+use crate::own_types::{goes_both_ways, is_exception_type, is_written_exception};
 use elab_init::below::{
-    At, Cat, ElabFault, Env, Operand, Shape, TKind, TNode, TNodeId, Ty, Work, equal_types, node_at,
+    At, ElabFault, Env, Operand, TNode, TNodeId, Ty, Work, equal_types, node_at,
 };
 use elab_init::is_class_prvalue;
 use std::alloc::Global;
-
-/// Whether a type is `std::tx_exception` of another.
-pub fn is_exception_type(ty: &Ty) -> bool
-    ensures { result ≡ is_exception_form (form_in (typ_of ty.now)) }
-{
-    match &ty.shape {
-        Shape::TxEx(_) => true,
-        Shape::Void
-        | Shape::Int(_)
-        | Shape::Enum { .. }
-        | Shape::Null
-        | Shape::Ptr(_)
-        | Shape::Ref(_)
-        | Shape::Array(_, _)
-        | Shape::Func(_)
-        | Shape::Class(_)
-        | Shape::Closure(_) => false,
-    }
-}
-
-/// Whether an expression is such an exception that is written with its value.
-pub fn is_written_exception(nodes: &Vec<TNode>, id: TNodeId) -> bool
-    requires { id.0 < length (trees_of nodes.now.items) }
-    ensures { result ≡ is_written_exception_of (tree_at (trees_of nodes.now.items) id) }
-{
-    let node = node_at(nodes, id);
-    match node.kind {
-        TKind::Retype => match node.cat {
-            Cat::Prvalue => is_exception_type(&node.ty),
-            Cat::Lvalue => false,
-        },
-        _ => false,
-    }
-}
-
-// Whether nodes of a kind stand for a class prvalue or another value alike.
-fn goes_both_ways(kind: TKind) -> bool
-    ensures { result ≡ goes_both_ways_of kind }
-{
-    match kind {
-        TKind::Conditional
-        | TKind::Comma
-        | TKind::FullExpression
-        | TKind::Call { .. }
-        | TKind::VirtualCall { .. }
-        | TKind::PointerCall
-        | TKind::Throw
-        | TKind::Rethrow => true,
-        _ => false,
-    }
-}
 
 // Whether a class prvalue builds no object of exactly this type.
 fn has_own_type(nodes: &Vec<TNode>, ty: &Ty, id: TNodeId) -> bool

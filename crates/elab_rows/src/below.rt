@@ -63,6 +63,7 @@ pub use elab_casts::below::add_node;
 pub use elab_casts::below::add_three;
 pub use elab_casts::below::add_unary;
 pub use elab_casts::below::arithmetic;
+pub use elab_casts::below::as_source;
 pub use elab_casts::below::bare_throw;
 pub use elab_casts::below::class_at;
 pub use elab_casts::below::class_from;

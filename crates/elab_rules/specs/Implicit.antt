@@ -18,7 +18,7 @@ use Rattle.elab_ctx.specs.Ctx.{Ctx, Func, with_item}
 use Rattle.elab_ctx.specs.Steps.{and_then, Operand, Made}
 use Rattle.elab_rules.specs.Values.{part_at, stored, valued}
 use Rattle.elab_rules.specs.Objects.{followed_by, is_array}
-use Rattle.elab_rules.specs.Initialising.{class_from, func_at, signature_parameters, same_number, closure_part}
+use Rattle.elab_rules.specs.Initialising.{class_from, as_source, func_at, signature_parameters, same_number, closure_part}
 use Rattle.elab_rules.specs.Names.{held_by, members_in, offset_at}
 use Rattle.elab_rules.specs.Calls.{pointer_offset, base_of_class, index_in_class}
 use Rattle.elab_rules.specs.Statements.{Body, State, Done, with_work}
@@ -92,9 +92,10 @@ members_copied at n source is_const st i (m ∷ ms) = and_then (part_copied st a
           d.state;
     })))
 
+-- the base from that of the object that is copied, whatever else its class is copied from (12.8 p15)
 abbrev pub base_copied : State → At → ℕ → Tree → Option ℕ → Result Done ElabFault
 base_copied st at n source None = Ok (record { trees = none; state = st })
-base_copied st at n source (Some b) = and_then (class_from (as_base_of st.ctx b) st.work (plain (class b)) at (own_operand at source))
+base_copied st at n source (Some b) = and_then (class_from (as_base_of st.ctx b) st.work (plain (class b)) at (own_operand at (as_source at b source)))
     (λ (m : Made). Ok (part_done st at (plain (class b)) (own_base n at b) m))
 
 abbrev pub parts_copied : State → At → ℕ → Tree → Bool → Result Done ElabFault

@@ -282,8 +282,17 @@ is_closure_itself n q v e = is_prvalue_of_class n e && typ_eq (typ (closure n) q
 abbrev pub exception_built : List Class → Typ → Tree → Tree
 exception_built classes t e = if typ_eq t (typ_in e) then e else building classes (without_exception t) e
 
+-- what stands for the value of such an exception and has a type of its own: called, chosen or behind a `,`
+abbrev pub is_given_value : Tree → Bool
+is_given_value e = goes_both_ways (kind_of e) && not (is_exception_form (form_in (typ_in e)))
+
 abbrev pub exception_copied : Ctx → Typ → At → Tree → Tree
 exception_copied c t at s = node CopyFrom t Prvalue at (two s (copies c.classes at (without_exception t)))
+
+-- one that is written with its value, which is copied where the value has a type of its own
+abbrev pub exception_made : Ctx → Work → Typ → At → Operand → Made
+exception_made c w t at o = if is_given_value (builder o.tree) then with_tree (exception_copied c t at) (object_of c w o.at o.tree) else
+    record { tree = exception_built c.classes t (builder o.tree); work = w }
 
 -- an object of class type from an expression (C++14 8.5 p17): a prvalue of the class is its own initialiser
 abbrev pub class_from : Ctx → Work → Typ → At → Operand → Result Made ElabFault
@@ -295,8 +304,7 @@ class_from c w (typ (class n) q v) at o = and_then (makeable c at n)
     and_then (check (o.at) NoConversion (is_same_or_base c.classes (class_number (typ_in o.tree)) (Some n)))
     (λ y. copied_object c w n (typ (class n) q v) at o))
 class_from c w (typ (tx_ex t) q v) at o = and_then (check (o.at) NoConversion (form_eq (form_in (typ_in o.tree)) (tx_ex t))) (λ y.
-    if is_class_prvalue (typ_in o.tree) (cat_of o.tree) then Ok
-    (record { tree = exception_built c.classes (typ (tx_ex t) q v) (builder o.tree); work = w }) else
+    if is_class_prvalue (typ_in o.tree) (cat_of o.tree) then Ok (exception_made c w (typ (tx_ex t) q v) at o) else
     and_then (check (o.at) NoCopy (not (is_volatile_typ (typ_in o.tree))))
     (λ z. Ok (record { tree = exception_copied c (typ (tx_ex t) q v) at o.tree; work = w })))
 class_from c w t at o = Err (Ill (o.at) NoConversion)

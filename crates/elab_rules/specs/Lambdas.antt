@@ -108,6 +108,7 @@ abbrev mutual
   scanned s c x (syntax.node k.This p token kids) = using x None (at_of p)
   scanned s c x (syntax.node k.InitDeclarator p token (syntax.more d init)) = scanned_all s c (declaring s (scanned s c x d) token) init
   scanned s c x (syntax.node k.ParameterDeclaration p token kids) = declaring s (scanned_all s c x kids) (name_among kids)
+  scanned s c x (syntax.node k.ParameterDeclarationClause p token kids) = left_scope x (scanned_all s c x kids)
   scanned s c x (syntax.node k.CompoundStatement p token kids) = left_scope x (scanned_all s c x kids)
   scanned s c x (syntax.node k.ForStatement p token kids) = left_scope x (scanned_all s c x kids)
   scanned s c x (syntax.node k.Handler p token kids) = left_scope x (scanned_all s c x kids)

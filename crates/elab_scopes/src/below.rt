@@ -59,6 +59,7 @@ pub use elab_expr::below::add_item;
 pub use elab_expr::below::add_leaf;
 pub use elab_expr::below::add_node;
 pub use elab_expr::below::add_unary;
+pub use elab_expr::below::as_source;
 pub use elab_expr::below::class_at;
 pub use elab_expr::below::class_from;
 pub use elab_expr::below::class_number;

@@ -60,6 +60,7 @@ pub use elab_locals::below::add_leaf;
 pub use elab_locals::below::add_node;
 pub use elab_locals::below::add_unary;
 pub use elab_locals::below::all_lambdas;
+pub use elab_locals::below::as_source;
 pub use elab_locals::below::block;
 pub use elab_locals::below::bound_by_initialiser;
 pub use elab_locals::below::class_at;

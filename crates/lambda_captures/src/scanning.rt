@@ -128,9 +128,10 @@ fn scan_node(
             scan_all(tokens, nodes, env, id, &node.kids, scan)?;
             declare(scan, name_among(nodes, id, &node.kids))
         }
-        NodeKind::CompoundStatement | NodeKind::ForStatement | NodeKind::Handler => {
-            scan_scope(tokens, nodes, env, id, &node.kids, scan)
-        }
+        NodeKind::ParameterDeclarationClause
+        | NodeKind::CompoundStatement
+        | NodeKind::ForStatement
+        | NodeKind::Handler => scan_scope(tokens, nodes, env, id, &node.kids, scan),
         NodeKind::IfStatement | NodeKind::WhileStatement | NodeKind::DoStatement => {
             scan_apart(tokens, nodes, env, id, &node.kids, scan)
         }
