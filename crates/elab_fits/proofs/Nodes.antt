@@ -10,7 +10,7 @@ use Rattle.elab_rules.specs.cpp_tree.declared.program.FuncKind.{FuncKind}
 use Rattle.elab_rules.specs.cpp_tree.declared.roles.Position.{Position}
 use Rattle.elab_rules.specs.cpp_tree.declared.roles.Role.{Role}
 use Rattle.elab_rules.specs.cpp_tree.declared.roles.Role.TheVariants.{Value, Initialiser}
-use Rattle.elab_rules.specs.cpp_tree.Trees.{Tree, node, Trees, none, more, one, two, kind_of, typ_in, cat_of}
+use Rattle.elab_rules.specs.cpp_tree.Trees.{Tree, node, Trees, none, more, one, two, three, kind_of, typ_in, cat_of}
 use Rattle.elab_rules.specs.cpp_tree.Typing.{Head, head_of, builds, is_class_prvalue}
 use Rattle.elab_rules.specs.cpp_tree.Roles.{Kids, only, and_any, kids_for, serves, way_fits}
 use Rattle.elab_rules.specs.cpp_tree.Rows.{Setting, row_fits}
@@ -70,6 +70,10 @@ one_value s p e h = both (both (value_kid s p e h) h) refl
 pub two_values : (s : Setting) (p : Position) (a b : Tree) → fits s p Value a ≡ true → fits s p Value b ≡ true
     → kids_fit s p (only (Value ∷ Value ∷ [])) 0 (two a b) ≡ true
 two_values s p a b h g = both (both (value_kid s p a h) h) (both (both (value_kid s p b g) g) refl)
+
+pub three_values : (s : Setting) (p : Position) (a b c : Tree) → fits s p Value a ≡ true → fits s p Value b ≡ true → fits s p Value c ≡ true
+    → kids_fit s p (only (Value ∷ Value ∷ Value ∷ [])) 0 (three a b c) ≡ true
+three_values s p a b c h g k = both (both (value_kid s p a h) h) (both (both (value_kid s p b g) g) (both (both (value_kid s p c k) k) refl))
 
 -- what builds an object, without destructions
 pub one_object : (s : Setting) (p : Position) (e : Tree) (others : Role) → fits s p Initialiser e ≡ true

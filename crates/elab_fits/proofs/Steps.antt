@@ -31,3 +31,8 @@ expected Q at rule None f g = tt
 pub either : {A : Type 0} (P : A → Type 0) (b : Bool) (x y : Result A ElabFault) → (b ≡ true → On P x) → (b ≡ false → On P y) → On P (if b then x else y)
 either P true x y h k = h refl
 either P false x y h k = k refl
+
+-- what holds of all answers
+pub known : {A : Type 0} (P : A → Type 0) (x : Result A ElabFault) → ((a : A) → P a) → On P x
+known P (Ok a) g = g a
+known P (Err e) g = tt

@@ -68,6 +68,19 @@ scalar_typed (class n) h = absurd cc
 scalar_typed (closure n) h = absurd cc
 scalar_typed (tx_ex t) h = absurd cc
 
+pub scalar_type : (f : Form) (c v : Bool) → is_scalar f ≡ true → IsExpressionType (typ f c v) Lvalue
+scalar_type (int j) c v h = tt
+scalar_type (enum n s) c v h = tt
+scalar_type null c v h = tt
+scalar_type (ptr t) c v h = tt
+scalar_type void c v h = absurd cc
+scalar_type (ref t) c v h = absurd cc
+scalar_type (array t n) c v h = absurd cc
+scalar_type (func t) c v h = absurd cc
+scalar_type (class n) c v h = absurd cc
+scalar_type (closure n) c v h = absurd cc
+scalar_type (tx_ex t) c v h = absurd cc
+
 -- Values of scalars
 
 pub given_typ : (s : Setting) (f : Form) (e : Tree) → Gives s f e → (head_of e).typ ≡ plain f
