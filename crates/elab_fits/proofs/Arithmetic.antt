@@ -25,16 +25,16 @@ use Rattle.elab_rules.specs.cpp_tree.Roles.{only}
 use Rattle.elab_rules.specs.cpp_tree.Rows.{Setting, is_comparison, is_right, row_fits}
 use Rattle.elab_rules.specs.elab_ctx.Ctx.{Ctx, Work}
 use Rattle.elab_rules.specs.elab_ctx.Steps.{and_then, check, Operand}
-use Rattle.elab_rules.specs.Values.{bool_type, size_type, number, operated, valued, in_kind, retyped}
+use Rattle.elab_rules.specs.Values.{bool_type, size_type, number, part_at, operated, valued, in_kind, retyped}
 use Rattle.elab_rules.specs.Objects.{size_of}
 use Rattle.elab_rules.specs.Operators.{value, value_form, arithmetic, as_kind, pointed, is_null, in_usual, shifted, arithmetic_of, is_function, is_sized, is_sum}
 use Rattle.elab_rules.specs.Operators.{within_greatest, measurable, movable, scaled, moved, moved_back, difference, sum_of, compared, as_pointer, comparison_by}
 use Rattle.elab_rules.specs.Operators.{comparison_in, binary}
 use Rattle.elab_rules.specs.Operators
-use Rattle.elab_fits.specs.Standing.{Stands, On}
-use Rattle.elab_fits.specs.Scalars.{is_scalar, Gives, IsZero, IsOperand}
+use Rattle.elab_fits.specs.Standing.{FitsAs, IsExpressionType, Stands, On}
+use Rattle.elab_fits.specs.Scalars.{is_scalar, Gives, IsValue, IsZero, IsOperand}
 use Rattle.elab_fits.proofs.Equal.{kind_refl, form_same}
-use Rattle.elab_fits.proofs.Nodes.{both, or_left, or_right, Simple, two_kids}
+use Rattle.elab_fits.proofs.Nodes.{both, or_left, or_right, head_typ, head_cat, Simple, two_kids, of_value}
 use Rattle.elab_fits.proofs.Steps.{bind, checked, either}
 use Rattle.elab_fits.proofs.Numbers.{promoted_kind, usual_kind, comparison_is, no_shift}
 use Rattle.elab_fits.proofs.Sizes.{small_word, small_long}
@@ -127,12 +127,19 @@ compared_gives s op k f h at a b n p x i y j = record {
   category = refl;
 }
 
--- Numbers (C++14 5.6 to 5.8, 5.11 to 5.13)
+-- what lies at an offset from an address
+part_row : (offset : ℕ) (t : Typ) (at : At) (x : Head) (s : Setting) → word_kind x.typ x.cat ≡ Some ULong
+    → row_fits s (Binary Add ULong) t Lvalue (x ∷ head_of (number ULong offset at) ∷ []) ≡ true
+part_row offset t at x s h = both (both (ap (λ (w : Option IntKind). is_kind ULong w) h) refl) refl
 
--- the value of a scalar
-pub record IsValue (s : Setting) (e : Tree) : Type 0 where
-  pub form : Form
-  pub gives : Gives s form e
+pub part_stands : (s : Setting) (offset : ℕ) (t : Typ) (at : At) (e : Tree) → word_kind (typ_in e) (cat_of e) ≡ Some ULong → FitsAs s Value e
+    → is_word_of ULong offset ≡ true → IsExpressionType t Lvalue → Stands s (part_at offset t at e)
+part_stands s offset t at e h g w i = of_value s (part_at offset t at e) i refl (two_kids s (Binary Add ULong) t Lvalue at e (number ULong offset at)
+    (binaries Add ULong) refl
+    (part_row offset t at (head_of e) s (ap (λ (u : Typ). word_kind u (head_of e).cat) (head_typ e) ∙ ap (λ (c : Cat). word_kind (typ_in e) c) (head_cat e) ∙ h))
+    g (number_gives s ULong offset at w).fits)
+
+-- Numbers (C++14 5.6 to 5.8, 5.11 to 5.13)
 
 usual_gives : (s : Setting) (op : BinOp) (at : At) (a b : Operand) (i j : IntKind) → IsOperand s a → IsOperand s b → is_comparison op ≡ false
     → is_shift op ≡ false → arithmetic (value_form a) ≡ Some i → arithmetic (value_form b) ≡ Some j → Gives s (int (usual_of i j)) (in_usual op at (usual_of i j) a b)

@@ -25,12 +25,12 @@ use Rattle.elab_rules.specs.elab_ctx.Steps.{and_then, check, Operand, Made}
 use Rattle.elab_rules.specs.Operators.{value, value_form, arithmetic, as_kind, as_pointer, is_null, conditional_node, same_lvalues, both_of_class, two_numbers}
 use Rattle.elab_rules.specs.Operators.{two_values, is_shared, throws, truth, branches, conditional, joined_class, same_work}
 use Rattle.elab_fits.specs.Standing.{FitsAs, IsExpressionType, Stands, On}
-use Rattle.elab_fits.specs.Scalars.{is_scalar, Gives, IsOperand}
+use Rattle.elab_fits.specs.Scalars.{is_scalar, Gives, IsValue, IsOperand}
 use Rattle.elab_fits.proofs.Equal.{form_same, typ_same, typ_refl}
 use Rattle.elab_fits.proofs.Nodes.{both, or_left, or_right, clash, head_typ, head_cat, node_fits, three_values, of_value}
 use Rattle.elab_fits.proofs.Steps.{bind, checked, either}
 use Rattle.elab_fits.proofs.Values.{value_stands, given_stands}
-use Rattle.elab_fits.proofs.Arithmetic.{IsValue, IsTruth, value_of, as_kind_gives, pointer_of, null_gives, or_case}
+use Rattle.elab_fits.proofs.Arithmetic.{IsTruth, value_of, as_kind_gives, pointer_of, null_gives, or_case}
 use Rattle.elab_fits.proofs.Unary.{choice_gives, bool_row, truth_gives, lvalue_is, lvalue_fits}
 use Rattle.elab_fits.proofs.Assigning.{MadeStands, scalar_form, lvalue_type}
 

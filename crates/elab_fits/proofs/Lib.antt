@@ -3,6 +3,7 @@ pub mod Arithmetic
 pub mod Assigning
 pub mod Binding
 pub mod Choosing
+pub mod Comma
 pub mod Equal
 pub mod Initials
 pub mod Nodes

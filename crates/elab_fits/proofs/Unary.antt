@@ -28,14 +28,14 @@ use Rattle.elab_rules.specs.Initialising.{initial}
 use Rattle.elab_rules.specs.Operators.{value, value_form, arithmetic, as_kind, pointed, sum_of, compared, truth, logical, negation, false_at, true_at, ones}
 use Rattle.elab_rules.specs.Operators.{with_arithmetic, minus, complement, plus, indirection, address_of, subscript}
 use Rattle.elab_fits.specs.Standing.{FitsAs, IsExpressionType, Stands, On}
-use Rattle.elab_fits.specs.Scalars.{is_scalar, Gives, IsOperand}
+use Rattle.elab_fits.specs.Scalars.{is_scalar, Gives, IsValue, IsOperand}
 use Rattle.elab_fits.proofs.Equal.{typ_refl}
 use Rattle.elab_fits.proofs.Nodes.{both, or_left, or_right, node_fits, three_values}
 use Rattle.elab_fits.proofs.Steps.{bind, checked, expected}
 use Rattle.elab_fits.proofs.Numbers.{promoted_kind, zero_word, one_word, ones_word}
 use Rattle.elab_fits.proofs.Values.{no_class, given_typ, given_cat, number_gives, in_kind_gives, address_gives, lvalue_stands}
 use Rattle.elab_fits.proofs.Initials.{MadeGives, initial_gives}
-use Rattle.elab_fits.proofs.Arithmetic.{IsValue, IsTruth, as_kind_gives, pointed_form, pointer_of, right_row, operated_gives, compared_gives, add_gives}
+use Rattle.elab_fits.proofs.Arithmetic.{IsTruth, as_kind_gives, pointed_form, pointer_of, right_row, operated_gives, compared_gives, add_gives}
 
 -- Choices between scalars
 
@@ -106,6 +106,10 @@ complement_gives s at a x = with_number s at a (λ k. operated Xor k (plain (int
 
 pub plus_gives : (s : Setting) (at : At) (a : Operand) → IsOperand s a → On (IsValue s) (plus at a)
 plus_gives s at a x = with_number s at a (λ k. as_kind k a) (λ i e. as_kind_gives s a i (promote_of i) x e)
+
+pub unary_gives : (s : Setting) (at : At) (a : Operand) → IsOperand s a
+    → On (IsValue s) (minus at a) × On (IsValue s) (complement at a) × On (IsValue s) (plus at a)
+unary_gives s at a x = (minus_gives s at a x, complement_gives s at a x, plus_gives s at a x)
 
 -- Addresses and what lies there
 
