@@ -5,7 +5,7 @@ use Rattle.std.specs.Prelude.{if◌then◌else◌}
 use Rattle.elab_rules.specs.tx_ints.declared.kinds.IntKind.{IntKind}
 use Rattle.elab_rules.specs.tx_ints.declared.kinds.IntKind.TheVariants.{Bool as BoolKind}
 use Rattle.elab_rules.specs.tx_ints.Integers.{usual_of}
-use Rattle.elab_rules.specs.cpp_types.Typ.{Typ, typ, Form, void, int, ptr}
+use Rattle.elab_rules.specs.cpp_types.Typ.{Typ, typ, Form, void, int, ptr, class, closure, tx_ex}
 use Rattle.elab_rules.specs.cpp_types.Equal.{typ_eq, form_eq}
 use Rattle.elab_rules.specs.cpp_types.Conversion.{is_lvalue}
 use Rattle.elab_rules.specs.cpp_types.declared.classes.At.{At}
@@ -17,19 +17,23 @@ use Rattle.elab_rules.specs.cpp_tree.declared.faults.ElabFault.{ElabFault}
 use Rattle.elab_rules.specs.cpp_tree.declared.faults.IllRule.TheVariants.{BadOperand}
 use Rattle.elab_rules.specs.cpp_tree.Trees.{Tree, node, three, typ_in, cat_of}
 use Rattle.elab_rules.specs.cpp_tree.Notation.{plain}
-use Rattle.elab_rules.specs.cpp_tree.Typing.{head_of, form_in, is_void, kind_in, is_lvalue_of}
+use Rattle.elab_rules.specs.cpp_tree.Typing.{Head, head_of, form_in, is_void, is_class_typ, is_class_prvalue, is_prvalue, kind_in, word_kind}
 use Rattle.elab_rules.specs.cpp_tree.Roles.{only, is_throw as is_thrown}
 use Rattle.elab_rules.specs.cpp_tree.Rows.{Setting, is_branch}
+use Rattle.elab_rules.specs.cpp_tree.WellFormed.{fits, has_no_typ}
+use Rattle.elab_rules.specs.cpp_tree.declared.roles.Position.{Position}
 use Rattle.elab_rules.specs.elab_ctx.Ctx.{Ctx, Work}
 use Rattle.elab_rules.specs.elab_ctx.Steps.{and_then, check, Operand, Made}
 use Rattle.elab_rules.specs.Operators.{value, value_form, arithmetic, as_kind, as_pointer, is_null, conditional_node, same_lvalues, both_of_class, two_numbers}
-use Rattle.elab_rules.specs.Operators.{two_values, is_shared, throws, truth, branches, conditional, joined_class, same_work}
+use Rattle.elab_rules.specs.Operators.{two_values, is_shared, shared, throws, truth, branches, conditional, joined_class, joined_type, same_work}
+use Rattle.elab_rules.specs.Values.{retyped}
+use Rattle.elab_rules.specs.Initialising.{seen_as}
 use Rattle.elab_fits.specs.Standing.{FitsAs, IsExpressionType, Stands, On}
 use Rattle.elab_fits.specs.Scalars.{is_scalar, Gives, IsValue, IsOperand}
 use Rattle.elab_fits.proofs.Equal.{form_same, typ_same, typ_refl}
 use Rattle.elab_fits.proofs.Nodes.{both, or_left, or_right, clash, head_typ, head_cat, node_fits, three_values, of_value}
 use Rattle.elab_fits.proofs.Steps.{bind, checked, either}
-use Rattle.elab_fits.proofs.Values.{value_stands, given_stands}
+use Rattle.elab_fits.proofs.Values.{value_stands, given_stands, lvalue_stands}
 use Rattle.elab_fits.proofs.Arithmetic.{IsTruth, value_of, as_kind_gives, pointer_of, null_gives, or_case}
 use Rattle.elab_fits.proofs.Unary.{choice_gives, bool_row, truth_gives, lvalue_is, lvalue_fits}
 use Rattle.elab_fits.proofs.Assigning.{MadeStands, scalar_form, lvalue_type}
@@ -60,8 +64,11 @@ pointers_choose : (s : Setting) (at : At) (test : Tree) (t u : Typ) (a b : Opera
     → value_form b ≡ ptr u
     → On (IsValue s) (and_then (check at BadOperand (typ_eq t u)) (λ y. Ok (conditional_node at (plain (ptr t)) Prvalue test (value a) (value b))))
 pointers_choose s at test t u a b h x y e d = checked (IsValue s) at BadOperand (typ_eq t u) _
-    (λ n. record { form = ptr t; gives = choice_gives s (ptr t) at test (value a) (value b) h (pointer_of s a t x e)
-    (pointer_of s b t y (d ∙ ap ptr (sym (typ_same t u n)))) })
+    (λ n. record {
+      form = ptr t;
+      gives = choice_gives s (ptr t) at test (value a) (value b) h (pointer_of s a t x e)
+          (pointer_of s b t y (d ∙ ap ptr (sym (typ_same t u n))));
+    })
 
 -- the value of an operand that has a word
 pub worded : (s : Setting) (o : Operand) → IsOperand s o → is_some (kind_in (value_form o)) ≡ true → is_scalar (value_form o) ≡ true
@@ -91,33 +98,112 @@ values_choose s at test (ptr t) g a b h x y e d = null_second s at test t a b h 
 values_choose s at test f (ptr t) a b h x y e d = null_first s at test t a b h x y d
 values_choose s at test f g a b h x y e d = alike_choose s at test f g a b h x y e d
 
--- Lvalues of one type
+-- Other choices
 
-lvalue_row : (t : Typ) (e : Tree) → cat_of e ≡ Lvalue → typ_eq t (typ_in e) ≡ true → is_branch t Lvalue (head_of e) ≡ true
-lvalue_row t e l h = or_right (is_thrown (head_of e).kind) (both (ap is_lvalue (head_cat e ∙ l)) (ap (λ (u : Typ). typ_eq t u) (head_typ e) ∙ h))
+no_typ : (b : Bool) (x y : Bool) → (b ≡ true → x ≡ true) → (b ≡ true → y ≡ true) → (not b || (x && y)) ≡ true
+no_typ true x y h g = both (h refl) (g refl)
+no_typ false x y h g = refl
 
-lvalues_choose : (s : Setting) (at : At) (test a b : Tree) → IsTruth s test → Stands s a → Stands s b → is_void (typ_in a) ≡ false → cat_of a ≡ Lvalue
-    → cat_of b ≡ Lvalue → typ_eq (typ_in a) (typ_in a) ≡ true → typ_eq (typ_in a) (typ_in b) ≡ true
-    → Stands s (node Conditional (typ_in a) Lvalue at (three test a b))
-lvalues_choose s at test a b h x y v l m e d = of_value s (node Conditional (typ_in a) Lvalue at (three test a b)) (lvalue_type s a x l) refl
-    (λ p full. node_fits s p Value Conditional (typ_in a) Lvalue at (three test a b) (only (Value ∷ Value ∷ Value ∷ [])) refl refl refl
-    (or_left _ (ap not v)) (both (both (bool_row s test h) (lvalue_row (typ_in a) a l e)) (lvalue_row (typ_in a) b m d)) refl refl refl
-    (three_values s p test a b (h.fits p full) (lvalue_fits s a x l p full) (lvalue_fits s b y m p full)))
+choice_fits : (s : Setting) (p : Position) (at : At) (t : Typ) (cat : Cat) (test x y : Tree) → is_class_prvalue t cat ≡ false → IsTruth s test
+    → p.full ≡ true → fits s p Value x ≡ true → fits s p Value y ≡ true → is_branch t cat (head_of x) ≡ true → is_branch t cat (head_of y) ≡ true
+    → (is_void t ≡ true → has_no_typ (head_of x) ≡ true) → (is_void t ≡ true → has_no_typ (head_of y) ≡ true)
+    → fits s p Value (node Conditional t cat at (three test x y)) ≡ true
+choice_fits s p at t cat test x y n h full g k i j u v = node_fits s p Value Conditional t cat at (three test x y) (only (Value ∷ Value ∷ Value ∷ [])) refl
+    (ap not n) refl
+    (no_typ (is_void t) (has_no_typ (head_of x)) (has_no_typ (head_of y) && true) u (λ e. both (v e) refl))
+    (both (both (bool_row s test h) i) j) refl refl refl (three_values s p test x y (h.fits p full) g k)
 
--- `?:` (C++14 5.16) where nothing is thrown, and no operand is an object of a class or void
+choice_stands : (s : Setting) (at : At) (t : Typ) (cat : Cat) (test x y : Tree) → IsExpressionType t cat → is_class_prvalue t cat ≡ false → IsTruth s test
+    → FitsAs s Value x → FitsAs s Value y → is_branch t cat (head_of x) ≡ true → is_branch t cat (head_of y) ≡ true
+    → (is_void t ≡ true → has_no_typ (head_of x) ≡ true) → (is_void t ≡ true → has_no_typ (head_of y) ≡ true)
+    → Stands s (node Conditional t cat at (three test x y))
+choice_stands s at t cat test x y d n h g k i j u v = of_value s (node Conditional t cat at (three test x y)) d n
+    (λ p full. choice_fits s p at t cat test x y n h full (g p full) (k p full) i j u v)
+
+-- an operand of the type and category of the whole, and one without a type
+own_branch : (t : Typ) (cat : Cat) (x : Head) → typ_eq t x.typ ≡ true → x.cat ≡ cat → is_branch t cat x ≡ true
+own_branch t Lvalue x e d = or_right (is_thrown x.kind) (both (ap is_lvalue d) e)
+own_branch t Prvalue x e d = or_right (is_thrown x.kind || is_void t) (both (ap is_prvalue d) e)
+
+void_branch : (t : Typ) (x : Head) → is_void t ≡ true → is_branch t Prvalue x ≡ true
+void_branch t x v = or_left _ (or_right (is_thrown x.kind) v)
+
+void_typ : (x : Head) → is_void x.typ ≡ true → has_no_typ x ≡ true
+void_typ x v = or_right (is_thrown x.kind) v
+
+-- Lvalues
+
+lvalues_choose : (s : Setting) (at : At) (test a b : Tree) → IsTruth s test → Stands s a → Stands s b → cat_of a ≡ Lvalue → cat_of b ≡ Lvalue
+    → typ_eq (typ_in a) (typ_in b) ≡ true → Stands s (node Conditional (typ_in a) Lvalue at (three test a b))
+lvalues_choose s at test a b h x y l m d = choice_stands s at (typ_in a) Lvalue test a b (lvalue_type s a x l) refl h (lvalue_fits s a x l)
+    (lvalue_fits s b y m) (own_branch (typ_in a) Lvalue (head_of a) (ap (λ (u : Typ). typ_eq (typ_in a) u) (head_typ a) ∙ typ_refl (typ_in a)) (head_cat a ∙ l))
+    (own_branch (typ_in a) Lvalue (head_of b) (ap (λ (u : Typ). typ_eq (typ_in a) u) (head_typ b) ∙ d) (head_cat b ∙ m))
+    (λ v. void_typ (head_of a) (ap is_void (head_typ a) ∙ v))
+    (λ v. void_typ (head_of b) (ap is_void (head_typ b ∙ sym (typ_same (typ_in a) (typ_in b) d)) ∙ v))
+
+-- an lvalue of one type seen as one of another
+seen_fits : (s : Setting) (at : At) (t : Typ) (e : Tree) (b : Bool) → IsExpressionType t Lvalue → cat_of e ≡ Lvalue → FitsAs s Value e
+    → FitsAs s Value (if b then e else retyped at t Lvalue e)
+seen_fits s at t e true i l g = g
+seen_fits s at t e false i l g = (lvalue_stands s at t e (ap (λ (c : Cat). word_kind (typ_in e) c) l) g i).value refl
+
+seen_branch : (at : At) (t : Typ) (e : Tree) (b : Bool) → typ_eq t (typ_in e) ≡ b → cat_of e ≡ Lvalue
+    → is_branch t Lvalue (head_of (if b then e else retyped at t Lvalue e)) ≡ true
+seen_branch at t e true h l = own_branch t Lvalue (head_of e) (ap (λ (u : Typ). typ_eq t u) (head_typ e) ∙ h) (head_cat e ∙ l)
+seen_branch at t e false h l = typ_refl t
+
+class_typed : (t u : Typ) → is_class_typ t ≡ true → IsExpressionType (joined_type t u) Lvalue
+class_typed (typ (class n) c v) (typ g d w) h = tt
+class_typed (typ (closure n) c v) (typ g d w) h = tt
+class_typed (typ (tx_ex t) c v) (typ g d w) h = tt
+class_typed (typ f c v) u h = absurd cc
+
+class_no_void : (t u : Typ) → is_class_typ t ≡ true → is_void (joined_type t u) ≡ false
+class_no_void (typ (class n) c v) (typ g d w) h = refl
+class_no_void (typ (closure n) c v) (typ g d w) h = refl
+class_no_void (typ (tx_ex t) c v) (typ g d w) h = refl
+class_no_void (typ f c v) u h = absurd cc
+
+shared_stands : (s : Setting) (at : At) (test : Tree) (a b : Operand) → IsTruth s test → IsOperand s a → IsOperand s b → cat_of a.tree ≡ Lvalue
+    → cat_of b.tree ≡ Lvalue → is_class_typ (typ_in a.tree) ≡ true → Stands s (shared at test a b)
+shared_stands s at test a b h x y l m k = choice_stands s at (joined_class a b) Lvalue test (seen_as a.at (joined_class a b) a.tree)
+    (seen_as b.at (joined_class a b) b.tree) (class_typed (typ_in a.tree) (typ_in b.tree) k) refl h
+    (seen_fits s a.at (joined_class a b) a.tree (typ_eq (joined_class a b) (typ_in a.tree)) (class_typed (typ_in a.tree) (typ_in b.tree) k) l
+    (lvalue_fits s a.tree x.stands l))
+    (seen_fits s b.at (joined_class a b) b.tree (typ_eq (joined_class a b) (typ_in b.tree)) (class_typed (typ_in a.tree) (typ_in b.tree) k) m
+    (lvalue_fits s b.tree y.stands m))
+    (seen_branch a.at (joined_class a b) a.tree (typ_eq (joined_class a b) (typ_in a.tree)) refl l)
+    (seen_branch b.at (joined_class a b) b.tree (typ_eq (joined_class a b) (typ_in b.tree)) refl m)
+    (λ v. clash _ (is_void (joined_class a b)) (class_no_void (typ_in a.tree) (typ_in b.tree) k) v)
+    (λ v. clash _ (is_void (joined_class a b)) (class_no_void (typ_in a.tree) (typ_in b.tree) k) v)
+
+-- Operands without a value
+
+no_object : (t : Typ) (cat : Cat) → is_void t ≡ true → is_class_prvalue t cat ≡ false
+no_object (typ void c v) Lvalue h = refl
+no_object (typ void c v) Prvalue h = refl
+no_object (typ f c v) cat h = absurd cc
+
+voids_choose : (s : Setting) (at : At) (test a b : Tree) → IsTruth s test → Stands s a → Stands s b → cat_of a ≡ Prvalue → is_void (typ_in a) ≡ true
+    → is_void (typ_in b) ≡ true → Stands s (node Conditional (typ_in a) Prvalue at (three test a b))
+voids_choose s at test a b h x y l v u = choice_stands s at (typ_in a) Prvalue test a b (subst (λ (c : Cat). IsExpressionType (typ_in a) c) l x.typed)
+    (no_object (typ_in a) Prvalue v) h (x.value (no_object (typ_in a) (cat_of a) v)) (y.value (no_object (typ_in b) (cat_of b) u))
+    (void_branch (typ_in a) (head_of a) v) (void_branch (typ_in a) (head_of b) v)
+    (λ e. void_typ (head_of a) (ap is_void (head_typ a) ∙ v)) (λ e. void_typ (head_of b) (ap is_void (head_typ b) ∙ u))
+
+-- `?:` (C++14 5.16) where nothing is thrown, two objects of a class are lvalues that share a type, and nothing of type void is an lvalue
 pub branches_stand : (s : Setting) (c : Ctx) (w : Work) (at : At) (test : Tree) (a b : Operand) → IsTruth s test → IsOperand s a → IsOperand s b
-    → throws a.tree ≡ false → throws b.tree ≡ false → is_void (typ_in a.tree) ≡ false → both_of_class a b ≡ false
-    → On (MadeStands s) (branches c w at test a b)
+    → throws a.tree ≡ false → throws b.tree ≡ false → (is_void (typ_in a.tree) ≡ true → cat_of a.tree ≡ Prvalue)
+    → (both_of_class a b ≡ true → is_shared a b ≡ true) → On (MadeStands s) (branches c w at test a b)
 branches_stand s c w at test a b h x y p q v n = either (MadeStands s) (throws a.tree && throws b.tree) _ _
     (λ i. clash _ (throws a.tree) p (and_parts (throws a.tree) (throws b.tree) i).0)
     (λ i. either (MadeStands s) (throws b.tree) _ _ (λ j. clash _ (throws b.tree) q j)
     (λ j. either (MadeStands s) (throws a.tree) _ _ (λ k. clash _ (throws a.tree) p k)
     (λ k. either (MadeStands s) (same_lvalues a b || (is_void (typ_in a.tree) && is_void (typ_in b.tree))) _ _
     (λ l. or_case (Stands s (conditional_node at (typ_in a.tree) (cat_of a.tree) test a.tree b.tree)) (same_lvalues a b)
-    (is_void (typ_in a.tree) && is_void (typ_in b.tree)) l lvalues
-    (λ o. clash _ (is_void (typ_in a.tree)) v (and_parts (is_void (typ_in a.tree)) (is_void (typ_in b.tree)) o).0))
-    (λ l. either (MadeStands s) (is_shared a b) _ _ (λ m. clash _ (both_of_class a b) n (is_class m))
-    (λ m. either (MadeStands s) (both_of_class a b) _ _ (λ o. clash _ (both_of_class a b) n o)
+    (is_void (typ_in a.tree) && is_void (typ_in b.tree)) l lvalues voids)
+    (λ l. either (MadeStands s) (is_shared a b) _ _ shares
+    (λ m. either (MadeStands s) (both_of_class a b) _ _ (λ o. clash _ (is_shared a b) m (n o))
     (λ o. made (two_values at test (value_form a) (value_form b) a b)
     (values_choose s at test (value_form a) (value_form b) a b h x y refl refl)))))))
   where
@@ -126,20 +212,29 @@ branches_stand s c w at test a b h x y p q v n = either (MadeStands s) (throws a
         let d = and_parts (is_lvalue (cat_of a.tree) && is_lvalue (cat_of b.tree)) (typ_eq (typ_in a.tree) (typ_in b.tree)) l in
         let e = and_parts (is_lvalue (cat_of a.tree)) (is_lvalue (cat_of b.tree)) d.0 in
         subst (λ (z : Cat). Stands s (conditional_node at (typ_in a.tree) z test a.tree b.tree)) (sym (lvalue_is (cat_of a.tree) e.0))
-        (lvalues_choose s at test a.tree b.tree h x.stands y.stands v (lvalue_is (cat_of a.tree) e.0) (lvalue_is (cat_of b.tree) e.1)
-        (typ_refl (typ_in a.tree)) d.1)
+        (lvalues_choose s at test a.tree b.tree h x.stands y.stands (lvalue_is (cat_of a.tree) e.0) (lvalue_is (cat_of b.tree) e.1) d.1)
 
-    is_class : is_shared a b ≡ true → both_of_class a b ≡ true
-    is_class m = (and_parts (is_lvalue (cat_of a.tree) && is_lvalue (cat_of b.tree)) (both_of_class a b) (and_parts
-        (is_lvalue (cat_of a.tree) && is_lvalue (cat_of b.tree) && both_of_class a b)
-        (typ_eq (joined_class a b) (typ_in a.tree) || typ_eq (joined_class a b) (typ_in b.tree)) m).0).1
+    voids : (is_void (typ_in a.tree) && is_void (typ_in b.tree)) ≡ true
+        → Stands s (conditional_node at (typ_in a.tree) (cat_of a.tree) test a.tree b.tree)
+    voids o = let d = and_parts (is_void (typ_in a.tree)) (is_void (typ_in b.tree)) o in
+        subst (λ (z : Cat). Stands s (conditional_node at (typ_in a.tree) z test a.tree b.tree)) (sym (v d.0))
+        (voids_choose s at test a.tree b.tree h x.stands y.stands (v d.0) d.0 d.1)
+
+    shares : is_shared a b ≡ true → Stands s (shared at test a b)
+    shares m =
+        let d = and_parts (is_lvalue (cat_of a.tree) && is_lvalue (cat_of b.tree) && both_of_class a b)
+        (typ_eq (joined_class a b) (typ_in a.tree) || typ_eq (joined_class a b) (typ_in b.tree)) m in
+        let e = and_parts (is_lvalue (cat_of a.tree) && is_lvalue (cat_of b.tree)) (both_of_class a b) d.0 in
+        let f = and_parts (is_lvalue (cat_of a.tree)) (is_lvalue (cat_of b.tree)) e.0 in
+        let g = and_parts (is_class_typ (typ_in a.tree)) (form_eq (form_in (typ_in a.tree)) (form_in (typ_in b.tree))) e.1 in
+        shared_stands s at test a b h x y (lvalue_is (cat_of a.tree) f.0) (lvalue_is (cat_of b.tree) f.1) g.0
 
     made : (r : Result Tree ElabFault) → On (IsValue s) r → On (MadeStands s) (same_work w r)
     made (Ok e) g = given_stands s g.form e g.gives
     made (Err e) g = tt
 
 pub conditional_stands : (s : Setting) (c : Ctx) (w : Work) (at : At) (test a b : Operand) → IsOperand s test → IsOperand s a → IsOperand s b
-    → throws a.tree ≡ false → throws b.tree ≡ false → is_void (typ_in a.tree) ≡ false → both_of_class a b ≡ false
-    → On (MadeStands s) (conditional c w at test a b)
+    → throws a.tree ≡ false → throws b.tree ≡ false → (is_void (typ_in a.tree) ≡ true → cat_of a.tree ≡ Prvalue)
+    → (both_of_class a b ≡ true → is_shared a b ≡ true) → On (MadeStands s) (conditional c w at test a b)
 conditional_stands s c w at test a b z x y p q v n = bind (IsTruth s) (MadeStands s) (truth c w test) _ (truth_gives s c w test z)
     (λ e h. branches_stand s c w at e a b h x y p q v n)
