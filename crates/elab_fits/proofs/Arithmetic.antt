@@ -1,31 +1,30 @@
 -- Arithmetic, comparisons, and pointers moved by numbers.
 use Rattle.std.proofs.Common.{◌≡◌, refl, sym, ap, ◌∙◌, subst, ℕ, Bool, true, false, ◌&&◌, ◌||◌, not, cond, List, [], ◌∷◌, Option, Some, None, is_some, Result, Ok, Err}
-use Rattle.std.specs.Prelude.{if◌then◌else◌, unwrap_or, nat_le}
+use Rattle.std.specs.Prelude.{unwrap_or, nat_le}
 use Rattle.elab_rules.specs.tx_ints.declared.kinds.IntKind.{IntKind}
 use Rattle.elab_rules.specs.tx_ints.declared.kinds.IntKind.TheVariants.{Bool as BoolKind, Int, ULong, Long}
 use Rattle.elab_rules.specs.tx_ints.declared.kinds.BinOp.{BinOp}
-use Rattle.elab_rules.specs.tx_ints.declared.kinds.BinOp.TheVariants.{Add, Sub, Mul, Div, Xor, Eq}
+use Rattle.elab_rules.specs.tx_ints.declared.kinds.BinOp.TheVariants.{Add, Sub, Mul, Div}
 use Rattle.elab_rules.specs.tx_ints.Integers.{usual_of, promote_of, is_shift}
-use Rattle.elab_rules.specs.cpp_types.Typ.{Typ, typ, Form, void, int, enum, null, ptr, ref, array, func, class, closure, tx_ex}
+use Rattle.elab_rules.specs.cpp_types.Typ.{Typ, Form, void, int, enum, null, ptr, ref, array, func, class, closure, tx_ex}
 use Rattle.elab_rules.specs.cpp_types.Equal.{typ_eq, form_eq}
 use Rattle.elab_rules.specs.cpp_types.declared.classes.At.{At}
 use Rattle.elab_rules.specs.cpp_types.declared.ranks.Cat.{Cat}
 use Rattle.elab_rules.specs.cpp_types.declared.ranks.Cat.TheVariants.{Lvalue, Prvalue}
-use Rattle.elab_rules.specs.cpp_tree.declared.kinds.TKind.{TKind}
 use Rattle.elab_rules.specs.cpp_tree.declared.kinds.TKind.TheVariants.{Binary}
 use Rattle.elab_rules.specs.cpp_tree.declared.roles.Role.TheVariants.{Value}
 use Rattle.elab_rules.specs.cpp_tree.declared.faults.ElabFault.{ElabFault}
 use Rattle.elab_rules.specs.cpp_tree.declared.faults.IllRule.TheVariants.{BadOperand, Incomplete}
 use Rattle.elab_rules.specs.cpp_layout.declared.extents.TheConstants.{GREATEST_SIZE}
-use Rattle.elab_rules.specs.cpp_tree.Trees.{Tree, node, two, kind_of, typ_in, cat_of}
+use Rattle.elab_rules.specs.cpp_tree.Trees.{Tree, typ_in, cat_of}
 use Rattle.elab_rules.specs.cpp_tree.Notation.{plain}
 use Rattle.elab_rules.specs.cpp_tree.Typing.{Head, head_of, form_in, unqualified, kind_in, is_kind, is_promoted, gives, gives_promoted, word_kind, is_scalar_value}
 use Rattle.elab_rules.specs.cpp_tree.Typing.{scalar_of, is_bool, is_word_of}
 use Rattle.elab_rules.specs.cpp_tree.Roles.{only}
 use Rattle.elab_rules.specs.cpp_tree.Rows.{Setting, is_comparison, is_right, row_fits}
-use Rattle.elab_rules.specs.elab_ctx.Ctx.{Ctx, Work}
+use Rattle.elab_rules.specs.elab_ctx.Ctx.{Ctx}
 use Rattle.elab_rules.specs.elab_ctx.Steps.{and_then, check, Operand}
-use Rattle.elab_rules.specs.Values.{bool_type, size_type, number, part_at, operated, valued, in_kind, retyped}
+use Rattle.elab_rules.specs.Values.{bool_type, size_type, number, part_at, operated, valued, in_kind}
 use Rattle.elab_rules.specs.Objects.{size_of}
 use Rattle.elab_rules.specs.Operators.{value, value_form, arithmetic, as_kind, pointed, is_null, in_usual, shifted, arithmetic_of, is_function, is_sized, is_sum}
 use Rattle.elab_rules.specs.Operators.{within_greatest, measurable, movable, scaled, moved, moved_back, difference, sum_of, compared, as_pointer, comparison_by}
@@ -34,11 +33,11 @@ use Rattle.elab_rules.specs.Operators
 use Rattle.elab_fits.specs.Standing.{FitsAs, IsExpressionType, Stands, On}
 use Rattle.elab_fits.specs.Scalars.{is_scalar, Gives, IsValue, IsZero, IsOperand}
 use Rattle.elab_fits.proofs.Equal.{kind_refl, form_same}
-use Rattle.elab_fits.proofs.Nodes.{both, or_left, or_right, head_typ, head_cat, Simple, two_kids, of_value}
+use Rattle.elab_fits.proofs.Nodes.{both, head_typ, head_cat, Simple, two_kids, of_value}
 use Rattle.elab_fits.proofs.Steps.{bind, checked, either}
 use Rattle.elab_fits.proofs.Numbers.{promoted_kind, usual_kind, comparison_is, no_shift}
 use Rattle.elab_fits.proofs.Sizes.{small_word, small_long}
-use Rattle.elab_fits.proofs.Values.{with_kind, scalar_value, no_class, given_word, number_gives, word_gives, zero_gives, value_gives, in_kind_gives}
+use Rattle.elab_fits.proofs.Values.{scalar_value, no_class, given_word, number_gives, word_gives, zero_gives, value_gives, in_kind_gives}
 use Rattle.elab_fits.proofs.Initials.{zero_value}
 
 -- Operands

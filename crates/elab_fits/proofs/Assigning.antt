@@ -1,46 +1,41 @@
 -- Assignments of scalars, compound ones, increments and decrements.
-use Rattle.std.proofs.Common.{◌≡◌, refl, sym, ap, ◌∙◌, subst, Bool, true, false, ◌&&◌, not, List, [], ◌∷◌, Option, Some, None, is_some, Result, Ok, Err}
+use Rattle.std.proofs.Common.{◌≡◌, refl, ap, ◌∙◌, subst, Bool, true, false, ◌&&◌, not, [], ◌∷◌, Option, Some, None, is_some, Ok}
 use Rattle.std.proofs.lemmas.Bool.{and_parts}
-use Rattle.std.specs.Prelude.{if◌then◌else◌, nat_le}
+use Rattle.std.specs.Prelude.{if◌then◌else◌}
 use Rattle.elab_rules.specs.tx_ints.declared.kinds.IntKind.{IntKind}
-use Rattle.elab_rules.specs.tx_ints.declared.kinds.IntKind.TheVariants.{Bool as BoolKind, Int, ULong}
+use Rattle.elab_rules.specs.tx_ints.declared.kinds.IntKind.TheVariants.{Bool as BoolKind, ULong}
 use Rattle.elab_rules.specs.tx_ints.declared.kinds.BinOp.{BinOp}
 use Rattle.elab_rules.specs.tx_ints.declared.kinds.BinOp.TheVariants.{Add, Sub}
 use Rattle.elab_rules.specs.tx_ints.Integers.{usual_of, promote_of, is_shift}
 use Rattle.elab_rules.specs.cpp_types.Typ.{Typ, typ, Form, void, int, enum, null, ptr, ref, array, func, class, closure, tx_ex}
-use Rattle.elab_rules.specs.cpp_types.Equal.{kind_eq, typ_eq, flag_eq}
+use Rattle.elab_rules.specs.cpp_types.Equal.{kind_eq, typ_eq}
 use Rattle.elab_rules.specs.cpp_types.Conversion.{is_lvalue, const_of}
 use Rattle.elab_rules.specs.cpp_types.declared.classes.At.{At}
 use Rattle.elab_rules.specs.cpp_types.declared.ranks.Cat.{Cat}
 use Rattle.elab_rules.specs.cpp_types.declared.ranks.Cat.TheVariants.{Lvalue, Prvalue}
-use Rattle.elab_rules.specs.cpp_tree.declared.kinds.TKind.{TKind}
 use Rattle.elab_rules.specs.cpp_tree.declared.kinds.TKind.TheVariants.{Assign, Update}
 use Rattle.elab_rules.specs.cpp_tree.declared.roles.Role.TheVariants.{Value}
-use Rattle.elab_rules.specs.cpp_tree.declared.faults.ElabFault.{ElabFault}
-use Rattle.elab_rules.specs.cpp_tree.declared.faults.IllRule.{IllRule}
 use Rattle.elab_rules.specs.cpp_tree.declared.faults.IllRule.TheVariants.{BadOperand, NotLvalue, ConstTarget}
-use Rattle.elab_rules.specs.cpp_layout.declared.extents.TheConstants.{GREATEST_SIZE}
 use Rattle.elab_rules.specs.cpp_tree.Trees.{Tree, node, two, typ_in, cat_of}
 use Rattle.elab_rules.specs.cpp_tree.Notation.{plain}
-use Rattle.elab_rules.specs.cpp_tree.Typing.{Head, head_of, form_in, unqualified, is_volatile_typ, kind_in, is_kind, scalar_of, is_promoted, is_prvalue, is_class_typ}
-use Rattle.elab_rules.specs.cpp_tree.Typing.{is_class_prvalue}
+use Rattle.elab_rules.specs.cpp_tree.Typing.{head_of, form_in, unqualified, is_volatile_typ, kind_in, is_kind, scalar_of, is_promoted, is_prvalue, is_class_typ}
 use Rattle.elab_rules.specs.cpp_tree.Roles.{only}
-use Rattle.elab_rules.specs.cpp_tree.Rows.{Setting, is_access, is_right, is_update, row_fits}
+use Rattle.elab_rules.specs.cpp_tree.Rows.{Setting, is_access, is_right, row_fits}
 use Rattle.elab_rules.specs.elab_ctx.Ctx.{Ctx, Work}
-use Rattle.elab_rules.specs.elab_ctx.Steps.{and_then, expect, check, Operand, Made}
+use Rattle.elab_rules.specs.elab_ctx.Steps.{and_then, check, Operand, Made}
 use Rattle.elab_rules.specs.Values.{number}
 use Rattle.elab_rules.specs.Objects.{size_of}
 use Rattle.elab_rules.specs.Initialising.{initial}
 use Rattle.elab_rules.specs.Operators.{value_form, arithmetic, as_kind, is_sum, movable, scaled, target, assigned, assignment, updated, compound_numbers, compound_in}
-use Rattle.elab_rules.specs.Operators.{compound, step_in, step, class_assigned}
-use Rattle.elab_fits.specs.Standing.{FitsAs, IsExpressionType, Stands, On}
+use Rattle.elab_rules.specs.Operators.{compound, step_in, step}
+use Rattle.elab_fits.specs.Standing.{IsExpressionType, Stands, On}
 use Rattle.elab_fits.specs.Scalars.{is_scalar, Gives, IsOperand}
 use Rattle.elab_fits.proofs.Equal.{kind_refl, flag_refl, typ_refl}
 use Rattle.elab_fits.proofs.Nodes.{both, clash, head_typ, head_cat, Simple, two_kids, of_value}
 use Rattle.elab_fits.proofs.Steps.{bind, checked, expected, either, known}
 use Rattle.elab_fits.proofs.Numbers.{promoted_kind, usual_kind, one_word}
 use Rattle.elab_fits.proofs.Sizes.{small_word}
-use Rattle.elab_fits.proofs.Values.{with_kind, no_class, given_typ, given_cat, given_stands, number_gives}
+use Rattle.elab_fits.proofs.Values.{no_class, given_typ, given_cat, given_stands, number_gives}
 use Rattle.elab_fits.proofs.Initials.{MadeGives, initial_gives}
 use Rattle.elab_fits.proofs.Arithmetic.{as_kind_gives, right_row, shift_row, scaled_gives, IsSmall, small, some_kind}
 use Rattle.elab_fits.proofs.Unary.{lvalue_is, lvalue_fits}

@@ -1,11 +1,10 @@
 -- What references to scalars are bound to.
-use Rattle.std.proofs.Common.{◌≡◌, refl, sym, ap, ◌∙◌, subst, ℕ, Bool, true, false, ◌&&◌, ◌||◌, not, cond, List, [], ◌∷◌, ◌++◌, length, slice_get, Option, Some, None, is_some, Result, Ok}
+use Rattle.std.proofs.Common.{◌≡◌, refl, ap, ◌∙◌, Bool, true, false, ◌&&◌, ◌||◌, cond, List, [], ◌∷◌, ◌++◌, length, slice_get, Option, Some, None, is_some, Result, Ok}
 use Rattle.std.specs.Prelude.{if◌then◌else◌}
-use Rattle.elab_rules.specs.tx_ints.declared.kinds.IntKind.TheVariants.{ULong}
 use Rattle.elab_rules.specs.cpp_types.Typ.{Typ, typ, Form, void, int, enum, null, ptr, ref, array, func, class, closure, tx_ex}
 use Rattle.elab_rules.specs.cpp_types.Class.{Class}
 use Rattle.elab_rules.specs.cpp_types.Equal.{typ_eq}
-use Rattle.elab_rules.specs.cpp_types.Conversion.{step_of, related_step, reference_conversion, object_binding, direct, temporary as to_temporary, bound, only_const}
+use Rattle.elab_rules.specs.cpp_types.Conversion.{step_of, related_step, reference_conversion, object_binding, temporary as to_temporary, bound, only_const}
 use Rattle.elab_rules.specs.cpp_types.Conversion.{keeps, const_of, volatile_of, is_object, has_value, decayed, is_lvalue}
 use Rattle.elab_rules.specs.cpp_types.declared.classes.At.{At}
 use Rattle.elab_rules.specs.cpp_types.declared.ranks.Cat.{Cat}
@@ -13,13 +12,13 @@ use Rattle.elab_rules.specs.cpp_types.declared.ranks.Cat.TheVariants.{Lvalue, Pr
 use Rattle.elab_rules.specs.cpp_types.declared.ranks.Step.{Step}
 use Rattle.elab_rules.specs.cpp_types.declared.ranks.Conversion.{Conversion}
 use Rattle.elab_rules.specs.cpp_types.declared.ranks.Binding.TheVariants.{Direct, Temporary}
-use Rattle.elab_rules.specs.cpp_tree.declared.kinds.TKind.TheVariants.{Retype, Materialize}
+use Rattle.elab_rules.specs.cpp_tree.declared.kinds.TKind.TheVariants.{Materialize}
 use Rattle.elab_rules.specs.cpp_tree.declared.faults.ElabFault.{ElabFault}
 use Rattle.elab_rules.specs.cpp_tree.declared.faults.IllRule.TheVariants.{NoConversion}
 use Rattle.elab_rules.specs.cpp_tree.declared.roles.Role.TheVariants.{Value, Initialiser, Destruction}
-use Rattle.elab_rules.specs.cpp_tree.Trees.{Tree, node, none, one, typ_in, cat_of}
+use Rattle.elab_rules.specs.cpp_tree.Trees.{Tree, none, one, typ_in, cat_of}
 use Rattle.elab_rules.specs.cpp_tree.Notation.{plain}
-use Rattle.elab_rules.specs.cpp_tree.Typing.{head_of, is_class_prvalue, is_class_typ, word_kind, initialises}
+use Rattle.elab_rules.specs.cpp_tree.Typing.{is_class_prvalue, is_class_typ, word_kind}
 use Rattle.elab_rules.specs.cpp_tree.Roles.{and_any}
 use Rattle.elab_rules.specs.cpp_tree.Rows.{Setting, at_place}
 use Rattle.elab_rules.specs.cpp_tree.Typing.{passes}
@@ -27,11 +26,11 @@ use Rattle.elab_rules.specs.elab_ctx.Ctx.{Ctx, Work, with_item, next_place}
 use Rattle.elab_rules.specs.elab_ctx.Steps.{and_then, expect, Operand, Made}
 use Rattle.elab_rules.specs.Values.{valued, stepped, stored, temporary, retyped}
 use Rattle.elab_rules.specs.Initialising.{initial, bound_by, with_tree, seen_as}
-use Rattle.elab_fits.specs.Standing.{FitsAs, IsExpressionType, Stands, BuildsOne, Reaches, On}
-use Rattle.elab_fits.specs.Scalars.{is_scalar, Gives, Initialises, IsOperand}
+use Rattle.elab_fits.specs.Standing.{FitsAs, IsExpressionType, BuildsOne, Reaches, On}
+use Rattle.elab_fits.specs.Scalars.{is_scalar, Initialises, IsOperand}
 use Rattle.elab_fits.proofs.Equal.{typ_refl}
 use Rattle.elab_fits.proofs.Nodes.{both, or_left, or_right, clash, head_typ, head_cat, node_fits, one_object}
-use Rattle.elab_fits.proofs.Values.{no_class, scalar_type, lvalue_stands, stored_builds}
+use Rattle.elab_fits.proofs.Values.{lvalue_stands, stored_builds}
 use Rattle.elab_fits.proofs.Initials.{operand_gives}
 
 -- Temporaries (C++14 12.2)

@@ -1,9 +1,8 @@
 -- `?:` of scalars and of lvalues of one type, and `,`.
-use Rattle.std.proofs.Common.{◌≡◌, refl, sym, ap, ◌∙◌, subst, Bool, true, false, ◌&&◌, ◌||◌, not, List, [], ◌∷◌, Option, Some, None, is_some, Result, Ok, Err}
+use Rattle.std.proofs.Common.{◌≡◌, refl, sym, ap, ◌∙◌, subst, Bool, true, false, ◌&&◌, ◌||◌, not, [], ◌∷◌, Option, Some, None, is_some, Ok}
 use Rattle.std.proofs.lemmas.Bool.{and_parts}
 use Rattle.std.specs.Prelude.{if◌then◌else◌}
 use Rattle.elab_rules.specs.tx_ints.declared.kinds.IntKind.{IntKind}
-use Rattle.elab_rules.specs.tx_ints.declared.kinds.IntKind.TheVariants.{Bool as BoolKind}
 use Rattle.elab_rules.specs.tx_ints.Integers.{usual_of}
 use Rattle.elab_rules.specs.cpp_types.Typ.{Typ, typ, Form, void, int, ptr, class, closure, tx_ex}
 use Rattle.elab_rules.specs.cpp_types.Equal.{typ_eq, form_eq}
@@ -13,34 +12,32 @@ use Rattle.elab_rules.specs.cpp_types.declared.ranks.Cat.{Cat}
 use Rattle.elab_rules.specs.cpp_types.declared.ranks.Cat.TheVariants.{Lvalue, Prvalue}
 use Rattle.elab_rules.specs.cpp_tree.declared.kinds.TKind.TheVariants.{Conditional}
 use Rattle.elab_rules.specs.cpp_tree.declared.roles.Role.TheVariants.{Value}
-use Rattle.elab_rules.specs.cpp_tree.declared.faults.ElabFault.{ElabFault}
 use Rattle.elab_rules.specs.cpp_tree.declared.faults.IllRule.TheVariants.{BadOperand}
 use Rattle.elab_rules.specs.cpp_tree.Trees.{Tree, node, three, typ_in, cat_of}
 use Rattle.elab_rules.specs.cpp_tree.Notation.{plain}
-use Rattle.elab_rules.specs.cpp_tree.Typing.{Head, head_of, form_in, is_void, is_class_typ, is_class_prvalue, is_prvalue, kind_in, word_kind}
+use Rattle.elab_rules.specs.cpp_tree.Typing.{Head, head_of, is_void, is_class_typ, is_class_prvalue, is_prvalue, kind_in, word_kind}
 use Rattle.elab_rules.specs.cpp_tree.Roles.{only, is_throw as is_thrown}
 use Rattle.elab_rules.specs.cpp_tree.Rows.{Setting, is_branch}
 use Rattle.elab_rules.specs.cpp_tree.WellFormed.{fits, has_no_typ}
 use Rattle.elab_rules.specs.cpp_tree.declared.roles.Position.{Position}
-use Rattle.elab_rules.specs.elab_ctx.Ctx.{Ctx, Work}
-use Rattle.elab_rules.specs.elab_ctx.Steps.{and_then, check, Operand, Made}
-use Rattle.elab_rules.specs.Operators.{value, value_form, arithmetic, as_kind, as_pointer, is_null, conditional_node, same_lvalues, both_of_class, two_numbers}
-use Rattle.elab_rules.specs.Operators.{two_values, is_shared, shared, throws, truth, branches, conditional, joined_class, joined_type, same_work}
+use Rattle.elab_rules.specs.elab_ctx.Steps.{and_then, check, Operand}
+use Rattle.elab_rules.specs.Operators.{value, value_form, arithmetic, as_kind, as_pointer, is_null, conditional_node, two_numbers}
+use Rattle.elab_rules.specs.Operators.{two_values, shared, joined_class, joined_type}
 use Rattle.elab_rules.specs.Values.{retyped}
 use Rattle.elab_rules.specs.Initialising.{seen_as}
 use Rattle.elab_fits.specs.Standing.{FitsAs, IsExpressionType, Stands, On}
 use Rattle.elab_fits.specs.Scalars.{is_scalar, Gives, IsValue, IsOperand}
 use Rattle.elab_fits.proofs.Equal.{form_same, typ_same, typ_refl}
 use Rattle.elab_fits.proofs.Nodes.{both, or_left, or_right, clash, head_typ, head_cat, node_fits, three_values, of_value}
-use Rattle.elab_fits.proofs.Steps.{bind, checked, either}
-use Rattle.elab_fits.proofs.Values.{value_stands, given_stands, lvalue_stands}
-use Rattle.elab_fits.proofs.Arithmetic.{IsTruth, value_of, as_kind_gives, pointer_of, null_gives, or_case}
-use Rattle.elab_fits.proofs.Unary.{choice_gives, bool_row, truth_gives, lvalue_is, lvalue_fits}
-use Rattle.elab_fits.proofs.Assigning.{MadeStands, scalar_form, lvalue_type}
+use Rattle.elab_fits.proofs.Steps.{checked, either}
+use Rattle.elab_fits.proofs.Values.{value_stands, lvalue_stands}
+use Rattle.elab_fits.proofs.Arithmetic.{IsTruth, value_of, as_kind_gives, pointer_of, null_gives}
+use Rattle.elab_fits.proofs.Unary.{choice_gives, bool_row, lvalue_fits}
+use Rattle.elab_fits.proofs.Assigning.{scalar_form, lvalue_type}
 
 -- Scalars
 
-numbers_choose : (s : Setting) (at : At) (test : Tree) (i j : Option IntKind) (a b : Operand) → IsTruth s test → IsOperand s a → IsOperand s b
+pub numbers_choose : (s : Setting) (at : At) (test : Tree) (i j : Option IntKind) (a b : Operand) → IsTruth s test → IsOperand s a → IsOperand s b
     → arithmetic (value_form a) ≡ i → arithmetic (value_form b) ≡ j → On (IsValue s) (two_numbers at test i j a b)
 numbers_choose s at test (Some i) (Some j) a b h x y e d = record {
   form = int (usual_of i j);
@@ -113,7 +110,7 @@ choice_fits s p at t cat test x y n h full g k i j u v = node_fits s p Value Con
     (no_typ (is_void t) (has_no_typ (head_of x)) (has_no_typ (head_of y) && true) u (λ e. both (v e) refl))
     (both (both (bool_row s test h) i) j) refl refl refl (three_values s p test x y (h.fits p full) g k)
 
-choice_stands : (s : Setting) (at : At) (t : Typ) (cat : Cat) (test x y : Tree) → IsExpressionType t cat → is_class_prvalue t cat ≡ false → IsTruth s test
+pub choice_stands : (s : Setting) (at : At) (t : Typ) (cat : Cat) (test x y : Tree) → IsExpressionType t cat → is_class_prvalue t cat ≡ false → IsTruth s test
     → FitsAs s Value x → FitsAs s Value y → is_branch t cat (head_of x) ≡ true → is_branch t cat (head_of y) ≡ true
     → (is_void t ≡ true → has_no_typ (head_of x) ≡ true) → (is_void t ≡ true → has_no_typ (head_of y) ≡ true)
     → Stands s (node Conditional t cat at (three test x y))
@@ -121,19 +118,19 @@ choice_stands s at t cat test x y d n h g k i j u v = of_value s (node Condition
     (λ p full. choice_fits s p at t cat test x y n h full (g p full) (k p full) i j u v)
 
 -- an operand of the type and category of the whole, and one without a type
-own_branch : (t : Typ) (cat : Cat) (x : Head) → typ_eq t x.typ ≡ true → x.cat ≡ cat → is_branch t cat x ≡ true
+pub own_branch : (t : Typ) (cat : Cat) (x : Head) → typ_eq t x.typ ≡ true → x.cat ≡ cat → is_branch t cat x ≡ true
 own_branch t Lvalue x e d = or_right (is_thrown x.kind) (both (ap is_lvalue d) e)
 own_branch t Prvalue x e d = or_right (is_thrown x.kind || is_void t) (both (ap is_prvalue d) e)
 
 void_branch : (t : Typ) (x : Head) → is_void t ≡ true → is_branch t Prvalue x ≡ true
 void_branch t x v = or_left _ (or_right (is_thrown x.kind) v)
 
-void_typ : (x : Head) → is_void x.typ ≡ true → has_no_typ x ≡ true
+pub void_typ : (x : Head) → is_void x.typ ≡ true → has_no_typ x ≡ true
 void_typ x v = or_right (is_thrown x.kind) v
 
 -- Lvalues
 
-lvalues_choose : (s : Setting) (at : At) (test a b : Tree) → IsTruth s test → Stands s a → Stands s b → cat_of a ≡ Lvalue → cat_of b ≡ Lvalue
+pub lvalues_choose : (s : Setting) (at : At) (test a b : Tree) → IsTruth s test → Stands s a → Stands s b → cat_of a ≡ Lvalue → cat_of b ≡ Lvalue
     → typ_eq (typ_in a) (typ_in b) ≡ true → Stands s (node Conditional (typ_in a) Lvalue at (three test a b))
 lvalues_choose s at test a b h x y l m d = choice_stands s at (typ_in a) Lvalue test a b (lvalue_type s a x l) refl h (lvalue_fits s a x l)
     (lvalue_fits s b y m) (own_branch (typ_in a) Lvalue (head_of a) (ap (λ (u : Typ). typ_eq (typ_in a) u) (head_typ a) ∙ typ_refl (typ_in a)) (head_cat a ∙ l))
@@ -164,7 +161,7 @@ class_no_void (typ (closure n) c v) (typ g d w) h = refl
 class_no_void (typ (tx_ex t) c v) (typ g d w) h = refl
 class_no_void (typ f c v) u h = absurd cc
 
-shared_stands : (s : Setting) (at : At) (test : Tree) (a b : Operand) → IsTruth s test → IsOperand s a → IsOperand s b → cat_of a.tree ≡ Lvalue
+pub shared_stands : (s : Setting) (at : At) (test : Tree) (a b : Operand) → IsTruth s test → IsOperand s a → IsOperand s b → cat_of a.tree ≡ Lvalue
     → cat_of b.tree ≡ Lvalue → is_class_typ (typ_in a.tree) ≡ true → Stands s (shared at test a b)
 shared_stands s at test a b h x y l m k = choice_stands s at (joined_class a b) Lvalue test (seen_as a.at (joined_class a b) a.tree)
     (seen_as b.at (joined_class a b) b.tree) (class_typed (typ_in a.tree) (typ_in b.tree) k) refl h
@@ -184,57 +181,9 @@ no_object (typ void c v) Lvalue h = refl
 no_object (typ void c v) Prvalue h = refl
 no_object (typ f c v) cat h = absurd cc
 
-voids_choose : (s : Setting) (at : At) (test a b : Tree) → IsTruth s test → Stands s a → Stands s b → cat_of a ≡ Prvalue → is_void (typ_in a) ≡ true
+pub voids_choose : (s : Setting) (at : At) (test a b : Tree) → IsTruth s test → Stands s a → Stands s b → cat_of a ≡ Prvalue → is_void (typ_in a) ≡ true
     → is_void (typ_in b) ≡ true → Stands s (node Conditional (typ_in a) Prvalue at (three test a b))
 voids_choose s at test a b h x y l v u = choice_stands s at (typ_in a) Prvalue test a b (subst (λ (c : Cat). IsExpressionType (typ_in a) c) l x.typed)
     (no_object (typ_in a) Prvalue v) h (x.value (no_object (typ_in a) (cat_of a) v)) (y.value (no_object (typ_in b) (cat_of b) u))
     (void_branch (typ_in a) (head_of a) v) (void_branch (typ_in a) (head_of b) v)
     (λ e. void_typ (head_of a) (ap is_void (head_typ a) ∙ v)) (λ e. void_typ (head_of b) (ap is_void (head_typ b) ∙ u))
-
--- `?:` (C++14 5.16) where nothing is thrown, two objects of a class are lvalues that share a type, and nothing of type void is an lvalue
-pub branches_stand : (s : Setting) (c : Ctx) (w : Work) (at : At) (test : Tree) (a b : Operand) → IsTruth s test → IsOperand s a → IsOperand s b
-    → throws a.tree ≡ false → throws b.tree ≡ false → (is_void (typ_in a.tree) ≡ true → cat_of a.tree ≡ Prvalue)
-    → (both_of_class a b ≡ true → is_shared a b ≡ true) → On (MadeStands s) (branches c w at test a b)
-branches_stand s c w at test a b h x y p q v n = either (MadeStands s) (throws a.tree && throws b.tree) _ _
-    (λ i. clash _ (throws a.tree) p (and_parts (throws a.tree) (throws b.tree) i).0)
-    (λ i. either (MadeStands s) (throws b.tree) _ _ (λ j. clash _ (throws b.tree) q j)
-    (λ j. either (MadeStands s) (throws a.tree) _ _ (λ k. clash _ (throws a.tree) p k)
-    (λ k. either (MadeStands s) (same_lvalues a b || (is_void (typ_in a.tree) && is_void (typ_in b.tree))) _ _
-    (λ l. or_case (Stands s (conditional_node at (typ_in a.tree) (cat_of a.tree) test a.tree b.tree)) (same_lvalues a b)
-    (is_void (typ_in a.tree) && is_void (typ_in b.tree)) l lvalues voids)
-    (λ l. either (MadeStands s) (is_shared a b) _ _ shares
-    (λ m. either (MadeStands s) (both_of_class a b) _ _ (λ o. clash _ (is_shared a b) m (n o))
-    (λ o. made (two_values at test (value_form a) (value_form b) a b)
-    (values_choose s at test (value_form a) (value_form b) a b h x y refl refl)))))))
-  where
-    lvalues : same_lvalues a b ≡ true → Stands s (conditional_node at (typ_in a.tree) (cat_of a.tree) test a.tree b.tree)
-    lvalues l =
-        let d = and_parts (is_lvalue (cat_of a.tree) && is_lvalue (cat_of b.tree)) (typ_eq (typ_in a.tree) (typ_in b.tree)) l in
-        let e = and_parts (is_lvalue (cat_of a.tree)) (is_lvalue (cat_of b.tree)) d.0 in
-        subst (λ (z : Cat). Stands s (conditional_node at (typ_in a.tree) z test a.tree b.tree)) (sym (lvalue_is (cat_of a.tree) e.0))
-        (lvalues_choose s at test a.tree b.tree h x.stands y.stands (lvalue_is (cat_of a.tree) e.0) (lvalue_is (cat_of b.tree) e.1) d.1)
-
-    voids : (is_void (typ_in a.tree) && is_void (typ_in b.tree)) ≡ true
-        → Stands s (conditional_node at (typ_in a.tree) (cat_of a.tree) test a.tree b.tree)
-    voids o = let d = and_parts (is_void (typ_in a.tree)) (is_void (typ_in b.tree)) o in
-        subst (λ (z : Cat). Stands s (conditional_node at (typ_in a.tree) z test a.tree b.tree)) (sym (v d.0))
-        (voids_choose s at test a.tree b.tree h x.stands y.stands (v d.0) d.0 d.1)
-
-    shares : is_shared a b ≡ true → Stands s (shared at test a b)
-    shares m =
-        let d = and_parts (is_lvalue (cat_of a.tree) && is_lvalue (cat_of b.tree) && both_of_class a b)
-        (typ_eq (joined_class a b) (typ_in a.tree) || typ_eq (joined_class a b) (typ_in b.tree)) m in
-        let e = and_parts (is_lvalue (cat_of a.tree) && is_lvalue (cat_of b.tree)) (both_of_class a b) d.0 in
-        let f = and_parts (is_lvalue (cat_of a.tree)) (is_lvalue (cat_of b.tree)) e.0 in
-        let g = and_parts (is_class_typ (typ_in a.tree)) (form_eq (form_in (typ_in a.tree)) (form_in (typ_in b.tree))) e.1 in
-        shared_stands s at test a b h x y (lvalue_is (cat_of a.tree) f.0) (lvalue_is (cat_of b.tree) f.1) g.0
-
-    made : (r : Result Tree ElabFault) → On (IsValue s) r → On (MadeStands s) (same_work w r)
-    made (Ok e) g = given_stands s g.form e g.gives
-    made (Err e) g = tt
-
-pub conditional_stands : (s : Setting) (c : Ctx) (w : Work) (at : At) (test a b : Operand) → IsOperand s test → IsOperand s a → IsOperand s b
-    → throws a.tree ≡ false → throws b.tree ≡ false → (is_void (typ_in a.tree) ≡ true → cat_of a.tree ≡ Prvalue)
-    → (both_of_class a b ≡ true → is_shared a b ≡ true) → On (MadeStands s) (conditional c w at test a b)
-conditional_stands s c w at test a b z x y p q v n = bind (IsTruth s) (MadeStands s) (truth c w test) _ (truth_gives s c w test z)
-    (λ e h. branches_stand s c w at e a b h x y p q v n)

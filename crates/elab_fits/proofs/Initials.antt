@@ -1,9 +1,9 @@
 -- What a conversion makes of an expression for a scalar.
-use Rattle.std.proofs.Common.{◌≡◌, refl, sym, ap, ◌∙◌, subst, ℕ, Bool, true, false, ◌&&◌, ◌||◌, cond, List, [], ◌∷◌, Option, Some, None, is_some, Ok}
+use Rattle.std.proofs.Common.{◌≡◌, refl, ap, ◌∙◌, Bool, true, false, ◌&&◌, ◌||◌, cond, List, Option, Some, None, is_some, Ok}
 use Rattle.std.proofs.lemmas.Bool.{and_parts}
 use Rattle.elab_rules.specs.tx_ints.declared.kinds.IntKind.{IntKind}
-use Rattle.elab_rules.specs.tx_ints.declared.kinds.IntKind.TheVariants.{Bool as BoolKind, Int, ULong}
-use Rattle.elab_rules.specs.cpp_types.Typ.{Typ, typ, Form, void, int, enum, null, ptr, ref, array, func, class, closure, tx_ex}
+use Rattle.elab_rules.specs.tx_ints.declared.kinds.IntKind.TheVariants.{Bool as BoolKind, Int}
+use Rattle.elab_rules.specs.cpp_types.Typ.{typ, Form, void, int, enum, null, ptr, ref, array, func, class, closure, tx_ex}
 use Rattle.elab_rules.specs.cpp_types.Equal.{kind_eq, form_eq}
 use Rattle.elab_rules.specs.cpp_types.Class.{Class}
 use Rattle.elab_rules.specs.cpp_types.Conversion.{step_of, other_step, promotes, bound, has_value, decayed}
@@ -16,18 +16,18 @@ use Rattle.elab_rules.specs.cpp_types.declared.ranks.Conversion.{Conversion}
 use Rattle.elab_rules.specs.cpp_types.declared.ranks.Binding.TheVariants.{Value}
 use Rattle.elab_rules.specs.cpp_tree.declared.kinds.TKind.{TKind}
 use Rattle.elab_rules.specs.cpp_tree.declared.faults.IllRule.TheVariants.{NoConversion}
-use Rattle.elab_rules.specs.cpp_tree.Trees.{Tree, node, Trees, kind_of, typ_in, cat_of}
+use Rattle.elab_rules.specs.cpp_tree.Trees.{Tree, node, Trees, kind_of, typ_in}
 use Rattle.elab_rules.specs.cpp_tree.Notation.{plain}
-use Rattle.elab_rules.specs.cpp_tree.Typing.{Head, head_of, form_in, kind_in, same_kind, word_kind}
+use Rattle.elab_rules.specs.cpp_tree.Typing.{head_of, form_in, kind_in, same_kind, word_kind}
 use Rattle.elab_rules.specs.cpp_tree.Rows.{Setting, is_retyped, is_zero_literal}
 use Rattle.elab_rules.specs.elab_ctx.Ctx.{Ctx, Work}
 use Rattle.elab_rules.specs.elab_ctx.Steps.{and_then, expect, Operand, Made}
-use Rattle.elab_rules.specs.Values.{number, valued, stepped}
+use Rattle.elab_rules.specs.Values.{valued, stepped}
 use Rattle.elab_rules.specs.Initialising.{initial, bound_by}
-use Rattle.elab_fits.specs.Standing.{Stands, On}
+use Rattle.elab_fits.specs.Standing.{On}
 use Rattle.elab_fits.specs.Scalars.{is_scalar, Gives, IsZero, IsOperand}
 use Rattle.elab_fits.proofs.Equal.{form_same}
-use Rattle.elab_fits.proofs.Nodes.{both, or_left, or_right, head_kind}
+use Rattle.elab_fits.proofs.Nodes.{both, or_right, head_kind}
 use Rattle.elab_fits.proofs.Values.{value_gives, converted_gives, retype_gives, retype_row, given_word}
 
 -- the form of the value of an expression is what the language says

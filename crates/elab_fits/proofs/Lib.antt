@@ -10,5 +10,6 @@ pub mod Nodes
 pub mod Numbers
 pub mod Sizes
 pub mod Steps
+pub mod Throwing
 pub mod Unary
 pub mod Values

@@ -10,12 +10,12 @@ use Rattle.elab_rules.specs.cpp_tree.declared.program.FuncKind.{FuncKind}
 use Rattle.elab_rules.specs.cpp_tree.declared.roles.Position.{Position}
 use Rattle.elab_rules.specs.cpp_tree.declared.roles.Role.{Role}
 use Rattle.elab_rules.specs.cpp_tree.declared.roles.Role.TheVariants.{Value, Initialiser}
-use Rattle.elab_rules.specs.cpp_tree.Trees.{Tree, node, Trees, none, more, one, two, three, kind_of, typ_in, cat_of}
+use Rattle.elab_rules.specs.cpp_tree.Trees.{Tree, node, Trees, none, one, two, three, kind_of, typ_in, cat_of}
 use Rattle.elab_rules.specs.cpp_tree.Typing.{Head, head_of, builds, is_class_prvalue}
 use Rattle.elab_rules.specs.cpp_tree.Roles.{Kids, only, and_any, kids_for, serves, way_fits}
 use Rattle.elab_rules.specs.cpp_tree.Rows.{Setting, row_fits}
-use Rattle.elab_rules.specs.cpp_tree.WellFormed.{fits, kids_fit, stands, enough, kids_in, heads_of, inside, is_kid, is_switch, labels_fit, may_stand}
-use Rattle.elab_rules.specs.cpp_tree.WellFormed.{branches_fit, no_object}
+use Rattle.elab_rules.specs.cpp_tree.WellFormed.{fits, kids_fit, enough, kids_in, heads_of, inside, is_kid, is_switch, labels_fit, may_stand}
+use Rattle.elab_rules.specs.cpp_tree.WellFormed.{branches_fit}
 use Rattle.elab_rules.specs.Values.{builder}
 use Rattle.elab_fits.specs.Standing.{FitsAs, IsExpressionType, Stands}
 

@@ -1,5 +1,5 @@
 -- Kinds of numbers and their words, and operators.
-use Rattle.std.proofs.Common.{◌≡◌, refl, ℕ, Bool, true, false}
+use Rattle.std.proofs.Common.{◌≡◌, refl, true, false}
 use Rattle.elab_rules.specs.tx_ints.declared.kinds.IntKind.{IntKind}
 use Rattle.elab_rules.specs.tx_ints.declared.kinds.IntKind.TheVariants.{Bool as BoolKind, Char, SChar, UChar, Short, UShort, Int, UInt, Long, ULong, LLong}
 use Rattle.elab_rules.specs.tx_ints.declared.kinds.IntKind.TheVariants.{ULLong}

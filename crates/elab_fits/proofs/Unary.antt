@@ -1,31 +1,30 @@
 -- Truth, operators of one operand, and what a pointer points to.
-use Rattle.std.proofs.Common.{◌≡◌, refl, sym, ap, ◌∙◌, subst, Bool, true, false, ◌&&◌, ◌||◌, not, List, [], ◌∷◌, Option, Some, None, Result, Ok, Err}
+use Rattle.std.proofs.Common.{◌≡◌, refl, sym, ap, ◌∙◌, subst, Bool, true, false, ◌||◌, not, [], ◌∷◌, Some, Result, Ok, Err}
 use Rattle.std.specs.Prelude.{if◌then◌else◌}
 use Rattle.elab_rules.specs.tx_ints.declared.kinds.IntKind.{IntKind}
 use Rattle.elab_rules.specs.tx_ints.declared.kinds.IntKind.TheVariants.{Bool as BoolKind, Int, ULong}
 use Rattle.elab_rules.specs.tx_ints.declared.kinds.BinOp.TheVariants.{Add, Sub, Xor, Eq}
 use Rattle.elab_rules.specs.tx_ints.Integers.{promote_of}
-use Rattle.elab_rules.specs.cpp_types.Typ.{Typ, typ, Form, void, int, ptr}
+use Rattle.elab_rules.specs.cpp_types.Typ.{Typ, Form, void, int, ptr}
 use Rattle.elab_rules.specs.cpp_types.Equal.{typ_eq}
 use Rattle.elab_rules.specs.cpp_types.Conversion.{is_lvalue}
 use Rattle.elab_rules.specs.cpp_types.declared.classes.At.{At}
 use Rattle.elab_rules.specs.cpp_types.declared.ranks.Cat.{Cat}
 use Rattle.elab_rules.specs.cpp_types.declared.ranks.Cat.TheVariants.{Lvalue, Prvalue}
-use Rattle.elab_rules.specs.cpp_tree.declared.kinds.TKind.{TKind}
 use Rattle.elab_rules.specs.cpp_tree.declared.kinds.TKind.TheVariants.{Conditional}
 use Rattle.elab_rules.specs.cpp_tree.declared.roles.Role.TheVariants.{Value}
 use Rattle.elab_rules.specs.cpp_tree.declared.faults.ElabFault.{ElabFault}
 use Rattle.elab_rules.specs.cpp_tree.declared.faults.IllRule.TheVariants.{BadOperand, NotLvalue}
 use Rattle.elab_rules.specs.cpp_tree.Trees.{Tree, node, three, typ_in, cat_of}
 use Rattle.elab_rules.specs.cpp_tree.Notation.{plain}
-use Rattle.elab_rules.specs.cpp_tree.Typing.{Head, head_of, form_in, is_prvalue, is_bool, is_void, is_prvalue_of, is_class_prvalue, word_kind}
+use Rattle.elab_rules.specs.cpp_tree.Typing.{head_of, form_in, is_prvalue, is_bool, is_void, is_class_prvalue, word_kind}
 use Rattle.elab_rules.specs.cpp_tree.Roles.{only, is_throw}
 use Rattle.elab_rules.specs.cpp_tree.Rows.{Setting, is_branch}
 use Rattle.elab_rules.specs.elab_ctx.Ctx.{Ctx, Work}
-use Rattle.elab_rules.specs.elab_ctx.Steps.{and_then, expect, Operand, Made}
+use Rattle.elab_rules.specs.elab_ctx.Steps.{and_then, expect, Operand}
 use Rattle.elab_rules.specs.Values.{bool_type, number, operated, retyped, in_kind}
 use Rattle.elab_rules.specs.Initialising.{initial}
-use Rattle.elab_rules.specs.Operators.{value, value_form, arithmetic, as_kind, pointed, sum_of, compared, truth, logical, negation, false_at, true_at, ones}
+use Rattle.elab_rules.specs.Operators.{value, value_form, arithmetic, as_kind, pointed, sum_of, truth, logical, negation, false_at, true_at, ones}
 use Rattle.elab_rules.specs.Operators.{with_arithmetic, minus, complement, plus, indirection, address_of, subscript}
 use Rattle.elab_fits.specs.Standing.{FitsAs, IsExpressionType, Stands, On}
 use Rattle.elab_fits.specs.Scalars.{is_scalar, Gives, IsValue, IsOperand}

@@ -1,31 +1,26 @@
 -- Values of expressions, and their conversions.
-use Rattle.std.proofs.Common.{◌≡◌, refl, sym, ap, ◌∙◌, subst, ℕ, Bool, true, false, not, ◌&&◌, ◌||◌, List, [], ◌∷◌, Option, Some, None, is_some}
+use Rattle.std.proofs.Common.{◌≡◌, refl, sym, ap, ◌∙◌, subst, ℕ, Bool, true, false, not, ◌&&◌, ◌||◌, [], ◌∷◌, Option, Some, is_some}
 use Rattle.elab_rules.specs.tx_ints.declared.kinds.IntKind.{IntKind}
 use Rattle.elab_rules.specs.tx_ints.declared.kinds.IntKind.TheVariants.{Int, ULong}
-use Rattle.elab_rules.specs.tx_ints.declared.kinds.BinOp.TheVariants.{Add}
 use Rattle.elab_rules.specs.cpp_types.Typ.{Typ, typ, Form, void, int, enum, null, ptr, ref, array, func, class, closure, tx_ex}
-use Rattle.elab_rules.specs.cpp_types.Equal.{kind_eq, typ_eq, flag_eq, form_eq}
-use Rattle.elab_rules.specs.cpp_types.Conversion.{decayed}
+use Rattle.elab_rules.specs.cpp_types.Equal.{kind_eq, typ_eq}
 use Rattle.elab_rules.specs.cpp_types.declared.classes.At.{At}
 use Rattle.elab_rules.specs.cpp_types.declared.ranks.Cat.{Cat}
 use Rattle.elab_rules.specs.cpp_types.declared.ranks.Cat.TheVariants.{Lvalue, Prvalue}
-use Rattle.elab_rules.specs.cpp_types.declared.ranks.Step.{Step}
-use Rattle.elab_rules.specs.cpp_types.declared.ranks.Step.TheVariants.{NullPointer}
 use Rattle.elab_rules.specs.cpp_tree.declared.kinds.TKind.{TKind}
-use Rattle.elab_rules.specs.cpp_tree.declared.kinds.TKind.TheVariants.{Literal, Load, Convert, Retype, Binary, Store, Materialize}
-use Rattle.elab_rules.specs.cpp_tree.declared.roles.Position.{Position}
+use Rattle.elab_rules.specs.cpp_tree.declared.kinds.TKind.TheVariants.{Literal, Load, Convert, Retype, Store}
 use Rattle.elab_rules.specs.cpp_tree.declared.roles.Role.TheVariants.{Value, Initialiser}
-use Rattle.elab_rules.specs.cpp_tree.Trees.{Tree, node, Trees, none, more, one, two, kind_of, typ_in, cat_of}
+use Rattle.elab_rules.specs.cpp_tree.Trees.{Tree, node, Trees, one, kind_of, typ_in, cat_of}
 use Rattle.elab_rules.specs.cpp_tree.Notation.{plain}
-use Rattle.elab_rules.specs.cpp_tree.Typing.{Head, head_of, form_in, unqualified, kind_in, is_kind, same_kind, word_kind, is_scalar_value, is_class_typ, is_prvalue}
-use Rattle.elab_rules.specs.cpp_tree.Typing.{is_class_prvalue, is_word_of, gives, initialises}
+use Rattle.elab_rules.specs.cpp_tree.Typing.{Head, head_of, form_in, kind_in, is_kind, same_kind, word_kind, is_scalar_value, is_class_typ, is_prvalue}
+use Rattle.elab_rules.specs.cpp_tree.Typing.{is_class_prvalue, is_word_of, initialises}
 use Rattle.elab_rules.specs.cpp_tree.Roles.{only}
 use Rattle.elab_rules.specs.cpp_tree.Rows.{Setting, is_load, is_retyped, is_zero_literal, result_of, row_fits}
-use Rattle.elab_rules.specs.Values.{number, retyped, part_at, loaded, value_in, valued, retyped_if, between, converted, in_kind, stepped, stored, stored_as}
+use Rattle.elab_rules.specs.Values.{number, retyped, loaded, valued, retyped_if, between, converted, in_kind, stored, stored_as}
 use Rattle.elab_fits.specs.Standing.{FitsAs, IsExpressionType, Stands, BuildsOne}
 use Rattle.elab_fits.specs.Scalars.{is_scalar, Gives}
 use Rattle.elab_fits.proofs.Equal.{flag_refl, kind_refl, form_refl, typ_refl, typ_same, kind_same}
-use Rattle.elab_fits.proofs.Nodes.{both, or_left, or_right, clash, head_typ, head_cat, head_kind, node_fits, Simple, no_kids, one_kid, two_kids, of_value}
+use Rattle.elab_fits.proofs.Nodes.{both, or_left, or_right, head_typ, head_cat, head_kind, node_fits, Simple, no_kids, one_kid, of_value}
 use Rattle.elab_fits.proofs.Nodes.{one_value}
 
 -- Forms of scalars

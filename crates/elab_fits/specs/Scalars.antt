@@ -18,7 +18,7 @@ use Rattle.elab_rules.specs.elab_ctx.Steps.{Operand, Made}
 use Rattle.elab_rules.specs.Values.{number, part_at, valued, converted, stored}
 use Rattle.elab_rules.specs.Initialising.{initial}
 use Rattle.elab_rules.specs.Operators.{value_form, pointed, sum_of, binary, logical, negation, minus, complement, plus, address_of, indirection, subscript}
-use Rattle.elab_rules.specs.Operators.{assignment, compound, step, throws, both_of_class, is_shared, conditional, comma}
+use Rattle.elab_rules.specs.Operators.{assignment, compound, step, both_of_class, is_shared, conditional, comma}
 use Rattle.elab_fits.specs.Standing.{FitsAs, IsExpressionType, Stands, BuildsOne, Reaches, On}
 
 -- a form of numbers and addresses; a reference has an address, but is no value
@@ -138,14 +138,15 @@ CompoundsStand = (s : Setting) (c : Ctx) (op : BinOp) (at : At) (a b : Operand) 
 abbrev pub StepsStand : Type 0
 StepsStand = (s : Setting) (c : Ctx) (op : BinOp) (old : Bool) (at : At) (a : Operand) → is_shift op ≡ false → IsOperand s a → On (Stands s) (step c op old at a)
 
--- `?:` where no operand throws, two objects of a class are lvalues that share a type, and nothing of type void is an lvalue
+-- `?:` where no operand is a prvalue of a class, two objects of a class are lvalues that share a type, and nothing of type void is an lvalue
 abbrev pub ConditionalsStand : Type 0
 ConditionalsStand = (s : Setting) (c : Ctx) (w : Work) (at : At) (test a b : Operand) → IsOperand s test → IsOperand s a → IsOperand s b
-    → throws a.tree ≡ false → throws b.tree ≡ false → (is_void (typ_in a.tree) ≡ true → cat_of a.tree ≡ Prvalue)
-    → (both_of_class a b ≡ true → is_shared a b ≡ true) → On (λ (m : Made). Stands s m.tree) (conditional c w at test a b)
+    → is_class_prvalue (typ_in a.tree) (cat_of a.tree) ≡ false → is_class_prvalue (typ_in b.tree) (cat_of b.tree) ≡ false
+    → (is_void (typ_in a.tree) ≡ true → cat_of a.tree ≡ Prvalue) → (both_of_class a b ≡ true → is_shared a b ≡ true)
+    → On (λ (m : Made). Stands s m.tree) (conditional c w at test a b)
 
--- `,` where the first does not throw and neither is a prvalue of a class
+-- `,` where neither is a prvalue of a class
 abbrev pub CommasStand : Type 0
-CommasStand = (s : Setting) (c : Ctx) (w : Work) (at : At) (a b : Operand) → IsOperand s a → IsOperand s b → throws a.tree ≡ false
+CommasStand = (s : Setting) (c : Ctx) (w : Work) (at : At) (a b : Operand) → IsOperand s a → IsOperand s b
     → is_class_prvalue (typ_in a.tree) (cat_of a.tree) ≡ false → is_class_prvalue (typ_in b.tree) (cat_of b.tree) ≡ false
     → Stands s (comma c w at a b).tree

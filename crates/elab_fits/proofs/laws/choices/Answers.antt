@@ -1,4 +1,4 @@
-use Rattle.elab_fits.proofs.Choosing.{conditional_stands}
+use Rattle.elab_fits.proofs.Throwing.{conditional_stands}
 use Rattle.elab_fits.proofs.Comma.{comma_stands}
 use Rattle.elab_fits.proofs.laws.choices.Goals as goal
 
