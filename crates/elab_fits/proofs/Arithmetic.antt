@@ -1,5 +1,6 @@
 -- Arithmetic, comparisons, and pointers moved by numbers.
-use Rattle.std.proofs.Common.{◌≡◌, refl, sym, ap, ◌∙◌, subst, ℕ, Bool, true, false, ◌&&◌, ◌||◌, not, cond, List, [], ◌∷◌, Option, Some, None, is_some, Result, Ok, Err}
+use Rattle.std.proofs.Common.{◌≡◌, refl, sym, ap, ◌∙◌, subst, ℕ, Bool, true, false, ◌&&◌, ◌||◌, not, cond, List, [], ◌∷◌, Option, Some, None, is_some}
+use Rattle.std.proofs.Common.{Result, Ok, Err}
 use Rattle.std.specs.Prelude.{unwrap_or, nat_le}
 use Rattle.elab_rules.specs.tx_ints.declared.kinds.IntKind.{IntKind}
 use Rattle.elab_rules.specs.tx_ints.declared.kinds.IntKind.TheVariants.{Bool as BoolKind, Int, ULong, Long}
@@ -18,7 +19,8 @@ use Rattle.elab_rules.specs.cpp_tree.declared.faults.IllRule.TheVariants.{BadOpe
 use Rattle.elab_rules.specs.cpp_layout.declared.extents.TheConstants.{GREATEST_SIZE}
 use Rattle.elab_rules.specs.cpp_tree.Trees.{Tree, typ_in, cat_of}
 use Rattle.elab_rules.specs.cpp_tree.Notation.{plain}
-use Rattle.elab_rules.specs.cpp_tree.Typing.{Head, head_of, form_in, unqualified, kind_in, is_kind, is_promoted, gives, gives_promoted, word_kind, is_scalar_value}
+use Rattle.elab_rules.specs.cpp_tree.Typing.{Head, head_of, form_in, unqualified, kind_in, is_kind, is_promoted, gives, gives_promoted, word_kind}
+use Rattle.elab_rules.specs.cpp_tree.Typing.{is_scalar_value}
 use Rattle.elab_rules.specs.cpp_tree.Typing.{scalar_of, is_bool, is_word_of}
 use Rattle.elab_rules.specs.cpp_tree.Roles.{only}
 use Rattle.elab_rules.specs.cpp_tree.Rows.{Setting, is_comparison, is_right, row_fits}
@@ -26,7 +28,8 @@ use Rattle.elab_rules.specs.elab_ctx.Ctx.{Ctx}
 use Rattle.elab_rules.specs.elab_ctx.Steps.{and_then, check, Operand}
 use Rattle.elab_rules.specs.Values.{bool_type, size_type, number, part_at, operated, valued, in_kind}
 use Rattle.elab_rules.specs.Objects.{size_of}
-use Rattle.elab_rules.specs.Operators.{value, value_form, arithmetic, as_kind, pointed, is_null, in_usual, shifted, arithmetic_of, is_function, is_sized, is_sum}
+use Rattle.elab_rules.specs.Operators.{value, value_form, arithmetic, as_kind, pointed, is_null, in_usual, shifted, arithmetic_of, is_function, is_sized}
+use Rattle.elab_rules.specs.Operators.{is_sum}
 use Rattle.elab_rules.specs.Operators.{within_greatest, measurable, movable, scaled, moved, moved_back, difference, sum_of, compared, as_pointer, comparison_by}
 use Rattle.elab_rules.specs.Operators.{comparison_in, binary}
 use Rattle.elab_rules.specs.Operators
@@ -120,7 +123,8 @@ compared_gives s op k f h at a b n p x i y j = record {
   scalar = refl;
   fits = two_kids s (Binary op k) bool_type Prvalue at a b (binaries op k) refl
       (both (both (both p (gives_row s f k a x i)) (right_row s op h k b (no_shift op n) y j))
-      (ap (λ (c : Bool). cond c (is_bool (record { kind = (head_of a).kind; typ = bool_type; cat = Prvalue })) (is_scalar_value bool_type && scalar_of k bool_type)) n))
+      (ap (λ (c : Bool). cond c (is_bool (record { kind = (head_of a).kind; typ = bool_type; cat = Prvalue }))
+      (is_scalar_value bool_type && scalar_of k bool_type)) n))
       x.fits y.fits;
   typed = refl;
   category = refl;
@@ -135,13 +139,15 @@ pub part_stands : (s : Setting) (offset : ℕ) (t : Typ) (at : At) (e : Tree) �
     → is_word_of ULong offset ≡ true → IsExpressionType t Lvalue → Stands s (part_at offset t at e)
 part_stands s offset t at e h g w i = of_value s (part_at offset t at e) i refl (two_kids s (Binary Add ULong) t Lvalue at e (number ULong offset at)
     (binaries Add ULong) refl
-    (part_row offset t at (head_of e) s (ap (λ (u : Typ). word_kind u (head_of e).cat) (head_typ e) ∙ ap (λ (c : Cat). word_kind (typ_in e) c) (head_cat e) ∙ h))
+    (part_row offset t at (head_of e) s (ap (λ (u : Typ). word_kind u (head_of e).cat) (head_typ e)
+    ∙ ap (λ (c : Cat). word_kind (typ_in e) c) (head_cat e) ∙ h))
     g (number_gives s ULong offset at w).fits)
 
 -- Numbers (C++14 5.6 to 5.8, 5.11 to 5.13)
 
 usual_gives : (s : Setting) (op : BinOp) (at : At) (a b : Operand) (i j : IntKind) → IsOperand s a → IsOperand s b → is_comparison op ≡ false
-    → is_shift op ≡ false → arithmetic (value_form a) ≡ Some i → arithmetic (value_form b) ≡ Some j → Gives s (int (usual_of i j)) (in_usual op at (usual_of i j) a b)
+    → is_shift op ≡ false → arithmetic (value_form a) ≡ Some i → arithmetic (value_form b) ≡ Some j
+    → Gives s (int (usual_of i j)) (in_usual op at (usual_of i j) a b)
 usual_gives s op at a b i j x y n m e d = operated_gives s op k (int k) (int k) (int k) at (as_kind k a) (as_kind k b) n (usual_kind i j)
     (as_kind_gives s a i k x e) refl refl refl (as_kind_gives s b j k y d) (right_row s op (int k) k (as_kind k b) m (as_kind_gives s b j k y d) refl)
   where

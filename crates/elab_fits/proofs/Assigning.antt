@@ -26,7 +26,8 @@ use Rattle.elab_rules.specs.elab_ctx.Steps.{and_then, check, Operand, Made}
 use Rattle.elab_rules.specs.Values.{number}
 use Rattle.elab_rules.specs.Objects.{size_of}
 use Rattle.elab_rules.specs.Initialising.{initial}
-use Rattle.elab_rules.specs.Operators.{value_form, arithmetic, as_kind, is_sum, movable, scaled, target, assigned, assignment, updated, compound_numbers, compound_in}
+use Rattle.elab_rules.specs.Operators.{value_form, arithmetic, as_kind, is_sum, movable, scaled, target, assigned, assignment, updated, compound_numbers}
+use Rattle.elab_rules.specs.Operators.{compound_in}
 use Rattle.elab_rules.specs.Operators.{compound, step_in, step}
 use Rattle.elab_fits.specs.Standing.{IsExpressionType, Stands, On}
 use Rattle.elab_fits.specs.Scalars.{is_scalar, Gives, IsOperand}
@@ -200,7 +201,8 @@ compound_stands s c op at a b x y = bind (λ (d : Bool). cat_of a.tree ≡ Lvalu
 step_by : (s : Setting) (c : Ctx) (op : BinOp) (old : Bool) (at : At) (f : Form) (q r : Bool) (a : Operand) → is_shift op ≡ false → Stands s a.tree
     → cat_of a.tree ≡ Lvalue → typ_in a.tree ≡ typ f q r → On (Stands s) (step_in c op old at f a)
 step_by s c op old at (ptr t) q r a n h l e = bind (IsSmall c t) (Stands s) (movable c at a.at t) _ (small c a.at at t)
-    (λ z i. let g : Gives s (int ULong) (number ULong (size_of c.classes t) at) = number_gives s ULong (size_of c.classes t) at (small_word (size_of c.classes t) i) in
+    (λ z i. let g : Gives s (int ULong) (number ULong (size_of c.classes t) at)
+    = number_gives s ULong (size_of c.classes t) at (small_word (size_of c.classes t) i) in
     updated_stands s op ULong ULong old at a (number ULong (size_of c.classes t) at) (ptr t) (int ULong) q r
     (record { stands = h; category = l; typed = e; scalar = refl }) refl refl g
     (right_row s op (int ULong) ULong (number ULong (size_of c.classes t) at) n g refl))

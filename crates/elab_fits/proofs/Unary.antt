@@ -144,7 +144,8 @@ subscripted s at e g i = expected (Stands s) at BadOperand (pointed (form_in (ty
     (i t (pointed_form (form_in (typ_in e)) t d)))
 
 pub subscript_stands : (s : Setting) (c : Ctx) (at : At) (a b : Operand) → IsOperand s a → IsOperand s b
-    → ((e : Tree) (t : Typ) → sum_of c Add at (pointed (value_form a)) (pointed (value_form b)) a b ≡ Ok e → form_in (typ_in e) ≡ ptr t → IsExpressionType t Lvalue)
+    → ((e : Tree) (t : Typ) → sum_of c Add at (pointed (value_form a)) (pointed (value_form b)) a b ≡ Ok e
+    → form_in (typ_in e) ≡ ptr t → IsExpressionType t Lvalue)
     → On (Stands s) (subscript c at a b)
 subscript_stands s c at a b x y i = by (sum_of c Add at (pointed (value_form a)) (pointed (value_form b)) a b) refl
     (add_gives s c at a b (pointed (value_form a)) (pointed (value_form b)) x y refl refl)

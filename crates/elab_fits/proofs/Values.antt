@@ -143,7 +143,8 @@ load_row result (class n) c v kind k i h = absurd cc
 load_row result (closure n) c v kind k i h = absurd cc
 load_row result (tx_ex t) c v kind k i h = absurd cc
 
-pub load_gives : (s : Setting) (at p : At) (f : Form) (c v : Bool) (kind : TKind) (kids : Trees) (k : IntKind) → is_scalar f ≡ true → is_kind k (kind_in f) ≡ true
+pub load_gives : (s : Setting) (at p : At) (f : Form) (c v : Bool) (kind : TKind) (kids : Trees) (k : IntKind) → is_scalar f ≡ true
+    → is_kind k (kind_in f) ≡ true
     → FitsAs s Value (node kind (typ f c v) Lvalue p kids) → Gives s f (loaded at (Some k) (node kind (typ f c v) Lvalue p kids))
 load_gives s at p f c v kind kids k i h g = record {
   scalar = i;
@@ -226,7 +227,8 @@ own_gives s f c v kind p kids i h g = record { scalar = i; fits = g; typed = pla
 value_by : (s : Setting) (at : At) (kind : TKind) (f : Form) (c v : Bool) (cat : Cat) (p : At) (kids : Trees) → Stands s (node kind (typ f c v) cat p kids)
     → is_scalar (form_in (typ_in (valued at (node kind (typ f c v) cat p kids)))) ≡ true
     → Gives s (form_in (typ_in (valued at (node kind (typ f c v) cat p kids)))) (valued at (node kind (typ f c v) cat p kids))
-value_by s at kind (func g) c v Lvalue p kids h i = address_gives s at (typ (func g) false false) (node kind (typ (func g) c v) Lvalue p kids) refl (h.value refl)
+value_by s at kind (func g) c v Lvalue p kids h i = address_gives s at (typ (func g) false false)
+    (node kind (typ (func g) c v) Lvalue p kids) refl (h.value refl)
 value_by s at kind (func g) c v Prvalue p kids h i = let e : Prvalue ≡ Lvalue = h.typed in absurd cc
 value_by s at kind (array (typ g q u) n) c v Lvalue p kids h i =
     address_gives s at (typ g (q || c) (u || v)) (node kind (typ (array (typ g q u) n) c v) Lvalue p kids) refl (h.value refl)

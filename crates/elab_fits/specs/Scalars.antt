@@ -110,7 +110,8 @@ abbrev pub NegationsGive : Type 0
 NegationsGive = (s : Setting) (c : Ctx) (w : Work) (at : At) (a : Operand) → IsOperand s a → On (Gives s (int BoolKind)) (negation c w at a)
 
 abbrev pub UnariesGive : Type 0
-UnariesGive = (s : Setting) (at : At) (a : Operand) → IsOperand s a → On (IsValue s) (minus at a) × On (IsValue s) (complement at a) × On (IsValue s) (plus at a)
+UnariesGive = (s : Setting) (at : At) (a : Operand) → IsOperand s a → On (IsValue s) (minus at a) × On (IsValue s) (complement at a)
+    × On (IsValue s) (plus at a)
 
 abbrev pub AddressesGive : Type 0
 AddressesGive = (s : Setting) (at : At) (a : Operand) → IsOperand s a → On (IsValue s) (address_of at a)
@@ -136,7 +137,8 @@ CompoundsStand = (s : Setting) (c : Ctx) (op : BinOp) (at : At) (a b : Operand) 
 
 -- `++` and `--`, whose operators are no shifts
 abbrev pub StepsStand : Type 0
-StepsStand = (s : Setting) (c : Ctx) (op : BinOp) (old : Bool) (at : At) (a : Operand) → is_shift op ≡ false → IsOperand s a → On (Stands s) (step c op old at a)
+StepsStand = (s : Setting) (c : Ctx) (op : BinOp) (old : Bool) (at : At) (a : Operand) → is_shift op ≡ false → IsOperand s a
+    → On (Stands s) (step c op old at a)
 
 -- `?:` where no operand is a prvalue of a class, two objects of a class are lvalues that share a type, and nothing of type void is an lvalue
 abbrev pub ConditionalsStand : Type 0
