@@ -2,7 +2,6 @@
 
 ghost use Rattle.std.specs.Prelude.{◌≡◌, [], map, IfOk};
 ghost use Rattle.elab_rows.specs.cpp_types.Typ.{typ_of};
-ghost use Rattle.elab_rows.specs.cpp_tree.Arena.{trees_of};
 ghost use Rattle.elab_rows.specs.cpp_tree.Units.{cell_of, global_of};
 ghost use Rattle.elab_rows.specs.elab_ctx.Ctx.{work_of};
 
@@ -83,8 +82,7 @@ pub fn copy_work(alloc: Global, work: &Work) -> Result<Work, AllocError>
 
 /// Nothing made yet, for an expression that needs nothing of what was made before.
 pub fn no_work(alloc: Global) -> Work
-    ensures made { work_of result ≡ record { frame = []; globals = [] } }
-    ensures nodes { trees_of result.nodes.items ≡ [] }
+    ensures { work_of result ≡ record { frame = []; globals = [] } }
 {
     Work {
         nodes: Vec::new(alloc),

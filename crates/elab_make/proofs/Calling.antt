@@ -1,23 +1,24 @@
 -- Words of calls, and the values of constructors.
-use Rattle.std.proofs.Common.{◌≡◌, ◌≢◌, ◌≤◌, ℕ, zero, suc, true, false, List, [], ◌∷◌, length, Option, Some, Ok, Err, Result, slice_get, get_or, refl, sym}
+use Rattle.std.proofs.Common.{◌≡◌, ◌≢◌, ◌≤◌, Bool, ℕ, zero, suc, true, false, List, [], ◌∷◌, length, Option, Some, Ok, Err, Result, slice_get, get_or, refl, sym}
 use Rattle.std.proofs.Common.{subst, ap, ◌∙◌, arith, Vec, Global}
 use Rattle.elab_init.specs.cpp_types.declared.types.Ty.{Ty}
-use Rattle.elab_init.specs.cpp_types.Typ.{Typ, typ_of, typs_of}
+use Rattle.elab_init.specs.cpp_types.Typ.{Typ, typ, tx_ex, typ_of, typs_of}
+use Rattle.elab_init.specs.cpp_types.Equal.{form_eq}
 use Rattle.elab_init.specs.cpp_types.declared.classes.At.{At}
 use Rattle.elab_init.specs.cpp_tree.declared.faults.ElabFault.{ElabFault}
 use Rattle.elab_init.specs.cpp_tree.declared.faults.ElabFault.TheVariants.{Ill}
 use Rattle.elab_init.specs.cpp_tree.declared.faults.IllRule.TheVariants.{OutOfProfile}
 use Rattle.elab_init.specs.cpp_tree.declared.arena.TNodeId.{TNodeId}
-use Rattle.elab_init.specs.cpp_tree.Trees.{Tree}
+use Rattle.elab_init.specs.cpp_tree.Trees.{Tree, typ_in, cat_of}
 use Rattle.elab_init.specs.cpp_tree.Arena.{tree_at, Grows}
-use Rattle.elab_init.specs.cpp_tree.Typing.{is_class_typ, unqualified}
+use Rattle.elab_init.specs.cpp_tree.Typing.{form_in, is_class_typ, is_class_prvalue, unqualified}
 use Rattle.elab_init.specs.elab_ctx.Ctx.{Ctx, Work}
 use Rattle.elab_init.specs.elab_ctx.Steps.{Operand, Made, MadeAll}
-use Rattle.elab_init.specs.elab_ctx.Says.{Faults, Makes, MakesAll, Puts}
+use Rattle.elab_init.specs.elab_ctx.Says.{Faults, MadeAt, Makes, MakesAll, Puts}
 use Rattle.elab_init.specs.elab_ctx.Operands.{operand_in}
 use Rattle.elab_init.specs.elab_ctx.declared.operand.Operand.{Operand as OperandRec}
 use Rattle.elab_init.proofs.elab_ctx.Looks.{grows_trans}
-use Rattle.elab_init.specs.elab_rules.Initialising.{reference_word, passed, object_of, class_from}
+use Rattle.elab_init.specs.elab_rules.Initialising.{reference_word, passed, object_of, class_from, exception_made}
 use Rattle.elab_make.specs.Exact.{copied_object}
 use Rattle.elab_make.specs.Passing.{passed_object, copying_word}
 
@@ -82,3 +83,17 @@ copied_makes c w w1 w2 t at o id r n0 n1 n2 p m =
     makes_behind n0 n1 n2 w2 r _ _ p.grows
     (ap (λ (z : Work). class_from c z t at (record { tree = made.tree; at = o.at; zero = false })) (sym p.work_is)
     ∙ ap (λ (z : Tree). class_from c w1 t at (record { tree = z; at = o.at; zero = false })) (sym p.is)) m
+
+-- a `std::tx_exception` that is written with its value
+pub exception_makes : (old new : List Tree) (v : Work) (id : TNodeId) (c : Ctx) (w : Work) (t u : Typ) (q r : Bool) (at : At) (o : Operand)
+    → form_eq (form_in (typ_in o.tree)) (tx_ex t) ≡ true → is_class_prvalue (typ_in o.tree) (cat_of o.tree) ≡ true → u ≡ typ (tx_ex t) q r
+    → Puts old new v id (exception_made c w u at o) → MadeAt old new v id (class_from c w (typ (tx_ex t) q r) at o)
+exception_makes old new v id c w t u q r at o f p e m =
+    let same : class_from c w (typ (tx_ex t) q r) at o ≡ Ok (exception_made c w (typ (tx_ex t) q r) at o) = rw (f, p) refl in
+    record {
+      grows = m.grows;
+      within = m.within;
+      is = same ∙ ap (λ (z : Typ). Ok (exception_made c w z at o)) (sym e)
+          ∙ ap (λ (z : Tree). Ok (record { tree = z; work = (exception_made c w u at o).work })) (sym m.is)
+          ∙ ap (λ (z : Work). Ok (record { tree = tree_at new id; work = z })) (sym m.work_is);
+    }
