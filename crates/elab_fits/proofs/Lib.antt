@@ -1,1 +1,7 @@
-pub use Rattle.elab_rules.proofs as elab_rules
+pub mod Copies
+pub mod Destructions
+pub mod Objects
+pub mod Pieces
+pub mod Ready
+pub mod Wholes
+pub mod Zeros

@@ -1,0 +1,17 @@
+use Rattle.elab_fits.proofs.Copies.{copies_law}
+use Rattle.elab_fits.proofs.Destructions.{destructions_law}
+use Rattle.elab_fits.proofs.Ready.{ready_law}
+use Rattle.elab_fits.proofs.Zeros.{zeros_law}
+use Rattle.elab_fits.proofs.object_laws.objects.Goals as goal
+
+pub returns-clause-ready : goal.returns-clause-ready
+returns-clause-ready c = ready_law
+
+pub returns-clause-zeros : goal.returns-clause-zeros
+returns-clause-zeros c = zeros_law
+
+pub returns-clause-copies : goal.returns-clause-copies
+returns-clause-copies c = copies_law
+
+pub returns-clause-destructions : goal.returns-clause-destructions
+returns-clause-destructions c = destructions_law
