@@ -225,7 +225,8 @@ rise_by : (classes : List Class) (n : ℕ) (c : Class) (p : ℕ → Bool) (r : B
 rise_by classes n c p r None e h = members_rise classes n c p r 0 0 c.members refl (omega arith) h
 rise_by classes n c p r (Some b) e h = (
   (let w : 0 ≤ 0 = omega arith in w),
-  members_rise classes n c p r 1 0 c.members refl (head_low classes n c b e) (all_right (part_ready p r) (base_part (Some b)) (members_from classes n c 0 c.members) h),
+  members_rise classes n c p r 1 0 c.members refl (head_low classes n c b e)
+      (all_right (part_ready p r) (base_part (Some b)) (members_from classes n c 0 c.members) h),
 )
 
 -- Destructions one behind the other
@@ -342,7 +343,8 @@ module _ (s : Setting) (c : Ctx) (at : At) (i : IsSetting s c) (h : HasSpecials 
     right = and_from (list_all (λ (x : Head). is_destruction s t x.kind) (heads_of us)) (offsets_fall (heads_of us)) g.all (one_offset o us g.one);
   }
 
-  plain_destroys : (p : ℕ → Bool) (r : Bool) (t : Typ) → typ_ready p r t ≡ true → Sized c.classes t → DestroysOne s t (destroys_in c 0 at t (form_in (element_of t)))
+  plain_destroys : (p : ℕ → Bool) (r : Bool) (t : Typ) → typ_ready p r t ≡ true → Sized c.classes t
+      → DestroysOne s t (destroys_in c 0 at t (form_in (element_of t)))
   plain_destroys p r t q z = from_good t 0 (destroys_in c 0 at t (form_in (element_of t))) (in_good t t 0 (form_in (element_of t))
       (λ m e. let w = whole_is c.classes m p r t q z e in
       or_left (are_whole c.classes (record { class = m; count = count_in t; stride = stride_of c.classes t }) 0 t) _ w))
@@ -363,7 +365,8 @@ module _ (s : Setting) (c : Ctx) (at : At) (i : IsSetting s c) (h : HasSpecials 
       let w = whole_is c.classes m p r x.typ (all_at (part_ready p r) qs j x g q) (part j x g).sized f in
       let k : j < length qs = slice_get_within qs j x g in
       let b : length qs ≡ count_of_parts c.classes n = ap length e ∙ count_is c.classes o n l few in
-      captured_is c.classes (record { class = m; count = count_in x.typ; stride = stride_of c.classes x.typ }) n l.number j x a v (part j x g) (omega arith) w) in
+      captured_is c.classes (record { class = m; count = count_in x.typ; stride = stride_of c.classes x.typ }) n l.number j x a v (part j x g) (omega arith)
+      w) in
       let up : Rising 0 qs = subst (λ (z : List Part). Rising 0 z) (sym e) (rise_by c.classes n l.owner p r l.owner.base refl y) in
       let fall : fall_from (top 0 qs) (heads_of (followed_by (backwards (destroys_at c at) qs) none)) ≡ true =
       backwards_fall (destroys_at c at) qs 0 none up (λ j x g. (good j x g).one) (λ m k. refl) (top 0 qs) (omega arith) in

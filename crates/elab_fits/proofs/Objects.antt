@@ -15,7 +15,7 @@ use Rattle.elab_rules.specs.cpp_layout.Measured.{member_extents, member_offset}
 use Rattle.elab_rules.specs.cpp_tree.Typing.{form_in, qualified}
 use Rattle.elab_rules.specs.cpp_tree.Parts as told
 use Rattle.elab_rules.specs.cpp_types.Order.{each_passes}
-use Rattle.elab_rules.specs.cpp_tree.Parts.{size_in, holds_complete, within_limit, sized_class, part_of, part_in, part_behind, member_part, count_of_parts, has_size}
+use Rattle.elab_rules.specs.cpp_tree.Parts.{size_in, holds_complete, within_limit, sized_class, part_of, part_in, part_behind, member_part, count_of_parts}
 use Rattle.elab_rules.specs.Objects.{Part, size_of, members_from, base_part, parts_in}
 use Rattle.elab_rules.specs.cpp_tree.Notation.{plain}
 use Rattle.elab_rules.proofs.cpp_layout.Ends.{Aligned, next_low, end_low, end_append, greatest_low}
@@ -192,7 +192,8 @@ pointer_aligned false = tt
 
 pub first_end : (classes : List Class) (o : Option ℕ) (b : ℕ) → o ≡ Some b → (class_extent classes b).size ≤ end_from 0 (base_items (class_extent classes) o)
 first_end classes None b h = absurd cc
-first_end classes (Some x) b h = let e : x ≡ b = cc in subst (λ (z : ℕ). (class_extent classes z).size ≤ end_from 0 (class_extent classes x ∷ [])) e (omega arith)
+first_end classes (Some x) b h = let e : x ≡ b = cc in
+    subst (λ (z : ℕ). (class_extent classes z).size ≤ end_from 0 (class_extent classes x ∷ [])) e (omega arith)
 
 base_end : (classes : List Class) (n : ℕ) (c : Class) (b : ℕ) → c.base ≡ Some b
     → (class_extent classes b).size ≤ end_from 0 (items_of (class_extent classes) classes n c)

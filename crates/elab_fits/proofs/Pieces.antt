@@ -54,7 +54,8 @@ pub pieces_fit : (s : Setting) (copying : Bool) (p : Position) (each : Part → 
     → ((j : ℕ) (q : Part) → slice_get ps j ≡ Some q → IsObject s copying (type q) (each q))
     → kids_fit s p (and_any [] (part_as copying)) i (pieces each type at ps) ≡ true
 pieces_fit s copying p each type at [] i h = refl
-pieces_fit s copying p each type at (q ∷ ps) i h = piece_kid s p copying i (node (Piece q.offset) (type q) Prvalue at (one (each q))) (pieces each type at ps) refl
+pieces_fit s copying p each type at (q ∷ ps) i h =
+    piece_kid s p copying i (node (Piece q.offset) (type q) Prvalue at (one (each q))) (pieces each type at ps) refl
     (piece_fits s copying p q.offset (type q) at (each q) (h 0 q refl)) (pieces_fit s copying p each type at ps (suc i) (λ j r g. h (suc j) r g))
 
 pub pieces_agree : (classes : List Class) (n : ℕ) (c v : Bool) (each : Part → Tree) (at : At) (ps : List Part) (i : ℕ)
@@ -152,8 +153,8 @@ elements_node s copying n size t at e l z h = record {
   kid = refl;
 }
   where
-    by : (copying : Bool) → IsObject s copying t e → (p : Position) → fits s p (object_as copying) (node (Elements n size) (plain (array t n)) Prvalue at (one e))
-        ≡ true
+    by : (copying : Bool) → IsObject s copying t e → (p : Position)
+        → fits s p (object_as copying) (node (Elements n size) (plain (array t n)) Prvalue at (one e)) ≡ true
     by true h p =
         let a : nat_lt 0 n ≡ true = lt-ltb 0 n l in
         let m : nat_le (1 * n) n ≡ true = le-leb (1 * n) n (omega arith) in

@@ -30,7 +30,7 @@ is_leaf references (ptr t) = true
 is_leaf references (ref t) = references
 is_leaf references f = false
 
-or_none : (b : Bool) → b ≡ (b || false)
+pub or_none : (b : Bool) → b ≡ (b || false)
 or_none true = refl
 or_none false = refl
 
@@ -51,7 +51,7 @@ number_is : (classes : List Class) (n : ℕ) (l : Laid classes n) → completion
 number_is classes n l = ap (option_and_then (λ (x : Class). x.complete)) l.found ∙ l.complete
 
 -- a class that was complete before another nests less deep
-less_deep : (classes : List Class) (k e : ℕ) (b : CompleteBelow classes k e) (l : Laid classes e) → rank l.number classes < rank k classes
+pub less_deep : (classes : List Class) (k e : ℕ) (b : CompleteBelow classes k e) (l : Laid classes e) → rank l.number classes < rank k classes
 less_deep classes k e b l =
     let h : Some l.number ≡ Some b.number = sym (number_is classes e l) ∙ b.complete in
     let i : l.number ≡ b.number = cc in

@@ -11,8 +11,9 @@ use Rattle.elab_rules.specs.cpp_tree.Trees.{Tree, Trees, none, more}
 use Rattle.elab_rules.specs.cpp_tree.Typing.{head_of, builds, form_in}
 use Rattle.elab_rules.specs.cpp_tree.Parts.{size_in}
 use Rattle.elab_rules.specs.cpp_tree.Rows.{Setting, are_destructions}
-use Rattle.elab_rules.specs.cpp_tree.WellFormed.{heads_of}
+use Rattle.elab_rules.specs.cpp_tree.WellFormed.{heads_of, zeroes}
 use Rattle.elab_rules.specs.elab_ctx.Ctx.{Ctx, Func, function}
+use Rattle.elab_rules.specs.Functions.{untyped}
 use Rattle.elab_rules.specs.Objects.{Part, parts_of, zeros, copies, traits_at, destroys, element_of, is_array}
 use Rattle.elab_fits.specs.Standing.{FitsAs, BuildsOne, IsSetting}
 
@@ -80,6 +81,11 @@ pub record CopiesOne (s : Setting) (t : Typ) (e : Tree) : Type 0 where
 abbrev pub CopiesBuild : Type 0
 CopiesBuild = (s : Setting) (at : At) (t : Typ) → InOrder s.classes → is_some (size_in s.classes t) ≡ true → is_ready s.classes true t ≡ true
     → CopiesOne s t (copies s.classes at t)
+
+-- where a type has a size, zeros without the types of objects are those of an object of it whose type is told by that of a result
+abbrev pub ResultsZeroed : Type 0
+ResultsZeroed = (classes : List Class) (at : At) (t : Typ) → InOrder classes → is_some (size_in classes t) ≡ true → is_ready classes true t ≡ true
+    → zeroes classes false t (untyped (zeros classes at t)) ≡ true
 
 -- Destructions
 

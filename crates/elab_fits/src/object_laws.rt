@@ -1,11 +1,12 @@
 //! Laws of whole objects. A function here does nothing: its clauses are the laws.
 
-ghost use Rattle.elab_fits.specs.Objects.{ReadyFrom, ZerosBuild, CopiesBuild, DestructionsFit};
+ghost use Rattle.elab_fits.specs.Objects.{ReadyFrom, ZerosBuild, CopiesBuild, ResultsZeroed, DestructionsFit};
 
 /// Zeros build objects, copies copy them scalar by scalar, and destructions are those of an object.
 pub fn objects()
     ensures ready { ReadyFrom }
     ensures zeros { ZerosBuild }
     ensures copies { CopiesBuild }
+    ensures results { ResultsZeroed }
     ensures destructions { DestructionsFit }
 {}

@@ -1,6 +1,7 @@
 use Rattle.elab_fits.proofs.Copies.{copies_law}
 use Rattle.elab_fits.proofs.Destructions.{destructions_law}
 use Rattle.elab_fits.proofs.Ready.{ready_law}
+use Rattle.elab_fits.proofs.ResultZeros.{results_law}
 use Rattle.elab_fits.proofs.Zeros.{zeros_law}
 use Rattle.elab_fits.proofs.object_laws.objects.Goals as goal
 
@@ -12,6 +13,9 @@ returns-clause-zeros c = zeros_law
 
 pub returns-clause-copies : goal.returns-clause-copies
 returns-clause-copies c = copies_law
+
+pub returns-clause-results : goal.returns-clause-results
+returns-clause-results c = results_law
 
 pub returns-clause-destructions : goal.returns-clause-destructions
 returns-clause-destructions c = destructions_law
