@@ -1,3 +1,4 @@
+pub mod AreZeros
 pub mod Copies
 pub mod Destructions
 pub mod Objects

@@ -11,7 +11,7 @@ use Rattle.elab_rules.specs.cpp_tree.Trees.{Tree, Trees, none, more}
 use Rattle.elab_rules.specs.cpp_tree.Typing.{head_of, builds, form_in}
 use Rattle.elab_rules.specs.cpp_tree.Parts.{size_in}
 use Rattle.elab_rules.specs.cpp_tree.Rows.{Setting, are_destructions}
-use Rattle.elab_rules.specs.cpp_tree.WellFormed.{heads_of, zeroes}
+use Rattle.elab_rules.specs.cpp_tree.WellFormed.{heads_of, is_zero, zeroes}
 use Rattle.elab_rules.specs.elab_ctx.Ctx.{Ctx, Func, function}
 use Rattle.elab_rules.specs.Functions.{untyped}
 use Rattle.elab_rules.specs.Objects.{Part, parts_of, zeros, copies, traits_at, destroys, element_of, is_array}
@@ -86,6 +86,10 @@ CopiesBuild = (s : Setting) (at : At) (t : Typ) → InOrder s.classes → is_som
 abbrev pub ResultsZeroed : Type 0
 ResultsZeroed = (classes : List Class) (at : At) (t : Typ) → InOrder classes → is_some (size_in classes t) ≡ true → is_ready classes true t ≡ true
     → zeroes classes false t (untyped (zeros classes at t)) ≡ true
+
+-- zeros are nothing but zeros
+abbrev pub ZerosAreZero : Type 0
+ZerosAreZero = (classes : List Class) (at : At) (t : Typ) → is_zero (zeros classes at t) ≡ true
 
 -- Destructions
 

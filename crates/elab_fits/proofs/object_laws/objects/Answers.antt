@@ -1,3 +1,4 @@
+use Rattle.elab_fits.proofs.AreZeros.{are_zero_law}
 use Rattle.elab_fits.proofs.Copies.{copies_law}
 use Rattle.elab_fits.proofs.Destructions.{destructions_law}
 use Rattle.elab_fits.proofs.Ready.{ready_law}
@@ -16,6 +17,9 @@ returns-clause-copies c = copies_law
 
 pub returns-clause-results : goal.returns-clause-results
 returns-clause-results c = results_law
+
+pub returns-clause-are_zero : goal.returns-clause-are_zero
+returns-clause-are_zero c = are_zero_law
 
 pub returns-clause-destructions : goal.returns-clause-destructions
 returns-clause-destructions c = destructions_law
