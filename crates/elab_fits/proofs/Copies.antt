@@ -5,9 +5,8 @@ use Rattle.elab_rules.specs.cpp_types.declared.classes.At.{At}
 use Rattle.elab_rules.specs.cpp_tree.Rows.{Setting}
 use Rattle.elab_rules.specs.Objects.{copy_leaf}
 use Rattle.elab_fits.specs.Objects.{CopiesBuild}
-use Rattle.elab_fits.proofs.Objects.{sized_from}
 use Rattle.elab_fits.proofs.Pieces.{IsExact, typ_refl}
-use Rattle.elab_fits.proofs.Wholes.{is_leaf, scalars_fit}
+use Rattle.elab_fits.proofs.Wholes.{is_leaf, fit_in}
 use Rattle.elab_fits.proofs.Zeros.{kind_refl, flag_refl}
 
 copy_leaf_fits : (s : Setting) (at : At) (f : Form) (c v : Bool) → is_leaf true f ≡ true → IsExact s true (typ f c v) (copy_leaf (typ f c v) at)
@@ -29,6 +28,6 @@ copy_leaf_fits s at (closure n) c v h = absurd cc
 copy_leaf_fits s at (tx_ex t) c v h = absurd cc
 
 pub copies_law : CopiesBuild
-copies_law s at t o z r =
-    let h = scalars_fit s o true true copy_leaf at (copy_leaf_fits s at) t r (sized_from s.classes t z) in
+copies_law s c at t i z r =
+    let h = fit_in s c i true true copy_leaf at (copy_leaf_fits s at) t z r in
     record { fits = λ p full. h.fits p; builds = h.builds }

@@ -417,7 +417,4 @@ module _ (s : Setting) (c : Ctx) (at : At) (i : IsSetting s c) (h : HasSpecials 
   destroys_by (typ (tx_ex x) a v) o q z k = plain_by (class_ready (length c.classes) c.classes true) true (typ (tx_ex x) a v) refl q z
 
 pub destructions_law : DestructionsFit
-destructions_law s c at t i h z r k =
-    let q : is_ready c.classes true t ≡ true = subst (λ (x : List Class). is_ready x true t ≡ true) i.classes r in
-    let y = subst (λ (x : List Class). Sized x t) i.classes (sized_from s.classes t z) in
-    destroys_by s c at i h t i.ordered q y k
+destructions_law s c at t i h z r k = destroys_by s c at i h t i.ordered r (sized_from c.classes t z) k

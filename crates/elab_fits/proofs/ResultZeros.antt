@@ -170,4 +170,5 @@ module _ (classes : List Class) (o : InOrder classes) (at : At) where
   zeros_pass t r z = whole_pass (length classes) (classes_pass (length classes)) t false false r z (λ e h l. rank_within classes e l.number l.owner l.found l.complete)
 
 pub results_law : ResultsZeroed
-results_law classes at t o z r = zeros_pass classes o at t r (sized_from classes t z)
+results_law s c at t i z r = subst (λ (x : List Class). zeroes x false t (untyped (zeros c.classes at t)) ≡ true) (sym i.classes)
+    (zeros_pass c.classes i.ordered at t r (sized_from c.classes t z))

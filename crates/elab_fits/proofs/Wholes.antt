@@ -12,13 +12,17 @@ use Rattle.elab_rules.specs.cpp_tree.declared.roles.Position.{Position}
 use Rattle.elab_rules.specs.cpp_tree.Trees.{Tree, node, Trees}
 use Rattle.elab_rules.specs.cpp_tree.Typing.{passes, qualified}
 use Rattle.elab_rules.specs.cpp_tree.Parts.{part_of, are_part_pieces, sized_class, has_size}
+use Rattle.elab_rules.specs.cpp_tree.Parts.{size_in}
 use Rattle.elab_rules.specs.cpp_tree.Roles.{and_any}
 use Rattle.elab_rules.specs.cpp_tree.Rows.{Setting}
 use Rattle.elab_rules.specs.cpp_tree.WellFormed.{kids_fit, heads_of}
 use Rattle.elab_rules.specs.Objects.{Leaf, Part, whole, whole_form, class_whole, as_closure, pieces, each_scalar, size_of, parts_in, parts_of}
+use Rattle.elab_rules.specs.elab_ctx.Ctx.{Ctx}
+use Rattle.elab_fits.specs.Standing.{IsSetting}
 use Rattle.elab_fits.specs.Objects.{is_single, typ_ready, form_ready, part_ready, class_ready, is_ready}
 use Rattle.elab_fits.proofs.Objects.{rank, rank_below, rank_within, Sized, size_is, qualified_sized, qualified_size, element_sized, Laid, laid_from}
 use Rattle.elab_fits.proofs.Objects.{sized_class_is, few_members, part_is, count_is, all_at, shown, IsPart}
+use Rattle.elab_fits.proofs.Objects.{sized_from}
 use Rattle.elab_fits.proofs.Pieces.{part_as, IsObject, IsExact, object_from, exception_from, class_node, closure_node, elements_node, pieces_fit, pieces_agree}
 
 -- the forms of scalars, and of references where there may be any
@@ -183,3 +187,14 @@ module _ (s : Setting) (o : InOrder s.classes) (copying references : Bool) (leaf
   scalars_fit t r z = subst (λ (u : Typ). IsObject s copying u (each_scalar leaf s.classes at t)) (qualified_none t)
       (whole_fit (length s.classes) (classes_fit (length s.classes)) t false false r z
       (λ e h l. rank_within s.classes e l.number l.owner l.found l.complete))
+
+-- the same in the setting of a context
+pub fit_in : (s : Setting) (c : Ctx) (i : IsSetting s c) (copying references : Bool) (leaf : Leaf) (at : At)
+    → ((f : Form) (d v : Bool) → is_leaf references f ≡ true → IsExact s copying (typ f d v) (leaf (typ f d v) at)) → (t : Typ)
+    → is_some (size_in c.classes t) ≡ true → is_ready c.classes references t ≡ true → IsObject s copying t (each_scalar leaf c.classes at t)
+fit_in s c i copying references leaf at h t z r =
+    let e : c.classes ≡ s.classes = sym i.classes in
+    let o : InOrder s.classes = subst (λ (x : List Class). InOrder x) e i.ordered in
+    let y : is_ready s.classes references t ≡ true = subst (λ (x : List Class). is_ready x references t ≡ true) e r in
+    let k : Sized s.classes t = subst (λ (x : List Class). Sized x t) e (sized_from c.classes t z) in
+    subst (λ (x : List Class). IsObject s copying t (each_scalar leaf x at t)) i.classes (scalars_fit s o copying references leaf at h t y k)

@@ -13,9 +13,8 @@ use Rattle.elab_rules.specs.cpp_tree.Rows.{Setting}
 use Rattle.elab_rules.specs.Objects.{zero_leaf}
 use Rattle.elab_rules.proofs.cpp_types.EqualTests.{kind_eq_is}
 use Rattle.elab_fits.specs.Objects.{ZerosBuild}
-use Rattle.elab_fits.proofs.Objects.{sized_from}
 use Rattle.elab_fits.proofs.Pieces.{IsExact, typ_refl}
-use Rattle.elab_fits.proofs.Wholes.{is_leaf, scalars_fit}
+use Rattle.elab_fits.proofs.Wholes.{is_leaf, fit_in}
 
 pub kind_refl : (k : IntKind) → kind_eq k k ≡ true
 kind_refl k = sym (kind_eq_is true k k ((λ h. refl), (λ h. refl)))
@@ -73,6 +72,6 @@ zero_leaf_fits s at (closure n) c v h = absurd cc
 zero_leaf_fits s at (tx_ex t) c v h = absurd cc
 
 pub zeros_law : ZerosBuild
-zeros_law s at t o z r =
-    let h = scalars_fit s o false false zero_leaf at (zero_leaf_fits s at) t r (sized_from s.classes t z) in
+zeros_law s c at t i z r =
+    let h = fit_in s c i false false zero_leaf at (zero_leaf_fits s at) t z r in
     record { fits = λ p full. h.fits p; builds = h.builds }

@@ -2,7 +2,7 @@
 use Rattle.std.specs.Prelude.{◌≡◌, ℕ, zero, suc, Bool, true, false, not, ◌&&◌, ◌||◌, nat_lt, List, length, Some, is_some, slice_get}
 use Rattle.std.specs.List.{list_all}
 use Rattle.elab_rules.specs.cpp_types.Typ.{Typ, typ, Form, int, enum, null, ptr, ref, array, class, closure, tx_ex}
-use Rattle.elab_rules.specs.cpp_types.Class.{Class, InOrder}
+use Rattle.elab_rules.specs.cpp_types.Class.{Class}
 use Rattle.elab_rules.specs.cpp_types.declared.classes.At.{At}
 use Rattle.elab_rules.specs.cpp_tree.declared.program.FuncKind.TheVariants.{Destructor}
 use Rattle.elab_rules.specs.cpp_tree.declared.roles.Role.{Role}
@@ -69,8 +69,8 @@ ReadyFrom = (classes : List Class) (references : Bool) (of_class : ℕ → Bool)
 
 -- where a type has a size and no references in it, zeros build an object of it
 abbrev pub ZerosBuild : Type 0
-ZerosBuild = (s : Setting) (at : At) (t : Typ) → InOrder s.classes → is_some (size_in s.classes t) ≡ true → is_ready s.classes false t ≡ true
-    → BuildsOne s t (zeros s.classes at t)
+ZerosBuild = (s : Setting) (c : Ctx) (at : At) (t : Typ) → IsSetting s c → is_some (size_in c.classes t) ≡ true → is_ready c.classes false t ≡ true
+    → BuildsOne s t (zeros c.classes at t)
 
 -- what copies an object of a type
 pub record CopiesOne (s : Setting) (t : Typ) (e : Tree) : Type 0 where
@@ -79,13 +79,13 @@ pub record CopiesOne (s : Setting) (t : Typ) (e : Tree) : Type 0 where
 
 -- where a type has a size, its objects are copied scalar by scalar
 abbrev pub CopiesBuild : Type 0
-CopiesBuild = (s : Setting) (at : At) (t : Typ) → InOrder s.classes → is_some (size_in s.classes t) ≡ true → is_ready s.classes true t ≡ true
-    → CopiesOne s t (copies s.classes at t)
+CopiesBuild = (s : Setting) (c : Ctx) (at : At) (t : Typ) → IsSetting s c → is_some (size_in c.classes t) ≡ true → is_ready c.classes true t ≡ true
+    → CopiesOne s t (copies c.classes at t)
 
 -- where a type has a size, zeros without the types of objects are those of an object of it whose type is told by that of a result
 abbrev pub ResultsZeroed : Type 0
-ResultsZeroed = (classes : List Class) (at : At) (t : Typ) → InOrder classes → is_some (size_in classes t) ≡ true → is_ready classes true t ≡ true
-    → zeroes classes false t (untyped (zeros classes at t)) ≡ true
+ResultsZeroed = (s : Setting) (c : Ctx) (at : At) (t : Typ) → IsSetting s c → is_some (size_in c.classes t) ≡ true → is_ready c.classes true t ≡ true
+    → zeroes s.classes false t (untyped (zeros c.classes at t)) ≡ true
 
 -- zeros are nothing but zeros
 abbrev pub ZerosAreZero : Type 0
@@ -123,5 +123,5 @@ pub record DestroysOne (s : Setting) (t : Typ) (ts : Trees) : Type 0 where
 
 -- where a type has a size and is no array of lambdas' objects, its destructions are those of an object of it
 abbrev pub DestructionsFit : Type 0
-DestructionsFit = (s : Setting) (c : Ctx) (at : At) (t : Typ) → IsSetting s c → HasSpecials c → is_some (size_in s.classes t) ≡ true
-    → is_ready s.classes true t ≡ true → has_lambdas t ≡ false → DestroysOne s t (destroys c at t)
+DestructionsFit = (s : Setting) (c : Ctx) (at : At) (t : Typ) → IsSetting s c → HasSpecials c → is_some (size_in c.classes t) ≡ true
+    → is_ready c.classes true t ≡ true → has_lambdas t ≡ false → DestroysOne s t (destroys c at t)
