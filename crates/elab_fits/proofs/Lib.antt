@@ -1,6 +1,7 @@
 pub mod AreZeros
 pub mod Copies
 pub mod Destructions
+pub mod ElementTypes
 pub mod Objects
 pub mod Pieces
 pub mod Ready

@@ -125,3 +125,15 @@ pub record DestroysOne (s : Setting) (t : Typ) (ts : Trees) : Type 0 where
 abbrev pub DestructionsFit : Type 0
 DestructionsFit = (s : Setting) (c : Ctx) (at : At) (t : Typ) → IsSetting s c → HasSpecials c → is_some (size_in c.classes t) ≡ true
     → is_ready c.classes true t ≡ true → has_lambdas t ≡ false → DestroysOne s t (destroys c at t)
+
+-- The elements of an array
+
+pub record IsElementType (classes : List Class) (references : Bool) (t : Typ) : Type 0 where
+  pub sized : is_some (size_in classes t) ≡ true
+  pub ready : is_ready classes references t ≡ true
+  pub single : has_lambdas t ≡ false
+
+-- where the laws hold of an array, they hold of its elements, through all its bounds
+abbrev pub ElementsReady : Type 0
+ElementsReady = (classes : List Class) (references : Bool) (t : Typ) → is_some (size_in classes t) ≡ true → is_ready classes references t ≡ true
+    → IsElementType classes references (element_of t)

@@ -1,6 +1,7 @@
 use Rattle.elab_fits.proofs.AreZeros.{are_zero_law}
 use Rattle.elab_fits.proofs.Copies.{copies_law}
 use Rattle.elab_fits.proofs.Destructions.{destructions_law}
+use Rattle.elab_fits.proofs.ElementTypes.{elements_law}
 use Rattle.elab_fits.proofs.Ready.{ready_law}
 use Rattle.elab_fits.proofs.ResultZeros.{results_law}
 use Rattle.elab_fits.proofs.Zeros.{zeros_law}
@@ -23,3 +24,6 @@ returns-clause-are_zero c = are_zero_law
 
 pub returns-clause-destructions : goal.returns-clause-destructions
 returns-clause-destructions c = destructions_law
+
+pub returns-clause-elements : goal.returns-clause-elements
+returns-clause-elements c = elements_law
