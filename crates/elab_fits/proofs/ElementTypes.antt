@@ -3,7 +3,6 @@ use Rattle.std.proofs.Common.{◌≡◌, refl, sym, ap, subst, ℕ, ◌<◌, Boo
 use Rattle.std.proofs.lemmas.Bool.{and_parts}
 use Rattle.elab_rules.specs.cpp_types.Typ.{Typ, typ, Form, void, int, enum, null, ptr, ref, array, func, class, closure, tx_ex}
 use Rattle.elab_rules.specs.cpp_types.Class.{Class}
-use Rattle.elab_rules.specs.cpp_tree.Parts.{size_in}
 use Rattle.elab_rules.specs.cpp_tree.Typing.{form_in}
 use Rattle.elab_rules.specs.Objects.{element_of, is_array}
 use Rattle.elab_fits.specs.Objects.{typ_ready, class_ready, is_closure, ElementsReady}
@@ -46,4 +45,8 @@ element_is classes p r (typ (tx_ex t) c v) z h = tx_element t c v z h
 pub elements_law : ElementsReady
 elements_law classes r t z h =
     let e = element_is classes (class_ready (length classes) classes r) r t (sized_from classes t z) h in
-    record { sized = ap is_some (size_is classes (element_of t) e.sized); ready = e.ready; single = ap (λ (b : Bool). b && is_closure (form_in (element_of (element_of t)))) e.single }
+    record {
+      sized = ap is_some (size_is classes (element_of t) e.sized);
+      ready = e.ready;
+      single = ap (λ (b : Bool). b && is_closure (form_in (element_of (element_of t)))) e.single;
+    }

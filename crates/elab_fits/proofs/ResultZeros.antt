@@ -167,7 +167,8 @@ module _ (classes : List Class) (o : InOrder classes) (at : At) where
   classes_pass (suc depth) n c v l b r = class_zeros depth (classes_pass depth) n c v l b r
 
   pub zeros_pass : (t : Typ) → is_ready classes true t ≡ true → Sized classes t → zeroes classes false t (untyped (zeros classes at t)) ≡ true
-  zeros_pass t r z = whole_pass (length classes) (classes_pass (length classes)) t false false r z (λ e h l. rank_within classes e l.number l.owner l.found l.complete)
+  zeros_pass t r z = whole_pass (length classes) (classes_pass (length classes)) t false false r z
+      (λ e h l. rank_within classes e l.number l.owner l.found l.complete)
 
 pub results_law : ResultsZeroed
 results_law s c at t i z r = subst (λ (x : List Class). zeroes x false t (untyped (zeros c.classes at t)) ≡ true) (sym i.classes)
