@@ -1,15 +1,25 @@
 pub use Rattle.elab_rules.proofs as elab_rules
+pub mod AreZeros
 pub mod Arithmetic
 pub mod Assigning
 pub mod Binding
 pub mod Choosing
 pub mod Comma
+pub mod Copies
+pub mod Destructions
+pub mod ElementTypes
 pub mod Equal
 pub mod Initials
 pub mod Nodes
 pub mod Numbers
+pub mod Objects
+pub mod Pieces
+pub mod Ready
+pub mod ResultZeros
 pub mod Sizes
 pub mod Steps
 pub mod Throwing
 pub mod Unary
 pub mod Values
+pub mod Wholes
+pub mod Zeros
