@@ -1,0 +1,74 @@
+-- Laws of casts, `throw`, calls, choices between objects and all rows of expressions.
+use Rattle.std.specs.Prelude.{◌≡◌, ℕ, Bool, true, false, List, Ok}
+use Rattle.std.specs.List.{list_all}
+use Rattle.elab_rules.specs.cpp_types.Typ.{Typ}
+use Rattle.elab_rules.specs.cpp_types.declared.classes.At.{At}
+use Rattle.elab_rules.specs.cpp_lex.Tokens.{Lexeme}
+use Rattle.elab_rules.specs.cpp_ast.Trees as syntax
+use Rattle.elab_rules.specs.cpp_ast.declared.kinds.NodeKind.{NodeKind}
+use Rattle.elab_rules.specs.cpp_tree.Typing.{is_class_typ}
+use Rattle.elab_rules.specs.cpp_tree.Rows.{Setting}
+use Rattle.elab_rules.specs.elab_ctx.Ctx.{Ctx, Work, Closure}
+use Rattle.elab_rules.specs.elab_ctx.Steps.{Operand, Made, Typed, TypedAll, spelling}
+use Rattle.elab_rules.specs.Operators.{assignment, comma, conditional}
+use Rattle.elab_rules.specs.Casts.{cast, functional, size_literal, throw}
+use Rattle.elab_rules.specs.Calls.{call}
+use Rattle.elab_rules.specs.Expressions.{row_of, expression_with, operands_with}
+use Rattle.elab_fits.specs.Standing.{Reaches, On}
+use Rattle.elab_fits_forms.specs.Types.{is_empty, is_sound}
+use Rattle.elab_fits_forms.specs.Meaning.{Proper, ProperOperand, MeansOperand}
+use Rattle.elab_fits_forms.specs.Context.{Holds}
+use Rattle.elab_fits_forms.specs.Names.{Typed_means}
+
+-- what a form makes stands where all that is made has its place
+abbrev pub Stands_made : Setting → Ctx → Made → Type 0
+Stands_made s c m = Reaches s m.work → Proper s c m.tree
+
+pub data ProperOperands (s : Setting) (c : Ctx) : List Operand → Type 0 where
+  none : ProperOperands s c []
+  more : (o : Operand) (os : List Operand) → ProperOperand s c o → ProperOperands s c os → ProperOperands s c (o ∷ os)
+
+-- `throw`
+abbrev pub ThrowsStand : Type 0
+ThrowsStand = (s : Setting) (c : Ctx) (w : Work) (at : At) (os : List Operand) → Holds s c w → ProperOperands s c os → On (Stands_made s c) (throw c w at os)
+
+-- casts to a type that a program can write
+abbrev pub CastsStand : Type 0
+CastsStand = (s : Setting) (c : Ctx) (w : Work) (at : At) (t : Typ) (o : Operand) → Holds s c w → is_sound c.classes t ≡ true → ProperOperand s c o
+    → On (Stands_made s c) (cast c w at t o)
+
+abbrev pub FunctionalsStand : Type 0
+FunctionalsStand = (s : Setting) (c : Ctx) (w : Work) (at : At) (t : Typ) (os : List Operand) → Holds s c w → is_sound c.classes t ≡ true → ProperOperands s c os
+    → On (Stands_made s c) (functional c w at t os)
+
+-- the same where the type is no class
+abbrev pub ScalarCastsStand : Type 0
+ScalarCastsStand = (s : Setting) (c : Ctx) (w : Work) (at : At) (t : Typ) (o : Operand) → Holds s c w → is_sound c.classes t ≡ true
+    → is_class_typ t ≡ false → ProperOperand s c o → On (Stands_made s c) (cast c w at t o)
+
+-- `sizeof`
+abbrev pub SizesStand : Type 0
+SizesStand = (s : Setting) (c : Ctx) (at operand : At) (t : Typ) → On (Proper s c) (size_literal c at operand t)
+
+-- `a, b`, `a ? b : d` and `a = b`, with objects of classes too
+abbrev pub ObjectCommasStand : Type 0
+ObjectCommasStand = (s : Setting) (c : Ctx) (w : Work) (at : At) (a b : Operand) → Holds s c w → ProperOperand s c a → ProperOperand s c b
+    → Stands_made s c (comma c w at a b)
+
+abbrev pub ObjectChoicesStand : Type 0
+ObjectChoicesStand = (s : Setting) (c : Ctx) (w : Work) (at : At) (test a b : Operand) → Holds s c w → ProperOperand s c test → ProperOperand s c a
+    → ProperOperand s c b → On (Stands_made s c) (conditional c w at test a b)
+
+abbrev pub ObjectAssignmentsStand : Type 0
+ObjectAssignmentsStand = (s : Setting) (c : Ctx) (w : Work) (at : At) (a b : Operand) → Holds s c w → ProperOperand s c a → ProperOperand s c b
+    → On (Stands_made s c) (assignment c w at a b)
+
+-- calls of what is named or given
+abbrev pub CallsStand : Type 0
+CallsStand = (s : Setting) (c : Ctx) (w : Work) (at : At) (callee : Operand) (os : List Operand) → Holds s c w → MeansOperand s c callee → ProperOperands s c os
+    → On (Stands_made s c) (call c w at callee os)
+
+-- a form over operands that stand
+abbrev pub RowsMean : Type 0
+RowsMean = (lexemes : List Lexeme) (s : Setting) (c : Ctx) (w : Work) (kind : NodeKind) (at : At) (t : ℕ) (os : List Operand) → Holds s c w
+    → is_empty (spelling lexemes t) ≡ false → ProperOperands s c os → On (Typed_means s c) (row_of lexemes c w kind at t os)

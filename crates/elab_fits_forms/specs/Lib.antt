@@ -1,0 +1,5 @@
+pub mod Context
+pub mod Forms
+pub mod Meaning
+pub mod Names
+pub mod Types

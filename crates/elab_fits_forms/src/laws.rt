@@ -1,0 +1,1 @@
+//! Laws of the forms of expressions. A function here does nothing: its clauses are the laws.
