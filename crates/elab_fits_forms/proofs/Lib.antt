@@ -1,7 +1,21 @@
-pub use Rattle.elab_rules.proofs as elab_rules
+pub mod Calling
+pub mod Casts
+pub mod Choices
+pub mod Dropped
+pub mod Leaves
 pub mod Members
-pub mod Objects
+pub mod Names
+pub mod Operators
 pub mod Places
 pub mod Proper
+pub mod Readiness
+pub mod Rows
+pub mod Settled
+pub mod Steps
+pub mod Temporaries
+pub mod Throws
 pub mod Types
 pub mod Variables
+pub mod Wholes
+pub mod Words
+pub use Rattle.elab_rules.proofs as elab_rules

@@ -37,7 +37,7 @@ use Rattle.elab_fits_forms.specs.Names.{Made_means}
 use Rattle.elab_fits_forms.proofs.Places.{place_is, number_is}
 use Rattle.elab_fits_forms.proofs.Types.{declared_target, qualified_target}
 use Rattle.elab_fits_forms.proofs.Proper.{proper_part, proper_retyped, proper_object, object_word, object_fits}
-use Rattle.elab_fits_forms.proofs.Objects.{object_is, object_typ}
+use Rattle.elab_fits_forms.proofs.Temporaries.{object_is, object_typ}
 use Rattle.elab_fits_forms.proofs.Variables.{IsThisTree, this_tree_is}
 
 -- What is found
@@ -60,13 +60,15 @@ field_is : (s : Setting) (c : Ctx) (w : Work) (n : ℕ) (k : Class) (name : List
     → is_some (completion_of c.classes n) ≡ true → is_empty name ≡ false → (i : ℕ) (ms : List Member)
     → ((j : ℕ) (m : Member) → slice_get ms j ≡ Some m → slice_get k.members (i + j) ≡ Some m) → OnSome (IsFound c) (field_from n i name ms)
 field_is s c w n k name h f d e i [] g = tt
-field_is s c w n k name h f d e i (m ∷ ms) g = by (bytes_eq m.name name) refl
+field_is s c w n k name h f d e i (m ∷ ms) g = by (field_is s c w n k name h f d e (suc i) ms (λ j x y. later j x y)) (bytes_eq m.name name) refl
   where
-    by : (b : Bool) → bytes_eq m.name name ≡ b → OnSome (IsFound c) (if b then Some (field n i m.typ) else field_from n (suc i) name ms)
-    by true q = let x = h.fields n (i + 0) k m f (g 0 m refl) in (d, declared_target c.classes m.typ x.declared (x.object (same_name m.name name q e)))
-    by false q = field_is s c w n k name h f d e (suc i) ms (λ j x y. let z : i + suc j ≡ suc i + j = omega arith in
-        subst (λ (v : ℕ). slice_get k.members v ≡ Some x) z (g (suc j) x y))
+    later : (j : ℕ) (x : Member) → slice_get ms j ≡ Some x → slice_get k.members (suc i + j) ≡ Some x
+    later j x y = let z : i + suc j ≡ suc i + j = omega arith in subst (λ (v : ℕ). slice_get k.members v ≡ Some x) z (g (suc j) x y)
 
+    by : OnSome (IsFound c) (field_from n (suc i) name ms) → (b : Bool) → bytes_eq m.name name ≡ b
+        → OnSome (IsFound c) (if b then Some (field n i m.typ) else field_from n (suc i) name ms)
+    by rest true q = let x = h.fields n (i + 0) k m f (g 0 m refl) in (d, declared_target c.classes m.typ x.declared (x.object (same_name m.name name q e)))
+    by rest false q = rest
 
 -- the first of the member functions of a name
 methods_are : (c : Ctx) (n : ℕ) (name : List ℕ) (ks : List ℕ) → is_some (completion_of c.classes n) ≡ true
@@ -93,7 +95,8 @@ own_is s c w name n h e d = either_is (IsFound c) (field_from n 0 name (members_
     (methods_are c n name (places_from (is_method n name) 0 c.funcs) d refl)
   where
     by : (o : Option Class) → slice_get c.classes n ≡ o → OnSome (IsFound c) (field_from n 0 name (members_in o))
-    by (Some k) f = field_is s c w n k name h f d e 0 k.members (λ j m x. x)
+    by (Some k) f = field_is s c w n k name h f d e 0 k.members (λ j m x. let z : 0 + j ≡ j = omega arith in
+        subst (λ (v : ℕ). slice_get k.members v ≡ Some m) (sym z) x)
     by None f = tt
 
 -- Bases are complete
@@ -114,12 +117,13 @@ base_complete classes o n b e = by (slice_get classes n) refl e
 along_is : (s : Setting) (c : Ctx) (w : Work) (name : List ℕ) → Holds s c w → is_empty name ≡ false → (most n : ℕ)
     → OnSome (IsFound c) (found_along c name (chain most c.classes n))
 along_is s c w name h e zero n = tt
-along_is s c w name h e (suc most) n = by (base_of c.classes n) refl
+along_is s c w name h e (suc most) n = by (along_is s c w name h e most) (base_of c.classes n) refl
   where
-    by : (o : Option ℕ) → base_of c.classes n ≡ o → OnSome (IsFound c) (found_along c name (first_and o (chain most c.classes)))
-    by (Some b) f = either_is (IsFound c) (own_member c name b) (found_along c name (chain most c.classes b))
-        (own_is s c w name b h e (base_complete c.classes h.setting.ordered n b f)) (along_is s c w name h e most b)
-    by None f = tt
+    by : ((b : ℕ) → OnSome (IsFound c) (found_along c name (chain most c.classes b))) → (o : Option ℕ) → base_of c.classes n ≡ o
+        → OnSome (IsFound c) (found_along c name (first_and o (chain most c.classes)))
+    by rest (Some b) f = either_is (IsFound c) (own_member c name b) (found_along c name (chain most c.classes b))
+        (own_is s c w name b h e (base_complete c.classes h.setting.ordered n b f)) (rest b)
+    by rest None f = tt
 
 pub found_is : (s : Setting) (c : Ctx) (w : Work) (name : List ℕ) (n : ℕ) → Holds s c w → is_empty name ≡ false
     → is_some (completion_of c.classes n) ≡ true → OnSome (IsFound c) (member_found c name n)
@@ -130,7 +134,7 @@ found_is s c w name n h e d = either_is (IsFound c) (own_member c name n) (found
 
 pub member_means : (s : Setting) (c : Ctx) (w : Work) (at : At) (object : Tree) (f : Found) → Holds s c w → IsObject s c object → IsFound c f
     → Means s c (member_of c at object f)
-member_means s c w at object (field n i t) h o f = Means.standing _
+member_means s c w at object (field n i t) h o f = Means.standing
     (proper_part s c (offset_at c.classes n i) (qualified (is_const_typ (typ_in object)) (is_volatile_object (typ_in object)) t) at object
     (object_word s c object o) (object_fits s c object o) ((h.complete n f.0).offsets i)
     (qualified_target c.classes (is_const_typ (typ_in object)) (is_volatile_object (typ_in object)) t f.1))
@@ -150,7 +154,7 @@ pub class_member_means : (s : Setting) (c : Ctx) (w : Work) (at dot : At) (name 
     → (is_class_typ (typ_in e) ≡ true → IsObject s c e) → On (Means s c) (class_member c at dot name e)
 class_member_means s c w at dot name e h n o = expected (Means s c) dot BadOperand (class_number (typ_in e)) _
     (λ k q. checked (Means s c) at Incomplete (is_some (completion_of c.classes k)) _ (λ d.
-    found_in_object s c w at e dot (member_found c name k) h (o (class_typed (typ_in e) k q)) (found_is s c w name k h n d)))
+    found_in_object s c w at e at (member_found c name k) h (o (class_typed (typ_in e) k q)) (found_is s c w name k h n d)))
 
 exception_typed : (t : Typ) → is_tx_exception t ≡ true → is_class_typ t ≡ true
 exception_typed (typ (tx_ex t) c v) h = refl
@@ -197,7 +201,7 @@ target_form : (f : Form) (t : Typ) → target_of f ≡ Some t → f ≡ ptr t
 target_form (ptr u) t h = ap (λ (o : Option Typ). ptr (unwrap_or o u)) h
 target_form f t h = absurd cc
 
-pointer_word : (t u : Typ) (cat : Cat) → form_in t ≡ ptr u → word_kind t cat ≡ Some ULong
+pub pointer_word : (t u : Typ) (cat : Cat) → form_in t ≡ ptr u → word_kind t cat ≡ Some ULong
 pointer_word (typ f c v) u Lvalue h = refl
 pointer_word (typ f c v) u Prvalue h = ap kind_in h
 

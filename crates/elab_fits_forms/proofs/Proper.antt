@@ -16,14 +16,14 @@ use Rattle.elab_rules.specs.cpp_tree.Typing.{head_of, form_in, is_void, is_class
 use Rattle.elab_rules.specs.cpp_tree.Roles.{only}
 use Rattle.elab_rules.specs.cpp_tree.Rows.{Setting}
 use Rattle.elab_rules.specs.elab_ctx.Ctx.{Ctx}
-use Rattle.elab_rules.specs.Values.{number, part_at, retyped, valued}
+use Rattle.elab_rules.specs.Values.{number, part_at, retyped, builder, valued}
 use Rattle.elab_fits.specs.Standing.{FitsAs, Stands}
 use Rattle.elab_fits.specs.Scalars.{is_scalar, Gives}
 use Rattle.elab_fits.proofs.Nodes.{both, clash, head_typ, head_cat, of_value, Simple, two_kids}
 use Rattle.elab_fits.proofs.Values.{given_stands, no_object, number_gives, value_gives, lvalue_stands}
 use Rattle.elab_fits.proofs.Arithmetic.{part_stands}
 use Rattle.elab_fits_forms.specs.Types.{is_sound, is_sound_form, is_target, IsWhole}
-use Rattle.elab_fits_forms.specs.Meaning.{Proper, IsObject}
+use Rattle.elab_fits_forms.specs.Meaning.{copies_itself, Proper, IsObject}
 use Rattle.elab_fits_forms.proofs.Types.{target_type, target_sound, target_no_void, requalified_target}
 
 -- an lvalue that stands
@@ -33,6 +33,7 @@ proper_lvalue s c e h l t = record {
   sound = target_sound c.classes (typ_in e) t;
   nothing = λ v. l' v;
   whole = λ k. clash (IsWhole c.classes (typ_in e)) (is_class_prvalue (typ_in e) (cat_of e)) (ap (λ (z : Cat). is_class_prvalue (typ_in e) z) l) k;
+  copied = λ k. clash (copies_itself (builder e) ≡ true) (is_class_prvalue (typ_in e) (cat_of e)) (ap (λ (z : Cat). is_class_prvalue (typ_in e) z) l) k;
 }
   where
     l' : is_void (typ_in e) ≡ true → cat_of e ≡ Prvalue
@@ -54,6 +55,7 @@ proper_value s c f e g h = record {
   sound = ap (λ (t : Typ). is_sound c.classes t) g.typed ∙ h;
   nothing = λ v. g.category;
   whole = λ k. clash (IsWhole c.classes (typ_in e)) (is_class_prvalue (typ_in e) (cat_of e)) (no_object s f e g) k;
+  copied = λ k. clash (copies_itself (builder e) ≡ true) (is_class_prvalue (typ_in e) (cat_of e)) (no_object s f e g) k;
 }
 
 -- what lies at an offset in an object, and what a pointer points to

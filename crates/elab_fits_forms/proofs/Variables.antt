@@ -1,6 +1,6 @@
 -- Variables, captures and `this`.
-use Rattle.std.proofs.Common.{◌≡◌, refl, sym, ap, ◌∙◌, subst, ℕ, suc, Bool, true, false, not, ◌&&◌, ◌||◌, List, [], ◌∷◌, slice_get, Option, Some, None}
-use Rattle.std.proofs.Common.{unwrap_or, Result, Ok, Err}
+use Rattle.std.proofs.Common.{◌≡◌, refl, sym, ap, ◌∙◌, subst, ℕ, suc, Bool, true, false, not, ◌&&◌, ◌||◌, nat_lt, List, [], ◌∷◌, slice_get, Option, Some}
+use Rattle.std.proofs.Common.{None, unwrap_or, Result, Ok, Err}
 use Rattle.std.proofs.lemmas.Bool.{and_parts}
 use Rattle.std.specs.Prelude.{if◌then◌else◌}
 use Rattle.elab_rules.specs.tx_ints.declared.kinds.IntKind.{IntKind}
@@ -35,7 +35,7 @@ use Rattle.elab_fits_forms.specs.Types.{is_sound, is_target, is_declared}
 use Rattle.elab_fits_forms.specs.Meaning.{Proper}
 use Rattle.elab_fits_forms.specs.Context.{is_item_of, IsVariable, IsThis, Holds}
 use Rattle.elab_fits_forms.proofs.Types.{target_type, declared_target, qualified_target, class_target}
-use Rattle.elab_fits_forms.proofs.Proper.{lvalue_node, proper_value, proper_part, proper_valued}
+use Rattle.elab_fits_forms.proofs.Proper.{lvalue_node, proper_value, proper_part, part_fits, proper_valued}
 
 -- Kinds of nodes
 
@@ -119,18 +119,19 @@ this_word at t = refl
 
 -- Captures (C++14 5.1.2 p17)
 
+abbrev capture_in : Option Captured → Option Capture
+capture_in (Some z) = Some z.capture
+capture_in None = None
+
 held_capture : (A : Type 0) (variable : Option ℕ) (i : ℕ) (xs : List Capture) (x : Captured) → captured_from i variable xs ≡ Some x
     → ((j : ℕ) → slice_get xs j ≡ Some x.capture → A) → A
 held_capture A variable i [] x h g = absurd cc
-held_capture A variable i (y ∷ ys) x h g = by (same_variable variable y.variable) h
+held_capture A variable i (y ∷ ys) x h g = by (λ e. held_capture A variable (suc i) ys x e (λ j d. g (suc j) d)) (same_variable variable y.variable) h
   where
-    by : (b : Bool) → (if b then Some (record { index = i; capture = y }) else captured_from (suc i) variable ys) ≡ Some x → A
-    by true e = g 0 (ap (λ (o : Option Captured). capture_in o) e)
-      where
-        capture_in : Option Captured → Option Capture
-        capture_in (Some z) = Some z.capture
-        capture_in None = None
-    by false e = held_capture A variable (suc i) ys x e (λ j d. g (suc j) d)
+    by : (captured_from (suc i) variable ys ≡ Some x → A) → (b : Bool)
+        → (if b then Some (record { index = i; capture = y }) else captured_from (suc i) variable ys) ≡ Some x → A
+    by rest true e = g 0 (ap (λ (o : Option Captured). capture_in o) e)
+    by rest false e = rest e
 
 captured_proper : (s : Setting) (c : Ctx) (w : Work) (at : At) (t : This) (l : Lambda) (i : ℕ) (u : Typ) → Holds s c w → Reaches s w → c.this ≡ Some t
     → c.lambda ≡ Some l → is_declared c.classes u ≡ true → Proper s c (in_capture c at t l i u)
@@ -188,10 +189,10 @@ this_by s c w at None k h r = expected (IsThisTree s c) at UnknownName c.this _ 
 })
 this_by s c w at (Some l) k h r = expected (IsThisTree s c) at CaptureRule (captured_from 0 None l.captures) _
     (λ x f. expected (IsThisTree s c) at UnknownName c.this _ (λ t e. record {
-  proper = proper_valued s c at (captured_tree c at t l x) (capture_proper s c w at None t l x h r e k f);
-  this = t;
-  is = e;
-}))
+      proper = proper_valued s c at (captured_tree c at t l x) (capture_proper s c w at None t l x h r e k f);
+      this = t;
+      is = e;
+    }))
 
 pub this_tree_is : (s : Setting) (c : Ctx) (w : Work) (at : At) → Holds s c w → Reaches s w → On (IsThisTree s c) (this_tree c at)
 this_tree_is s c w at h r = this_by s c w at c.lambda refl h r

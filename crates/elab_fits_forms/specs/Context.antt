@@ -8,19 +8,19 @@ use Rattle.elab_rules.specs.cpp_types.Equal.{typ_eq}
 use Rattle.elab_rules.specs.cpp_tree.declared.kinds.Builtin.{Builtin}
 use Rattle.elab_rules.specs.cpp_tree.declared.program.FuncKind.TheVariants.{Plain, ClosureCall}
 use Rattle.elab_rules.specs.cpp_tree.Notation.{plain}
-use Rattle.elab_rules.specs.cpp_tree.Typing.{form_in, kind_in, is_class_typ, is_reference, is_word_of}
+use Rattle.elab_rules.specs.cpp_tree.Typing.{passes, kind_in, is_class_typ, is_reference, is_word_of}
 use Rattle.elab_rules.specs.cpp_tree.Units.{Global}
 use Rattle.elab_rules.specs.cpp_tree.Parts.{has_pointer_at}
 use Rattle.elab_rules.specs.cpp_tree.Rows.{Setting, signature_words, builtin_words, builtin_result, has_slot}
 use Rattle.elab_rules.specs.elab_ctx.Ctx.{Ctx, Work, Func, Variable, This, Capture, Lambda, Closure, Enumerator}
-use Rattle.elab_rules.specs.Objects.{traits_at, Part, parts_of}
+use Rattle.elab_rules.specs.Objects.{traits_at, class_in}
 use Rattle.elab_rules.specs.Initialising.{signature_result}
 use Rattle.elab_rules.specs.Names.{is_outer, offset_at}
 use Rattle.elab_rules.specs.Calls.{slot_of_function, pointer_offset}
+use Rattle.elab_rules.specs.Casts.{is_numeric}
 use Rattle.elab_fits.specs.Standing.{IsSetting}
-use Rattle.elab_fits.specs.Scalars.{is_scalar}
 use Rattle.elab_fits.specs.Objects.{HasSpecials}
-use Rattle.elab_fits_forms.specs.Types.{is_empty, is_sound, is_target, is_declared, is_sound_signature, is_lambda, IsWhole}
+use Rattle.elab_fits_forms.specs.Types.{is_empty, is_sound, is_sound_form, is_target, is_declared, is_sound_signature, is_lambda, IsWhole}
 
 -- The function at hand
 
@@ -47,19 +47,17 @@ pub record IsField (classes : List Class) (m : Member) : Type 0 where
   pub declared : is_declared classes m.typ ≡ true
   pub object : is_empty m.name ≡ false → is_reference m.typ ≡ false
 
--- of a complete class: objects are whole, and the offsets of members are words
+-- of a complete class: objects are whole, by the type that says whether it is a lambda's, and the offsets of members are words
 pub record IsComplete (classes : List Class) (n : ℕ) : Type 0 where
-  pub whole : IsWhole classes (plain (class n))
+  pub whole : (f : Form) (q v : Bool) → class_in f ≡ Some n → is_sound_form classes f ≡ true → IsWhole classes (typ f q v)
   pub offsets : (i : ℕ) → is_word_of ULong (offset_at classes n i) ≡ true
 
 -- an enumerator is a word of its type: an enum, and `int` inside the braces
 pub record IsEnumerator (e : Enumerator) : Type 0 where
   pub form : Form
   pub typed : e.typ ≡ plain form
-  pub scalar : is_scalar form ≡ true
-  pub kind : IntKind
-  pub is : kind_in form ≡ Some kind
-  pub word : is_word_of kind e.word ≡ true
+  pub number : is_numeric form ≡ true
+  pub word : passes (λ (k : IntKind). is_word_of k e.word) (kind_in form) ≡ true
 
 -- a function that the language knows takes and gives what its node does, and belongs to no class
 pub record IsBuiltin (f : Func) (b : Builtin) : Type 0 where
@@ -100,6 +98,7 @@ pub record Holds (s : Setting) (c : Ctx) (w : Work) : Type 0 where
   pub functions : (k : ℕ) (f : Func) → slice_get c.funcs k ≡ Some f → IsFunction c k f
   pub fields : (n i : ℕ) (k : Class) (m : Member) → slice_get c.classes n ≡ Some k → slice_get k.members i ≡ Some m → IsField c.classes m
   pub complete : (n : ℕ) → is_some (completion_of c.classes n) ≡ true → IsComplete c.classes n
-  -- of a class that is not complete nothing is said
+  -- the class of a lambda is complete, and of a class that is not complete nothing is said
+  pub lambdas : (n : ℕ) → is_lambda c.classes n ≡ true → is_some (completion_of c.classes n) ≡ true
   pub assignable : (n : ℕ) → (traits_at c n).is_assignable ≡ true → is_some (completion_of c.classes n) ≡ true
   pub copyable : (n : ℕ) → (traits_at c n).is_trivially_copyable ≡ true → is_some (completion_of c.classes n) ≡ true

@@ -1,16 +1,16 @@
 -- Laws of casts, `throw`, calls, choices between objects and all rows of expressions.
-use Rattle.std.specs.Prelude.{◌≡◌, ℕ, Bool, true, false, List, Ok}
-use Rattle.std.specs.List.{list_all}
+use Rattle.std.specs.Prelude.{◌≡◌, ℕ, Bool, true, false, List, [], ◌∷◌}
 use Rattle.elab_rules.specs.cpp_types.Typ.{Typ}
 use Rattle.elab_rules.specs.cpp_types.declared.classes.At.{At}
 use Rattle.elab_rules.specs.cpp_lex.Tokens.{Lexeme}
 use Rattle.elab_rules.specs.cpp_ast.Trees as syntax
 use Rattle.elab_rules.specs.cpp_ast.declared.kinds.NodeKind.{NodeKind}
-use Rattle.elab_rules.specs.cpp_tree.Typing.{is_class_typ}
+use Rattle.elab_rules.specs.cpp_tree.Trees.{typ_in}
+use Rattle.elab_rules.specs.cpp_tree.Typing.{is_class_typ, is_reference}
 use Rattle.elab_rules.specs.cpp_tree.Rows.{Setting}
 use Rattle.elab_rules.specs.elab_ctx.Ctx.{Ctx, Work, Closure}
 use Rattle.elab_rules.specs.elab_ctx.Steps.{Operand, Made, Typed, TypedAll, spelling}
-use Rattle.elab_rules.specs.Operators.{assignment, comma, conditional}
+use Rattle.elab_rules.specs.Operators.{assignment, both_of_class, is_shared, comma, conditional}
 use Rattle.elab_rules.specs.Casts.{cast, functional, size_literal, throw}
 use Rattle.elab_rules.specs.Calls.{call}
 use Rattle.elab_rules.specs.Expressions.{row_of, expression_with, operands_with}
@@ -26,11 +26,16 @@ Stands_made s c m = Reaches s m.work → Proper s c m.tree
 
 pub data ProperOperands (s : Setting) (c : Ctx) : List Operand → Type 0 where
   none : ProperOperands s c []
-  more : (o : Operand) (os : List Operand) → ProperOperand s c o → ProperOperands s c os → ProperOperands s c (o ∷ os)
+  more : {o : Operand} {os : List Operand} → ProperOperand s c o → ProperOperands s c os → ProperOperands s c (o ∷ os)
 
 -- `throw`
 abbrev pub ThrowsStand : Type 0
 ThrowsStand = (s : Setting) (c : Ctx) (w : Work) (at : At) (os : List Operand) → Holds s c w → ProperOperands s c os → On (Stands_made s c) (throw c w at os)
+
+-- the same of what is no object of a class, and of nothing
+abbrev pub ValueThrowsStand : Type 0
+ValueThrowsStand = (s : Setting) (c : Ctx) (w : Work) (at : At) (os : List Operand) → Holds s c w → ProperOperands s c os
+    → ((o : Operand) (rest : List Operand) → os ≡ o ∷ rest → is_class_typ (typ_in o.tree) ≡ false) → On (Stands_made s c) (throw c w at os)
 
 -- casts to a type that a program can write
 abbrev pub CastsStand : Type 0
@@ -41,19 +46,27 @@ abbrev pub FunctionalsStand : Type 0
 FunctionalsStand = (s : Setting) (c : Ctx) (w : Work) (at : At) (t : Typ) (os : List Operand) → Holds s c w → is_sound c.classes t ≡ true → ProperOperands s c os
     → On (Stands_made s c) (functional c w at t os)
 
--- the same where the type is no class
-abbrev pub ScalarCastsStand : Type 0
-ScalarCastsStand = (s : Setting) (c : Ctx) (w : Work) (at : At) (t : Typ) (o : Operand) → Holds s c w → is_sound c.classes t ≡ true
-    → is_class_typ t ≡ false → ProperOperand s c o → On (Stands_made s c) (cast c w at t o)
+-- the same where the type is neither a class nor a reference
+abbrev pub ValueCastsStand : Type 0
+ValueCastsStand = (s : Setting) (c : Ctx) (w : Work) (at : At) (t : Typ) (o : Operand) → Holds s c w → is_sound c.classes t ≡ true
+    → is_class_typ t ≡ false → is_reference t ≡ false → ProperOperand s c o → On (Stands_made s c) (cast c w at t o)
+
+abbrev pub ValueFunctionalsStand : Type 0
+ValueFunctionalsStand = (s : Setting) (c : Ctx) (w : Work) (at : At) (t : Typ) (os : List Operand) → Holds s c w → is_sound c.classes t ≡ true
+    → is_class_typ t ≡ false → is_reference t ≡ false → ProperOperands s c os → On (Stands_made s c) (functional c w at t os)
 
 -- `sizeof`
 abbrev pub SizesStand : Type 0
 SizesStand = (s : Setting) (c : Ctx) (at operand : At) (t : Typ) → On (Proper s c) (size_literal c at operand t)
 
--- `a, b`, `a ? b : d` and `a = b`, with objects of classes too
+-- `a, b`, `a ? b : d` and `a = b`, with objects of classes too; the first law of `?:` asks that two objects of a class share a type
 abbrev pub ObjectCommasStand : Type 0
 ObjectCommasStand = (s : Setting) (c : Ctx) (w : Work) (at : At) (a b : Operand) → Holds s c w → ProperOperand s c a → ProperOperand s c b
     → Stands_made s c (comma c w at a b)
+
+abbrev pub SharedChoicesStand : Type 0
+SharedChoicesStand = (s : Setting) (c : Ctx) (w : Work) (at : At) (test a b : Operand) → Holds s c w → ProperOperand s c test → ProperOperand s c a
+    → ProperOperand s c b → (both_of_class a b ≡ true → is_shared a b ≡ true) → On (Stands_made s c) (conditional c w at test a b)
 
 abbrev pub ObjectChoicesStand : Type 0
 ObjectChoicesStand = (s : Setting) (c : Ctx) (w : Work) (at : At) (test a b : Operand) → Holds s c w → ProperOperand s c test → ProperOperand s c a

@@ -2,19 +2,26 @@
 use Rattle.std.specs.Prelude.{◌≡◌, ℕ, Bool, true, Some, None, is_some, slice_get}
 use Rattle.elab_rules.specs.cpp_types.Typ.{Typ, typ, void, tx_ex}
 use Rattle.elab_rules.specs.cpp_types.Class.{completion_of}
+use Rattle.elab_rules.specs.cpp_types.Equal.{form_eq}
 use Rattle.elab_rules.specs.cpp_types.declared.classes.At.{At}
 use Rattle.elab_rules.specs.cpp_types.declared.ranks.Cat.TheVariants.{Lvalue, Prvalue}
-use Rattle.elab_rules.specs.cpp_tree.declared.kinds.TKind.TheVariants.{Function, Default, Builtin as BuiltinNode}
+use Rattle.elab_rules.specs.cpp_tree.declared.kinds.TKind.TheVariants.{Function, Default, CopyFrom, Builtin as BuiltinNode}
 use Rattle.elab_rules.specs.cpp_tree.declared.kinds.Builtin.TheVariants.{Abort}
-use Rattle.elab_rules.specs.cpp_tree.Trees.{Tree, node, none, one, typ_in, cat_of}
+use Rattle.elab_rules.specs.cpp_tree.Trees.{Tree, node, Trees, none, more, one, typ_in, cat_of}
 use Rattle.elab_rules.specs.cpp_tree.Notation.{plain}
-use Rattle.elab_rules.specs.cpp_tree.Typing.{is_void, is_class_prvalue}
+use Rattle.elab_rules.specs.cpp_tree.Typing.{form_in, is_void, is_class_prvalue}
 use Rattle.elab_rules.specs.cpp_tree.Rows.{Setting}
 use Rattle.elab_rules.specs.elab_ctx.Ctx.{Ctx, Func}
 use Rattle.elab_rules.specs.elab_ctx.Steps.{Operand}
+use Rattle.elab_rules.specs.Values.{builder}
 use Rattle.elab_fits.specs.Standing.{Stands}
 use Rattle.elab_fits.specs.Scalars.{IsZero}
 use Rattle.elab_fits_forms.specs.Types.{is_sound, IsWhole}
+
+-- what copies a `std::tx_exception` copies one of the same type
+abbrev pub copies_itself : Tree → Bool
+copies_itself (node CopyFrom (typ (tx_ex t) q v) cat at (more source ts)) = form_eq (tx_ex t) (form_in (typ_in source))
+copies_itself e = true
 
 -- an expression that stands, of a type that programs have: nothing of type `void` is an lvalue, and an object that is built is whole
 pub record Proper (s : Setting) (c : Ctx) (e : Tree) : Type 0 where
@@ -22,6 +29,7 @@ pub record Proper (s : Setting) (c : Ctx) (e : Tree) : Type 0 where
   pub sound : is_sound c.classes (typ_in e) ≡ true
   pub nothing : is_void (typ_in e) ≡ true → cat_of e ≡ Prvalue
   pub whole : is_class_prvalue (typ_in e) (cat_of e) ≡ true → IsWhole c.classes (typ_in e)
+  pub copied : is_class_prvalue (typ_in e) (cat_of e) ≡ true → copies_itself (builder e) ≡ true
 
 -- an object that a member is named of
 pub record IsObject (s : Setting) (c : Ctx) (e : Tree) : Type 0 where
@@ -39,7 +47,7 @@ pub record IsMethod (c : Ctx) (k : ℕ) : Type 0 where
 -- an expression stands, or is one of the forms that are looked up and not yet chosen: functions of a name at file scope, or member functions with their
 -- object; `get` of a `std::tx_exception`; `std::abort`
 pub data Means (s : Setting) (c : Ctx) : Tree → Type 0 where
-  standing : (e : Tree) → Proper s c e → Means s c e
+  standing : {e : Tree} → Proper s c e → Means s c e
   free_functions : (k : ℕ) (at : At) → Means s c (node (Function k) (plain void) Lvalue at none)
   methods : (k : ℕ) (at : At) (object : Tree) → IsMethod c k → IsObject s c object → Means s c (node (Function k) (plain void) Lvalue at (one object))
   getter : (at : At) (t : Typ) (q v : Bool) (object : Tree) → IsObject s c object → typ_in object ≡ typ (tx_ex t) q v

@@ -11,7 +11,7 @@ use Rattle.elab_rules.specs.cpp_tree.declared.kinds.TKind.TheVariants.{Materiali
 use Rattle.elab_rules.specs.cpp_tree.declared.roles.Position.{Position}
 use Rattle.elab_rules.specs.cpp_tree.declared.roles.Role.TheVariants.{Value, Initialiser, Destruction}
 use Rattle.elab_rules.specs.cpp_tree.Trees.{Tree, node, Trees, none, more, kind_of, typ_in, cat_of}
-use Rattle.elab_rules.specs.cpp_tree.Typing.{head_of, passes, is_class_typ, is_class_prvalue, builds}
+use Rattle.elab_rules.specs.cpp_tree.Typing.{head_of, form_in, passes, is_class_typ, is_class_prvalue, builds}
 use Rattle.elab_rules.specs.cpp_tree.Roles.{and_any}
 use Rattle.elab_rules.specs.cpp_tree.Rows.{Setting, at_place}
 use Rattle.elab_rules.specs.cpp_tree.WellFormed.{fits, kids_fit, heads_of, is_kid}
@@ -21,13 +21,14 @@ use Rattle.elab_rules.specs.Values.{temporary, builder}
 use Rattle.elab_rules.specs.Objects.{destroys}
 use Rattle.elab_rules.specs.Initialising.{object_of}
 use Rattle.elab_fits.specs.Standing.{FitsAs, Stands, IsSetting, Reaches}
-use Rattle.elab_fits.specs.Objects.{HasSpecials, AllFit, DestroysOne, has_lambdas}
+use Rattle.elab_fits.specs.Objects.{HasSpecials, AllFit, DestroysOne, has_lambdas, is_closure}
 use Rattle.elab_fits.proofs.Equal.{typ_refl}
-use Rattle.elab_fits.proofs.Nodes.{both, or_right, node_fits}
+use Rattle.elab_fits.proofs.Nodes.{both, or_right, clash, node_fits}
 use Rattle.elab_fits.proofs.Destructions.{destructions_law}
 use Rattle.elab_fits_forms.specs.Types.{is_sound, is_target, IsWhole}
 use Rattle.elab_fits_forms.specs.Meaning.{Proper, IsObject}
 use Rattle.elab_fits_forms.proofs.Types.{class_target}
+use Rattle.elab_fits_forms.proofs.Readiness.{any_ready}
 use Rattle.elab_fits_forms.proofs.Proper.{lvalue_node, proper_object}
 
 -- Kids
@@ -74,7 +75,7 @@ prvalue_class t Lvalue h = absurd cc
 
 pub destroyed : (s : Setting) (c : Ctx) (at : At) (t : Typ) → IsSetting s c → HasSpecials c → is_class_typ t ≡ true → IsWhole c.classes t
     → DestroysOne s t (destroys c at t)
-destroyed s c at t i h k x = destructions_law s c at t i h x.sized x.ready (class_single t k)
+destroyed s c at t i h k x = destructions_law s c at t i h x.sized (any_ready c.classes (is_closure (form_in t)) t x.ready) (class_single t k)
 
 temporary_proper : (s : Setting) (c : Ctx) (w : Work) (at : At) (e : Tree) → IsSetting s c → HasSpecials c → Proper s c e
     → is_class_prvalue (typ_in e) (cat_of e) ≡ true → Reaches s (with_item w (typ_in e))
@@ -87,10 +88,7 @@ temporary_proper s c w at e i h p k r = let d = prvalue_class (typ_in e) (cat_of
 
 class_lvalue : (t : Typ) (cat : Cat) → is_class_typ t ≡ true → is_class_prvalue t cat ≡ false → cat ≡ Lvalue
 class_lvalue t Lvalue k n = refl
-class_lvalue (typ (class n) c v) Prvalue k n = absurd cc
-class_lvalue (typ (closure n) c v) Prvalue k n = absurd cc
-class_lvalue (typ (tx_ex t) c v) Prvalue k n = absurd cc
-class_lvalue (typ f c v) Prvalue k n = absurd cc
+class_lvalue (typ f c v) Prvalue k n = clash (Prvalue ≡ Lvalue) (is_class_typ (typ f c v)) n k
 
 object_by : (s : Setting) (c : Ctx) (w : Work) (at : At) (e : Tree) (b : Bool) → is_class_prvalue (typ_in e) (cat_of e) ≡ b → IsSetting s c → HasSpecials c
     → Proper s c e → is_class_typ (typ_in e) ≡ true
