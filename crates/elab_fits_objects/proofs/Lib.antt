@@ -1,0 +1,1 @@
+pub use Rattle.elab_fits.proofs as elab_fits
