@@ -1,0 +1,16 @@
+pub mod Captures
+pub mod Classes
+pub mod Constructing
+pub mod Copying
+pub mod Elements
+pub mod Excepting
+pub mod Exceptions
+pub mod Fits
+pub mod Forms
+pub mod Keeping
+pub mod Passing
+pub mod Placing
+pub mod Rebuilt
+pub mod Referring
+pub mod Types
+pub mod Words
