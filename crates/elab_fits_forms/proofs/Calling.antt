@@ -31,7 +31,8 @@ use Rattle.elab_fits.specs.Objects.{AllFit}
 use Rattle.elab_fits.proofs.Equal.{typ_refl}
 use Rattle.elab_fits.proofs.Nodes.{both, or_left, or_right, clash, node_fits, of_value}
 use Rattle.elab_fits_forms.specs.Types.{is_sound, is_sound_form, is_target, is_result, is_sound_signature, are_parameters, IsWhole}
-use Rattle.elab_fits_forms.specs.Meaning.{copies_itself, Proper}
+use Rattle.elab_fits_objects.specs.Contexts.{copies_itself}
+use Rattle.elab_fits_forms.specs.Meaning.{Proper}
 use Rattle.elab_fits_forms.proofs.Types.{target_type}
 use Rattle.elab_fits_forms.proofs.Proper.{proper_lvalue}
 use Rattle.elab_fits_forms.proofs.Settled.{IsBuilt, proper_built, own_builds}
@@ -196,7 +197,7 @@ call_proper s c kind ts (typ (ptr t) q v) at k i x r = scalar_call s c kind ts (
 
 -- Rows
 
-plain_result : (kind : FuncKind) (g : Signature) → is_special kind ≡ false → result_in kind g ≡ signature_result g
+pub plain_result : (kind : FuncKind) (g : Signature) → is_special kind ≡ false → result_in kind g ≡ signature_result g
 plain_result kind (signature ps r safe) h = ap (λ (b : Bool). cond b (typ void false false) r) h
 
 -- of a function by its place

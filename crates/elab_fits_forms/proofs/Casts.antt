@@ -39,7 +39,7 @@ use Rattle.elab_fits.proofs.Arithmetic.{value_of}
 use Rattle.elab_fits_forms.specs.Types.{is_sound, is_sound_form}
 use Rattle.elab_fits_forms.specs.Meaning.{Proper, ProperOperand}
 use Rattle.elab_fits_forms.specs.Context.{Holds}
-use Rattle.elab_fits_forms.specs.Forms.{Stands_made, ProperOperands}
+use Rattle.elab_fits_forms.specs.Forms.{Stands_made}
 use Rattle.elab_fits_forms.proofs.Proper.{proper_value}
 use Rattle.elab_fits_forms.proofs.Names.{word_gives}
 use Rattle.elab_fits_forms.proofs.Dropped.{operand_is, dropped_value, nothing_proper}
@@ -132,7 +132,7 @@ zero_stands : (s : Setting) (c : Ctx) (at : At) (t : Typ) → is_sound c.classes
 zero_stands s c at (typ f q v) i k n = proper_value s c f (node (Literal 0) (plain f) Prvalue at none)
     (word_gives s f 0 at (plain_scalar f q v k n) (zero_words f k)) i
 
-from_none : (s : Setting) (c : Ctx) (w : Work) (at : At) (t : Typ) → is_sound c.classes t ≡ true → is_class_typ t ≡ false
+pub from_none : (s : Setting) (c : Ctx) (w : Work) (at : At) (t : Typ) → is_sound c.classes t ≡ true → is_class_typ t ≡ false
     → On (Stands_made s c) (functional c w at t [])
 from_none s c w at t i k = rw k (either (Stands_made s c) (is_void t) _ _
     (λ v r. nothing_proper s c at (number ULong 0 at) (number_gives s ULong 0 at (zero_word ULong)).fits)
@@ -150,9 +150,3 @@ from_none s c w at t i k = rw k (either (Stands_made s c) (is_void t) _ _
         → Reaches s w → Proper s c (node (Literal 0) (unqualified t) Prvalue at none)
     by x r = zero_stands s c at t i (and_parts (is_some (kind_in (form_in t))) (not (is_reference t)) x).0
         (is_not (is_some (kind_in (form_in t))) (is_reference t) x)
-
-pub value_functionals : (s : Setting) (c : Ctx) (w : Work) (at : At) (t : Typ) (os : List Operand) → Holds s c w → is_sound c.classes t ≡ true
-    → is_class_typ t ≡ false → is_reference t ≡ false → ProperOperands s c os → On (Stands_made s c) (functional c w at t os)
-value_functionals s c w at t [] h i k n p = from_none s c w at t i k
-value_functionals s c w at t (o ∷ []) h i k n (ProperOperands.more p ps) = value_casts s c w at t o h i k n p
-value_functionals s c w at t (o ∷ u ∷ os) h i k n p = rw k tt

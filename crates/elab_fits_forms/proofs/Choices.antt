@@ -38,7 +38,8 @@ use Rattle.elab_fits.proofs.Arithmetic.{IsTruth, or_case}
 use Rattle.elab_fits.proofs.Unary.{bool_row, truth_gives, lvalue_is}
 use Rattle.elab_fits.proofs.Choosing.{values_choose, choice_stands, own_branch, void_typ, lvalues_choose, shared_stands, voids_choose}
 use Rattle.elab_fits_forms.specs.Types.{is_sound, is_sound_form, is_target, IsWhole}
-use Rattle.elab_fits_forms.specs.Meaning.{copies_itself, Proper, ProperOperand}
+use Rattle.elab_fits_objects.specs.Contexts.{copies_itself}
+use Rattle.elab_fits_forms.specs.Meaning.{Proper, ProperOperand}
 use Rattle.elab_fits_forms.specs.Context.{Holds}
 use Rattle.elab_fits_forms.specs.Forms.{Stands_made}
 use Rattle.elab_fits_forms.proofs.Types.{class_no_void, class_target}

@@ -30,7 +30,8 @@ use Rattle.elab_fits.proofs.Initials.{value_form_is}
 use Rattle.elab_fits.proofs.Choosing.{worded}
 use Rattle.elab_fits.proofs.Comma.{bare_fits}
 use Rattle.elab_fits_forms.specs.Types.{IsWhole}
-use Rattle.elab_fits_forms.specs.Meaning.{copies_itself, Proper, ProperOperand}
+use Rattle.elab_fits_objects.specs.Contexts.{copies_itself}
+use Rattle.elab_fits_forms.specs.Meaning.{Proper, ProperOperand}
 use Rattle.elab_fits_forms.specs.Context.{Holds}
 use Rattle.elab_fits_forms.proofs.Temporaries.{object_value}
 
@@ -91,7 +92,7 @@ dropped_value s c w w' o h x = if_made (λ (m : Made). Reaches s m.work → Fits
     (λ k r. thrown_fits s c o.tree x.proper k)
     (λ k. if_made (λ (m : Made). Reaches s m.work → FitsAs s Value m.tree) (is_volatile_scalar (typ_in o.tree) && is_read_when_dropped o.tree) _ _
     (λ v r. read_fits s o (operand_is s c o x) (and_parts (is_volatile_scalar (typ_in o.tree)) (is_read_when_dropped o.tree) v).0)
-    (λ v r. object_value s c w o.at o.tree h.setting h.specials x.proper r))
+    (λ v r. object_value s c w o.at o.tree h.setting h.makers.specials x.proper r))
 
 -- What has no value
 

@@ -1,7 +1,11 @@
+pub mod CallForms
+pub mod Callees
 pub mod Calling
+pub mod Calls
 pub mod Casts
 pub mod Choices
 pub mod Dropped
+pub mod Forms
 pub mod Leaves
 pub mod Members
 pub mod Names
@@ -9,8 +13,10 @@ pub mod Operators
 pub mod Places
 pub mod Proper
 pub mod Readiness
+pub mod References
 pub mod Rows
 pub mod Settled
+pub mod Sources
 pub mod Steps
 pub mod Temporaries
 pub mod Throws

@@ -181,7 +181,7 @@ members_mean s c w at dot name o h n p = by (is_tx_exception (typ_in o.tree)) re
   where
     object : is_class_typ (typ_in (object_of c w o.at o.tree).tree) ≡ true → Reaches s (object_of c w o.at o.tree).work
         → IsObject s c (object_of c w o.at o.tree).tree
-    object k r = object_is s c w o.at o.tree h.setting h.specials p.proper (ap is_class_typ (sym (object_typ c w o.at o.tree)) ∙ k) r
+    object k r = object_is s c w o.at o.tree h.setting h.makers.specials p.proper (ap is_class_typ (sym (object_typ c w o.at o.tree)) ∙ k) r
 
     by : (b : Bool) → is_tx_exception (typ_in o.tree) ≡ b
         → On (Made_means s c) (if b then and_then (exception_member at name (object_of c w o.at o.tree).tree)

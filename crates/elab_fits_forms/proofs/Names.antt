@@ -178,7 +178,7 @@ anywhere = record { full = true; breaks = false; continues = false }
 no_func : (d v : Bool) (f : UnitFunc) → typ_eq (typ void d v) (typ (func f.declared.signature) false false) ≡ true → ⊥
 no_func d v f h = let e : false ≡ true = (and_parts (flag_eq d false && flag_eq v false) false h).1 in clash ⊥ false refl e
 
-no_function_void : (s : Setting) (k : ℕ) (d v : Bool) (at : At) (kids : Trees) → FitsAs s Value (node (FunctionNode k) (typ void d v) Lvalue at kids) → ⊥
+pub no_function_void : (s : Setting) (k : ℕ) (d v : Bool) (at : At) (kids : Trees) → FitsAs s Value (node (FunctionNode k) (typ void d v) Lvalue at kids) → ⊥
 no_function_void s k d v at kids h = by (slice_get s.funcs k) refl (h anywhere refl)
   where
     by : (o : Option UnitFunc) → slice_get s.funcs k ≡ o → fits s anywhere Value (node (FunctionNode k) (typ void d v) Lvalue at kids) ≡ true → ⊥

@@ -35,7 +35,8 @@ use Rattle.elab_fits.proofs.Arithmetic.{as_kind_gives, pointed_form, pointer_of,
 use Rattle.elab_fits.proofs.Unary.{logical_gives, negation_gives, minus_gives, complement_gives, address_stands, lvalue_is}
 use Rattle.elab_fits.proofs.Assigning.{target_is, assignment_stands, compound_stands, step_stands}
 use Rattle.elab_fits_forms.specs.Types.{is_sound, is_sound_form, is_target, IsWhole}
-use Rattle.elab_fits_forms.specs.Meaning.{copies_itself, Proper, ProperOperand}
+use Rattle.elab_fits_objects.specs.Contexts.{copies_itself}
+use Rattle.elab_fits_forms.specs.Meaning.{Proper, ProperOperand}
 use Rattle.elab_fits_forms.proofs.Types.{sound_target}
 use Rattle.elab_fits_forms.proofs.Proper.{proper_lvalue, proper_value, proper_retyped, proper_valued}
 use Rattle.elab_fits_forms.proofs.Dropped.{operand_is}

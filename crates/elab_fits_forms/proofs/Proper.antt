@@ -23,7 +23,8 @@ use Rattle.elab_fits.proofs.Nodes.{both, clash, head_typ, head_cat, of_value, Si
 use Rattle.elab_fits.proofs.Values.{given_stands, no_object, number_gives, value_gives, lvalue_stands}
 use Rattle.elab_fits.proofs.Arithmetic.{part_stands}
 use Rattle.elab_fits_forms.specs.Types.{is_sound, is_sound_form, is_target, IsWhole}
-use Rattle.elab_fits_forms.specs.Meaning.{copies_itself, Proper, IsObject}
+use Rattle.elab_fits_objects.specs.Contexts.{copies_itself}
+use Rattle.elab_fits_forms.specs.Meaning.{Proper, IsObject}
 use Rattle.elab_fits_forms.proofs.Types.{target_type, target_sound, target_no_void, requalified_target}
 
 -- an lvalue that stands

@@ -31,7 +31,8 @@ use Rattle.elab_fits.proofs.Nodes.{both, or_left, or_right, clash, head_typ, hea
 use Rattle.elab_fits.proofs.Comma.{pair_stands, written_object}
 use Rattle.elab_fits.proofs.Copies.{copies_law}
 use Rattle.elab_fits_forms.specs.Types.{is_sound, IsWhole}
-use Rattle.elab_fits_forms.specs.Meaning.{copies_itself, Proper, IsObject, ProperOperand}
+use Rattle.elab_fits_objects.specs.Contexts.{copies_itself}
+use Rattle.elab_fits_forms.specs.Meaning.{Proper, IsObject, ProperOperand}
 use Rattle.elab_fits_forms.specs.Context.{Holds}
 use Rattle.elab_fits_forms.specs.Forms.{Stands_made}
 use Rattle.elab_fits_forms.proofs.Types.{class_no_void}
@@ -169,7 +170,7 @@ settled_is s c w w' o h x = if_made (λ (m : Made). Reaches s m.work → IsSettl
         let t = written_typ o.tree k in
         let b : IsBuilt s c (exception_copied c (typ (tx_ex t.value) t.const t.volatile) o.at (object_of c w o.at o.tree).tree) =
         exception_built s c w' o.at t.value t.const t.volatile (object_of c w o.at o.tree).tree h
-        (object_is s c w o.at o.tree h.setting h.specials x.proper (prvalue_class (typ_in o.tree) (cat_of o.tree) n) r)
+        (object_is s c w o.at o.tree h.setting h.makers.specials x.proper (prvalue_class (typ_in o.tree) (cat_of o.tree) n) r)
         (object_typ c w o.at o.tree ∙ t.is) (subst (λ (z : Typ). is_sound c.classes z ≡ true) t.is x.proper.sound)
         (subst (λ (z : Typ). IsWhole c.classes z) t.is (x.proper.whole n)) in
         subst (λ (z : Typ). IsSettled s c (exception_copied c z o.at (object_of c w o.at o.tree).tree)) (sym t.is)

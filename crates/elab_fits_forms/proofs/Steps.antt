@@ -41,7 +41,8 @@ use Rattle.elab_fits.proofs.Steps.{bind, skip, checked, either}
 use Rattle.elab_fits.proofs.Unary.{lvalue_is}
 use Rattle.elab_fits.proofs.Assigning.{assignment_stands, step_stands}
 use Rattle.elab_fits_forms.specs.Types.{is_sound, is_sound_form, is_target, is_lambda, is_exception_value, IsWhole}
-use Rattle.elab_fits_forms.specs.Meaning.{copies_itself, Proper, IsObject, ProperOperand}
+use Rattle.elab_fits_objects.specs.Contexts.{copies_itself}
+use Rattle.elab_fits_forms.specs.Meaning.{Proper, IsObject, ProperOperand}
 use Rattle.elab_fits_forms.specs.Context.{Holds}
 use Rattle.elab_fits_forms.specs.Forms.{Stands_made}
 use Rattle.elab_fits_forms.proofs.Types.{target_type}
@@ -218,7 +219,7 @@ class_assigns s c w at a b n h x y l e = checked (Stands_made s c) b.at NoConver
   where
     object : is_same_or_base c.classes (class_number (typ_in b.tree)) (Some n) ≡ true → Reaches s (object_of c w b.at b.tree).work
         → IsObject s c (object_of c w b.at b.tree).tree
-    object k r = object_is s c w b.at b.tree h.setting h.specials y.proper (numbered_class c (typ_in b.tree) (Some n) k) r
+    object k r = object_is s c w b.at b.tree h.setting h.makers.specials y.proper (numbered_class c (typ_in b.tree) (Some n) k) r
 
     by : is_same_or_base c.classes (class_number (typ_in b.tree)) (Some n) ≡ true → (traits_at c n).is_assignable ≡ true
         → Reaches s (object_of c w b.at b.tree).work → Proper s c (node CopyAssign (typ_in a.tree) Lvalue at
@@ -257,7 +258,7 @@ exception_assigns s c w at a b t h x y l g e = checked (Stands_made s c) b.at No
     by : form_in (typ_in b.tree) ≡ tx_ex t → not (is_volatile_typ (typ_in a.tree)) ≡ true → Reaches s (object_of c w b.at b.tree).work
         → Proper s c (node CopyAssign (typ_in a.tree) Lvalue at (three a.tree (object_of c w b.at b.tree).tree (copies c.classes at t)))
     by k m r = copied_proper s c at a.tree (object_of c w b.at b.tree).tree (copies c.classes at t) (record { proper = x.proper; category = l })
-        (object_is s c w b.at b.tree h.setting h.specials y.proper (exception_typed (typ_in b.tree) t k) r) (exception_typed (typ_in a.tree) t e)
+        (object_is s c w b.at b.tree h.setting h.makers.specials y.proper (exception_typed (typ_in b.tree) t k) r) (exception_typed (typ_in a.tree) t e)
         (lvalue_target s c a.tree x.proper l) (ap form_in (object_typ c w b.at b.tree) ∙ k ∙ sym e)
         (subst (λ (z : Typ). CopiesOne s z (copies c.classes at t)) (sym (not_const (typ_in a.tree) g (tx_ex t) e m))
         (exception_copies s c w at t h (exception_sound c (typ_in a.tree) t e x.proper.sound)))

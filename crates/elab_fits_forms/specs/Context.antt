@@ -13,13 +13,14 @@ use Rattle.elab_rules.specs.cpp_tree.Units.{Global}
 use Rattle.elab_rules.specs.cpp_tree.Parts.{has_pointer_at}
 use Rattle.elab_rules.specs.cpp_tree.Rows.{Setting, signature_words, builtin_words, builtin_result, has_slot}
 use Rattle.elab_rules.specs.elab_ctx.Ctx.{Ctx, Work, Func, Variable, This, Capture, Lambda, Closure, Enumerator}
+use Rattle.elab_rules.specs.elab_ctx.Types.{Named}
 use Rattle.elab_rules.specs.Objects.{traits_at, class_in}
 use Rattle.elab_rules.specs.Initialising.{signature_result}
 use Rattle.elab_rules.specs.Names.{is_outer, offset_at}
 use Rattle.elab_rules.specs.Calls.{slot_of_function, pointer_offset}
 use Rattle.elab_rules.specs.Casts.{is_numeric}
 use Rattle.elab_fits.specs.Standing.{IsSetting}
-use Rattle.elab_fits.specs.Objects.{HasSpecials}
+use Rattle.elab_fits_objects.specs.Contexts.{HasMakers}
 use Rattle.elab_fits_forms.specs.Types.{is_empty, is_sound, is_sound_form, is_target, is_declared, is_sound_signature, is_lambda, IsWhole}
 
 -- The function at hand
@@ -82,8 +83,8 @@ pub record IsFunction (c : Ctx) (k : ℕ) (f : Func) : Type 0 where
 pub record Holds (s : Setting) (c : Ctx) (w : Work) : Type 0 where
   -- the program and the unit of the body are those of the context
   pub setting : IsSetting s c
-  -- destructors that classes are said to have are functions of the unit
-  pub specials : HasSpecials c
+  -- the constructors and destructors that classes are said to have are functions of the unit
+  pub makers : HasMakers c (is_lambda c.classes)
   -- a variable of the function at hand, whose type is known, is an object or a reference, and its place has its item
   pub variables : (i : ℕ) (v : Variable) (t : Typ) → is_outer i c.lambda ≡ None → slice_get c.variables i ≡ Some v → v.typ ≡ Some t
       → IsVariable c.classes w v.place t
@@ -98,6 +99,8 @@ pub record Holds (s : Setting) (c : Ctx) (w : Work) : Type 0 where
   pub functions : (k : ℕ) (f : Func) → slice_get c.funcs k ≡ Some f → IsFunction c k f
   pub fields : (n i : ℕ) (k : Class) (m : Member) → slice_get c.classes n ≡ Some k → slice_get k.members i ≡ Some m → IsField c.classes m
   pub complete : (n : ℕ) → is_some (completion_of c.classes n) ≡ true → IsComplete c.classes n
+  -- what names of types stand for
+  pub types : (i : ℕ) (n : Named) → slice_get c.types i ≡ Some n → is_sound c.classes n.typ ≡ true
   -- the class of a lambda is complete, and of a class that is not complete nothing is said
   pub lambdas : (n : ℕ) → is_lambda c.classes n ≡ true → is_some (completion_of c.classes n) ≡ true
   pub assignable : (n : ℕ) → (traits_at c n).is_assignable ≡ true → is_some (completion_of c.classes n) ≡ true

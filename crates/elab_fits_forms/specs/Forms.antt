@@ -5,8 +5,9 @@ use Rattle.elab_rules.specs.cpp_types.declared.classes.At.{At}
 use Rattle.elab_rules.specs.cpp_lex.Tokens.{Lexeme}
 use Rattle.elab_rules.specs.cpp_ast.Trees as syntax
 use Rattle.elab_rules.specs.cpp_ast.declared.kinds.NodeKind.{NodeKind}
+use Rattle.elab_rules.specs.cpp_ast.declared.kinds.NodeKind.TheVariants as k
 use Rattle.elab_rules.specs.cpp_tree.Trees.{typ_in}
-use Rattle.elab_rules.specs.cpp_tree.Typing.{is_class_typ, is_reference}
+use Rattle.elab_rules.specs.cpp_tree.Typing.{is_class_typ}
 use Rattle.elab_rules.specs.cpp_tree.Rows.{Setting}
 use Rattle.elab_rules.specs.elab_ctx.Ctx.{Ctx, Work, Closure}
 use Rattle.elab_rules.specs.elab_ctx.Steps.{Operand, Made, Typed, TypedAll, spelling}
@@ -46,14 +47,14 @@ abbrev pub FunctionalsStand : Type 0
 FunctionalsStand = (s : Setting) (c : Ctx) (w : Work) (at : At) (t : Typ) (os : List Operand) → Holds s c w → is_sound c.classes t ≡ true → ProperOperands s c os
     → On (Stands_made s c) (functional c w at t os)
 
--- the same where the type is neither a class nor a reference
+-- the same where the type is no class
 abbrev pub ValueCastsStand : Type 0
 ValueCastsStand = (s : Setting) (c : Ctx) (w : Work) (at : At) (t : Typ) (o : Operand) → Holds s c w → is_sound c.classes t ≡ true
-    → is_class_typ t ≡ false → is_reference t ≡ false → ProperOperand s c o → On (Stands_made s c) (cast c w at t o)
+    → is_class_typ t ≡ false → ProperOperand s c o → On (Stands_made s c) (cast c w at t o)
 
 abbrev pub ValueFunctionalsStand : Type 0
 ValueFunctionalsStand = (s : Setting) (c : Ctx) (w : Work) (at : At) (t : Typ) (os : List Operand) → Holds s c w → is_sound c.classes t ≡ true
-    → is_class_typ t ≡ false → is_reference t ≡ false → ProperOperands s c os → On (Stands_made s c) (functional c w at t os)
+    → is_class_typ t ≡ false → ProperOperands s c os → On (Stands_made s c) (functional c w at t os)
 
 -- `sizeof`
 abbrev pub SizesStand : Type 0
@@ -81,7 +82,13 @@ abbrev pub CallsStand : Type 0
 CallsStand = (s : Setting) (c : Ctx) (w : Work) (at : At) (callee : Operand) (os : List Operand) → Holds s c w → MeansOperand s c callee → ProperOperands s c os
     → On (Stands_made s c) (call c w at callee os)
 
+-- the rows of which all is told: in `?:` two objects of a class share a type, and what is thrown is no object of a class
+abbrev pub Covered : NodeKind → List Operand → Type 0
+Covered k.ConditionalExpression (test ∷ a ∷ b ∷ []) = both_of_class a b ≡ true → is_shared a b ≡ true
+Covered k.ThrowExpression os = (o : Operand) (rest : List Operand) → os ≡ o ∷ rest → is_class_typ (typ_in o.tree) ≡ false
+Covered kind os = Unit {0}
+
 -- a form over operands that stand
 abbrev pub RowsMean : Type 0
 RowsMean = (lexemes : List Lexeme) (s : Setting) (c : Ctx) (w : Work) (kind : NodeKind) (at : At) (t : ℕ) (os : List Operand) → Holds s c w
-    → is_empty (spelling lexemes t) ≡ false → ProperOperands s c os → On (Typed_means s c) (row_of lexemes c w kind at t os)
+    → is_empty (spelling lexemes t) ≡ false → ProperOperands s c os → Covered kind os → On (Typed_means s c) (row_of lexemes c w kind at t os)

@@ -1,4 +1,5 @@
 pub mod Context
+pub mod Expressions
 pub mod Forms
 pub mod Meaning
 pub mod Names

@@ -2,26 +2,21 @@
 use Rattle.std.specs.Prelude.{◌≡◌, ℕ, Bool, true, Some, None, is_some, slice_get}
 use Rattle.elab_rules.specs.cpp_types.Typ.{Typ, typ, void, tx_ex}
 use Rattle.elab_rules.specs.cpp_types.Class.{completion_of}
-use Rattle.elab_rules.specs.cpp_types.Equal.{form_eq}
 use Rattle.elab_rules.specs.cpp_types.declared.classes.At.{At}
 use Rattle.elab_rules.specs.cpp_types.declared.ranks.Cat.TheVariants.{Lvalue, Prvalue}
-use Rattle.elab_rules.specs.cpp_tree.declared.kinds.TKind.TheVariants.{Function, Default, CopyFrom, Builtin as BuiltinNode}
+use Rattle.elab_rules.specs.cpp_tree.declared.kinds.TKind.TheVariants.{Function, Default, Builtin as BuiltinNode}
 use Rattle.elab_rules.specs.cpp_tree.declared.kinds.Builtin.TheVariants.{Abort}
-use Rattle.elab_rules.specs.cpp_tree.Trees.{Tree, node, Trees, none, more, one, typ_in, cat_of}
+use Rattle.elab_rules.specs.cpp_tree.Trees.{Tree, node, none, one, typ_in, cat_of}
 use Rattle.elab_rules.specs.cpp_tree.Notation.{plain}
-use Rattle.elab_rules.specs.cpp_tree.Typing.{form_in, is_void, is_class_prvalue}
+use Rattle.elab_rules.specs.cpp_tree.Typing.{is_void, is_class_prvalue}
 use Rattle.elab_rules.specs.cpp_tree.Rows.{Setting}
 use Rattle.elab_rules.specs.elab_ctx.Ctx.{Ctx, Func}
 use Rattle.elab_rules.specs.elab_ctx.Steps.{Operand}
 use Rattle.elab_rules.specs.Values.{builder}
 use Rattle.elab_fits.specs.Standing.{Stands}
 use Rattle.elab_fits.specs.Scalars.{IsZero}
+use Rattle.elab_fits_objects.specs.Contexts.{copies_itself}
 use Rattle.elab_fits_forms.specs.Types.{is_sound, IsWhole}
-
--- what copies a `std::tx_exception` copies one of the same type
-abbrev pub copies_itself : Tree → Bool
-copies_itself (node CopyFrom (typ (tx_ex t) q v) cat at (more source ts)) = form_eq (tx_ex t) (form_in (typ_in source))
-copies_itself e = true
 
 -- an expression that stands, of a type that programs have: nothing of type `void` is an lvalue, and an object that is built is whole
 pub record Proper (s : Setting) (c : Ctx) (e : Tree) : Type 0 where

@@ -2,7 +2,7 @@
 
 ghost use Rattle.elab_fits_forms.specs.Names.{VariablesStand, ThisStands, EntitiesMean, MembersMean, NamesMean, ResolvedStand, LeavesMean};
 ghost use Rattle.elab_fits_forms.specs.Forms.{ValueThrowsStand, ValueCastsStand, ValueFunctionalsStand, SizesStand, ObjectCommasStand};
-ghost use Rattle.elab_fits_forms.specs.Forms.{SharedChoicesStand, ObjectAssignmentsStand};
+ghost use Rattle.elab_fits_forms.specs.Forms.{SharedChoicesStand, ObjectAssignmentsStand, CallsStand, RowsMean};
 
 /// Names, members, `this` and literals.
 pub fn names()
@@ -28,4 +28,14 @@ pub fn choices()
     ensures commas { ObjectCommasStand }
     ensures conditionals { SharedChoicesStand }
     ensures assignments { ObjectAssignmentsStand }
+{}
+
+/// Calls of what is named or given.
+pub fn calls()
+    ensures calls { CallsStand }
+{}
+
+/// The rows of expressions.
+pub fn rows()
+    ensures rows { RowsMean }
 {}
