@@ -26,7 +26,7 @@ use Rattle.elab_rules.specs.Initialising.{is_given_value, class_from}
 use Rattle.elab_fits.specs.Standing.{FitsAs, Stands, BuildsOne, IsSetting, Reaches, On}
 use Rattle.elab_fits.proofs.Equal.{typ_same, form_same, form_refl}
 use Rattle.elab_fits.proofs.Nodes.{both, or_left, head_typ, head_cat}
-use Rattle.elab_fits.proofs.Steps.{bind, skip, checked, expected, either}
+use Rattle.elab_fits.proofs.Steps.{bind, checked, either}
 use Rattle.elab_fits_objects.specs.Contexts.{is_whole, is_sorted, copies_itself, IsObjectTyp, HasMakers, IsSource}
 use Rattle.elab_fits_objects.specs.Making.{Makes, ClassesBuild}
 use Rattle.elab_fits_objects.proofs.Captures.{closure_copy}
@@ -37,7 +37,7 @@ use Rattle.elab_fits_objects.proofs.Fits.{copy_builds}
 use Rattle.elab_fits_objects.proofs.Forms.{plain_makes, own_fits, own_builds, building_form}
 use Rattle.elab_fits_objects.proofs.Placing.{object_placed, object_typ, object_lvalue, placed_fits}
 use Rattle.elab_fits_objects.proofs.Rebuilt.{building_builds}
-use Rattle.elab_fits_objects.proofs.Types.{whole_sized, whole_plain, prvalue_class, other_lvalue}
+use Rattle.elab_fits_objects.proofs.Types.{whole_sized, whole_plain, prvalue_class, other_lvalue, makeable_complete}
 
 abbrev pub Built : Setting → Typ → Made → Type 0
 Built s t m = Reaches s m.work → Makes s t m.tree
@@ -97,11 +97,7 @@ module _ (s : Setting) (c : Ctx) (lambda : ℕ → Bool) (w : Work) (at : At) (o
 
   -- Objects of named classes
 
-  pub complete : (n : ℕ) → On (λ (k : ℕ). completion_of c.classes n ≡ Some k) (makeable c at n)
-  complete n = expected (λ (k : ℕ). completion_of c.classes n ≡ Some k) at Incomplete (completion_of c.classes n) _
-      (λ k e. checked (λ (k : ℕ). completion_of c.classes n ≡ Some k) at AbstractObject (not (traits_at c n).is_abstract) _ (λ y. e))
-
-  own_class : (n : ℕ) (q v : Bool) (e : Tree) → not (lambda n) ≡ true → is_whole c.classes (typ (class n) q v) ≡ true → Stands s e
+  pub own_class : (n : ℕ) (q v : Bool) (e : Tree) → not (lambda n) ≡ true → is_whole c.classes (typ (class n) q v) ≡ true → Stands s e
       → is_sorted lambda (form_in (typ_in e)) ≡ true → is_prvalue_of_class n e ≡ true
       → Makes s (typ (class n) q v) (building c.classes (typ (class n) q v) e)
   own_class n q v (node kind (typ f d u) Lvalue p kids) k z stands sorted e = absurd cc
@@ -117,7 +113,7 @@ module _ (s : Setting) (c : Ctx) (lambda : ℕ → Bool) (w : Work) (at : At) (o
       (ap is_exception_form (building_form c.classes (class n) q v d u refl kind p kids)))
 
   pub named_from : (n : ℕ) (q v : Bool) → IsObjectTyp c lambda (typ (class n) q v) → On (Built s (typ (class n) q v)) (class_from c w (typ (class n) q v) at o)
-  named_from n q v t = bind (λ (k : ℕ). completion_of c.classes n ≡ Some k) (Built s (typ (class n) q v)) (makeable c at n) _ (complete n)
+  named_from n q v t = bind (λ (k : ℕ). completion_of c.classes n ≡ Some k) (Built s (typ (class n) q v)) (makeable c at n) _ (makeable_complete c at n)
       (λ k e. either (Built s (typ (class n) q v)) (is_prvalue_of_class n o.tree) _ _
       (λ y. (λ reached. own_class n q v o.tree t.sorted (t.whole (ap is_some e)) h.operand.stands h.sorted y))
       (λ y. checked (Built s (typ (class n) q v)) o.at NoConversion (is_same_or_base c.classes (class_number (typ_in o.tree)) (Some n)) _
@@ -125,7 +121,7 @@ module _ (s : Setting) (c : Ctx) (lambda : ℕ → Bool) (w : Work) (at : At) (o
 
   -- Exceptions
 
-  exception_class : (t u : Typ) → form_in u ≡ tx_ex t → is_class_typ u ≡ true
+  pub exception_class : (t u : Typ) → form_in u ≡ tx_ex t → is_class_typ u ≡ true
   exception_class t (typ (tx_ex x) a b) e = refl
   exception_class t (typ (class n) a b) e = refl
   exception_class t (typ (closure n) a b) e = refl

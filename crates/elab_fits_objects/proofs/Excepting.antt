@@ -38,7 +38,7 @@ use Rattle.elab_fits_objects.proofs.Rebuilt.{building_builds}
 use Rattle.elab_fits_objects.proofs.Types.{ready_more, prvalue_class}
 
 -- what has exactly the type of the value builds the exception
-value_builds : (s : Setting) (f : Form) (d w q v : Bool) (e : Tree) → BuildsOne s (typ f q v) e → typ_in e ≡ typ f q v
+pub value_builds : (s : Setting) (f : Form) (d w q v : Bool) (e : Tree) → BuildsOne s (typ f q v) e → typ_in e ≡ typ f q v
     → BuildsOne s (typ (tx_ex (typ f d w)) q v) e
 value_builds s f d w q v (node kind t cat at kids) h e = record {
   fits = h.fits;

@@ -25,10 +25,10 @@ use Rattle.elab_fits.proofs.Nodes.{both}
 use Rattle.elab_fits.proofs.Steps.{bind, either, known}
 use Rattle.elab_fits_objects.specs.Contexts.{IsObjectTyp, IsParameter, AreParameters, HasMakers, IsSource, AreSources}
 use Rattle.elab_fits_objects.specs.Making.{Makes, IsWord, WordsFit, WordsPass, AllWordsFit, WordsKeep, IsViableOne, ChosenViable}
-use Rattle.elab_fits_objects.proofs.Classes.{Built, class_builds, complete}
+use Rattle.elab_fits_objects.proofs.Classes.{Built, class_builds}
 use Rattle.elab_fits_objects.proofs.Keeping as keeping
 use Rattle.elab_fits_objects.proofs.Placing.{class_destroyed}
-use Rattle.elab_fits_objects.proofs.Types.{requalified}
+use Rattle.elab_fits_objects.proofs.Types.{requalified, makeable_complete}
 use Rattle.elab_fits_objects.proofs.Words.{Passes, initial_word, object_word}
 
 on_both : {A : Type 0} (P Q R : A → Type 0) (r : Result A ElabFault) → On P r → On Q r → ((a : A) → P a → Q a → R a) → On R r
@@ -46,7 +46,7 @@ completed : (s : Setting) (c : Ctx) (lambda : ℕ → Bool) (w : Work) (f : Form
     → IsSource s c lambda o → is_object_form f ≡ true → IsObjectTyp c lambda (plain f)
     → On (λ (m : Made). holds_complete c.classes f ≡ true) (class_from c w (plain f) at o)
 completed s c lambda w (class n) at o i m h k t = bind (λ (k : ℕ). completion_of c.classes n ≡ Some k)
-    (λ (m : Made). holds_complete c.classes (class n) ≡ true) (makeable c at n) _ (complete s c lambda w at o i m h n)
+    (λ (m : Made). holds_complete c.classes (class n) ≡ true) (makeable c at n) _ (makeable_complete c at n)
     (λ j e. known (λ (m : Made). holds_complete c.classes (class n) ≡ true) _ (λ m. ap is_some e))
 completed s c lambda w (closure n) at o i m h k t =
     known (λ (m : Made). holds_complete c.classes (closure n) ≡ true) (class_from c w (plain (closure n)) at o) (λ m. t.complete refl)

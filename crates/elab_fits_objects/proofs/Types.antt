@@ -3,16 +3,20 @@ use Rattle.std.proofs.Common.{◌≡◌, refl, sym, ap, ◌∙◌, ℕ, zero, su
 use Rattle.std.proofs.lemmas.Bool.{and_parts, and_from}
 use Rattle.std.specs.List.{list_all}
 use Rattle.elab_rules.specs.cpp_types.Typ.{Typ, typ, Form, void, int, enum, null, ptr, ref, array, func, class, closure, tx_ex}
-use Rattle.elab_rules.specs.cpp_types.Class.{Class}
+use Rattle.elab_rules.specs.cpp_types.Class.{Class, completion_of}
 use Rattle.elab_rules.specs.cpp_types.Conversion.{is_object_form}
+use Rattle.elab_rules.specs.cpp_types.declared.classes.At.{At}
 use Rattle.elab_rules.specs.cpp_types.declared.ranks.Cat.{Cat}
 use Rattle.elab_rules.specs.cpp_types.declared.ranks.Cat.TheVariants.{Lvalue, Prvalue}
+use Rattle.elab_rules.specs.cpp_tree.declared.faults.IllRule.TheVariants.{Incomplete, AbstractObject}
 use Rattle.elab_rules.specs.cpp_tree.Typing.{form_in, is_class_typ, is_class_prvalue}
 use Rattle.elab_rules.specs.cpp_tree.Parts.{size_in}
 use Rattle.elab_rules.specs.elab_ctx.Ctx.{Ctx}
-use Rattle.elab_rules.specs.Objects.{Part, parts_of}
-use Rattle.elab_fits.specs.Standing.{IsExpressionType}
+use Rattle.elab_rules.specs.Objects.{Part, parts_of, traits_at}
+use Rattle.elab_rules.specs.Initialising.{makeable}
+use Rattle.elab_fits.specs.Standing.{IsExpressionType, On}
 use Rattle.elab_fits.specs.Objects.{is_single, typ_ready, form_ready, part_ready, class_ready, is_ready, is_closure}
+use Rattle.elab_fits.proofs.Steps.{checked, expected}
 use Rattle.elab_fits_objects.specs.Contexts.{is_whole, IsObjectTyp}
 
 -- Where no references are, there may be some
@@ -93,3 +97,8 @@ requalified c lambda (class n) q v a b i h = record { sorted = h.sorted; whole =
 requalified c lambda (closure n) q v a b i h = record { sorted = h.sorted; whole = h.whole; complete = h.complete }
 requalified c lambda (tx_ex (typ f d w)) q v a b i h = record { sorted = h.sorted; whole = h.whole; complete = h.complete }
 requalified c lambda f q v a b i h = absurd cc
+
+-- where objects of a class can be made, it is complete
+pub makeable_complete : (c : Ctx) (at : At) (n : ℕ) → On (λ (k : ℕ). completion_of c.classes n ≡ Some k) (makeable c at n)
+makeable_complete c at n = expected (λ (k : ℕ). completion_of c.classes n ≡ Some k) at Incomplete (completion_of c.classes n) _
+    (λ k e. checked (λ (k : ℕ). completion_of c.classes n ≡ Some k) at AbstractObject (not (traits_at c n).is_abstract) _ (λ y. e))

@@ -24,10 +24,15 @@ use Rattle.elab_fits.specs.Objects.{is_ready, is_closure, has_lambdas, HasSpecia
 -- Types
 
 -- a class is a lambda's or has a name, and a type says the same of the class that it names; `lambda` tells which are lambdas'
-abbrev pub is_sorted : (lambda : ℕ → Bool) → Form → Bool
-is_sorted lambda (class n) = not (lambda n)
-is_sorted lambda (closure n) = lambda n
-is_sorted lambda f = true
+abbrev mutual
+  pub is_sorted : (lambda : ℕ → Bool) → Form → Bool
+  is_sorted lambda (class n) = not (lambda n)
+  is_sorted lambda (closure n) = lambda n
+  is_sorted lambda (tx_ex t) = typ_sorted lambda t
+  is_sorted lambda f = true
+
+  pub typ_sorted : (lambda : ℕ → Bool) → Typ → Bool
+  typ_sorted lambda (typ f c v) = is_sorted lambda f
 
 -- objects of the type can be made: it has a size, its arrays have elements, and only what a lambda captured is a reference
 abbrev pub is_whole : List Class → Typ → Bool

@@ -14,6 +14,7 @@ use Rattle.elab_rules.specs.cpp_tree.WellFormed.{heads_of}
 use Rattle.elab_rules.specs.elab_ctx.Ctx.{Ctx, Work}
 use Rattle.elab_rules.specs.elab_ctx.Steps.{Operand, Made, MadeAll}
 use Rattle.elab_rules.specs.Initialising.{object_of, class_from, exact_object, passed, words, constructed, from_nothing, scalar_from, exception_from, from_values}
+use Rattle.elab_rules.specs.Casts.{cast, functional}
 use Rattle.elab_fits.specs.Standing.{FitsAs, Stands, BuildsOne, IsSetting, Reaches, On}
 use Rattle.elab_fits.specs.Objects.{AllFit}
 use Rattle.elab_fits_objects.specs.Contexts.{IsObjectTyp, IsParameter, AreParameters, IsInitialised, HasMakers, IsSource, AreSources, copies_itself}
@@ -113,3 +114,20 @@ abbrev pub ValuesBuild : Type 0
 ValuesBuild = (s : Setting) (c : Ctx) (lambda : ℕ → Bool) (w : Work) (t : Typ) (at : At) (os : List Operand) → IsSetting s c → HasMakers c lambda
     → AreSources s c lambda os → IsInitialised c lambda t
     → On (λ (m : Made). Reaches s m.work → Makes s t m.tree) (from_values c w t at os)
+
+-- Objects that casts make, as expressions (C++14 5.2.3, 5.2.9, 5.4)
+
+-- an expression that initialises objects in turn
+abbrev pub IsSourceTree : Setting → Ctx → (ℕ → Bool) → Tree → Type 0
+IsSourceTree s c lambda e = (at : At) → IsSource s c lambda (record { tree = e; at = at; zero = false })
+
+abbrev pub CastsStand : Type 0
+CastsStand = (s : Setting) (c : Ctx) (lambda : ℕ → Bool) (w : Work) (at : At) (t : Typ) (o : Operand) → IsSetting s c → HasMakers c lambda
+    → IsSource s c lambda o → is_class_typ t ≡ true → IsObjectTyp c lambda t
+    → On (λ (m : Made). Reaches s m.work → IsSourceTree s c lambda m.tree) (cast c w at t o)
+
+-- `T(a, ..)`
+abbrev pub FunctionalsStand : Type 0
+FunctionalsStand = (s : Setting) (c : Ctx) (lambda : ℕ → Bool) (w : Work) (at : At) (t : Typ) (os : List Operand) → IsSetting s c → HasMakers c lambda
+    → AreSources s c lambda os → is_class_typ t ≡ true → IsObjectTyp c lambda t
+    → On (λ (m : Made). Reaches s m.work → IsSourceTree s c lambda m.tree) (functional c w at t os)

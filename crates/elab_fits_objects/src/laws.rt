@@ -1,11 +1,13 @@
 //! Laws of what initialises objects of class type. A function here does nothing: its clauses are the laws.
 
-ghost use Rattle.elab_fits_objects.specs.Making.{ObjectsPlaced, ClassesBuild, WordsPass, AllWordsFit, WordsKeep, ChosenViable};
+ghost use Rattle.elab_fits_objects.specs.Making.{ObjectsPlaced, ClassesBuild, ExactsBuild, WordsPass, AllWordsFit, WordsKeep, ChosenViable};
+ghost use Rattle.elab_fits_objects.specs.Making.{NothingBuilds, ConstructorsBuild, ScalarsBuild, ExceptionsBuild, ValuesBuild};
 
 /// An object of class type, by an expression.
 pub fn objects()
     ensures placed { ObjectsPlaced }
     ensures classes { ClassesBuild }
+    ensures exacts { ExactsBuild }
 {}
 
 /// The words of a call.
@@ -14,4 +16,13 @@ pub fn words()
     ensures words { AllWordsFit }
     ensures kept { WordsKeep }
     ensures chosen { ChosenViable }
+{}
+
+/// An object from nothing, or from values in parentheses.
+pub fn values()
+    ensures nothing { NothingBuilds }
+    ensures constructors { ConstructorsBuild }
+    ensures scalars { ScalarsBuild }
+    ensures exceptions { ExceptionsBuild }
+    ensures values { ValuesBuild }
 {}
