@@ -285,7 +285,7 @@ member_call s c w at i n f e ts h d m k q o g = by f.declared.is_virtual refl
         (signature_result f.declared.signature) (more e ts)
     by true v = record {
       call = virtual_call s i n (slot_of_function c n i) (unwrap_or (pointer_offset c.classes n) 0) e ts o.fits g.fit;
-      row = virtual_row s c w i n f (head_of e ∷ heads_of ts) h d m k v ((h.functions i f d).virtual n m v q)
+      row = virtual_row s c w i n f (head_of e ∷ heads_of ts) h d m k v ((h.functions i f d).virtual n m k v q)
           (sound_parts c f.declared.signature (h.functions i f d).sound).1 (member_words s n f e ts m o g.right);
     }
     by false v = own_call s c w at i n f e ts h d m (ap is_special k) o g

@@ -273,9 +273,3 @@ pub choices_stand : (s : Setting) (c : Ctx) (w : Work) (at : At) (test a b : Ope
     → On (Stands_made s c) (conditional c w at test a b)
 choices_stand s c w at test a b o z x y two = bind (IsTruth s) (Stands_made s c) (truth c w test) _ (truth_gives s c w test (operand_is s c test z))
     (λ t h. branches_stand s c w at t a b o h x y (two t h))
-
--- where two objects of a class share a type
-pub shared_choices : (s : Setting) (c : Ctx) (w : Work) (at : At) (test a b : Operand) → Holds s c w → ProperOperand s c test → ProperOperand s c a
-    → ProperOperand s c b → (both_of_class a b ≡ true → is_shared a b ≡ true) → On (Stands_made s c) (conditional c w at test a b)
-shared_choices s c w at test a b o z x y k = choices_stand s c w at test a b o z x y
-    (λ t h n m. clash (On (Stands_made s c) (two_objects c w at t a b)) (is_shared a b) n (k m))

@@ -30,7 +30,7 @@ use Rattle.elab_fits_forms.specs.Forms.{Stands_made, ProperOperands, Covered}
 use Rattle.elab_fits_forms.proofs.Members.{members_mean}
 use Rattle.elab_fits_forms.proofs.Leaves.{plain_operand}
 use Rattle.elab_fits_forms.proofs.Settled.{commas_stand}
-use Rattle.elab_fits_forms.proofs.Choices.{shared_choices}
+use Rattle.elab_fits_forms.proofs.Joined.{all_choices}
 use Rattle.elab_fits_forms.proofs.Throws.{value_throws}
 use Rattle.elab_fits_forms.proofs.Steps.{step_proper, assignments_stand}
 use Rattle.elab_fits_forms.proofs.Operators.{binary_proper, logical_proper, negation_proper, minus_proper, complement_proper, plus_proper, address_proper}
@@ -105,7 +105,7 @@ rows_mean l s c w k.UnaryExpression at t (a ∷ []) h n (ProperOperands.more x x
 rows_mean l s c w k.BinaryExpression at t (a ∷ b ∷ []) h n (ProperOperands.more x (ProperOperands.more y xs)) i =
     tree_typed s c at w (operator_of c w at (spelling l t) a b) (operator_proper s c w at (spelling l t) a b x y)
 rows_mean l s c w k.ConditionalExpression at t (a ∷ b ∷ d ∷ []) h n (ProperOperands.more x (ProperOperands.more y (ProperOperands.more z xs))) i =
-    made_typed s c at (conditional c w at a b d) (shared_choices s c w at a b d h x y z i)
+    made_typed s c at (conditional c w at a b d) (all_choices s c w at a b d h x y z)
 rows_mean l s c w k.AssignmentExpression at t (a ∷ b ∷ []) h n (ProperOperands.more x (ProperOperands.more y xs)) i =
     made_typed s c at (assignment_of c w at (spelling l t) a b) (assignment_proper s c w at (spelling l t) a b h x y)
 rows_mean l s c w k.CommaExpression at t (a ∷ b ∷ []) h n (ProperOperands.more x (ProperOperands.more y xs)) i =

@@ -4,8 +4,10 @@ pub mod Calling
 pub mod Calls
 pub mod Casts
 pub mod Choices
+pub mod ClassCasts
 pub mod Dropped
 pub mod Forms
+pub mod Joined
 pub mod Leaves
 pub mod Members
 pub mod Names

@@ -10,6 +10,7 @@ use Rattle.elab_rules.specs.cpp_tree.declared.kinds.TKind.TheVariants.{CopyFrom,
 use Rattle.elab_rules.specs.cpp_tree.declared.roles.Role.TheVariants.{Value}
 use Rattle.elab_rules.specs.cpp_tree.Trees.{Tree, node, typ_in, cat_of}
 use Rattle.elab_rules.specs.cpp_tree.Typing.{form_in, is_class_typ, is_class_prvalue}
+use Rattle.elab_rules.specs.cpp_tree.Notation.{plain}
 use Rattle.elab_rules.specs.cpp_tree.Parts.{holds_complete}
 use Rattle.elab_rules.specs.cpp_tree.Rows.{Setting}
 use Rattle.elab_rules.specs.elab_ctx.Ctx.{Ctx, Work}
@@ -18,21 +19,31 @@ use Rattle.elab_rules.specs.Values.{builder}
 use Rattle.elab_fits.specs.Standing.{FitsAs, IsExpressionType}
 use Rattle.elab_fits.specs.Scalars.{is_scalar}
 use Rattle.elab_fits.proofs.Nodes.{both, or_left, clash}
-use Rattle.elab_fits_objects.specs.Contexts.{is_sorted, is_whole, IsObjectTyp, IsParameter, AreParameters, IsSource, AreSources, copies_itself}
+use Rattle.elab_fits_objects.specs.Contexts.{is_sorted, typ_sorted, is_whole, IsObjectTyp, IsParameter, AreParameters, IsSource, AreSources, copies_itself}
 use Rattle.elab_fits_objects.proofs.Fits.{fit_as}
 use Rattle.elab_fits_forms.specs.Types.{is_sound, is_sound_form, is_target, is_lambda, is_exception_value, is_parameter, are_parameters, IsWhole}
 use Rattle.elab_fits_forms.specs.Meaning.{Proper, ProperOperand}
 use Rattle.elab_fits_forms.specs.Context.{Holds}
 use Rattle.elab_fits_forms.specs.Forms.{ProperOperands}
 use Rattle.elab_fits_forms.proofs.Types.{target_type, target_no_void}
-use Rattle.elab_fits_forms.proofs.Wholes.{class_whole}
+use Rattle.elab_fits_forms.proofs.Wholes.{class_whole, plain_exception}
 use Rattle.elab_fits_forms.proofs.Dropped.{operand_is}
 
 -- Types
 
+exception_sorted : (classes : List Class) (t : Typ) → is_exception_value classes t ≡ true → typ_sorted (is_lambda classes) t ≡ true
+exception_sorted classes t h = plain_exception (λ (u : Typ). typ_sorted (is_lambda classes) u ≡ true) classes t h by
+  where
+    by : (f : Form) → is_exception_value classes (plain f) ≡ true → is_sorted (is_lambda classes) f ≡ true
+    by (class n) i = (and_parts (is_some (completion_of classes n)) (not (is_lambda classes n)) i).1
+    by (int k) i = refl
+    by (enum n s) i = refl
+    by f i = absurd cc
+
 sorted_form : (classes : List Class) (f : Form) → is_sound_form classes f ≡ true → is_sorted (is_lambda classes) f ≡ true
 sorted_form classes (class n) h = h
 sorted_form classes (closure n) h = h
+sorted_form classes (tx_ex t) h = exception_sorted classes t h
 sorted_form classes f h = refl
 
 pub sorted_typ : (classes : List Class) (t : Typ) → is_sound classes t ≡ true → is_sorted (is_lambda classes) (form_in t) ≡ true
@@ -63,7 +74,7 @@ object_typ_is s c w (typ (closure n) q v) h i k = record {
   complete = λ e. h.lambdas n i;
 }
 object_typ_is s c w (typ (tx_ex t) q v) h i k = record {
-  sorted = refl;
+  sorted = exception_sorted c.classes t i;
   whole = λ d. whole_is c.classes (typ (tx_ex t) q v) (class_whole s c w (typ (tx_ex t) q v) h i refl (λ n a b e. absurd cc));
   complete = λ e. exception_complete c.classes t i;
 }

@@ -77,7 +77,7 @@ pub record IsFunction (c : Ctx) (k : ℕ) (f : Func) : Type 0 where
   pub sound : is_sound_signature c.classes f.declared.signature ≡ true
   pub free : f.class ≡ None → f.kind ≡ Plain
   pub closure : (n : ℕ) → f.class ≡ Some n → is_lambda c.classes n ≡ true → f.kind ≡ ClosureCall
-  pub virtual : (n : ℕ) → f.class ≡ Some n → f.declared.is_virtual ≡ true → is_some (completion_of c.classes n) ≡ true → HasSlot c n k f
+  pub virtual : (n : ℕ) → f.class ≡ Some n → f.kind ≡ Plain → f.declared.is_virtual ≡ true → is_some (completion_of c.classes n) ≡ true → HasSlot c n k f
   pub builtin : (b : Builtin) → f.builtin ≡ Some b → IsBuiltin f b
 
 pub record Holds (s : Setting) (c : Ctx) (w : Work) : Type 0 where

@@ -11,7 +11,7 @@ use Rattle.elab_rules.specs.cpp_tree.Typing.{is_class_typ}
 use Rattle.elab_rules.specs.cpp_tree.Rows.{Setting}
 use Rattle.elab_rules.specs.elab_ctx.Ctx.{Ctx, Work, Closure}
 use Rattle.elab_rules.specs.elab_ctx.Steps.{Operand, Made, Typed, TypedAll, spelling}
-use Rattle.elab_rules.specs.Operators.{assignment, both_of_class, is_shared, comma, conditional}
+use Rattle.elab_rules.specs.Operators.{assignment, comma, conditional}
 use Rattle.elab_rules.specs.Casts.{cast, functional, size_literal, throw}
 use Rattle.elab_rules.specs.Calls.{call}
 use Rattle.elab_rules.specs.Expressions.{row_of, expression_with, operands_with}
@@ -47,27 +47,14 @@ abbrev pub FunctionalsStand : Type 0
 FunctionalsStand = (s : Setting) (c : Ctx) (w : Work) (at : At) (t : Typ) (os : List Operand) → Holds s c w → is_sound c.classes t ≡ true → ProperOperands s c os
     → On (Stands_made s c) (functional c w at t os)
 
--- the same where the type is no class
-abbrev pub ValueCastsStand : Type 0
-ValueCastsStand = (s : Setting) (c : Ctx) (w : Work) (at : At) (t : Typ) (o : Operand) → Holds s c w → is_sound c.classes t ≡ true
-    → is_class_typ t ≡ false → ProperOperand s c o → On (Stands_made s c) (cast c w at t o)
-
-abbrev pub ValueFunctionalsStand : Type 0
-ValueFunctionalsStand = (s : Setting) (c : Ctx) (w : Work) (at : At) (t : Typ) (os : List Operand) → Holds s c w → is_sound c.classes t ≡ true
-    → is_class_typ t ≡ false → ProperOperands s c os → On (Stands_made s c) (functional c w at t os)
-
 -- `sizeof`
 abbrev pub SizesStand : Type 0
 SizesStand = (s : Setting) (c : Ctx) (at operand : At) (t : Typ) → On (Proper s c) (size_literal c at operand t)
 
--- `a, b`, `a ? b : d` and `a = b`, with objects of classes too; the first law of `?:` asks that two objects of a class share a type
+-- `a, b`, `a ? b : d` and `a = b`, with objects of classes too
 abbrev pub ObjectCommasStand : Type 0
 ObjectCommasStand = (s : Setting) (c : Ctx) (w : Work) (at : At) (a b : Operand) → Holds s c w → ProperOperand s c a → ProperOperand s c b
     → Stands_made s c (comma c w at a b)
-
-abbrev pub SharedChoicesStand : Type 0
-SharedChoicesStand = (s : Setting) (c : Ctx) (w : Work) (at : At) (test a b : Operand) → Holds s c w → ProperOperand s c test → ProperOperand s c a
-    → ProperOperand s c b → (both_of_class a b ≡ true → is_shared a b ≡ true) → On (Stands_made s c) (conditional c w at test a b)
 
 abbrev pub ObjectChoicesStand : Type 0
 ObjectChoicesStand = (s : Setting) (c : Ctx) (w : Work) (at : At) (test a b : Operand) → Holds s c w → ProperOperand s c test → ProperOperand s c a
@@ -82,9 +69,8 @@ abbrev pub CallsStand : Type 0
 CallsStand = (s : Setting) (c : Ctx) (w : Work) (at : At) (callee : Operand) (os : List Operand) → Holds s c w → MeansOperand s c callee → ProperOperands s c os
     → On (Stands_made s c) (call c w at callee os)
 
--- the rows of which all is told: in `?:` two objects of a class share a type, and what is thrown is no object of a class
+-- the rows of which all is told: what is thrown is no object of a class
 abbrev pub Covered : NodeKind → List Operand → Type 0
-Covered k.ConditionalExpression (test ∷ a ∷ b ∷ []) = both_of_class a b ≡ true → is_shared a b ≡ true
 Covered k.ThrowExpression os = (o : Operand) (rest : List Operand) → os ≡ o ∷ rest → is_class_typ (typ_in o.tree) ≡ false
 Covered kind os = Unit {0}
 

@@ -1,8 +1,8 @@
 //! Laws of the forms of expressions. A function here does nothing: its clauses are the laws.
 
 ghost use Rattle.elab_fits_forms.specs.Names.{VariablesStand, ThisStands, EntitiesMean, MembersMean, NamesMean, ResolvedStand, LeavesMean};
-ghost use Rattle.elab_fits_forms.specs.Forms.{ValueThrowsStand, ValueCastsStand, ValueFunctionalsStand, SizesStand, ObjectCommasStand};
-ghost use Rattle.elab_fits_forms.specs.Forms.{SharedChoicesStand, ObjectAssignmentsStand, CallsStand, RowsMean};
+ghost use Rattle.elab_fits_forms.specs.Forms.{ValueThrowsStand, CastsStand, FunctionalsStand, SizesStand, ObjectCommasStand};
+ghost use Rattle.elab_fits_forms.specs.Forms.{ObjectChoicesStand, ObjectAssignmentsStand, CallsStand, RowsMean};
 
 /// Names, members, `this` and literals.
 pub fn names()
@@ -15,10 +15,10 @@ pub fn names()
     ensures leaves { LeavesMean }
 {}
 
-/// Casts to what is no class and no reference, `sizeof`, and what is thrown.
+/// Casts, `sizeof`, and what is thrown.
 pub fn casts()
-    ensures casts { ValueCastsStand }
-    ensures functionals { ValueFunctionalsStand }
+    ensures casts { CastsStand }
+    ensures functionals { FunctionalsStand }
     ensures sizes { SizesStand }
     ensures throws { ValueThrowsStand }
 {}
@@ -26,7 +26,7 @@ pub fn casts()
 /// `,` and `?:` with objects of classes.
 pub fn choices()
     ensures commas { ObjectCommasStand }
-    ensures conditionals { SharedChoicesStand }
+    ensures conditionals { ObjectChoicesStand }
     ensures assignments { ObjectAssignmentsStand }
 {}
 
