@@ -1,28 +1,25 @@
 -- Calls of values, of `get` and of `std::abort`, and calls as a whole.
-use Rattle.std.proofs.Common.{◌≡◌, refl, sym, ap, ◌∙◌, subst, ℕ, zero, suc, Bool, true, false, not, ◌&&◌, ◌||◌, ◌==◌, drop, List, [], ◌∷◌, length, slice_get, Option}
-use Rattle.std.proofs.Common.{Some, None, is_some, unwrap_or, Result, Ok, Err, eq-eqb}
+use Rattle.std.proofs.Common.{◌≡◌, refl, sym, ap, ◌∙◌, subst, ℕ, zero, suc, Bool, true, false, not, ◌&&◌, List, [], ◌∷◌, length, slice_get}
+use Rattle.std.proofs.Common.{Some, None, is_some, eq-eqb}
 use Rattle.std.proofs.lemmas.Bool.{and_parts}
-use Rattle.std.specs.Prelude.{if◌then◌else◌}
 use Rattle.elab_rules.specs.tx_ints.declared.kinds.IntKind.{IntKind}
 use Rattle.elab_rules.specs.tx_ints.declared.kinds.IntKind.TheVariants.{Int}
 use Rattle.elab_rules.specs.cpp_types.Typ.{Typ, typ, Form, void, int, enum, null, ptr, ref, array, func, class, closure, tx_ex, Signature, signature}
 use Rattle.elab_rules.specs.cpp_types.Class.{completion_of}
-use Rattle.elab_rules.specs.cpp_types.Equal.{kind_eq, flag_eq, form_eq}
+use Rattle.elab_rules.specs.cpp_types.Equal.{form_eq}
 use Rattle.elab_rules.specs.cpp_types.Conversion.{is_lvalue}
 use Rattle.elab_rules.specs.cpp_types.declared.classes.At.{At}
 use Rattle.elab_rules.specs.cpp_types.declared.ranks.Cat.{Cat}
 use Rattle.elab_rules.specs.cpp_types.declared.ranks.Cat.TheVariants.{Lvalue, Prvalue}
 use Rattle.elab_rules.specs.cpp_overload.Overload.{Candidate, count_of, parameters_of}
 use Rattle.elab_rules.specs.cpp_overload.Choosing.{Choice, best, none_viable, none_best, chosen}
-use Rattle.elab_rules.specs.cpp_tree.declared.faults.ElabFault.{ElabFault}
 use Rattle.elab_rules.specs.cpp_tree.declared.faults.IllRule.TheVariants.{NotCallable, NoViable}
-use Rattle.elab_rules.specs.cpp_tree.declared.kinds.TKind.{TKind}
 use Rattle.elab_rules.specs.cpp_tree.declared.kinds.TKind.TheVariants.{Call, PointerCall, Function as FunctionNode, Default, Load, CopyFrom, Builtin as BuiltinNode}
-use Rattle.elab_rules.specs.cpp_tree.declared.program.FuncKind.TheVariants.{Plain, ClosureCall}
+use Rattle.elab_rules.specs.cpp_tree.declared.program.FuncKind.TheVariants.{Plain}
 use Rattle.elab_rules.specs.cpp_tree.declared.kinds.Builtin.{Builtin}
 use Rattle.elab_rules.specs.cpp_tree.declared.kinds.Builtin.TheVariants.{Abort}
 use Rattle.elab_rules.specs.cpp_tree.declared.roles.Role.TheVariants.{Value, Initialiser}
-use Rattle.elab_rules.specs.cpp_tree.Trees.{Tree, node, Trees, none, more, one, two, typ_in, cat_of}
+use Rattle.elab_rules.specs.cpp_tree.Trees.{Tree, node, Trees, none, one, two, typ_in, cat_of}
 use Rattle.elab_rules.specs.cpp_tree.Notation.{plain}
 use Rattle.elab_rules.specs.cpp_tree.Typing.{Head, head_of, passes, form_in, is_class, is_class_typ, is_class_prvalue, is_volatile_typ, is_prvalue, are_words}
 use Rattle.elab_rules.specs.cpp_tree.Typing.{without_exception, same_shape, kind_in, is_kind, is_result as is_given}
@@ -30,24 +27,22 @@ use Rattle.elab_rules.specs.cpp_tree.Roles.{only}
 use Rattle.elab_rules.specs.cpp_tree.Rows.{Setting, row_fits, is_special, result_in, result_of, signature_words, called_in, param_words, is_load, is_access}
 use Rattle.elab_rules.specs.cpp_tree.WellFormed.{heads_of}
 use Rattle.elab_rules.specs.elab_ctx.Ctx.{Ctx, Work, Func}
-use Rattle.elab_rules.specs.elab_ctx.Steps.{and_then, expect, check, Operand, Made}
-use Rattle.elab_rules.specs.Values.{valued}
+use Rattle.elab_rules.specs.elab_ctx.Steps.{and_then, Operand}
 use Rattle.elab_rules.specs.Objects.{copies}
-use Rattle.elab_rules.specs.Initialising.{func_at, arguments, meant, places_from, same_number, signature_parameters, signature_result, object_of}
+use Rattle.elab_rules.specs.Initialising.{func_at, arguments, meant, places_from, signature_parameters, signature_result, object_of}
 use Rattle.elab_rules.specs.Operators.{value, value_form}
-use Rattle.elab_rules.specs.Calls.{result_type, result_category, called, best_of, call_free, call_method, call_method_of, loaded_value, exception_value, value_type}
+use Rattle.elab_rules.specs.Calls.{result_type, result_category, called, best_of, call_method, exception_value, value_type}
 use Rattle.elab_rules.specs.Calls.{call_get, is_closure_call, call_closure, call_pointer, call_value, call_abort, call_form, call}
-use Rattle.elab_fits.specs.Standing.{FitsAs, Stands, Reaches, On}
+use Rattle.elab_fits.specs.Standing.{FitsAs, Reaches, On}
 use Rattle.elab_fits.specs.Scalars.{Gives, IsZero, is_scalar}
-use Rattle.elab_fits.proofs.Equal.{typ_refl, form_refl, kind_refl}
+use Rattle.elab_fits.proofs.Equal.{form_refl, kind_refl}
 use Rattle.elab_fits.proofs.Nodes.{both, or_left, or_right, clash, head_typ, head_cat, Simple, one_kid}
 use Rattle.elab_fits.proofs.Steps.{bind, checked, expected}
 use Rattle.elab_fits.proofs.Values.{given_typ, given_cat, no_class, scalar_value}
 use Rattle.elab_fits.proofs.Arithmetic.{pointer_of}
-use Rattle.elab_fits_objects.specs.Making.{WordsFit}
 use Rattle.elab_fits_objects.proofs.Fits.{within, within_full, fit_as}
 use Rattle.elab_fits_objects.proofs.Passing as passing
-use Rattle.elab_fits_forms.specs.Types.{is_sound, is_sound_form, is_target, is_lambda, is_exception_value, is_result, is_sound_signature, IsWhole}
+use Rattle.elab_fits_forms.specs.Types.{is_sound, is_sound_form, is_lambda, is_exception_value, is_result, is_sound_signature}
 use Rattle.elab_fits_forms.specs.Meaning.{Proper, IsObject, IsMethod, Means, ProperOperand, MeansOperand}
 use Rattle.elab_fits_forms.specs.Context.{Holds}
 use Rattle.elab_fits_forms.specs.Forms.{Stands_made, ProperOperands}
@@ -61,7 +56,7 @@ use Rattle.elab_fits_forms.proofs.Choices.{value_sound}
 use Rattle.elab_fits_forms.proofs.Names.{no_function_void}
 use Rattle.elab_fits_forms.proofs.Rows.{fits_row}
 use Rattle.elab_fits_forms.proofs.Calling.{pointer_call, result_row, plain_result}
-use Rattle.elab_fits_forms.proofs.Calls.{CallsWith, called_stands, sound_parts, IsMeant, best_meant, many, viable_count, member_count}
+use Rattle.elab_fits_forms.proofs.Calls.{called_stands, sound_parts, IsMeant, best_meant, many, viable_count, member_count}
 use Rattle.elab_fits_forms.proofs.Callees.{builtin_proper, free_stands, IsObjectWord, own_call, less_one, method_stands}
 
 -- Lambdas

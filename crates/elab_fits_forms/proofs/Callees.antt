@@ -1,64 +1,61 @@
 -- What is called: functions by name, member functions, lambdas and pointers.
-use Rattle.std.proofs.Common.{◌≡◌, refl, sym, ap, ◌∙◌, subst, ℕ, zero, suc, Bool, true, false, not, ◌&&◌, ◌||◌, ◌==◌, List, [], ◌∷◌, length, slice_get}
-use Rattle.std.proofs.Common.{Option, Some, None, is_some, unwrap_or, Result, Ok, Err, eq-eqb}
+use Rattle.std.proofs.Common.{◌≡◌, refl, sym, ap, ◌∙◌, subst, ℕ, suc, Bool, true, false, not, ◌&&◌, List, [], ◌∷◌, length, slice_get}
+use Rattle.std.proofs.Common.{Option, Some, None, is_some, unwrap_or, eq-eqb}
 use Rattle.std.proofs.lemmas.Bool.{and_parts}
 use Rattle.std.specs.Prelude.{if◌then◌else◌}
 use Rattle.std.specs.Str.{bytes_eq}
 use Rattle.std.specs.List.{list_all}
 use Rattle.elab_rules.specs.tx_ints.declared.kinds.IntKind.{IntKind}
 use Rattle.elab_rules.specs.tx_ints.declared.kinds.IntKind.TheVariants.{Int}
-use Rattle.elab_rules.specs.cpp_types.Typ.{Typ, typ, Form, void, int, enum, null, ptr, ref, array, func, class, closure, tx_ex, Signature, signature, Typs}
+use Rattle.elab_rules.specs.cpp_types.Typ.{Typ, typ, Form, void, int, enum, null, ptr, class, closure, Signature, signature}
 use Rattle.elab_rules.specs.cpp_types.Class.{Class, Function, completion_of}
 use Rattle.elab_rules.specs.cpp_types.Equal.{typ_eq}
 use Rattle.elab_rules.specs.cpp_types.Conversion.{is_lvalue}
 use Rattle.elab_rules.specs.cpp_types.declared.classes.At.{At}
-use Rattle.elab_rules.specs.cpp_types.declared.ranks.Cat.{Cat}
 use Rattle.elab_rules.specs.cpp_types.declared.ranks.Cat.TheVariants.{Lvalue, Prvalue}
-use Rattle.elab_rules.specs.cpp_overload.Overload.{Candidate, count_of, parameters_of}
-use Rattle.elab_rules.specs.cpp_overload.Choosing.{Choice, best, none_viable, none_best, chosen}
-use Rattle.elab_rules.specs.cpp_tree.declared.faults.ElabFault.{ElabFault}
-use Rattle.elab_rules.specs.cpp_tree.declared.faults.IllRule.TheVariants.{NotCallable, BadMain}
+use Rattle.elab_rules.specs.cpp_overload.Overload.{count_of}
+use Rattle.elab_rules.specs.cpp_tree.declared.faults.IllRule.TheVariants.{BadMain}
 use Rattle.elab_rules.specs.cpp_tree.declared.kinds.Builtin.{Builtin}
 use Rattle.elab_rules.specs.cpp_tree.declared.kinds.Builtin.TheVariants.{PutChar, GetChar, Spawn, Join, Abort}
 use Rattle.elab_rules.specs.cpp_tree.declared.kinds.TKind.{TKind}
-use Rattle.elab_rules.specs.cpp_tree.declared.kinds.TKind.TheVariants.{Block, Call, VirtualCall, PointerCall, Conditional, Materialize, Builtin as BuiltinNode}
+use Rattle.elab_rules.specs.cpp_tree.declared.kinds.TKind.TheVariants.{Call, VirtualCall, Conditional, Materialize, Builtin as BuiltinNode}
 use Rattle.elab_rules.specs.cpp_tree.declared.program.FuncKind.{FuncKind}
-use Rattle.elab_rules.specs.cpp_tree.declared.program.FuncKind.TheVariants.{Plain, ClosureCall}
+use Rattle.elab_rules.specs.cpp_tree.declared.program.FuncKind.TheVariants.{Plain}
 use Rattle.elab_rules.specs.cpp_tree.declared.roles.Position.{Position}
 use Rattle.elab_rules.specs.cpp_tree.declared.roles.Role.TheVariants.{Value, Word}
 use Rattle.elab_rules.specs.cpp_tree.Trees.{Tree, node, Trees, none, more, one, kind_of, typ_in, cat_of}
 use Rattle.elab_rules.specs.cpp_tree.Notation.{plain}
 use Rattle.elab_rules.specs.cpp_tree.Units.{Func as UnitFunc, SlotFunc}
 use Rattle.elab_rules.specs.cpp_tree.Typing.{Head, head_of, passes, form_in, is_void, is_class_typ, is_class, is_argument, are_words, is_word, is_prvalue}
-use Rattle.elab_rules.specs.cpp_tree.Typing.{Word as WordOf, object, passed, initialises, is_result as is_given}
+use Rattle.elab_rules.specs.cpp_tree.Typing.{Word as WordOf, object, passed, is_result as is_given}
 use Rattle.elab_rules.specs.cpp_tree.Parts.{has_pointer_at}
 use Rattle.elab_rules.specs.cpp_tree.Roles.{and_any}
-use Rattle.elab_rules.specs.cpp_tree.Rows.{Setting, row_fits, is_special, result_in, result_of, param_words, signature_words, words_of, builtin_words, builtin_result}
-use Rattle.elab_rules.specs.cpp_tree.Rows.{is_virtual_call, is_member_of, has_slot, called_in}
-use Rattle.elab_rules.specs.cpp_tree.WellFormed.{fits, kids_fit, heads_of, is_kid}
+use Rattle.elab_rules.specs.cpp_tree.Rows.{Setting, row_fits, is_special, result_in, param_words, signature_words, words_of, builtin_words, builtin_result}
+use Rattle.elab_rules.specs.cpp_tree.Rows.{is_virtual_call, is_member_of, has_slot}
+use Rattle.elab_rules.specs.cpp_tree.WellFormed.{fits, kids_fit, heads_of}
 use Rattle.elab_rules.specs.elab_ctx.Ctx.{Ctx, Work, Func}
-use Rattle.elab_rules.specs.elab_ctx.Steps.{and_then, expect, check, Operand, Made}
-use Rattle.elab_rules.specs.Objects.{followed_by, class_in}
+use Rattle.elab_rules.specs.elab_ctx.Steps.{Operand}
+use Rattle.elab_rules.specs.Objects.{class_in}
 use Rattle.elab_rules.specs.Initialising.{func_at, arguments, places_from, same_number, class_number, signature_parameters, signature_result, as_base}
 use Rattle.elab_rules.specs.Names.{is_free, is_method, is_plain_kind}
 use Rattle.elab_rules.specs.Calls.{result_type, result_category, call_node, called, call_kind, best_of, is_main, call_free, as_object, member_kind, call_method_of}
 use Rattle.elab_rules.specs.Calls.{slot_of_function, pointer_offset}
-use Rattle.elab_fits.specs.Standing.{FitsAs, IsSetting, Reaches, On}
+use Rattle.elab_fits.specs.Standing.{FitsAs, On}
 use Rattle.elab_fits.specs.Scalars.{is_scalar}
 use Rattle.elab_fits.specs.Objects.{AllFit}
 use Rattle.elab_fits.proofs.Equal.{typ_refl, typ_same}
-use Rattle.elab_fits.proofs.Nodes.{both, clash, head_typ, head_cat, head_kind, node_fits, of_value}
-use Rattle.elab_fits.proofs.Steps.{bind, skip, checked, expected}
+use Rattle.elab_fits.proofs.Nodes.{both, head_typ, head_cat, head_kind, node_fits, of_value}
+use Rattle.elab_fits.proofs.Steps.{bind, checked}
 use Rattle.elab_fits.proofs.Values.{lvalue_stands}
 use Rattle.elab_fits_objects.specs.Making.{WordsFit}
 use Rattle.elab_fits_objects.proofs.Fits.{within, within_full, value_kid, value_word, no_argument, any_many}
-use Rattle.elab_fits_forms.specs.Types.{is_sound, is_result, is_sound_signature, IsWhole}
-use Rattle.elab_fits_forms.specs.Meaning.{Proper, IsObject, IsMethod, ProperOperand}
-use Rattle.elab_fits_forms.specs.Context.{IsBuiltin, HasSlot, IsFunction, Holds}
+use Rattle.elab_fits_forms.specs.Types.{is_result}
+use Rattle.elab_fits_forms.specs.Meaning.{Proper, IsObject}
+use Rattle.elab_fits_forms.specs.Context.{HasSlot, Holds}
 use Rattle.elab_fits_forms.specs.Forms.{Stands_made, ProperOperands}
 use Rattle.elab_fits_forms.proofs.Places.{func_is, number_is}
 use Rattle.elab_fits_forms.proofs.Proper.{proper_value, object_word, object_fits}
-use Rattle.elab_fits_forms.proofs.Calling.{IsCall, named_call, virtual_call, result_row, plain_result, named_row}
+use Rattle.elab_fits_forms.proofs.Calling.{named_call, virtual_call, result_row, plain_result, named_row}
 use Rattle.elab_fits_forms.proofs.Calls.{CallsWith, called_made, called_stands, sound_parts, IsMeant, best_meant, many, no_class, signature_is}
 use Rattle.elab_fits_forms.proofs.Calls.{free_count, member_count}
 

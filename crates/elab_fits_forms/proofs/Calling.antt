@@ -1,41 +1,39 @@
 -- Nodes of calls, where their words fit.
-use Rattle.std.proofs.Common.{◌≡◌, refl, sym, ap, ◌∙◌, subst, ℕ, suc, Bool, true, false, not, ◌&&◌, ◌||◌, ◌==◌, cond, List, [], ◌∷◌, ◌++◌, length, slice_get}
-use Rattle.std.proofs.Common.{Option, Some, None, is_some, arith, le-leb}
-use Rattle.elab_rules.specs.cpp_types.Typ.{Typ, typ, Form, void, int, enum, null, ptr, ref, array, func, class, closure, tx_ex, Signature, signature, Typs}
+use Rattle.std.proofs.Common.{◌≡◌, refl, ap, ◌∙◌, ℕ, suc, Bool, true, false, not, ◌&&◌, ◌||◌, cond, List, [], ◌∷◌, length, slice_get}
+use Rattle.std.proofs.Common.{Option, Some, arith, le-leb}
+use Rattle.elab_rules.specs.cpp_types.Typ.{Typ, typ, Form, void, int, enum, null, ptr, ref, array, func, class, closure, tx_ex, Signature, signature}
 use Rattle.elab_rules.specs.cpp_types.Class.{Function}
 use Rattle.elab_rules.specs.Values.{builder}
-use Rattle.elab_rules.specs.cpp_types.Conversion.{is_lvalue}
 use Rattle.elab_rules.specs.cpp_types.declared.classes.At.{At}
 use Rattle.elab_rules.specs.cpp_types.declared.ranks.Cat.{Cat}
 use Rattle.elab_rules.specs.cpp_types.declared.ranks.Cat.TheVariants.{Lvalue, Prvalue}
 use Rattle.elab_rules.specs.cpp_tree.declared.kinds.TKind.{TKind}
 use Rattle.elab_rules.specs.cpp_tree.declared.kinds.TKind.TheVariants.{Block, Call, VirtualCall, PointerCall}
 use Rattle.elab_rules.specs.cpp_tree.declared.program.FuncKind.{FuncKind}
-use Rattle.elab_rules.specs.cpp_tree.declared.program.FuncKind.TheVariants.{Plain}
 use Rattle.elab_rules.specs.cpp_tree.declared.roles.Position.{Position}
 use Rattle.elab_rules.specs.cpp_tree.declared.roles.Role.{Role}
 use Rattle.elab_rules.specs.cpp_tree.declared.roles.Role.TheVariants.{Value, Word, Initialiser}
-use Rattle.elab_rules.specs.cpp_tree.Trees.{Tree, node, Trees, none, more, kind_of, typ_in, cat_of}
+use Rattle.elab_rules.specs.cpp_tree.Trees.{Tree, node, Trees, none, more, kind_of}
 use Rattle.elab_rules.specs.cpp_tree.Notation.{plain}
 use Rattle.elab_rules.specs.cpp_tree.Units.{Func as UnitFunc}
-use Rattle.elab_rules.specs.cpp_tree.Typing.{Head, head_of, passes, form_in, is_void, is_class_typ, is_class_prvalue, is_scalar_value, unqualified, builds}
-use Rattle.elab_rules.specs.cpp_tree.Typing.{is_result as is_given, are_words, kind_in, goes_both_ways}
+use Rattle.elab_rules.specs.cpp_tree.Typing.{Head, passes, is_class_typ, is_class_prvalue}
+use Rattle.elab_rules.specs.cpp_tree.Typing.{is_result as is_given, are_words, goes_both_ways}
 use Rattle.elab_rules.specs.cpp_tree.Roles.{Kids, and_any, kids_for, is_expression, is_initialiser, is_throw, is_full}
 use Rattle.elab_rules.specs.cpp_tree.Rows.{Setting, row_fits, is_special, result_in, result_of, signature_words, words_of}
 use Rattle.elab_rules.specs.cpp_tree.WellFormed.{fits, kids_fit, heads_of, enough, may_stand, branches_fit, is_switch, inside, is_kid}
 use Rattle.elab_rules.specs.elab_ctx.Ctx.{Ctx, Func}
-use Rattle.elab_rules.specs.Initialising.{signature_result, signature_parameters}
+use Rattle.elab_rules.specs.Initialising.{signature_result}
 use Rattle.elab_rules.specs.Calls.{result_type, result_category, call_node}
-use Rattle.elab_fits.specs.Standing.{FitsAs, IsExpressionType, Stands, IsSetting}
+use Rattle.elab_fits.specs.Standing.{FitsAs, IsExpressionType, IsSetting}
 use Rattle.elab_fits.specs.Objects.{AllFit}
 use Rattle.elab_fits.proofs.Equal.{typ_refl}
-use Rattle.elab_fits.proofs.Nodes.{both, or_left, or_right, clash, node_fits, of_value}
-use Rattle.elab_fits_forms.specs.Types.{is_sound, is_sound_form, is_target, is_result, is_sound_signature, are_parameters, IsWhole}
+use Rattle.elab_fits.proofs.Nodes.{both, or_right, clash, node_fits, of_value}
+use Rattle.elab_fits_forms.specs.Types.{is_sound, is_sound_form, is_target, is_result, IsWhole}
 use Rattle.elab_fits_objects.specs.Contexts.{copies_itself}
 use Rattle.elab_fits_forms.specs.Meaning.{Proper}
 use Rattle.elab_fits_forms.proofs.Types.{target_type}
 use Rattle.elab_fits_forms.proofs.Proper.{proper_lvalue}
-use Rattle.elab_fits_forms.proofs.Settled.{IsBuilt, proper_built, own_builds}
+use Rattle.elab_fits_forms.proofs.Settled.{proper_built, own_builds}
 
 -- Words as kids
 

@@ -1,51 +1,38 @@
 -- Calls (C++14 5.2.2, 13.3).
-use Rattle.std.proofs.Common.{◌≡◌, refl, sym, ap, ◌∙◌, subst, ℕ, zero, suc, Bool, true, false, not, ◌&&◌, ◌||◌, ◌==◌, List, [], ◌∷◌, map, length, slice_get}
-use Rattle.std.proofs.Common.{Option, Some, None, is_some, option_map, unwrap_or, Result, Ok, Err, eqb-true, eq-eqb}
+use Rattle.std.proofs.Common.{◌≡◌, refl, sym, ap, ◌∙◌, subst, ℕ, suc, Bool, true, false, not, ◌==◌, List, length, slice_get}
+use Rattle.std.proofs.Common.{Option, Some, None, is_some, option_map, Result, Ok, Err, eqb-true}
 use Rattle.std.proofs.lemmas.Bool.{and_parts}
 use Rattle.std.proofs.lemmas.Option.{slice_get-map}
 use Rattle.std.proofs.lemmas.List.{length-map}
-use Rattle.std.specs.Prelude.{if◌then◌else◌, codes}
-use Rattle.std.specs.Str.{bytes_eq}
-use Rattle.elab_rules.specs.cpp_types.Typ.{Typ, typ, Form, void, int, enum, null, ptr, ref, array, func, class, closure, tx_ex, Signature, signature, Typs}
-use Rattle.elab_rules.specs.cpp_types.Class.{Class, Function, completion_of}
+use Rattle.elab_rules.specs.cpp_types.Typ.{Typ, typ, array, func, class, Signature, signature, Typs}
+use Rattle.elab_rules.specs.cpp_types.Class.{Class, completion_of}
 use Rattle.elab_rules.specs.cpp_types.declared.classes.At.{At}
-use Rattle.elab_rules.specs.cpp_types.declared.ranks.Cat.TheVariants.{Lvalue, Prvalue}
 use Rattle.elab_rules.specs.cpp_overload.Overload.{Candidate, Argument, count_of, parameters_of}
-use Rattle.elab_rules.specs.cpp_overload.Choosing.{Choice, best, none_viable, none_best, chosen, is_viable, all_below}
+use Rattle.elab_rules.specs.cpp_overload.Choosing.{Choice, best, none_viable, none_best, chosen, is_viable}
 use Rattle.elab_rules.specs.cpp_tree.declared.faults.ElabFault.{ElabFault}
-use Rattle.elab_rules.specs.cpp_tree.declared.faults.IllRule.TheVariants.{NotCallable, NoViable, BadMain, Incomplete}
+use Rattle.elab_rules.specs.cpp_tree.declared.faults.IllRule.TheVariants.{NoViable, Incomplete}
 use Rattle.elab_rules.specs.cpp_tree.declared.kinds.TKind.{TKind}
-use Rattle.elab_rules.specs.cpp_tree.declared.kinds.TKind.TheVariants.{Call, VirtualCall, PointerCall}
-use Rattle.elab_rules.specs.cpp_tree.declared.program.FuncKind.{FuncKind}
-use Rattle.elab_rules.specs.cpp_tree.declared.program.FuncKind.TheVariants.{Plain, ClosureCall}
-use Rattle.elab_rules.specs.cpp_tree.declared.roles.Role.TheVariants.{Value, Word}
-use Rattle.elab_rules.specs.cpp_tree.Trees.{Tree, node, Trees, none, more, one, typ_in, cat_of}
-use Rattle.elab_rules.specs.cpp_tree.Notation.{plain}
-use Rattle.elab_rules.specs.cpp_tree.Typing.{Head, head_of, form_in, is_class_typ, is_class, is_lvalue_of, is_argument, are_words}
-use Rattle.elab_rules.specs.cpp_tree.Rows.{Setting, row_fits, is_special, param_words, signature_words}
+use Rattle.elab_rules.specs.cpp_tree.Trees.{Trees}
+use Rattle.elab_rules.specs.cpp_tree.Rows.{Setting, row_fits, param_words, signature_words}
 use Rattle.elab_rules.specs.cpp_tree.WellFormed.{heads_of}
 use Rattle.elab_rules.specs.elab_ctx.Ctx.{Ctx, Work, Func}
-use Rattle.elab_rules.specs.elab_ctx.Steps.{and_then, expect, check, Operand, Made, MadeAll}
+use Rattle.elab_rules.specs.elab_ctx.Steps.{and_then, expect, check, Operand, MadeAll}
 use Rattle.elab_rules.specs.Objects.{followed_by}
-use Rattle.elab_rules.specs.Initialising.{candidate, candidates_at, func_at, argument, arguments, meant, words, places_from, same_number, class_number}
-use Rattle.elab_rules.specs.Initialising.{signature_parameters, signature_result, as_base, object_of, object_type_of}
-use Rattle.elab_rules.specs.Names.{is_free, is_method, is_plain_kind}
-use Rattle.elab_rules.specs.Calls.{result_type, result_category, call_node, complete_result, called, call_kind, best_of}
-use Rattle.elab_fits.specs.Standing.{FitsAs, IsSetting, Reaches, On}
-use Rattle.elab_fits.specs.Objects.{AllFit}
-use Rattle.elab_fits.proofs.Nodes.{both, clash}
-use Rattle.elab_fits.proofs.Steps.{bind, skip, checked, expected, either}
-use Rattle.elab_fits_objects.specs.Contexts.{AreParameters, AreSources, HasMakers}
-use Rattle.elab_fits_objects.specs.Making.{WordsFit, IsViableOne}
+use Rattle.elab_rules.specs.Initialising.{candidate, candidates_at, func_at, argument, arguments, meant, words, places_from}
+use Rattle.elab_rules.specs.Initialising.{signature_parameters, signature_result, object_type_of}
+use Rattle.elab_rules.specs.Calls.{result_type, result_category, call_node, complete_result, called, best_of}
+use Rattle.elab_fits.specs.Standing.{Reaches, On}
+use Rattle.elab_fits.proofs.Steps.{bind}
+use Rattle.elab_fits_objects.specs.Making.{WordsFit}
 use Rattle.elab_fits_objects.proofs.Passing as passing
-use Rattle.elab_fits_forms.specs.Types.{is_sound, is_sound_form, is_target, is_result, is_sound_signature, are_parameters, IsWhole}
-use Rattle.elab_fits_forms.specs.Meaning.{Proper, ProperOperand}
+use Rattle.elab_fits_forms.specs.Types.{is_sound, is_result, is_sound_signature, are_parameters}
+use Rattle.elab_fits_forms.specs.Meaning.{Proper}
 use Rattle.elab_fits_forms.specs.Context.{Holds}
 use Rattle.elab_fits_forms.specs.Forms.{Stands_made, ProperOperands}
-use Rattle.elab_fits_forms.proofs.Places.{place_is, func_is, number_is}
+use Rattle.elab_fits_forms.proofs.Places.{place_is, func_is}
 use Rattle.elab_fits_forms.proofs.Wholes.{class_whole}
 use Rattle.elab_fits_forms.proofs.Sources.{parameters_are, sources_of}
-use Rattle.elab_fits_forms.proofs.Calling.{IsCall, named_call, call_proper, named_row}
+use Rattle.elab_fits_forms.proofs.Calling.{IsCall, call_proper}
 
 -- Words
 

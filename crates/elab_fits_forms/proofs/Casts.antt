@@ -1,5 +1,5 @@
 -- Casts to scalars and to `void`, and `sizeof`.
-use Rattle.std.proofs.Common.{◌≡◌, refl, sym, ap, ◌∙◌, subst, ℕ, Bool, true, false, not, ◌&&◌, ◌||◌, nat_le, List, [], ◌∷◌, Option, Some, None, is_some, Result, Ok, Err}
+use Rattle.std.proofs.Common.{◌≡◌, refl, sym, subst, ℕ, Bool, true, false, not, ◌&&◌, nat_le, [], is_some, Result, Ok, Err}
 use Rattle.std.proofs.lemmas.Bool.{and_parts}
 use Rattle.std.specs.Prelude.{if◌then◌else◌}
 use Rattle.elab_rules.specs.tx_ints.declared.kinds.IntKind.{IntKind}
@@ -7,15 +7,14 @@ use Rattle.elab_rules.specs.tx_ints.declared.kinds.IntKind.TheVariants.{Int, ULo
 use Rattle.elab_rules.specs.cpp_types.Typ.{Typ, typ, Form, void, int, enum, null, ptr, ref, array, func, class, closure, tx_ex}
 use Rattle.elab_rules.specs.cpp_types.Conversion.{referred}
 use Rattle.elab_rules.specs.cpp_types.declared.classes.At.{At}
-use Rattle.elab_rules.specs.cpp_types.declared.ranks.Cat.{Cat}
-use Rattle.elab_rules.specs.cpp_types.declared.ranks.Cat.TheVariants.{Lvalue, Prvalue}
+use Rattle.elab_rules.specs.cpp_types.declared.ranks.Cat.TheVariants.{Prvalue}
 use Rattle.elab_rules.specs.cpp_layout.declared.extents.TheConstants.{GREATEST_SIZE}
 use Rattle.elab_rules.specs.cpp_tree.declared.faults.ElabFault.{ElabFault}
 use Rattle.elab_rules.specs.cpp_tree.declared.faults.ElabFault.TheVariants.{Limit}
 use Rattle.elab_rules.specs.cpp_tree.declared.faults.LimitKind.TheVariants.{Size}
 use Rattle.elab_rules.specs.cpp_tree.declared.faults.IllRule.TheVariants.{BadInit, BadOperand, Incomplete}
-use Rattle.elab_rules.specs.cpp_tree.declared.kinds.TKind.TheVariants.{Literal, Retype}
-use Rattle.elab_rules.specs.cpp_tree.Trees.{Tree, node, Trees, none, one, typ_in, cat_of}
+use Rattle.elab_rules.specs.cpp_tree.declared.kinds.TKind.TheVariants.{Literal}
+use Rattle.elab_rules.specs.cpp_tree.Trees.{Tree, node, none, typ_in}
 use Rattle.elab_rules.specs.cpp_tree.Notation.{plain}
 use Rattle.elab_rules.specs.cpp_tree.Typing.{passes, form_in, is_void, is_class_typ, is_reference, unqualified, kind_in, is_word_of}
 use Rattle.elab_rules.specs.cpp_tree.Rows.{Setting}
@@ -23,14 +22,13 @@ use Rattle.elab_rules.specs.elab_ctx.Ctx.{Ctx, Work}
 use Rattle.elab_rules.specs.elab_ctx.Steps.{and_then, check, Operand, Made}
 use Rattle.elab_rules.specs.Values.{number, valued, converted}
 use Rattle.elab_rules.specs.Objects.{size_of}
-use Rattle.elab_rules.specs.Initialising.{initial, with_tree}
+use Rattle.elab_rules.specs.Initialising.{initial}
 use Rattle.elab_rules.specs.Operators.{value, value_form, is_function, measurable, is_sized, within_greatest, dropped}
 use Rattle.elab_rules.specs.Types.{is_bounded}
 use Rattle.elab_rules.specs.Casts.{is_numeric, scalar_cast, cast_in, cast, functional, size_literal}
-use Rattle.elab_fits.specs.Standing.{Stands, Reaches, On}
-use Rattle.elab_fits.specs.Scalars.{is_scalar, Gives, IsOperand, IsZero}
-use Rattle.elab_fits.proofs.Nodes.{both, clash}
-use Rattle.elab_fits.proofs.Steps.{bind, skip, checked, either}
+use Rattle.elab_fits.specs.Standing.{Reaches, On}
+use Rattle.elab_fits.specs.Scalars.{is_scalar, IsZero}
+use Rattle.elab_fits.proofs.Steps.{checked, either}
 use Rattle.elab_fits.proofs.Numbers.{zero_word}
 use Rattle.elab_fits.proofs.Sizes.{small_word}
 use Rattle.elab_fits.proofs.Values.{number_gives, value_stands, converted_gives}

@@ -1,10 +1,10 @@
 -- `?:` with objects of classes.
-use Rattle.std.proofs.Common.{◌≡◌, refl, sym, ap, ◌∙◌, subst, Bool, true, false, not, ◌&&◌, ◌||◌, List, [], ◌∷◌, Option, Some, None, is_some, Result, Ok, Err}
+use Rattle.std.proofs.Common.{◌≡◌, refl, sym, ap, ◌∙◌, subst, Bool, true, false, not, ◌&&◌, ◌||◌, [], ◌∷◌, Option, Some, None, is_some, Result, Ok, Err}
 use Rattle.std.proofs.lemmas.Bool.{and_parts}
 use Rattle.std.specs.Prelude.{if◌then◌else◌}
 use Rattle.std.specs.List.{list_all}
 use Rattle.elab_rules.specs.tx_ints.declared.kinds.IntKind.{IntKind}
-use Rattle.elab_rules.specs.cpp_types.Typ.{Typ, typ, Form, void, int, ptr}
+use Rattle.elab_rules.specs.cpp_types.Typ.{Typ, typ, Form, void, ptr}
 use Rattle.elab_rules.specs.cpp_types.Equal.{typ_eq, form_eq}
 use Rattle.elab_rules.specs.cpp_types.Conversion.{is_lvalue}
 use Rattle.elab_rules.specs.cpp_types.declared.classes.At.{At}
@@ -18,27 +18,24 @@ use Rattle.elab_rules.specs.cpp_tree.declared.roles.Position.{Position}
 use Rattle.elab_rules.specs.cpp_tree.declared.roles.Role.TheVariants.{Value, Initialiser}
 use Rattle.elab_rules.specs.cpp_tree.Trees.{Tree, node, three, kind_of, typ_in, cat_of}
 use Rattle.elab_rules.specs.cpp_tree.Notation.{plain}
-use Rattle.elab_rules.specs.cpp_tree.Typing.{Head, head_of, form_in, is_void, is_class_typ, is_class_prvalue, kind_in, goes_both_ways, builds}
+use Rattle.elab_rules.specs.cpp_tree.Typing.{Head, head_of, form_in, is_void, is_class_typ, is_class_prvalue, kind_in, goes_both_ways}
 use Rattle.elab_rules.specs.cpp_tree.Roles.{only, is_throw as is_thrown, is_full}
 use Rattle.elab_rules.specs.cpp_tree.Rows.{Setting, is_branch}
 use Rattle.elab_rules.specs.cpp_tree.WellFormed.{fits, kids_fit, is_kid, has_no_typ}
 use Rattle.elab_rules.specs.elab_ctx.Ctx.{Ctx, Work}
-use Rattle.elab_rules.specs.elab_ctx.Steps.{and_then, check, Operand, Made}
-use Rattle.elab_rules.specs.Values.{builder}
-use Rattle.elab_rules.specs.Operators.{value, value_form, arithmetic, as_kind, as_pointer, is_null, is_throw, bare_throw, throws, settled, conditional_node}
+use Rattle.elab_rules.specs.elab_ctx.Steps.{Operand}
+use Rattle.elab_rules.specs.Operators.{value, value_form, arithmetic, is_null, is_throw, bare_throw, throws, settled, conditional_node}
 use Rattle.elab_rules.specs.Operators.{conditional_like, same_lvalues, both_of_class, is_shared, shared, joined_class, joined_type, two_numbers, two_values, two_objects}
 use Rattle.elab_rules.specs.Operators.{same_work, branches, truth, conditional}
-use Rattle.elab_fits.specs.Standing.{FitsAs, IsExpressionType, Stands, Reaches, On}
-use Rattle.elab_fits.specs.Scalars.{Gives, IsValue, IsOperand}
+use Rattle.elab_fits.specs.Standing.{FitsAs, Stands, On}
+use Rattle.elab_fits.specs.Scalars.{IsValue}
 use Rattle.elab_fits.proofs.Equal.{typ_refl}
-use Rattle.elab_fits.proofs.Nodes.{both, or_left, or_right, clash, head_typ, head_cat, head_kind, node_fits}
+use Rattle.elab_fits.proofs.Nodes.{both, or_left, or_right, head_typ, head_cat, head_kind, node_fits}
 use Rattle.elab_fits.proofs.Steps.{bind, checked, either}
-use Rattle.elab_fits.proofs.Values.{given_stands}
 use Rattle.elab_fits.proofs.Arithmetic.{IsTruth, or_case}
 use Rattle.elab_fits.proofs.Unary.{bool_row, truth_gives, lvalue_is}
 use Rattle.elab_fits.proofs.Choosing.{values_choose, choice_stands, own_branch, void_typ, lvalues_choose, shared_stands, voids_choose}
 use Rattle.elab_fits_forms.specs.Types.{is_sound, is_sound_form, is_target, IsWhole}
-use Rattle.elab_fits_objects.specs.Contexts.{copies_itself}
 use Rattle.elab_fits_forms.specs.Meaning.{Proper, ProperOperand}
 use Rattle.elab_fits_forms.specs.Context.{Holds}
 use Rattle.elab_fits_forms.specs.Forms.{Stands_made}
@@ -46,7 +43,7 @@ use Rattle.elab_fits_forms.proofs.Types.{class_no_void, class_target}
 use Rattle.elab_fits_forms.proofs.Proper.{proper_lvalue, proper_value, proper_valued}
 use Rattle.elab_fits_forms.proofs.Temporaries.{prvalue_class}
 use Rattle.elab_fits_forms.proofs.Dropped.{operand_is, thrown_fits}
-use Rattle.elab_fits_forms.proofs.Settled.{IsBuilt, proper_built, own_builds, initial_kid, IsSettled, settled_is, before_settled}
+use Rattle.elab_fits_forms.proofs.Settled.{IsBuilt, proper_built, own_builds, initial_kid, IsSettled, settled_is}
 
 -- What throws
 

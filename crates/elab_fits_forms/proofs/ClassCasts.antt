@@ -1,10 +1,10 @@
 -- Casts to classes.
-use Rattle.std.proofs.Common.{◌≡◌, refl, sym, ap, ◌∙◌, subst, ℕ, Bool, true, false, not, ◌&&◌, ◌||◌, List, [], ◌∷◌, Some, None, is_some, Result, Ok, Err}
+use Rattle.std.proofs.Common.{◌≡◌, refl, sym, ap, ◌∙◌, subst, ℕ, Bool, true, false, not, ◌&&◌, ◌||◌, List, [], ◌∷◌, is_some, Result, Ok, Err}
 use Rattle.std.proofs.lemmas.Bool.{and_parts}
 use Rattle.std.specs.Prelude.{if◌then◌else◌}
 use Rattle.elab_rules.specs.cpp_types.Typ.{Typ, typ, Form, void, int, enum, null, ptr, ref, array, func, class, closure, tx_ex}
 use Rattle.elab_rules.specs.cpp_types.Class.{completion_of}
-use Rattle.elab_rules.specs.cpp_types.Equal.{typ_eq, form_eq}
+use Rattle.elab_rules.specs.cpp_types.Equal.{typ_eq}
 use Rattle.elab_rules.specs.cpp_types.declared.classes.At.{At}
 use Rattle.elab_rules.specs.cpp_types.declared.ranks.Cat.{Cat}
 use Rattle.elab_rules.specs.cpp_types.declared.ranks.Cat.TheVariants.{Lvalue, Prvalue}
@@ -12,9 +12,9 @@ use Rattle.elab_rules.specs.cpp_tree.declared.faults.ElabFault.{ElabFault}
 use Rattle.elab_rules.specs.cpp_tree.declared.kinds.TKind.TheVariants.{Retype, Store}
 use Rattle.elab_rules.specs.cpp_tree.declared.roles.Position.{Position}
 use Rattle.elab_rules.specs.cpp_tree.declared.roles.Role.TheVariants.{Initialiser}
-use Rattle.elab_rules.specs.cpp_tree.Trees.{Tree, node, Trees, none, more, one, typ_in, cat_of}
+use Rattle.elab_rules.specs.cpp_tree.Trees.{Tree, node, one, typ_in, cat_of}
 use Rattle.elab_rules.specs.cpp_tree.Notation.{plain}
-use Rattle.elab_rules.specs.cpp_tree.Typing.{Head, head_of, form_in, is_class_typ, is_class_prvalue, is_prvalue, unqualified, without_exception, same_shape}
+use Rattle.elab_rules.specs.cpp_tree.Typing.{Head, head_of, form_in, is_class_typ, is_prvalue, without_exception, same_shape}
 use Rattle.elab_rules.specs.cpp_tree.Typing.{goes_both_ways, builds}
 use Rattle.elab_rules.specs.cpp_tree.Rows.{Setting}
 use Rattle.elab_rules.specs.cpp_tree.WellFormed.{fits}
@@ -24,14 +24,14 @@ use Rattle.elab_rules.specs.Values.{builder, is_exception_form}
 use Rattle.elab_rules.specs.Objects.{traits_at}
 use Rattle.elab_rules.specs.Initialising.{from_values, with_tree, constructed, default_by, makeable}
 use Rattle.elab_rules.specs.Casts.{stored_at, as_expression, cast, functional}
-use Rattle.elab_fits.specs.Standing.{FitsAs, IsExpressionType, Stands, Reaches, On}
+use Rattle.elab_fits.specs.Standing.{FitsAs, Reaches, On}
 use Rattle.elab_fits.proofs.Equal.{typ_same, form_same}
-use Rattle.elab_fits.proofs.Nodes.{both, clash, head_typ, head_cat}
-use Rattle.elab_fits.proofs.Steps.{bind, skip, known, either}
+use Rattle.elab_fits.proofs.Nodes.{clash, head_typ, head_cat}
+use Rattle.elab_fits.proofs.Steps.{bind, known}
 use Rattle.elab_fits.proofs.Arithmetic.{or_case}
 use Rattle.elab_fits_objects.specs.Contexts.{IsInitialised, copies_itself}
 use Rattle.elab_fits_objects.specs.Making.{Makes}
-use Rattle.elab_fits_objects.proofs.Fits.{within, within_full, fit_as}
+use Rattle.elab_fits_objects.proofs.Fits.{fit_as}
 use Rattle.elab_fits_objects.proofs.Valued.{values_build}
 use Rattle.elab_fits_forms.specs.Types.{is_sound, is_sound_form, is_lambda, is_exception_value, IsWhole}
 use Rattle.elab_fits_forms.specs.Meaning.{Proper, ProperOperand}

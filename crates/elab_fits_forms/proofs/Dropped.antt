@@ -1,36 +1,32 @@
 -- Values that are dropped, and what has no value.
-use Rattle.std.proofs.Common.{◌≡◌, refl, sym, ap, ◌∙◌, subst, Bool, true, false, ◌&&◌, ◌||◌, not, List, [], ◌∷◌, is_some}
+use Rattle.std.proofs.Common.{◌≡◌, refl, ap, ◌∙◌, Bool, true, false, ◌&&◌, [], ◌∷◌, is_some}
 use Rattle.std.proofs.lemmas.Bool.{and_parts}
 use Rattle.std.specs.Prelude.{if◌then◌else◌}
-use Rattle.elab_rules.specs.cpp_types.Typ.{Typ, typ, Form, void, int, enum, null, ptr, ref, array, func, class, closure, tx_ex}
+use Rattle.elab_rules.specs.cpp_types.Typ.{Typ, typ, Form, void, int, enum, null, ptr, ref, tx_ex}
 use Rattle.elab_rules.specs.cpp_types.Conversion.{decayed}
 use Rattle.elab_rules.specs.cpp_types.declared.classes.At.{At}
 use Rattle.elab_rules.specs.cpp_types.declared.ranks.Cat.{Cat}
 use Rattle.elab_rules.specs.cpp_types.declared.ranks.Cat.TheVariants.{Lvalue, Prvalue}
-use Rattle.elab_rules.specs.cpp_tree.declared.kinds.TKind.{TKind}
 use Rattle.elab_rules.specs.cpp_tree.declared.kinds.TKind.TheVariants.{Retype, Throw, Rethrow}
 use Rattle.elab_rules.specs.cpp_tree.declared.roles.Position.{Position}
 use Rattle.elab_rules.specs.cpp_tree.declared.roles.Role.TheVariants.{Value, Initialiser}
-use Rattle.elab_rules.specs.cpp_tree.Trees.{Tree, node, Trees, none, more, one, kind_of, typ_in, cat_of}
+use Rattle.elab_rules.specs.cpp_tree.Trees.{Tree, node, none, more, one, kind_of, typ_in, cat_of}
 use Rattle.elab_rules.specs.cpp_tree.Notation.{plain}
-use Rattle.elab_rules.specs.cpp_tree.Typing.{head_of, form_in, kind_in, is_class_prvalue, is_class_typ, is_volatile_typ}
+use Rattle.elab_rules.specs.cpp_tree.Typing.{form_in, kind_in, is_class_prvalue, is_volatile_typ}
 use Rattle.elab_rules.specs.cpp_tree.Roles.{only}
 use Rattle.elab_rules.specs.cpp_tree.Rows.{Setting}
 use Rattle.elab_rules.specs.cpp_tree.WellFormed.{fits}
 use Rattle.elab_rules.specs.elab_ctx.Ctx.{Ctx, Work}
 use Rattle.elab_rules.specs.elab_ctx.Steps.{Operand, Made}
-use Rattle.elab_rules.specs.Values.{place_of, same_at, retyped, builder}
-use Rattle.elab_rules.specs.Initialising.{object_of}
+use Rattle.elab_rules.specs.Values.{place_of, same_at, builder}
 use Rattle.elab_rules.specs.Operators.{value, bare_throw, is_throw, dropped, throws, is_volatile_scalar, is_read_when_dropped, without_value}
-use Rattle.elab_fits.specs.Standing.{FitsAs, Stands, Reaches}
+use Rattle.elab_fits.specs.Standing.{FitsAs, Reaches}
 use Rattle.elab_fits.specs.Scalars.{IsOperand}
-use Rattle.elab_fits.proofs.Nodes.{clash, of_value, Simple, one_kid}
+use Rattle.elab_fits.proofs.Nodes.{of_value, Simple, one_kid}
 use Rattle.elab_fits.proofs.Arithmetic.{value_of}
 use Rattle.elab_fits.proofs.Initials.{value_form_is}
 use Rattle.elab_fits.proofs.Choosing.{worded}
 use Rattle.elab_fits.proofs.Comma.{bare_fits}
-use Rattle.elab_fits_forms.specs.Types.{IsWhole}
-use Rattle.elab_fits_objects.specs.Contexts.{copies_itself}
 use Rattle.elab_fits_forms.specs.Meaning.{Proper, ProperOperand}
 use Rattle.elab_fits_forms.specs.Context.{Holds}
 use Rattle.elab_fits_forms.proofs.Temporaries.{object_value}

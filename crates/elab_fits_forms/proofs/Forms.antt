@@ -1,5 +1,5 @@
 -- The rows of expressions, over operands that stand.
-use Rattle.std.proofs.Common.{◌≡◌, refl, sym, ap, ◌∙◌, ℕ, Bool, true, false, not, ◌&&◌, ◌||◌, List, [], ◌∷◌, Option, Some, None, Result, Ok, Err}
+use Rattle.std.proofs.Common.{◌≡◌, refl, ℕ, Bool, true, false, List, [], ◌∷◌, Result, Ok, Err}
 use Rattle.std.specs.Prelude.{if◌then◌else◌, codes}
 use Rattle.std.specs.Str.{bytes_eq}
 use Rattle.elab_rules.specs.tx_ints.declared.kinds.BinOp.{BinOp}
@@ -14,16 +14,16 @@ use Rattle.elab_rules.specs.cpp_tree.declared.faults.IllRule.TheVariants.{OutOfP
 use Rattle.elab_rules.specs.cpp_tree.Trees.{Tree}
 use Rattle.elab_rules.specs.cpp_tree.Rows.{Setting}
 use Rattle.elab_rules.specs.elab_ctx.Ctx.{Ctx, Work}
-use Rattle.elab_rules.specs.elab_ctx.Steps.{and_then, expect, Operand, Made, Typed, spelling, token_place}
-use Rattle.elab_rules.specs.Operators.{binary_operator, compound_operator, binary, logical, negation, minus, complement, plus, indirection, address_of, subscript}
-use Rattle.elab_rules.specs.Operators.{assignment, compound, step, comma, conditional, same_work}
+use Rattle.elab_rules.specs.elab_ctx.Steps.{and_then, expect, Operand, Made, spelling, token_place}
+use Rattle.elab_rules.specs.Operators.{binary_operator, compound_operator, indirection, subscript}
+use Rattle.elab_rules.specs.Operators.{compound, step, comma, conditional, same_work}
 use Rattle.elab_rules.specs.Names.{member_access}
 use Rattle.elab_rules.specs.Casts.{throw}
-use Rattle.elab_rules.specs.Expressions.{operand_at, an_operand, a_tree, operator_of, unary_of, assignment_of, postfix_operator, pointed_operand, row_of}
-use Rattle.elab_fits.specs.Standing.{Reaches, On}
+use Rattle.elab_rules.specs.Expressions.{an_operand, a_tree, operator_of, unary_of, assignment_of, postfix_operator, pointed_operand, row_of}
+use Rattle.elab_fits.specs.Standing.{On}
 use Rattle.elab_fits.proofs.Steps.{bind, expected, either}
 use Rattle.elab_fits_forms.specs.Types.{is_empty}
-use Rattle.elab_fits_forms.specs.Meaning.{Proper, Means, ProperOperand, MeansOperand}
+use Rattle.elab_fits_forms.specs.Meaning.{Proper, Means, ProperOperand}
 use Rattle.elab_fits_forms.specs.Context.{Holds}
 use Rattle.elab_fits_forms.specs.Names.{Made_means, Typed_means}
 use Rattle.elab_fits_forms.specs.Forms.{Stands_made, ProperOperands, Covered}

@@ -1,8 +1,8 @@
 -- `?:` of two objects of a class that share no type.
-use Rattle.std.proofs.Common.{◌≡◌, refl, sym, ap, ◌∙◌, subst, ℕ, Bool, true, false, not, ◌&&◌, ◌||◌, Some, None, is_some, Result, Ok, Err}
+use Rattle.std.proofs.Common.{◌≡◌, refl, ap, ◌∙◌, ℕ, Bool, true, false, not, ◌&&◌, ◌||◌, is_some, Result, Ok, Err}
 use Rattle.std.proofs.lemmas.Bool.{and_parts}
 use Rattle.std.specs.Prelude.{if◌then◌else◌}
-use Rattle.elab_rules.specs.cpp_types.Typ.{Typ, typ, Form, class, closure, tx_ex}
+use Rattle.elab_rules.specs.cpp_types.Typ.{Typ, typ, class, closure, tx_ex}
 use Rattle.elab_rules.specs.cpp_types.Class.{completion_of}
 use Rattle.elab_rules.specs.cpp_types.Equal.{typ_eq, form_eq}
 use Rattle.elab_rules.specs.cpp_types.declared.classes.At.{At}
@@ -10,16 +10,16 @@ use Rattle.elab_rules.specs.cpp_types.declared.ranks.Cat.TheVariants.{Prvalue}
 use Rattle.elab_rules.specs.cpp_tree.declared.faults.ElabFault.{ElabFault}
 use Rattle.elab_rules.specs.cpp_tree.declared.faults.IllRule.TheVariants.{AbstractObject, Incomplete}
 use Rattle.elab_rules.specs.cpp_tree.Trees.{Tree, typ_in, cat_of}
-use Rattle.elab_rules.specs.cpp_tree.Typing.{Head, head_of, form_in, is_class_typ, is_class_prvalue, is_prvalue, is_void, unqualified, builds}
+use Rattle.elab_rules.specs.cpp_tree.Typing.{head_of, form_in, is_class_typ, is_class_prvalue, is_prvalue, is_void, unqualified}
 use Rattle.elab_rules.specs.cpp_tree.Typing.{goes_both_ways, same_shape, without_exception}
 use Rattle.elab_rules.specs.cpp_tree.Roles.{is_throw}
 use Rattle.elab_rules.specs.cpp_tree.Rows.{Setting, is_branch}
 use Rattle.elab_rules.specs.elab_ctx.Ctx.{Ctx, Work}
-use Rattle.elab_rules.specs.elab_ctx.Steps.{and_then, expect, check, Operand, Made}
+use Rattle.elab_rules.specs.elab_ctx.Steps.{and_then, check, Operand, Made}
 use Rattle.elab_rules.specs.Objects.{traits_at}
 use Rattle.elab_rules.specs.Initialising.{object_of, makeable, class_from, exact_object, is_other_prvalue, object_operand}
 use Rattle.elab_rules.specs.Operators.{both_of_class, object_type, joined_type, common_class, conditional_node, two_objects, conditional}
-use Rattle.elab_fits.specs.Standing.{FitsAs, Reaches, On}
+use Rattle.elab_fits.specs.Standing.{Reaches, On}
 use Rattle.elab_fits.proofs.Equal.{typ_refl}
 use Rattle.elab_fits.proofs.Nodes.{both, or_right, head_typ}
 use Rattle.elab_fits.proofs.Steps.{bind, expected, known, either}
@@ -28,7 +28,7 @@ use Rattle.elab_fits_objects.specs.Making.{MakesExactly}
 use Rattle.elab_fits_objects.proofs.Exact.{exact_builds}
 use Rattle.elab_fits_objects.proofs.Keeping as keeping
 use Rattle.elab_fits_forms.specs.Types.{is_sound, IsWhole}
-use Rattle.elab_fits_forms.specs.Meaning.{Proper, ProperOperand}
+use Rattle.elab_fits_forms.specs.Meaning.{ProperOperand}
 use Rattle.elab_fits_forms.specs.Context.{Holds}
 use Rattle.elab_fits_forms.specs.Forms.{Stands_made}
 use Rattle.elab_fits_forms.proofs.Wholes.{class_whole}

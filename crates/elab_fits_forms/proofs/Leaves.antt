@@ -1,12 +1,12 @@
 -- Literals, names and `this` as forms without operands.
-use Rattle.std.proofs.Common.{◌≡◌, refl, sym, ap, ◌∙◌, ℕ, suc, ◌==◌, Bool, true, false, List, [], ◌∷◌, ◌++◌, length, slice_get, Option, Some, None, Result, Ok, Err}
+use Rattle.std.proofs.Common.{◌≡◌, refl, ap, ℕ, ◌==◌, true, false, List, [], ◌∷◌, ◌++◌, length, slice_get, Some, Result, Ok, Err}
 use Rattle.std.proofs.Common.{eqb-true}
 use Rattle.elab_rules.specs.tx_ints.declared.kinds.IntKind.{IntKind}
 use Rattle.elab_rules.specs.tx_ints.declared.kinds.IntKind.TheVariants.{Char, Bool as BoolKind, ULong}
 use Rattle.elab_rules.specs.cpp_types.declared.ranks.Cat.TheVariants.{Prvalue}
 use Rattle.elab_rules.specs.cpp_tree.Typing.{is_word_of}
 use Rattle.elab_fits.proofs.Numbers.{zero_word}
-use Rattle.elab_rules.specs.cpp_types.Typ.{Typ, typ, int, null, array}
+use Rattle.elab_rules.specs.cpp_types.Typ.{int, null}
 use Rattle.elab_rules.specs.cpp_types.declared.classes.At.{At}
 use Rattle.elab_rules.specs.cpp_lex.Tokens.{Lexeme}
 use Rattle.elab_rules.specs.cpp_lex.Ints.{int_type_of}
@@ -15,27 +15,25 @@ use Rattle.elab_rules.specs.cpp_ast.declared.kinds.NodeKind.TheVariants as k
 use Rattle.elab_rules.specs.cpp_tree.declared.faults.ElabFault.{ElabFault}
 use Rattle.elab_rules.specs.cpp_tree.declared.faults.IllRule.TheVariants.{OutOfProfile}
 use Rattle.elab_rules.specs.cpp_tree.declared.kinds.TKind.TheVariants.{Literal}
-use Rattle.elab_rules.specs.cpp_tree.declared.kinds.Builtin.TheVariants.{Abort}
 use Rattle.elab_rules.specs.cpp_tree.declared.faults.ElabFault.{ElabFault}
-use Rattle.elab_rules.specs.cpp_tree.declared.roles.Role.TheVariants.{Value}
 use Rattle.elab_rules.specs.cpp_tree.Trees.{Tree, node, none}
 use Rattle.elab_rules.specs.cpp_tree.Units.{Global}
 use Rattle.elab_rules.specs.cpp_tree.Notation.{plain}
 use Rattle.elab_rules.specs.cpp_tree.Rows.{Setting}
 use Rattle.elab_rules.specs.elab_ctx.Ctx.{Ctx, Work}
-use Rattle.elab_rules.specs.elab_ctx.Steps.{and_then, expect, Operand, Made, Typed, spelling, value_at}
+use Rattle.elab_rules.specs.elab_ctx.Steps.{spelling, value_at}
 use Rattle.elab_rules.specs.Constants.{word_in}
 use Rattle.elab_rules.specs.Names.{named, this_tree}
-use Rattle.elab_rules.specs.Casts.{string_made, string_global, string_type}
+use Rattle.elab_rules.specs.Casts.{string_made, string_global}
 use Rattle.elab_rules.specs.Strings.{string_bytes}
-use Rattle.elab_rules.specs.Expressions.{operand_at, a_tree, integer_literal, literal_of, truth_word, leaf_of}
-use Rattle.elab_fits.specs.Standing.{FitsAs, Reaches, On}
+use Rattle.elab_rules.specs.Expressions.{a_tree, integer_literal, literal_of, truth_word, leaf_of}
+use Rattle.elab_fits.specs.Standing.{Reaches, On}
 use Rattle.elab_fits.specs.Scalars.{IsZero}
 use Rattle.elab_fits.proofs.Steps.{expected}
 use Rattle.elab_fits_forms.specs.Types.{is_empty}
 use Rattle.elab_fits_forms.specs.Meaning.{Proper, Means, MeansOperand}
 use Rattle.elab_fits_forms.specs.Context.{Holds}
-use Rattle.elab_fits_forms.specs.Names.{Made_means, Typed_means}
+use Rattle.elab_fits_forms.specs.Names.{Typed_means}
 use Rattle.elab_fits_forms.proofs.Words.{word_in_kind, literal_word}
 use Rattle.elab_fits_forms.proofs.Proper.{proper_value}
 use Rattle.elab_fits_forms.proofs.Variables.{IsThisTree, this_tree_is}

@@ -1,6 +1,6 @@
 -- Members of classes and their bases.
-use Rattle.std.proofs.Common.{◌≡◌, refl, sym, ap, ◌∙◌, subst, ℕ, zero, suc, ◌+◌, ◌==◌, Bool, true, false, not, ◌&&◌, ◌||◌, List, [], ◌∷◌, slice_get, Option}
-use Rattle.std.proofs.Common.{Some, None, is_some, unwrap_or, cond, option_and_then, Result, Ok, Err, eqb-true, arith}
+use Rattle.std.proofs.Common.{◌≡◌, refl, sym, ap, ◌∙◌, subst, ℕ, zero, suc, ◌+◌, Bool, true, false, ◌&&◌, List, [], ◌∷◌, slice_get, Option}
+use Rattle.std.proofs.Common.{Some, None, is_some, unwrap_or, cond, option_and_then, Result, Ok, Err, arith}
 use Rattle.std.proofs.lemmas.Bool.{and_parts}
 use Rattle.std.specs.Prelude.{if◌then◌else◌, codes}
 use Rattle.std.specs.Str.{bytes_eq}
@@ -19,19 +19,17 @@ use Rattle.elab_rules.specs.cpp_tree.Trees.{Tree, node, one, typ_in, cat_of}
 use Rattle.elab_rules.specs.cpp_tree.Notation.{plain}
 use Rattle.elab_rules.specs.cpp_tree.Typing.{form_in, is_class_typ, is_class_prvalue, qualified, word_kind, kind_in}
 use Rattle.elab_rules.specs.cpp_tree.Rows.{Setting}
-use Rattle.elab_rules.specs.elab_ctx.Ctx.{Ctx, Work, Func, This}
-use Rattle.elab_rules.specs.elab_ctx.Steps.{and_then, expect, check, Operand, Made}
+use Rattle.elab_rules.specs.elab_ctx.Ctx.{Ctx, Work, This}
+use Rattle.elab_rules.specs.elab_ctx.Steps.{and_then, expect, Operand}
 use Rattle.elab_rules.specs.Values.{retyped}
-use Rattle.elab_rules.specs.Objects.{class_in}
-use Rattle.elab_rules.specs.Initialising.{kept_if, places_from, same_number, class_number, object_of}
+use Rattle.elab_rules.specs.Initialising.{places_from, same_number, class_number, object_of}
 use Rattle.elab_rules.specs.Names.{Found, field, methods, field_from, is_method, first_place, is_plain_kind, or_else, own_member, found_along, member_found, members_in}
 use Rattle.elab_rules.specs.Names.{member_of, is_const_typ, is_volatile_object, is_tx_exception, exception_member, class_member, member_access, target_of}
 use Rattle.elab_rules.specs.Names.{implicit_member, this_tree, offset_at}
 use Rattle.elab_fits.specs.Standing.{Reaches, On}
-use Rattle.elab_fits.proofs.Nodes.{clash}
 use Rattle.elab_fits.proofs.Steps.{bind, checked, expected}
-use Rattle.elab_fits_forms.specs.Types.{is_empty, is_sound, is_sound_form, is_target, is_declared}
-use Rattle.elab_fits_forms.specs.Meaning.{Proper, IsObject, IsMethod, Means, ProperOperand}
+use Rattle.elab_fits_forms.specs.Types.{is_empty, is_sound, is_sound_form, is_target}
+use Rattle.elab_fits_forms.specs.Meaning.{IsObject, IsMethod, Means, ProperOperand}
 use Rattle.elab_fits_forms.specs.Context.{Holds}
 use Rattle.elab_fits_forms.specs.Names.{Made_means}
 use Rattle.elab_fits_forms.proofs.Places.{place_is, number_is}

@@ -1,13 +1,12 @@
 -- What names mean.
-use Rattle.std.proofs.Common.{◌≡◌, refl, sym, ap, ◌∙◌, subst, ℕ, suc, ◌==◌, Bool, true, false, not, ◌&&◌, ◌||◌, List, [], ◌∷◌, slice_get, Option, Some, None}
+use Rattle.std.proofs.Common.{◌≡◌, refl, sym, ap, ◌∙◌, subst, ℕ, Bool, true, false, not, ◌&&◌, List, [], ◌∷◌, slice_get, Option, Some, None}
 use Rattle.std.proofs.Common.{is_some, Result, Ok, Err}
 use Rattle.std.proofs.lemmas.Bool.{and_parts}
 use Rattle.elab_rules.specs.cpp_types.Typ.{Typ, typ, Form, void, int, enum, func}
-use Rattle.elab_rules.specs.cpp_types.Class.{Class, Function, completion_of}
+use Rattle.elab_rules.specs.cpp_types.Class.{Class, Function}
 use Rattle.elab_rules.specs.tx_ints.declared.kinds.IntKind.{IntKind}
 use Rattle.elab_rules.specs.cpp_types.Equal.{flag_eq, typ_eq}
 use Rattle.elab_rules.specs.cpp_types.declared.classes.At.{At}
-use Rattle.elab_rules.specs.cpp_types.declared.ranks.Cat.{Cat}
 use Rattle.elab_rules.specs.cpp_types.declared.ranks.Cat.TheVariants.{Lvalue, Prvalue}
 use Rattle.elab_rules.specs.cpp_names.Names.{found_in}
 use Rattle.elab_rules.specs.cpp_names.declared.entity.Entity.{Entity}
@@ -15,11 +14,10 @@ use Rattle.elab_rules.specs.cpp_names.declared.entity.EntityKind.{EntityKind}
 use Rattle.elab_rules.specs.cpp_names.declared.entity.EntityKind.TheVariants as entities
 use Rattle.elab_rules.specs.cpp_tree.declared.faults.ElabFault.{ElabFault}
 use Rattle.elab_rules.specs.cpp_tree.declared.faults.IllRule.TheVariants.{UnknownName, OutOfProfile}
-use Rattle.elab_rules.specs.cpp_tree.declared.kinds.TKind.{TKind}
 use Rattle.elab_rules.specs.cpp_tree.declared.kinds.TKind.TheVariants.{Literal, Global as GlobalNode, Function as FunctionNode, Default, Builtin}
 use Rattle.elab_rules.specs.cpp_tree.declared.roles.Position.{Position}
 use Rattle.elab_rules.specs.cpp_tree.declared.roles.Role.TheVariants.{Value}
-use Rattle.elab_rules.specs.cpp_tree.Trees.{Tree, node, Trees, none, more, typ_in, cat_of}
+use Rattle.elab_rules.specs.cpp_tree.Trees.{Tree, node, Trees, none, more}
 use Rattle.elab_rules.specs.cpp_tree.Units.{Func as UnitFunc, Global}
 use Rattle.elab_rules.specs.cpp_tree.Notation.{plain}
 use Rattle.elab_rules.specs.cpp_tree.Typing.{passes, kind_in, is_word_of}
@@ -27,14 +25,13 @@ use Rattle.elab_rules.specs.cpp_tree.Roles.{only}
 use Rattle.elab_rules.specs.cpp_tree.Rows.{Setting}
 use Rattle.elab_rules.specs.cpp_tree.WellFormed.{fits}
 use Rattle.elab_rules.specs.elab_ctx.Ctx.{Ctx, Work, Func, This, Enumerator}
-use Rattle.elab_rules.specs.elab_ctx.Steps.{and_then, check, expect, Operand, Made}
 use Rattle.elab_rules.specs.Initialising.{func_at, places_from}
-use Rattle.elab_rules.specs.Names.{Found, variable_in, enumerator_tree, global_tree, of_entity, is_outer, is_local_entity, file_name, class_name, member_here, member_found, named, is_free}
-use Rattle.elab_rules.specs.Names.{only_function, resolved_function, resolved, implicit_member, this_tree}
+use Rattle.elab_rules.specs.Names.{Found, variable_in, enumerator_tree, global_tree, of_entity, is_outer, is_local_entity, file_name, class_name, member_here, named, is_free}
+use Rattle.elab_rules.specs.Names.{only_function, resolved_function, resolved}
 use Rattle.elab_rules.specs.Casts.{is_numeric}
 use Rattle.elab_fits.specs.Standing.{FitsAs, Reaches, On}
 use Rattle.elab_fits.specs.Scalars.{is_scalar, Gives}
-use Rattle.elab_fits.proofs.Equal.{typ_refl, typ_same}
+use Rattle.elab_fits.proofs.Equal.{typ_refl}
 use Rattle.elab_fits.proofs.Nodes.{both, clash, Simple, no_kids}
 use Rattle.elab_fits.proofs.Steps.{checked, expected, either}
 use Rattle.elab_fits.proofs.Values.{no_class, scalar_value}
@@ -44,7 +41,7 @@ use Rattle.elab_fits_forms.specs.Context.{IsEnumerator, Holds}
 use Rattle.elab_fits_forms.proofs.Rows.{fits_row}
 use Rattle.elab_fits_forms.proofs.Places.{place_is, func_is}
 use Rattle.elab_fits_forms.proofs.Proper.{lvalue_node, proper_value}
-use Rattle.elab_fits_forms.proofs.Variables.{IsThisTree, this_tree_is, variable_stands}
+use Rattle.elab_fits_forms.proofs.Variables.{variable_stands}
 use Rattle.elab_fits_forms.proofs.Members.{OnSome, IsFound, found_is, implicit_means}
 
 literals : (w : ℕ) → Simple (Literal w) (only [])

@@ -1,47 +1,42 @@
 -- Operators give expressions of sound types.
-use Rattle.std.proofs.Common.{◌≡◌, refl, sym, ap, ◌∙◌, subst, ℕ, Bool, true, false, not, ◌&&◌, ◌||◌, List, [], ◌∷◌, Option, Some, None, is_some, Result, Ok, Err}
+use Rattle.std.proofs.Common.{◌≡◌, refl, sym, ap, ◌∙◌, ℕ, Bool, true, false, ◌&&◌, List, Option, Some, None, is_some, Result, Ok, Err}
 use Rattle.std.specs.Prelude.{if◌then◌else◌}
 use Rattle.elab_rules.specs.tx_ints.declared.kinds.IntKind.{IntKind}
 use Rattle.elab_rules.specs.tx_ints.declared.kinds.IntKind.TheVariants.{Bool as BoolKind, Int}
 use Rattle.elab_rules.specs.tx_ints.declared.kinds.BinOp.{BinOp}
 use Rattle.elab_rules.specs.tx_ints.declared.kinds.BinOp.TheVariants.{Add, Sub}
 use Rattle.elab_rules.specs.tx_ints.Integers.{is_shift, promote_of, usual_of}
-use Rattle.elab_rules.specs.cpp_types.Typ.{Typ, typ, Form, void, int, enum, null, ptr, ref}
-use Rattle.elab_rules.specs.cpp_types.Equal.{kind_eq, typ_eq, form_eq}
+use Rattle.elab_rules.specs.cpp_types.Typ.{Typ, typ, Form, int, enum, ptr, ref}
+use Rattle.elab_rules.specs.cpp_types.Equal.{typ_eq, form_eq}
 use Rattle.elab_rules.specs.cpp_types.Conversion.{is_lvalue}
 use Rattle.elab_rules.specs.cpp_types.declared.classes.At.{At}
 use Rattle.elab_rules.specs.cpp_types.declared.ranks.Cat.{Cat}
 use Rattle.elab_rules.specs.cpp_types.declared.ranks.Cat.TheVariants.{Lvalue, Prvalue}
 use Rattle.elab_rules.specs.cpp_tree.declared.faults.ElabFault.{ElabFault}
 use Rattle.elab_rules.specs.cpp_tree.declared.faults.IllRule.TheVariants.{BadOperand, NotLvalue}
-use Rattle.elab_rules.specs.cpp_tree.Trees.{Tree, node, typ_in, cat_of}
-use Rattle.elab_rules.specs.cpp_tree.Notation.{plain}
-use Rattle.elab_rules.specs.cpp_tree.Typing.{form_in, is_void, is_class_typ, is_class_prvalue, is_reference, unqualified, kind_in}
+use Rattle.elab_rules.specs.cpp_tree.Trees.{Tree, typ_in, cat_of}
+use Rattle.elab_rules.specs.cpp_tree.Typing.{form_in, is_void, is_reference, unqualified}
 use Rattle.elab_rules.specs.cpp_tree.Rows.{Setting}
 use Rattle.elab_rules.specs.elab_ctx.Ctx.{Ctx, Work}
-use Rattle.elab_rules.specs.elab_ctx.Steps.{and_then, check, expect, Operand, Made}
-use Rattle.elab_rules.specs.Values.{number, retyped, builder}
-use Rattle.elab_rules.specs.Objects.{size_of}
-use Rattle.elab_rules.specs.Initialising.{initial}
-use Rattle.elab_rules.specs.Operators.{value, value_form, arithmetic, as_kind, pointed, is_null, is_comparison, compared, is_sum, shifted, in_usual, arithmetic_of}
-use Rattle.elab_rules.specs.Operators.{moved, moved_back, movable, difference, sum_of, comparison_by, comparison_in, binary, logical, negation, minus}
-use Rattle.elab_rules.specs.Operators.{complement, plus, indirection, address_of, subscript, target, assigned, assignment, updated, compound_numbers}
-use Rattle.elab_rules.specs.Operators.{compound_in, compound, step_in, step, scaled}
-use Rattle.elab_fits.specs.Standing.{FitsAs, IsExpressionType, Stands, On}
-use Rattle.elab_fits.specs.Scalars.{is_scalar, Gives, IsValue, IsOperand}
-use Rattle.elab_fits.proofs.Nodes.{clash}
-use Rattle.elab_fits.proofs.Steps.{bind, skip, checked, expected, either}
+use Rattle.elab_rules.specs.elab_ctx.Steps.{and_then, check, expect, Operand}
+use Rattle.elab_rules.specs.Values.{retyped}
+use Rattle.elab_rules.specs.Operators.{value, value_form, arithmetic, as_kind, pointed, is_null, is_comparison, compared, is_sum, arithmetic_of}
+use Rattle.elab_rules.specs.Operators.{moved, movable, sum_of, comparison_by, comparison_in, binary, logical, negation, minus}
+use Rattle.elab_rules.specs.Operators.{complement, plus, indirection, address_of, subscript, target, updated, compound_numbers}
+use Rattle.elab_rules.specs.Operators.{compound_in, compound}
+use Rattle.elab_fits.specs.Standing.{IsExpressionType, Stands, On}
+use Rattle.elab_fits.specs.Scalars.{Gives, IsValue}
+use Rattle.elab_fits.proofs.Steps.{skip, checked, expected, either}
 use Rattle.elab_fits.proofs.Arithmetic.{as_kind_gives, pointed_form, pointer_of, add_gives, binary_gives}
 use Rattle.elab_fits.proofs.Unary.{logical_gives, negation_gives, minus_gives, complement_gives, address_stands, lvalue_is}
-use Rattle.elab_fits.proofs.Assigning.{target_is, assignment_stands, compound_stands, step_stands}
-use Rattle.elab_fits_forms.specs.Types.{is_sound, is_sound_form, is_target, IsWhole}
-use Rattle.elab_fits_objects.specs.Contexts.{copies_itself}
+use Rattle.elab_fits.proofs.Assigning.{target_is, compound_stands}
+use Rattle.elab_fits_forms.specs.Types.{is_sound, is_sound_form, is_target}
 use Rattle.elab_fits_forms.specs.Meaning.{Proper, ProperOperand}
 use Rattle.elab_fits_forms.proofs.Types.{sound_target}
 use Rattle.elab_fits_forms.proofs.Proper.{proper_lvalue, proper_value, proper_retyped, proper_valued}
 use Rattle.elab_fits_forms.proofs.Dropped.{operand_is}
 use Rattle.elab_fits_forms.proofs.Members.{pointer_word}
-use Rattle.elab_fits_forms.proofs.Choices.{HasSound, value_sound, given_proper, both_known}
+use Rattle.elab_fits_forms.proofs.Choices.{HasSound, value_sound, both_known}
 
 pub unqualified_sound : (c : Ctx) (t : Typ) → is_sound c.classes t ≡ true → is_sound c.classes (unqualified t) ≡ true
 unqualified_sound c (typ f q v) h = h

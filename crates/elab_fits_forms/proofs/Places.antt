@@ -1,5 +1,5 @@
 -- Functions that pass a test, by their places.
-use Rattle.std.proofs.Common.{◌≡◌, refl, sym, ap, ◌∙◌, subst, ℕ, zero, suc, ◌+◌, Bool, true, false, List, [], ◌∷◌, slice_get, Option, Some, None, unwrap_or, arith, eqb-true}
+use Rattle.std.proofs.Common.{◌≡◌, refl, sym, ap, subst, ℕ, zero, suc, ◌+◌, Bool, true, false, List, [], ◌∷◌, slice_get, Option, Some, None, unwrap_or, arith, eqb-true}
 use Rattle.elab_rules.specs.elab_ctx.Ctx.{Func}
 use Rattle.elab_rules.specs.Initialising.{kept_if, places_from, same_number, func_at, no_function}
 

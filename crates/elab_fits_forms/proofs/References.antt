@@ -1,30 +1,26 @@
 -- Casts to references.
-use Rattle.std.proofs.Common.{◌≡◌, refl, sym, ap, ◌∙◌, subst, ℕ, Bool, true, false, not, ◌&&◌, ◌||◌, List, [], ◌∷◌, length, Option, Some, None, Result, Ok, Err}
+use Rattle.std.proofs.Common.{◌≡◌, refl, sym, ◌∙◌, Bool, true, false, ◌&&◌, ◌||◌, List, [], ◌∷◌, Result, Ok, Err}
 use Rattle.std.proofs.lemmas.Bool.{and_parts}
-use Rattle.elab_rules.specs.tx_ints.declared.kinds.IntKind.{IntKind}
-use Rattle.elab_rules.specs.tx_ints.declared.kinds.IntKind.TheVariants.{ULong}
-use Rattle.elab_rules.specs.cpp_types.Typ.{Typ, typ, Form, void, int, enum, null, ptr, ref, array, func, class, closure, tx_ex}
+use Rattle.elab_rules.specs.cpp_types.Typ.{Typ, typ, void, ref}
 use Rattle.elab_rules.specs.cpp_types.Equal.{typ_eq}
 use Rattle.elab_rules.specs.cpp_types.Conversion.{is_lvalue}
 use Rattle.elab_rules.specs.cpp_types.declared.classes.At.{At}
-use Rattle.elab_rules.specs.cpp_types.declared.ranks.Cat.{Cat}
 use Rattle.elab_rules.specs.cpp_types.declared.ranks.Cat.TheVariants.{Lvalue, Prvalue}
 use Rattle.elab_rules.specs.cpp_tree.declared.faults.ElabFault.{ElabFault}
 use Rattle.elab_rules.specs.cpp_tree.declared.kinds.TKind.TheVariants.{Retype}
 use Rattle.elab_rules.specs.cpp_tree.declared.roles.Role.TheVariants.{Value}
-use Rattle.elab_rules.specs.cpp_tree.Trees.{Tree, node, Trees, none, more, one, typ_in, cat_of}
-use Rattle.elab_rules.specs.cpp_tree.Typing.{Head, head_of, is_temporary, is_bound, is_reference, is_class_typ, unqualified, word_kind, same_kind}
-use Rattle.elab_rules.specs.cpp_tree.Rows.{Setting, is_retyped, is_zero_literal, row_fits}
+use Rattle.elab_rules.specs.cpp_tree.Trees.{Tree, node, Trees, cat_of}
+use Rattle.elab_rules.specs.cpp_tree.Typing.{Head, head_of, is_temporary, is_bound, is_class_typ, unqualified}
+use Rattle.elab_rules.specs.cpp_tree.Rows.{Setting, is_retyped, row_fits}
 use Rattle.elab_rules.specs.cpp_tree.Roles.{only}
-use Rattle.elab_rules.specs.cpp_tree.WellFormed.{fits, heads_of}
+use Rattle.elab_rules.specs.cpp_tree.WellFormed.{heads_of}
 use Rattle.elab_rules.specs.elab_ctx.Ctx.{Ctx, Work}
 use Rattle.elab_rules.specs.elab_ctx.Steps.{and_then, Operand, Made}
-use Rattle.elab_rules.specs.Values.{retyped}
 use Rattle.elab_rules.specs.Initialising.{initial, with_tree}
 use Rattle.elab_rules.specs.Casts.{reference_cast, cast, functional}
 use Rattle.elab_fits.specs.Standing.{FitsAs, Reaches, On}
 use Rattle.elab_fits.specs.Scalars.{Initialises}
-use Rattle.elab_fits.proofs.Nodes.{both, or_left, or_right, head_cat, node_fits}
+use Rattle.elab_fits.proofs.Nodes.{head_cat, node_fits}
 use Rattle.elab_fits.proofs.Unary.{lvalue_is}
 use Rattle.elab_fits_objects.proofs.Fits.{fit_of}
 use Rattle.elab_fits_objects.proofs.Referring.{binds}

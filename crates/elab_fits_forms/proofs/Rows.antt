@@ -1,5 +1,5 @@
 -- What the test of a node says of its row.
-use Rattle.std.proofs.Common.{◌≡◌, Bool, true, false, not, ◌&&◌, ◌||◌, length}
+use Rattle.std.proofs.Common.{◌≡◌, true, false, not, ◌&&◌, ◌||◌, length}
 use Rattle.std.proofs.lemmas.Bool.{and_parts}
 use Rattle.elab_rules.specs.cpp_types.Typ.{Typ}
 use Rattle.elab_rules.specs.cpp_types.declared.classes.At.{At}

@@ -1,30 +1,27 @@
 -- Operands beside others, and `,` with objects of classes.
-use Rattle.std.proofs.Common.{◌≡◌, refl, sym, ap, ◌∙◌, subst, ℕ, zero, suc, Bool, true, false, not, ◌&&◌, ◌||◌, List, [], ◌∷◌, ◌++◌, slice_get, Option, Some, None, eq-eqb}
-use Rattle.std.proofs.lemmas.Bool.{and_parts}
-use Rattle.std.specs.Prelude.{if◌then◌else◌}
-use Rattle.elab_rules.specs.cpp_types.Typ.{Typ, typ, Form, void, int, enum, null, ptr, ref, array, func, class, closure, tx_ex}
+use Rattle.std.proofs.Common.{◌≡◌, refl, sym, ap, ◌∙◌, subst, ℕ, zero, suc, Bool, true, false, not, ◌||◌, List, [], ◌∷◌, ◌++◌, slice_get, Some, eq-eqb}
+use Rattle.elab_rules.specs.cpp_types.Typ.{Typ, typ, void, int, enum, null, ptr, ref, array, func, class, closure, tx_ex}
 use Rattle.elab_rules.specs.cpp_types.Conversion.{is_lvalue}
 use Rattle.elab_rules.specs.cpp_types.Equal.{typ_eq, form_eq}
 use Rattle.elab_rules.specs.cpp_types.declared.classes.At.{At}
 use Rattle.elab_rules.specs.cpp_types.declared.ranks.Cat.{Cat}
 use Rattle.elab_rules.specs.cpp_types.declared.ranks.Cat.TheVariants.{Lvalue, Prvalue}
-use Rattle.elab_rules.specs.cpp_tree.declared.kinds.TKind.{TKind}
 use Rattle.elab_rules.specs.cpp_tree.declared.kinds.TKind.TheVariants.{Block, Comma, CopyFrom, Retype}
 use Rattle.elab_rules.specs.cpp_tree.declared.roles.Position.{Position}
 use Rattle.elab_rules.specs.cpp_tree.declared.roles.Role.TheVariants.{Value, Initialiser, CopyInit}
-use Rattle.elab_rules.specs.cpp_tree.Trees.{Tree, node, Trees, none, more, two, kind_of, typ_in, cat_of}
-use Rattle.elab_rules.specs.cpp_tree.Typing.{Head, head_of, form_in, is_prvalue, is_class_typ, is_class_prvalue, is_void, builds, without_exception, same_shape}
+use Rattle.elab_rules.specs.cpp_tree.Trees.{Tree, node, two, kind_of, typ_in, cat_of}
+use Rattle.elab_rules.specs.cpp_tree.Typing.{Head, head_of, form_in, is_prvalue, is_class_typ, is_class_prvalue, builds, same_shape}
 use Rattle.elab_rules.specs.cpp_tree.Typing.{goes_both_ways}
 use Rattle.elab_rules.specs.cpp_tree.Roles.{only, is_throw as is_thrown, is_full}
 use Rattle.elab_rules.specs.cpp_tree.Rows.{Setting, same_value, is_copied_from}
 use Rattle.elab_rules.specs.cpp_tree.WellFormed.{fits, kids_fit, is_kid}
 use Rattle.elab_rules.specs.elab_ctx.Ctx.{Ctx, Work, with_item}
 use Rattle.elab_rules.specs.elab_ctx.Steps.{Operand, Made}
-use Rattle.elab_rules.specs.Values.{builder, temporary}
-use Rattle.elab_rules.specs.Objects.{copies, destroys}
-use Rattle.elab_rules.specs.Initialising.{object_of, with_tree, exception_copied, is_written_exception}
+use Rattle.elab_rules.specs.Values.{builder}
+use Rattle.elab_rules.specs.Objects.{copies}
+use Rattle.elab_rules.specs.Initialising.{object_of, exception_copied, is_written_exception}
 use Rattle.elab_rules.specs.Operators.{dropped, settled, comma_of, comma}
-use Rattle.elab_fits.specs.Standing.{FitsAs, IsExpressionType, Stands, Reaches}
+use Rattle.elab_fits.specs.Standing.{FitsAs, IsExpressionType, Reaches}
 use Rattle.elab_fits.specs.Objects.{CopiesOne, is_closure}
 use Rattle.elab_fits.proofs.Equal.{typ_refl, form_refl}
 use Rattle.elab_fits.proofs.Nodes.{both, or_left, or_right, clash, head_typ, head_cat, node_fits}
@@ -35,7 +32,6 @@ use Rattle.elab_fits_objects.specs.Contexts.{copies_itself}
 use Rattle.elab_fits_forms.specs.Meaning.{Proper, IsObject, ProperOperand}
 use Rattle.elab_fits_forms.specs.Context.{Holds}
 use Rattle.elab_fits_forms.specs.Forms.{Stands_made}
-use Rattle.elab_fits_forms.proofs.Types.{class_no_void}
 use Rattle.elab_fits_forms.proofs.Readiness.{any_ready}
 use Rattle.elab_fits_forms.proofs.Proper.{object_fits}
 use Rattle.elab_fits_forms.proofs.Temporaries.{prvalue_class, object_is, object_typ}

@@ -1,10 +1,9 @@
 -- Operands that stand may initialise objects, and sound types are those of parameters.
-use Rattle.std.proofs.Common.{◌≡◌, refl, sym, ap, ◌∙◌, subst, ℕ, Bool, true, false, not, ◌&&◌, ◌||◌, List, [], ◌∷◌, Some, is_some}
+use Rattle.std.proofs.Common.{◌≡◌, refl, ap, subst, Bool, true, false, not, List, [], ◌∷◌, is_some}
 use Rattle.std.proofs.lemmas.Bool.{and_parts}
 use Rattle.elab_rules.specs.cpp_types.Typ.{Typ, typ, Form, void, int, enum, null, ptr, ref, array, func, class, closure, tx_ex, Typs}
 use Rattle.elab_rules.specs.cpp_types.Typ.{none as no_typs, more as and_typ}
 use Rattle.elab_rules.specs.cpp_types.Class.{Class, completion_of}
-use Rattle.elab_rules.specs.cpp_types.declared.ranks.Cat.{Cat}
 use Rattle.elab_rules.specs.cpp_types.declared.ranks.Cat.TheVariants.{Lvalue, Prvalue}
 use Rattle.elab_rules.specs.cpp_tree.declared.kinds.TKind.TheVariants.{CopyFrom, Retype}
 use Rattle.elab_rules.specs.cpp_tree.declared.roles.Role.TheVariants.{Value}
@@ -21,8 +20,8 @@ use Rattle.elab_fits.specs.Scalars.{is_scalar}
 use Rattle.elab_fits.proofs.Nodes.{both, or_left, clash}
 use Rattle.elab_fits_objects.specs.Contexts.{is_sorted, typ_sorted, is_whole, IsObjectTyp, IsParameter, AreParameters, IsSource, AreSources, copies_itself}
 use Rattle.elab_fits_objects.proofs.Fits.{fit_as}
-use Rattle.elab_fits_forms.specs.Types.{is_sound, is_sound_form, is_target, is_lambda, is_exception_value, is_parameter, are_parameters, IsWhole}
-use Rattle.elab_fits_forms.specs.Meaning.{Proper, ProperOperand}
+use Rattle.elab_fits_forms.specs.Types.{is_sound, is_sound_form, is_lambda, is_exception_value, is_parameter, are_parameters, IsWhole}
+use Rattle.elab_fits_forms.specs.Meaning.{ProperOperand}
 use Rattle.elab_fits_forms.specs.Context.{Holds}
 use Rattle.elab_fits_forms.specs.Forms.{ProperOperands}
 use Rattle.elab_fits_forms.proofs.Types.{target_type, target_no_void}

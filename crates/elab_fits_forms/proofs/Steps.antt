@@ -1,13 +1,13 @@
 -- Increments, decrements and assignments.
-use Rattle.std.proofs.Common.{◌≡◌, refl, sym, ap, ◌∙◌, subst, ℕ, Bool, true, false, not, ◌&&◌, ◌||◌, ◌==◌, List, [], ◌∷◌, Option, Some, None, is_some, Result, Ok, Err}
+use Rattle.std.proofs.Common.{◌≡◌, refl, sym, ap, ◌∙◌, subst, ℕ, Bool, true, false, not, ◌&&◌, [], ◌∷◌, Option, Some, None, is_some, Result, Ok, Err}
 use Rattle.std.proofs.Common.{eqb-true}
 use Rattle.std.proofs.lemmas.Bool.{and_parts}
 use Rattle.std.specs.Prelude.{if◌then◌else◌}
 use Rattle.elab_rules.specs.tx_ints.declared.kinds.IntKind.{IntKind}
 use Rattle.elab_rules.specs.tx_ints.declared.kinds.IntKind.TheVariants.{Bool as BoolKind}
 use Rattle.elab_rules.specs.tx_ints.declared.kinds.BinOp.{BinOp}
-use Rattle.elab_rules.specs.tx_ints.Integers.{is_shift, promote_of}
-use Rattle.elab_rules.specs.cpp_types.Typ.{Typ, typ, Form, void, int, enum, ptr, class, closure, tx_ex}
+use Rattle.elab_rules.specs.tx_ints.Integers.{is_shift}
+use Rattle.elab_rules.specs.cpp_types.Typ.{Typ, typ, Form, int, ptr, class, closure, tx_ex}
 use Rattle.elab_rules.specs.cpp_types.Class.{completion_of}
 use Rattle.elab_rules.specs.cpp_types.Equal.{kind_eq, typ_eq, form_eq}
 use Rattle.elab_rules.specs.cpp_types.Conversion.{is_lvalue, const_of}
@@ -21,22 +21,22 @@ use Rattle.elab_rules.specs.cpp_tree.declared.roles.Position.{Position}
 use Rattle.elab_rules.specs.cpp_tree.declared.roles.Role.TheVariants.{Value, CopyInit}
 use Rattle.elab_rules.specs.cpp_tree.Trees.{Tree, node, three, kind_of, typ_in, cat_of}
 use Rattle.elab_rules.specs.cpp_tree.Notation.{plain}
-use Rattle.elab_rules.specs.cpp_tree.Typing.{Head, head_of, form_in, is_void, is_class_typ, is_class_prvalue, is_lvalue_of, is_volatile_typ, unqualified, kind_in}
+use Rattle.elab_rules.specs.cpp_tree.Typing.{head_of, form_in, is_class_typ, is_class_prvalue, is_volatile_typ, unqualified, kind_in}
 use Rattle.elab_rules.specs.cpp_tree.Typing.{builds}
 use Rattle.elab_rules.specs.cpp_tree.Roles.{only}
 use Rattle.elab_rules.specs.cpp_tree.Rows.{Setting, row_fits}
 use Rattle.elab_rules.specs.cpp_tree.WellFormed.{fits, kids_fit, is_kid}
 use Rattle.elab_rules.specs.elab_ctx.Ctx.{Ctx, Work}
 use Rattle.elab_rules.specs.elab_ctx.Steps.{and_then, check, Operand, Made}
-use Rattle.elab_rules.specs.Values.{number, retyped, builder}
-use Rattle.elab_rules.specs.Objects.{size_of, copies, traits_at, class_in}
-use Rattle.elab_rules.specs.Initialising.{initial, object_of, same_number, class_number, as_base, as_source, is_same_or_base, with_tree}
-use Rattle.elab_rules.specs.Operators.{movable, target, assigned, copy_assigned, same_object, is_assignable_form, class_assigned_in, class_assigned, assignment}
-use Rattle.elab_rules.specs.Operators.{updated, step_in, step}
-use Rattle.elab_fits.specs.Standing.{FitsAs, IsExpressionType, Stands, Reaches, On}
+use Rattle.elab_rules.specs.Values.{builder}
+use Rattle.elab_rules.specs.Objects.{copies, traits_at, class_in}
+use Rattle.elab_rules.specs.Initialising.{initial, object_of, same_number, class_number, as_base, as_source, is_same_or_base}
+use Rattle.elab_rules.specs.Operators.{movable, target, assigned, is_assignable_form, class_assigned_in, assignment}
+use Rattle.elab_rules.specs.Operators.{step_in, step}
+use Rattle.elab_fits.specs.Standing.{Stands, Reaches, On}
 use Rattle.elab_fits.specs.Objects.{CopiesOne}
 use Rattle.elab_fits.proofs.Equal.{typ_refl, form_refl, form_same}
-use Rattle.elab_fits.proofs.Nodes.{both, clash, head_typ, head_cat, node_fits, of_value, Simple}
+use Rattle.elab_fits.proofs.Nodes.{both, clash, head_typ, head_cat, node_fits, of_value}
 use Rattle.elab_fits.proofs.Steps.{bind, skip, checked, either}
 use Rattle.elab_fits.proofs.Unary.{lvalue_is}
 use Rattle.elab_fits.proofs.Assigning.{assignment_stands, step_stands}
@@ -48,7 +48,7 @@ use Rattle.elab_fits_forms.specs.Forms.{Stands_made}
 use Rattle.elab_fits_forms.proofs.Types.{target_type}
 use Rattle.elab_fits_forms.proofs.Proper.{proper_lvalue, proper_retyped, object_word, object_fits}
 use Rattle.elab_fits_forms.proofs.Temporaries.{object_is, object_typ}
-use Rattle.elab_fits_forms.proofs.Dropped.{operand_is, if_made}
+use Rattle.elab_fits_forms.proofs.Dropped.{operand_is}
 use Rattle.elab_fits_forms.proofs.Wholes.{plain_exception, exception_whole}
 use Rattle.elab_fits_forms.proofs.Settled.{copy_made}
 use Rattle.elab_fits_forms.proofs.Operators.{lvalue_target, unqualified_sound, known_target, changed_known, IsTarget}

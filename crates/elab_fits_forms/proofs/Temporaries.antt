@@ -1,8 +1,8 @@
 -- The object that a class prvalue stands for, in a temporary.
-use Rattle.std.proofs.Common.{◌≡◌, refl, sym, ap, ◌∙◌, subst, ℕ, suc, Bool, true, false, not, ◌&&◌, ◌||◌, nat_le, List, [], ◌∷◌, ◌++◌, length, slice_get}
-use Rattle.std.proofs.Common.{Option, Some, None, arith, le-leb}
+use Rattle.std.proofs.Common.{◌≡◌, refl, ap, ◌∙◌, ℕ, suc, Bool, true, false, List, [], ◌∷◌, ◌++◌, length, slice_get}
+use Rattle.std.proofs.Common.{Option, Some, arith, le-leb}
 use Rattle.std.specs.Prelude.{if◌then◌else◌}
-use Rattle.elab_rules.specs.cpp_types.Typ.{Typ, typ, Form, array, class, closure, tx_ex}
+use Rattle.elab_rules.specs.cpp_types.Typ.{Typ, typ, class, closure, tx_ex}
 use Rattle.elab_rules.specs.cpp_types.Equal.{typ_eq}
 use Rattle.elab_rules.specs.cpp_types.declared.classes.At.{At}
 use Rattle.elab_rules.specs.cpp_types.declared.ranks.Cat.{Cat}
@@ -16,16 +16,15 @@ use Rattle.elab_rules.specs.cpp_tree.Roles.{and_any}
 use Rattle.elab_rules.specs.cpp_tree.Rows.{Setting, at_place}
 use Rattle.elab_rules.specs.cpp_tree.WellFormed.{fits, kids_fit, heads_of, is_kid}
 use Rattle.elab_rules.specs.elab_ctx.Ctx.{Ctx, Work, with_item, next_place}
-use Rattle.elab_rules.specs.elab_ctx.Steps.{Made}
 use Rattle.elab_rules.specs.Values.{temporary, builder}
 use Rattle.elab_rules.specs.Objects.{destroys}
 use Rattle.elab_rules.specs.Initialising.{object_of}
-use Rattle.elab_fits.specs.Standing.{FitsAs, Stands, IsSetting, Reaches}
+use Rattle.elab_fits.specs.Standing.{FitsAs, IsSetting, Reaches}
 use Rattle.elab_fits.specs.Objects.{HasSpecials, AllFit, DestroysOne, has_lambdas, is_closure}
 use Rattle.elab_fits.proofs.Equal.{typ_refl}
 use Rattle.elab_fits.proofs.Nodes.{both, or_right, clash, node_fits}
 use Rattle.elab_fits.proofs.Destructions.{destructions_law}
-use Rattle.elab_fits_forms.specs.Types.{is_sound, is_target, IsWhole}
+use Rattle.elab_fits_forms.specs.Types.{IsWhole}
 use Rattle.elab_fits_forms.specs.Meaning.{Proper, IsObject}
 use Rattle.elab_fits_forms.proofs.Types.{class_target}
 use Rattle.elab_fits_forms.proofs.Readiness.{any_ready}

@@ -1,5 +1,5 @@
 -- `throw` of scalars.
-use Rattle.std.proofs.Common.{◌≡◌, refl, sym, ap, ◌∙◌, subst, ℕ, suc, Bool, true, false, not, ◌&&◌, ◌||◌, List, [], ◌∷◌, length, Option, Some, None, Result, Ok, Err}
+use Rattle.std.proofs.Common.{◌≡◌, refl, sym, ap, ◌∙◌, subst, ℕ, suc, true, false, List, [], ◌∷◌, length, Result, Ok, Err}
 use Rattle.std.proofs.Common.{arith, le-leb}
 use Rattle.elab_rules.specs.tx_ints.declared.kinds.IntKind.{IntKind}
 use Rattle.elab_rules.specs.tx_ints.declared.kinds.IntKind.TheVariants.{Bool as BoolKind, Char, SChar, UChar, Short, UShort, Int, UInt, Long, ULong, LLong}
@@ -15,14 +15,13 @@ use Rattle.elab_rules.specs.cpp_tree.declared.roles.Position.{Position}
 use Rattle.elab_rules.specs.cpp_tree.declared.roles.Role.TheVariants.{Value, Scalar}
 use Rattle.elab_rules.specs.cpp_tree.Trees.{Tree, node, Trees, none, more, one, kind_of, typ_in}
 use Rattle.elab_rules.specs.cpp_tree.Notation.{plain}
-use Rattle.elab_rules.specs.cpp_tree.Typing.{Head, head_of, form_in, is_prvalue, is_scalar_value, is_class_typ}
+use Rattle.elab_rules.specs.cpp_tree.Typing.{head_of, form_in, is_prvalue, is_class_typ}
 use Rattle.elab_rules.specs.cpp_tree.Parts.{are_scalars}
 use Rattle.elab_rules.specs.cpp_tree.Roles.{only, and_any}
 use Rattle.elab_rules.specs.cpp_tree.Rows.{Setting, is_thrown}
 use Rattle.elab_rules.specs.cpp_tree.WellFormed.{fits, kids_fit, heads_of, is_kid}
 use Rattle.elab_rules.specs.elab_ctx.Ctx.{Ctx, Work}
-use Rattle.elab_rules.specs.elab_ctx.Steps.{and_then, check, Operand, Made}
-use Rattle.elab_rules.specs.Objects.{fields}
+use Rattle.elab_rules.specs.elab_ctx.Steps.{and_then, Operand, Made}
 use Rattle.elab_rules.specs.Operators.{value, value_form, without_value}
 use Rattle.elab_rules.specs.Casts.{is_thrown_scalar, throw_node, throw_in, throw}
 use Rattle.elab_rules.specs.cpp_tree.declared.faults.ElabFault.{ElabFault}

@@ -1,13 +1,11 @@
 -- Sound types: what may be referred to, what is declared, and what an expression may have.
-use Rattle.std.proofs.Common.{◌≡◌, refl, ap, ◌∙◌, ℕ, Bool, true, false, not, ◌&&◌, ◌||◌, List, Option, Some, None}
+use Rattle.std.proofs.Common.{◌≡◌, refl, Bool, true, false, List}
 use Rattle.elab_rules.specs.cpp_types.Typ.{Typ, typ, Form, void, int, enum, null, ptr, ref, array, func, class, closure, tx_ex}
 use Rattle.elab_rules.specs.cpp_types.Class.{Class}
-use Rattle.elab_rules.specs.cpp_types.declared.ranks.Cat.TheVariants.{Lvalue, Prvalue}
-use Rattle.elab_rules.specs.cpp_tree.Notation.{plain}
-use Rattle.elab_rules.specs.cpp_tree.Typing.{form_in, is_void, is_class_typ, is_reference, qualified}
+use Rattle.elab_rules.specs.cpp_types.declared.ranks.Cat.TheVariants.{Lvalue}
+use Rattle.elab_rules.specs.cpp_tree.Typing.{is_void, is_class_typ, is_reference, qualified}
 use Rattle.elab_fits.specs.Standing.{IsExpressionType}
-use Rattle.elab_fits.specs.Scalars.{is_scalar}
-use Rattle.elab_fits_forms.specs.Types.{is_sound, is_sound_form, is_target, is_declared}
+use Rattle.elab_fits_forms.specs.Types.{is_sound, is_target, is_declared}
 
 -- What is referred to
 

@@ -1,40 +1,36 @@
 -- Variables, captures and `this`.
-use Rattle.std.proofs.Common.{◌≡◌, refl, sym, ap, ◌∙◌, subst, ℕ, suc, Bool, true, false, not, ◌&&◌, ◌||◌, nat_lt, List, [], ◌∷◌, slice_get, Option, Some}
-use Rattle.std.proofs.Common.{None, unwrap_or, Result, Ok, Err}
+use Rattle.std.proofs.Common.{◌≡◌, refl, sym, ap, ◌∙◌, subst, ℕ, suc, Bool, true, false, ◌&&◌, nat_lt, List, [], ◌∷◌, slice_get, Option, Some}
+use Rattle.std.proofs.Common.{None, unwrap_or}
 use Rattle.std.proofs.lemmas.Bool.{and_parts}
 use Rattle.std.specs.Prelude.{if◌then◌else◌}
 use Rattle.elab_rules.specs.tx_ints.declared.kinds.IntKind.{IntKind}
 use Rattle.elab_rules.specs.tx_ints.declared.kinds.IntKind.TheVariants.{ULong}
-use Rattle.elab_rules.specs.cpp_types.Typ.{Typ, typ, Form, void, int, enum, null, ptr, ref, array, func, class, closure, tx_ex}
+use Rattle.elab_rules.specs.cpp_types.Typ.{Typ, typ, void, ptr, ref}
 use Rattle.elab_rules.specs.cpp_types.Equal.{typ_eq}
-use Rattle.elab_rules.specs.cpp_types.Class.{completion_of}
 use Rattle.elab_rules.specs.cpp_types.declared.classes.At.{At}
 use Rattle.elab_rules.specs.cpp_types.declared.ranks.Cat.TheVariants.{Lvalue, Prvalue}
 use Rattle.elab_rules.specs.cpp_tree.declared.kinds.TKind.TheVariants.{Local, Load}
-use Rattle.elab_rules.specs.cpp_tree.declared.faults.ElabFault.{ElabFault}
 use Rattle.elab_rules.specs.cpp_tree.declared.faults.IllRule.TheVariants.{UnknownName, BadInit, Capture as CaptureRule}
 use Rattle.elab_rules.specs.cpp_tree.declared.roles.Role.TheVariants.{Value}
 use Rattle.elab_rules.specs.cpp_tree.Trees.{Tree, node, none, one}
 use Rattle.elab_rules.specs.cpp_tree.Notation.{plain}
-use Rattle.elab_rules.specs.cpp_tree.Typing.{Head, head_of, passes, is_class_typ, is_reference, qualified, word_kind}
+use Rattle.elab_rules.specs.cpp_tree.Typing.{passes, is_class_typ, qualified, word_kind}
 use Rattle.elab_rules.specs.cpp_tree.Roles.{only}
 use Rattle.elab_rules.specs.cpp_tree.Rows.{Setting, at_place, is_slot}
 use Rattle.elab_rules.specs.elab_ctx.Ctx.{Ctx, Work, Variable, This, Capture, Lambda}
-use Rattle.elab_rules.specs.elab_ctx.Steps.{and_then, expect}
-use Rattle.elab_rules.specs.Values.{valued, part_at}
 use Rattle.elab_rules.specs.Names.{held_by, is_pointer, variable_tree, item_at, this_pointer, Captured, captured_from, same_variable, offset_at, is_const_typ}
-use Rattle.elab_rules.specs.Names.{captured_place, in_capture, captured_tree, captured_variable, is_outer, own_variable, variable_in, this_in, this_tree}
-use Rattle.elab_fits.specs.Standing.{FitsAs, Stands, Reaches, On}
+use Rattle.elab_rules.specs.Names.{captured_place, in_capture, captured_tree, is_outer, own_variable, variable_in, this_in, this_tree}
+use Rattle.elab_fits.specs.Standing.{FitsAs, Reaches, On}
 use Rattle.elab_fits.specs.Scalars.{Gives}
 use Rattle.elab_fits.proofs.Equal.{typ_refl, typ_same}
-use Rattle.elab_fits.proofs.Nodes.{both, or_left, or_right, clash, Simple, no_kids, one_kid}
+use Rattle.elab_fits.proofs.Nodes.{both, clash, Simple, no_kids, one_kid}
 use Rattle.elab_fits.proofs.Steps.{expected}
-use Rattle.elab_fits.proofs.Values.{load_gives, value_stands}
-use Rattle.elab_fits.proofs.Arithmetic.{part_stands, or_case}
-use Rattle.elab_fits_forms.specs.Types.{is_sound, is_target, is_declared}
+use Rattle.elab_fits.proofs.Values.{load_gives}
+use Rattle.elab_fits.proofs.Arithmetic.{or_case}
+use Rattle.elab_fits_forms.specs.Types.{is_target, is_declared}
 use Rattle.elab_fits_forms.specs.Meaning.{Proper}
 use Rattle.elab_fits_forms.specs.Context.{is_item_of, IsVariable, IsThis, Holds}
-use Rattle.elab_fits_forms.proofs.Types.{target_type, declared_target, qualified_target, class_target}
+use Rattle.elab_fits_forms.proofs.Types.{qualified_target, class_target}
 use Rattle.elab_fits_forms.proofs.Proper.{lvalue_node, proper_value, proper_part, part_fits, proper_valued}
 
 -- Kinds of nodes

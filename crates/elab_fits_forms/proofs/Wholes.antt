@@ -1,5 +1,5 @@
 -- Objects of complete classes are whole.
-use Rattle.std.proofs.Common.{◌≡◌, refl, sym, ap, ◌∙◌, ℕ, Bool, true, false, not, ◌&&◌, List, Some, is_some}
+use Rattle.std.proofs.Common.{◌≡◌, refl, ℕ, Bool, true, false, not, List, is_some}
 use Rattle.std.proofs.lemmas.Bool.{and_parts}
 use Rattle.elab_rules.specs.tx_ints.declared.kinds.IntKind.{IntKind}
 use Rattle.elab_rules.specs.tx_ints.declared.kinds.IntKind.TheVariants.{Bool as BoolKind, Char, SChar, UChar, Short, UShort, Int, UInt, Long, ULong, LLong}
@@ -10,7 +10,7 @@ use Rattle.elab_rules.specs.cpp_tree.Typing.{is_class_typ}
 use Rattle.elab_rules.specs.cpp_tree.Parts.{size_in}
 use Rattle.elab_rules.specs.cpp_tree.Rows.{Setting}
 use Rattle.elab_rules.specs.elab_ctx.Ctx.{Ctx, Work}
-use Rattle.elab_fits_forms.specs.Types.{is_sound, is_sound_form, is_lambda, is_exception_value, IsWhole}
+use Rattle.elab_fits_forms.specs.Types.{is_sound, is_lambda, is_exception_value, IsWhole}
 use Rattle.elab_fits_forms.specs.Context.{Holds}
 
 number_sized : (classes : List Class) (k : IntKind) (q v : Bool) → is_some (size_in classes (typ (tx_ex (typ (int k) false false)) q v)) ≡ true

@@ -1,18 +1,17 @@
 -- Words of kinds, and values of literals.
-use Rattle.std.proofs.Common.{◌≡◌, refl, sym, ap, ◌∙◌, ℕ, ◌+◌, ◌-◌, ◌^◌, ◌<◌, ◌≤◌, ℤ, pos, Bool, true, false, nat_le, List, [], ◌∷◌, Option, Some, None, cond}
-use Rattle.std.proofs.Common.{arith, eq-eqb, if◌then◌else◌}
+use Rattle.std.proofs.Common.{◌≡◌, refl, sym, ap, ◌∙◌, ℕ, ◌^◌, ◌<◌, ◌≤◌, pos, Bool, true, false, nat_le, List, [], ◌∷◌, Some, cond}
+use Rattle.std.proofs.Common.{arith, eq-eqb}
 use Rattle.std.proofs.Math.Nat.{mod-eq_of_lt}
 use Rattle.std.proofs.lemmas.Bool.{leb-true}
 use Rattle.std.proofs.lemmas.Int.{ints}
-use Rattle.std.specs.Int.{int_rem_euclid}
 use Rattle.std.specs.List.{find}
 use Rattle.tx_ints.specs.declared.kinds.IntKind.{IntKind}
 use Rattle.tx_ints.specs.declared.kinds.IntKind.TheVariants.{Bool as BoolKind, Char, SChar, UChar, Short, UShort, Int, UInt, Long, ULong, LLong, ULLong}
-use Rattle.tx_ints.specs.Integers.{InRange, convert_of}
+use Rattle.tx_ints.specs.Integers.{InRange}
 use Rattle.tx_ints.specs.Words.{word_of, value_of_word}
 use Rattle.tx_ints.proofs.ConversionLaws.{converts_into_range, convert_keeps}
 use Rattle.tx_ints.proofs.WordLaws.{word_is, word_back}
-use Rattle.cpp_lex.specs.Ints.{int_largest, int_types, int_type_of}
+use Rattle.cpp_lex.specs.Ints.{int_largest, int_type_of}
 use Rattle.elab_rules.specs.cpp_tree.Typing.{is_word_of}
 use Rattle.elab_rules.specs.Constants.{word_in}
 

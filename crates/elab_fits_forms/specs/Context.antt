@@ -1,8 +1,8 @@
 -- What the context of a form holds, wherever elaboration makes one.
-use Rattle.std.specs.Prelude.{◌≡◌, ℕ, Bool, true, false, ◌&&◌, ◌||◌, List, Option, Some, None, is_some, slice_get, unwrap_or}
+use Rattle.std.specs.Prelude.{◌≡◌, ℕ, Bool, true, false, ◌&&◌, ◌||◌, List, Some, None, is_some, slice_get, unwrap_or}
 use Rattle.elab_rules.specs.tx_ints.declared.kinds.IntKind.{IntKind}
 use Rattle.elab_rules.specs.tx_ints.declared.kinds.IntKind.TheVariants.{ULong}
-use Rattle.elab_rules.specs.cpp_types.Typ.{Typ, typ, Form, ptr, class, closure}
+use Rattle.elab_rules.specs.cpp_types.Typ.{Typ, typ, Form, ptr}
 use Rattle.elab_rules.specs.cpp_types.Class.{Class, Member, completion_of}
 use Rattle.elab_rules.specs.cpp_types.Equal.{typ_eq}
 use Rattle.elab_rules.specs.cpp_tree.declared.kinds.Builtin.{Builtin}
@@ -12,7 +12,7 @@ use Rattle.elab_rules.specs.cpp_tree.Typing.{passes, kind_in, is_class_typ, is_r
 use Rattle.elab_rules.specs.cpp_tree.Units.{Global}
 use Rattle.elab_rules.specs.cpp_tree.Parts.{has_pointer_at}
 use Rattle.elab_rules.specs.cpp_tree.Rows.{Setting, signature_words, builtin_words, builtin_result, has_slot}
-use Rattle.elab_rules.specs.elab_ctx.Ctx.{Ctx, Work, Func, Variable, This, Capture, Lambda, Closure, Enumerator}
+use Rattle.elab_rules.specs.elab_ctx.Ctx.{Ctx, Work, Func, Variable, This, Capture, Lambda, Enumerator}
 use Rattle.elab_rules.specs.elab_ctx.Types.{Named}
 use Rattle.elab_rules.specs.Objects.{traits_at, class_in}
 use Rattle.elab_rules.specs.Initialising.{signature_result}

@@ -5,7 +5,7 @@ use Rattle.elab_rules.specs.cpp_lex.Tokens.{Lexeme}
 use Rattle.elab_rules.specs.cpp_ast.Trees as syntax
 use Rattle.elab_rules.specs.cpp_tree.Rows.{Setting}
 use Rattle.elab_rules.specs.elab_ctx.Ctx.{Ctx, Work, Variable, Capture, Closure}
-use Rattle.elab_rules.specs.elab_ctx.Steps.{Typed, TypedAll, spelling}
+use Rattle.elab_rules.specs.elab_ctx.Steps.{TypedAll, spelling}
 use Rattle.elab_rules.specs.Objects.{Part, parts_of}
 use Rattle.elab_rules.specs.Lambdas.{captured_as}
 use Rattle.elab_rules.specs.Expressions.{expression_with, operands_with}

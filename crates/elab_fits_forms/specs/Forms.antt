@@ -1,20 +1,19 @@
 -- Laws of casts, `throw`, calls, choices between objects and all rows of expressions.
-use Rattle.std.specs.Prelude.{◌≡◌, ℕ, Bool, true, false, List, [], ◌∷◌}
+use Rattle.std.specs.Prelude.{◌≡◌, ℕ, true, false, List, [], ◌∷◌}
 use Rattle.elab_rules.specs.cpp_types.Typ.{Typ}
 use Rattle.elab_rules.specs.cpp_types.declared.classes.At.{At}
 use Rattle.elab_rules.specs.cpp_lex.Tokens.{Lexeme}
-use Rattle.elab_rules.specs.cpp_ast.Trees as syntax
 use Rattle.elab_rules.specs.cpp_ast.declared.kinds.NodeKind.{NodeKind}
 use Rattle.elab_rules.specs.cpp_ast.declared.kinds.NodeKind.TheVariants as k
 use Rattle.elab_rules.specs.cpp_tree.Trees.{typ_in}
 use Rattle.elab_rules.specs.cpp_tree.Typing.{is_class_typ}
 use Rattle.elab_rules.specs.cpp_tree.Rows.{Setting}
-use Rattle.elab_rules.specs.elab_ctx.Ctx.{Ctx, Work, Closure}
-use Rattle.elab_rules.specs.elab_ctx.Steps.{Operand, Made, Typed, TypedAll, spelling}
+use Rattle.elab_rules.specs.elab_ctx.Ctx.{Ctx, Work}
+use Rattle.elab_rules.specs.elab_ctx.Steps.{Operand, Made, spelling}
 use Rattle.elab_rules.specs.Operators.{assignment, comma, conditional}
 use Rattle.elab_rules.specs.Casts.{cast, functional, size_literal, throw}
 use Rattle.elab_rules.specs.Calls.{call}
-use Rattle.elab_rules.specs.Expressions.{row_of, expression_with, operands_with}
+use Rattle.elab_rules.specs.Expressions.{row_of}
 use Rattle.elab_fits.specs.Standing.{Reaches, On}
 use Rattle.elab_fits_forms.specs.Types.{is_empty, is_sound}
 use Rattle.elab_fits_forms.specs.Meaning.{Proper, ProperOperand, MeansOperand}

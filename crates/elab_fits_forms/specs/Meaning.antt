@@ -1,5 +1,5 @@
 -- What an expression means: it stands, or it names what a call makes out.
-use Rattle.std.specs.Prelude.{◌≡◌, ℕ, Bool, true, Some, None, is_some, slice_get}
+use Rattle.std.specs.Prelude.{◌≡◌, ℕ, Bool, true, Some, is_some, slice_get}
 use Rattle.elab_rules.specs.cpp_types.Typ.{Typ, typ, void, tx_ex}
 use Rattle.elab_rules.specs.cpp_types.Class.{completion_of}
 use Rattle.elab_rules.specs.cpp_types.declared.classes.At.{At}

@@ -1,5 +1,5 @@
 -- Laws of names, members and `this`.
-use Rattle.std.specs.Prelude.{◌≡◌, ℕ, Bool, true, false, List}
+use Rattle.std.specs.Prelude.{◌≡◌, ℕ, false, List}
 use Rattle.elab_rules.specs.cpp_types.declared.classes.At.{At}
 use Rattle.elab_rules.specs.cpp_names.declared.entity.EntityKind.{EntityKind}
 use Rattle.elab_rules.specs.cpp_lex.Tokens.{Lexeme}

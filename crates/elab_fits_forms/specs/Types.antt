@@ -4,7 +4,6 @@ use Rattle.elab_rules.specs.cpp_types.Typ.{Typ, typ, Form, void, int, enum, ptr,
 use Rattle.elab_rules.specs.cpp_types.Class.{Class, completion_of}
 use Rattle.elab_rules.specs.cpp_tree.Typing.{passes, form_in}
 use Rattle.elab_rules.specs.cpp_tree.Parts.{size_in}
-use Rattle.elab_fits.specs.Standing.{IsExpressionType}
 use Rattle.elab_fits.specs.Objects.{is_ready, is_closure}
 
 abbrev pub is_empty : List ℕ → Bool
