@@ -1,0 +1,9 @@
+pub mod Bodies
+pub mod Going
+pub mod Items
+pub mod Judgements
+pub mod Lists
+pub mod Settings
+pub mod Statements
+pub mod Steps
+pub mod Works

@@ -1,0 +1,35 @@
+-- What stands in a state of elaboration stands in each later one.
+use Rattle.std.specs.Prelude.{◌≡◌, ℕ, List, length, Option, Some, None}
+use Rattle.elab_rules.specs.cpp_types.Typ.{Typ}
+use Rattle.elab_rules.specs.cpp_types.Class.{completion_of}
+use Rattle.elab_rules.specs.cpp_lex.Tokens.{Lexeme}
+use Rattle.elab_rules.specs.cpp_ast.Trees as syntax
+use Rattle.elab_rules.specs.elab_ctx.Ctx.{Ctx}
+use Rattle.elab_rules.specs.Functions.{Header, function_body}
+use Rattle.elab_rules.specs.Lambdas.{lambdas_of}
+use Rattle.elab_rules.specs.Statements.{State, Done, statements_of}
+use Rattle.elab_fits.specs.Standing.{On}
+use Rattle.setting_growth.specs.Growth.{slot_at}
+use Rattle.state_growth.specs.Settings.{StateGrows}
+
+-- each class has a list of slots, which is empty while the class is not complete
+pub record IsTidy (c : Ctx) : Type 0 where
+  pub many : length c.slots ≡ length c.classes
+  pub empty : (n i : ℕ) → completion_of c.classes n ≡ None → slot_at c.slots n i ≡ None
+
+-- the state has grown, and is as tidy as before
+pub record Goes (old new : State) : Type 0 where
+  pub grows : StateGrows old new
+  pub tidy : IsTidy old.ctx → IsTidy new.ctx
+
+-- the lambdas of a full-expression
+abbrev pub LambdasGo : Type 0
+LambdasGo = (s : List Lexeme) (st : State) (e : syntax.Tree) → On (Goes st) (lambdas_of s st e)
+
+abbrev pub StatementsGo : Type 0
+StatementsGo = (s : List Lexeme) (st : State) (ts : syntax.Trees) → On (λ (d : Done). Goes st d.state) (statements_of lambdas_of s st ts)
+
+-- the body of a function, behind which the frame is what it was
+abbrev pub BodiesGo : Type 0
+BodiesGo = (s : List Lexeme) (st : State) (h : Header) (this : Option Typ) (place : ℕ) (t : syntax.Tree)
+    → On (Goes st) (function_body lambdas_of s st h this place t)

@@ -1,0 +1,36 @@
+//! Laws of states that grow. A function here does nothing: its clauses are the laws.
+
+ghost use Rattle.state_growth.specs.Judgements.{TreesFit, ExpressionsStand, OperandsStand, ScalarsGive, InitialsStand, ObjectsBuilt, ObjectsCopied};
+ghost use Rattle.state_growth.specs.Judgements.{ObjectsDestroyed};
+ghost use Rattle.state_growth.specs.Settings.{SettingsStand, WorksReached, WorksGrow, SettingsGrow, LeftGrow, ShownGrow, BegunGrow};
+ghost use Rattle.state_growth.specs.States.{LambdasGo, StatementsGo, BodiesGo};
+
+/// The setting of a body while it is made, and how it grows.
+pub fn settings()
+    ensures stand { SettingsStand }
+    ensures reached { WorksReached }
+    ensures works { WorksGrow }
+    ensures states { SettingsGrow }
+    ensures left { LeftGrow }
+    ensures shown { ShownGrow }
+    ensures begun { BegunGrow }
+{}
+
+/// What was said of a tree holds still.
+pub fn judgements()
+    ensures trees { TreesFit }
+    ensures expressions { ExpressionsStand }
+    ensures operands { OperandsStand }
+    ensures scalars { ScalarsGive }
+    ensures initials { InitialsStand }
+    ensures built { ObjectsBuilt }
+    ensures copied { ObjectsCopied }
+    ensures destroyed { ObjectsDestroyed }
+{}
+
+/// Behind lambdas, statements and bodies stands what stood before them.
+pub fn steps()
+    ensures lambdas { LambdasGo }
+    ensures statements { StatementsGo }
+    ensures bodies { BodiesGo }
+{}
