@@ -115,7 +115,7 @@ left_kept st e y a b = record {
 }
 
 -- into a function nothing is changed but the frame
-entered_kept : (st : State) (r : Typ) (this : Option Typ) (cls : Option ℕ)
+pub entered_kept : (st : State) (r : Typ) (this : Option Typ) (cls : Option ℕ)
     → Steps (record (seen st) { frame = [] }) (record (seen (entered st r this cls)) { frame = [] })
 entered_kept st r this cls = record {
   kept = record {

@@ -1,9 +1,16 @@
 pub mod Bodies
+pub mod Changing
+pub mod Classes
 pub mod Going
 pub mod Items
 pub mod Judgements
 pub mod Lists
+pub mod Members
 pub mod Settings
 pub mod Statements
 pub mod Steps
 pub mod Works
+pub mod Implied
+pub mod Outside
+pub mod Declared
+pub mod Units

@@ -5,9 +5,12 @@ use Rattle.elab_rules.specs.cpp_types.Class.{completion_of}
 use Rattle.elab_rules.specs.cpp_lex.Tokens.{Lexeme}
 use Rattle.elab_rules.specs.cpp_ast.Trees as syntax
 use Rattle.elab_rules.specs.elab_ctx.Ctx.{Ctx}
-use Rattle.elab_rules.specs.Functions.{Header, function_body}
+use Rattle.elab_rules.specs.cpp_tree.Units.{TypedProgram}
+use Rattle.elab_rules.specs.Functions.{Storage, Header, function_body}
 use Rattle.elab_rules.specs.Lambdas.{lambdas_of}
+use Rattle.elab_rules.specs.Programs.{Source, start_behind, with_unit}
 use Rattle.elab_rules.specs.Statements.{State, Done, statements_of}
+use Rattle.elab_rules.specs.Units.{declarations_of, unit_from, start}
 use Rattle.elab_fits.specs.Standing.{On}
 use Rattle.setting_growth.specs.Growth.{slot_at}
 use Rattle.state_growth.specs.Settings.{StateGrows}
@@ -33,3 +36,22 @@ StatementsGo = (s : List Lexeme) (st : State) (ts : syntax.Trees) → On (λ (d 
 abbrev pub BodiesGo : Type 0
 BodiesGo = (s : List Lexeme) (st : State) (h : Header) (this : Option Typ) (place : ℕ) (t : syntax.Tree)
     → On (Goes st) (function_body lambdas_of s st h this place t)
+
+-- Declarations
+
+-- from a tidy state to one that has grown, and is tidy
+pub record Gone (old new : State) : Type 0 where
+  pub grows : StateGrows old new
+  pub tidy : IsTidy new.ctx
+
+abbrev pub DeclarationsGo : Type 0
+DeclarationsGo = (s : List Lexeme) (x : Storage) (st : State) (ts : syntax.Trees) → IsTidy st.ctx → On (Gone st) (declarations_of s x st ts)
+
+-- all of a unit, the bodies of implicit members too
+abbrev pub UnitsGo : Type 0
+UnitsGo = (s : List Lexeme) (st : State) (decls : syntax.Trees) → IsTidy st.ctx → On (Gone st) (unit_from s st decls)
+
+-- the first unit begins tidy, and each other one where the one before it ended so
+abbrev pub UnitsBegin : Type 0
+UnitsBegin = ((source : ℕ) → IsTidy (start source).ctx)
+    × ((source : ℕ) (p : TypedProgram) (x : Source) (st : State) → IsTidy st.ctx → IsTidy (start_behind source (with_unit p x st) st.ctx.traits).ctx)
