@@ -12,6 +12,10 @@ use Rattle.elab_fits.specs.Standing.{On}
 use Rattle.setting_growth.specs.Growth.{ClassesGrow, SlotsGrow, GlobalsGrow, HasGlobal, slot_at}
 use Rattle.setting_growth.proofs.Settings.{classes_stay, slots_stay, globals_stay}
 use Rattle.state_growth.specs.Settings.{SameDeclared, HasDeclared, DeclaredGrow}
+use Rattle.state_growth.specs.States.{NumbersGrow}
+use Rattle.state_growth.proofs.Numbers.{numbers_stay, numbers_set, numbered_set}
+use Rattle.elab_rules.specs.Classes.{is_completed}
+use Rattle.std.specs.Prelude.{count_by, ◌<◌}
 use Rattle.state_growth.proofs.Steps.{Seen, seen, Tidy, Kept, kept_refl, kept_trans, Leaves, funcs_stay, funcs_go_on}
 
 -- Classes
@@ -72,11 +76,13 @@ leaves_from a b (Ok c) g h = since a b c g h
 leaves_from a b (Err e) g h = tt
 
 -- a class that is not complete becomes so
-completing : (b : Seen) (fs : List Func) (n k : ℕ) (x : Class) (xs : List SlotFunc) → x.complete ≡ Some k → Tidy b → DeclaredGrow b.funcs fs
+completing : (b : Seen) (fs : List Func) (n k : ℕ) (x : Class) (xs : List SlotFunc) → x.complete ≡ Some k → k ≡ count_by is_completed b.classes → Tidy b
+    → DeclaredGrow b.funcs fs
     → completion_of b.classes n ≡ None → Since b (record b { classes = slice_set b.classes n x; slots = slice_set b.slots n xs; funcs = fs })
-completing b fs n k x xs q t g e = record {
+completing b fs n k x xs q l t g e = record {
   kept = record {
     classes = classes_set b.classes n x e;
+    numbers = numbers_set b.classes n x k q l e;
     slots = slots_set b.slots n xs (λ i. t.empty n i e);
     funcs = g;
     globals = globals_stay b.globals;
@@ -85,15 +91,16 @@ completing b fs n k x xs q t g e = record {
   tidy = record {
     many = length-set b.slots n xs ∙ t.many ∙ sym (length-set b.classes n x);
     empty = empty_still b.classes b.slots t.many n k x q xs t.empty;
+    numbered = numbered_set b.classes n x k q l e t.numbered;
   };
 }
 
 pub completed_since : (a b : Seen) (cs : List Class) (ss : List (List SlotFunc)) (fs : List Func) (n k : ℕ) (x : Class) (xs : List SlotFunc)
-    → x.complete ≡ Some k → Since a b → cs ≡ b.classes → ss ≡ b.slots → DeclaredGrow b.funcs fs → completion_of b.classes n ≡ None
+    → x.complete ≡ Some k → k ≡ count_by is_completed b.classes → Since a b → cs ≡ b.classes → ss ≡ b.slots → DeclaredGrow b.funcs fs → completion_of b.classes n ≡ None
     → Since a (record b { classes = slice_set cs n x; slots = slice_set ss n xs; funcs = fs })
-completed_since a b cs ss fs n k x xs q s e f g i =
+completed_since a b cs ss fs n k x xs q l s e f g i =
     let c : Seen = record b { classes = slice_set b.classes n x; slots = slice_set b.slots n xs; funcs = fs } in
-    let h = completing b fs n k x xs q s.tidy g i in
+    let h = completing b fs n k x xs q l s.tidy g i in
     subst (λ (z : List Class). Since a (record b { classes = slice_set z n x; slots = slice_set ss n xs; funcs = fs })) (sym e)
     (subst (λ (z : List (List SlotFunc)). Since a (record b { classes = slice_set b.classes n x; slots = slice_set z n xs; funcs = fs })) (sym f)
     (record { kept = kept_trans a b c s.kept h.kept; tidy = h.tidy }))
@@ -145,6 +152,7 @@ pub further_leaves : (st : State) (c : Ctx) → Further st.ctx c → Leaves st (
 further_leaves st c f = record {
   kept = record {
     classes = subst (λ (z : List Class). ClassesGrow st.ctx.classes z) (sym f.classes) (classes_stay st.ctx.classes);
+    numbers = subst (λ (z : List Class). NumbersGrow st.ctx.classes z) (sym f.classes) (numbers_stay st.ctx.classes);
     slots = subst (λ (z : List (List SlotFunc)). SlotsGrow st.ctx.slots z) (sym f.slots) (slots_stay st.ctx.slots);
     funcs = f.funcs;
     globals = globals_stay st.work.globals;
@@ -154,5 +162,7 @@ further_leaves st c f = record {
     many = ap length f.slots ∙ t.many ∙ sym (ap length f.classes);
     empty = λ n i h. ap (λ (ss : List (List SlotFunc)). slot_at ss n i) f.slots
         ∙ t.empty n i (ap (λ (cs : List Class). completion_of cs n) (sym f.classes) ∙ h);
+    numbered = λ n k h. subst (λ (cs : List Class). k < count_by is_completed cs) (sym f.classes)
+        (t.numbered n k (ap (λ (cs : List Class). completion_of cs n) (sym f.classes) ∙ h));
   };
 }

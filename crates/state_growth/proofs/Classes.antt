@@ -40,6 +40,7 @@ use Rattle.elab_rules.specs.cpp_tree.declared.faults.IllRule.{IllRule}
 use Rattle.elab_fits.specs.Standing.{On}
 use Rattle.setting_growth.proofs.Settings.{classes_stay, slots_stay, globals_stay}
 use Rattle.state_growth.specs.Settings.{DeclaredGrow}
+use Rattle.state_growth.proofs.Numbers.{numbers_stay, numbers_added}
 use Rattle.state_growth.proofs.Steps.{Seen, seen, Tidy, Kept, Leaves, stays, after, funcs_stay, funcs_go_on, bind, skip, either, behind}
 use Rattle.state_growth.proofs.Items.{Lawful}
 use Rattle.state_growth.proofs.Bodies.{classes_added, slots_added, funcs_added, tidy_added}
@@ -61,17 +62,22 @@ at_end : (cs : List Class) (c : Class) → completion_of (cs ++ c ∷ []) (lengt
 at_end [] c = refl
 at_end (d ∷ cs) c = at_end cs c
 
+no_number : (st : State) (k : ℕ) → None ≡ Some k → k ≡ count_by is_completed st.ctx.classes
+no_number st k h = absurd cc
+
 -- a class is begun behind the others
 class_begun : (st : State) (name : List ℕ) → Leaves st (record st { ctx = with_class st.ctx name })
 class_begun st name = record {
   kept = record {
     classes = classes_added st.ctx.classes (class_named name None false [] [] None);
+    numbers = numbers_added st.ctx.classes (class_named name None false [] [] None) (no_number st);
     slots = slots_added st.ctx.slots [];
     funcs = funcs_stay st.ctx.funcs;
     globals = globals_stay st.work.globals;
     frame = λ i t h. h;
   };
-  tidy = tidy_added (seen st) (class_named name None false [] [] None) (seen (record st { ctx = with_class st.ctx name })) refl refl;
+  tidy = tidy_added (seen st) (class_named name None false [] [] None) (seen (record st { ctx = with_class st.ctx name })) refl refl
+      (no_number st);
 }
 
 record IsBegun (st : State) (defines : Bool) (b : Begun) : Type 0 where
@@ -109,12 +115,13 @@ function_added : (st : State) (f : Func) → Leaves st (record st { ctx = record
 function_added st f = record {
   kept = record {
     classes = classes_stay st.ctx.classes;
+    numbers = numbers_stay st.ctx.classes;
     slots = slots_stay st.ctx.slots;
     funcs = funcs_added st.ctx.funcs f;
     globals = globals_stay st.work.globals;
     frame = λ i t h. h;
   };
-  tidy = λ t. record { many = t.many; empty = t.empty };
+  tidy = λ t. record { many = t.many; empty = t.empty; numbered = t.numbered };
 }
 
 with_read : (st : State) (r : Members) (f : Func) → Read st r → Read st (with_function r f)
@@ -215,7 +222,7 @@ record_since : (a st : State) (d : Ctx) (home : Home) (ms : List Member) → Fro
     → completion_of st.ctx.classes home.number ≡ None → From a (record st { ctx = with_record d home ms })
 record_since a st d home ms s f e = completed_since (seen a) (seen st) d.classes d.slots d.funcs home.number (count_by is_completed d.classes)
     (class_named home.name home.base home.is_final ms (own_functions home.number d.funcs) (Some (count_by is_completed d.classes)))
-    (slots_of d home (own_functions home.number d.funcs)) refl s f.classes f.slots f.funcs e
+    (slots_of d home (own_functions home.number d.funcs)) refl (ap (count_by is_completed) f.classes) s f.classes f.slots f.funcs e
 
 completed_from : (a st : State) (home : Home) (at : At) (ms : List Member) (initialised : List ℕ) → From a st
     → completion_of st.ctx.classes home.number ≡ None → From a (record st { ctx = completed st.ctx home at ms initialised })

@@ -48,6 +48,7 @@ use Rattle.elab_growth.proofs.Growth.{same}
 use Rattle.setting_growth.specs.Growth.{GlobalsGrow}
 use Rattle.setting_growth.proofs.Settings.{classes_stay, slots_stay, globals_go_on}
 use Rattle.state_growth.proofs.Lists.{added, behind as at_front}
+use Rattle.state_growth.proofs.Numbers.{numbers_stay}
 use Rattle.state_growth.proofs.Steps.{Leaves, stays, after, funcs_stay, bind, skip, behind, of_state}
 use Rattle.state_growth.proofs.Works.{Grows, Mades, Types, TypesAll, grown, made_after, operand_grows, operands_grow, copy_grows, directly_grows, item_grows}
 use Rattle.state_growth.proofs.Members.{each_holds, each_leaves}
@@ -61,12 +62,13 @@ globals_only : (st : State) (vs : List Global) → GlobalsGrow st.work.globals v
 globals_only st vs g = record {
   kept = record {
     classes = classes_stay st.ctx.classes;
+    numbers = numbers_stay st.ctx.classes;
     slots = slots_stay st.ctx.slots;
     funcs = funcs_stay st.ctx.funcs;
     globals = g;
     frame = λ i t h. h;
   };
-  tidy = λ t. record { many = t.many; empty = t.empty };
+  tidy = λ t. record { many = t.many; empty = t.empty; numbered = t.numbered };
 }
 
 abbrev PlacedAt : State → PlacedGlobal → Type 0

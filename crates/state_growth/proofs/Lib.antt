@@ -14,3 +14,5 @@ pub mod Implied
 pub mod Outside
 pub mod Declared
 pub mod Units
+pub mod Numbers
+pub mod Programs

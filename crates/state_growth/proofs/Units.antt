@@ -1,5 +1,5 @@
 -- Declarations and whole units.
-use Rattle.std.proofs.Common.{◌≡◌, refl, ℕ, Bool, true, false, List, [], length, Option, Some, None, Result, Ok, Err}
+use Rattle.std.proofs.Common.{◌≡◌, refl, ap, ◌∙◌, option_and_then, ℕ, Bool, true, false, List, [], length, Option, Some, None, Result, Ok, Err}
 use Rattle.elab_rules.specs.cpp_types.Typ.{Typ, Form, func}
 use Rattle.elab_rules.specs.cpp_types.declared.classes.At.{At}
 use Rattle.elab_rules.specs.cpp_lex.Tokens.{Lexeme}
@@ -20,7 +20,9 @@ use Rattle.elab_rules.specs.Lambdas.{lambdas_of}
 use Rattle.elab_rules.specs.Units.{header_of, definition_text, closing_offset, is_qualified, defined_with, defined_by, function_defined, is_c, declaration_of}
 use Rattle.elab_rules.specs.Units.{declarations_of, unit_from, start}
 use Rattle.elab_fits.specs.Standing.{On}
-use Rattle.state_growth.specs.States.{IsTidy, Gone, DeclarationsGo, UnitsGo, UnitsBegin}
+use Rattle.state_growth.specs.States.{IsTidy, Gone, DeclarationsGo, UnitsGo, UnitsBegin, HeldBefore}
+use Rattle.state_growth.proofs.Numbers.{earlier_below}
+use Rattle.elab_rules.specs.cpp_types.Class.{Class}
 use Rattle.state_growth.proofs.Steps.{Leaves, stays, bind, skip, behind, of_state, weaken, state_grows, is_tidy, to_tidy}
 use Rattle.state_growth.proofs.Bodies.{function_kept, lambdas_lawful}
 use Rattle.state_growth.proofs.Changing.{From, begin, since, leaves_from, Further, further_on, further_leaves}
@@ -92,7 +94,7 @@ mutual
       (λ y i. declarations_from s x a y ts i)
 
 gone : (a b : State) → From a b → Gone a b
-gone a b h = record { grows = state_grows a b h.kept; tidy = is_tidy b h.tidy }
+gone a b h = record { grows = state_grows a b h.kept; numbers = h.kept.numbers; tidy = is_tidy b h.tidy }
 
 pub declarations_law : DeclarationsGo
 declarations_law s x st ts t = weaken (From st) (Gone st) (declarations_of s x st ts) (λ y h. gone st y h)
@@ -104,4 +106,14 @@ units_law s st decls t = bind (From st) (Gone st) (declarations_of s no_storage 
     (λ y i. weaken (From st) (Gone st) (with_implied y) (λ z h. gone st z h) (leaves_from st y (with_implied y) i (implied_kept y)))
 
 pub begin_law : UnitsBegin
-begin_law = (λ source. record { many = refl; empty = λ n i h. refl }, λ source p x st t. record { many = t.many; empty = t.empty })
+begin_law = (λ source. record { many = refl; empty = λ n i h. refl; numbered = λ n k h. absurd cc }, λ source p x st t. record { many = t.many; empty = t.empty; numbered = t.numbered })
+
+pub held_law : HeldBefore
+held_law old new t g m h = record {
+  earlier = λ n c k f e. let y = h.earlier n c k (g.complete n k c f e) e in
+      let l = t.numbered n k (ap (option_and_then (λ (x : Class). x.complete)) f ∙ e) in
+      record {
+        base = λ b q. earlier_below old.classes new g m k b l (y.base b q);
+        members = λ i x q b r. earlier_below old.classes new g m k b l (y.members i x q b r);
+      };
+}

@@ -1,4 +1,4 @@
-use Rattle.state_growth.proofs.Units.{declarations_law, units_law, begin_law}
+use Rattle.state_growth.proofs.Units.{declarations_law, units_law, begin_law, held_law}
 use Rattle.state_growth.proofs.laws.units.Goals as goal
 
 pub returns-clause-declarations : goal.returns-clause-declarations
@@ -9,3 +9,6 @@ returns-clause-units c = units_law
 
 pub returns-clause-begin : goal.returns-clause-begin
 returns-clause-begin c = begin_law
+
+pub returns-clause-held : goal.returns-clause-held
+returns-clause-held c = held_law
