@@ -1,13 +1,19 @@
 -- Programs, unit by unit.
-use Rattle.std.proofs.Common.{◌≡◌, refl, ℕ, suc, List, [], ◌∷◌, ◌++◌, slice_get, Some, Result, Ok, Err}
+use Rattle.std.proofs.Common.{◌≡◌, refl, sym, subst, ℕ, suc, List, [], ◌∷◌, ◌++◌, slice_get, Some, Result, Ok, Err}
+use Rattle.elab_rules.specs.cpp_types.Typ.{Typ}
+use Rattle.elab_rules.specs.cpp_tree.Rows.{Setting}
 use Rattle.elab_rules.specs.cpp_tree.Units.{TypedProgram}
 use Rattle.elab_rules.specs.elab_ctx.Ctx.{Traits}
 use Rattle.elab_rules.specs.Programs.{Source, start_behind, with_unit, unit_shown, program_from, typed_funcs}
 use Rattle.elab_rules.specs.Statements.{State}
 use Rattle.elab_rules.specs.Units.{unit_from}
 use Rattle.elab_fits.specs.Standing.{On}
-use Rattle.setting_growth.proofs.Settings.{classes_stay, classes_go_on, slots_stay, slots_go_on, funcs_stay, globals_stay, frame_stays}
-use Rattle.state_growth.specs.Programs.{ProgramGrows, ProgramsGo, ProgramsShow}
+use Rattle.setting_growth.specs.Growth.{Grows}
+use Rattle.setting_growth.proofs.Bodies.{body_law}
+use Rattle.setting_growth.proofs.Settings.{classes_stay, classes_go_on, slots_stay, slots_go_on, funcs_stay, globals_stay, frame_stays, goes_on_law}
+use Rattle.state_growth.specs.Programs.{unit_setting, ProgramGrows, ProgramsGo, ProgramsShow, BodiesStay}
+use Rattle.state_growth.specs.Settings.{setting_at, shown_setting}
+use Rattle.state_growth.proofs.Settings.{left_law, shown_law}
 use Rattle.state_growth.specs.States.{Gone, IsTidy}
 use Rattle.state_growth.proofs.Lists.{added}
 use Rattle.state_growth.proofs.Numbers.{numbers_stay, numbers_go_on}
@@ -55,3 +61,15 @@ show_law p q x st f g = record {
   globals = globals_stay st.work.globals;
   function = frame_stays f;
 }
+
+pub stay_law : BodiesStay
+stay_law f g end st p q x body o u h e w =
+    let b : Setting = setting_at g st.ctx (record st.work { frame = end.work.frame }) in
+    let c : Setting = setting_at g st.ctx (record st.work { frame = g.frame }) in
+    let l : Grows (setting_at f end.ctx end.work) b = left_law f g end st e.kind e.signature u in
+    let m : Grows (setting_at f end.ctx end.work) c =
+    subst (λ (ts : List Typ). Grows (setting_at f end.ctx end.work) (setting_at g st.ctx (record st.work { frame = ts }))) (sym e.frame) l in
+    let n : Grows (setting_at f end.ctx end.work) (shown_setting st g) = goes_on_law (setting_at f end.ctx end.work) c (shown_setting st g) m
+    (shown_law g st) in
+    body_law (setting_at f end.ctx end.work) (unit_setting q (unit_shown x.tokens x.decls st) g) body o
+    (goes_on_law (setting_at f end.ctx end.work) (shown_setting st g) (unit_setting q (unit_shown x.tokens x.decls st) g) n (show_law p q x st g h)) e w

@@ -54,14 +54,14 @@ full_kept lams q s st e = follow of_state of_full st (lams s st e) _ (q.each s s
     (λ x. bind (λ (o : Typed). Grows x.work o.work) (λ (f : Full). Leaves x f.state) (and_then (expression_of s x.ctx x.work e) (chosen_operand x.ctx)) _
     (operand_grows s x.ctx x.work e) (λ o g. work_kept x o.work g))
 
-made_kept : (f : Full) (r : Result Made ElabFault) → On (λ (m : Made). Grows f.state.work m.work) r → On (Ends f.state) (full_made f r)
+pub made_kept : (f : Full) (r : Result Made ElabFault) → On (λ (m : Made). Grows f.state.work m.work) r → On (Ends f.state) (full_made f r)
 made_kept f r h = bind (λ (m : Made). Grows f.state.work m.work) (Ends f.state) r _ h (λ m g. work_kept f.state m.work g)
 
-expression_kept : (lams : Lambdas) → Lawful lams → (s : List Lexeme) (st : State) (e : syntax.Tree) → On (Ends st) (expression_statement lams s st e)
+pub expression_kept : (lams : Lambdas) → Lawful lams → (s : List Lexeme) (st : State) (e : syntax.Tree) → On (Ends st) (expression_statement lams s st e)
 expression_kept lams q s st e = follow of_full of_done st (full_operand lams s st e) _ (full_kept lams q s st e)
     (λ f. made_kept f (Ok (dropped f.state.ctx f.state.work f.operand)) (dropped_grows f.state.ctx f.state.work f.operand))
 
-condition_kept : (lams : Lambdas) → Lawful lams → (s : List Lexeme) (st : State) (e : syntax.Tree) → On (Ends st) (condition lams s st e)
+pub condition_kept : (lams : Lambdas) → Lawful lams → (s : List Lexeme) (st : State) (e : syntax.Tree) → On (Ends st) (condition lams s st e)
 condition_kept lams q s st e = follow of_full of_done st (full_operand lams s st e) _ (full_kept lams q s st e)
     (λ f. made_kept f (and_then (truth f.state.ctx f.state.work f.operand) (λ (t : Tree). Ok (record { tree = t; work = f.state.work })))
     (skip (λ (m : Made). Grows f.state.work m.work) (truth f.state.ctx f.state.work f.operand) _ (λ t. same f.state.work)))
@@ -72,27 +72,27 @@ pub all_lambdas_kept : (lams : Lambdas) → Lawful lams → (s : List Lexeme) (s
 all_lambdas_kept lams q s st syntax.none = stays st
 all_lambdas_kept lams q s st (syntax.more e es) = follow of_state of_state st (lams s st e) _ (q.each s st e) (λ x. all_lambdas_kept lams q s x es)
 
-initialised_kept : (st : State) (t : Typ) (at : At) (v : Tree) (f : Full) (r : Result Made ElabFault) → On (λ (m : Made). Grows f.state.work m.work) r
+pub initialised_kept : (st : State) (t : Typ) (at : At) (v : Tree) (f : Full) (r : Result Made ElabFault) → On (λ (m : Made). Grows f.state.work m.work) r
     → On (Ends f.state) (initialised st t at v f r)
 initialised_kept st t at v f r h = bind (λ (m : Made). Grows f.state.work m.work) (Ends f.state) r _ h (λ m g. work_kept f.state m.work g)
 
-string_kept : (st : State) (s : List Lexeme) (t : Typ) (at : At) (v : Tree) (p : At) (n : ℕ) → On (Ends st) (string_initialised st s t at v p n)
+pub string_kept : (st : State) (s : List Lexeme) (t : Typ) (at : At) (v : Tree) (p : At) (n : ℕ) → On (Ends st) (string_initialised st s t at v p n)
 string_kept st s t at v p n = skip (Ends st) (string_object st.ctx t p (string_bytes (spelling s n))) _ (λ e. stays st)
 
-values_kept : (lams : Lambdas) (s : List Lexeme) (st : State) (t : Typ) (at : At) (v : Tree) (p : At) (r : Result TypedAll ElabFault)
+pub values_kept : (lams : Lambdas) (s : List Lexeme) (st : State) (t : Typ) (at : At) (v : Tree) (p : At) (r : Result TypedAll ElabFault)
     → On (λ (xs : TypedAll). Grows st.work xs.work) r → On (Ends st) (values_initialised lams s st t at v p r)
 values_kept lams s st t at v p r h = bind (λ (xs : TypedAll). Grows st.work xs.work) (Ends st) r _ h
     (λ xs g. bind (λ (m : Made). Grows xs.work m.work) (Ends st) (directly_initialised st.ctx xs.work t at xs.operands) _
     (directly_grows st.ctx xs.work t at xs.operands) (λ m i. work_kept st m.work (grown st.work xs.work m.work g i)))
 
-by_kept : (lams : Lambdas) → Lawful lams → (s : List Lexeme) (st v : State) (t : Typ) (at : At) (e : syntax.Tree) (b : Bool) (o : Option ℕ)
+pub by_kept : (lams : Lambdas) → Lawful lams → (s : List Lexeme) (st v : State) (t : Typ) (at : At) (e : syntax.Tree) (b : Bool) (o : Option ℕ)
     → On (Ends v) (by_expression lams s st v t at e b o)
 by_kept lams q s st v t at e true (Some n) = string_kept v s t at (variable_tree st t at) (syntax_place e) n
 by_kept lams q s st v t at e b o = follow of_full of_done v (full_operand lams s v e) _ (full_kept lams q s v e)
     (λ f. initialised_kept f.state t at (variable_tree st t at) f (copy_initialised f.state.ctx f.state.work t f.operand)
     (copy_grows f.state.ctx f.state.work t f.operand))
 
-initialiser_kept : (lams : Lambdas) → Lawful lams → (s : List Lexeme) (st v : State) (t : Typ) (at : At) (init : syntax.Trees)
+pub initialiser_kept : (lams : Lambdas) → Lawful lams → (s : List Lexeme) (st v : State) (t : Typ) (at : At) (init : syntax.Trees)
     → On (Ends v) (with_initialiser lams s st v t at init)
 initialiser_kept lams q s st v t at syntax.none = skip (Ends v) (default_object v.ctx t at) _ (λ e. stays v)
 initialiser_kept lams q s st v t at (syntax.more (syntax.node k.ParenthesizedInitializer p token es) syntax.none) =
@@ -107,7 +107,7 @@ initialiser_kept lams q s st v t at (syntax.more (syntax.node k.EqualInitializer
     by_kept lams q s st v t at e (is_char_array t) (string_token e)
 initialiser_kept lams q s st v t at kids = tt
 
-plain_kept : (lams : Lambdas) → Lawful lams → (s : List Lexeme) (st : State) (name : List ℕ) (t : Typ) (at : At) (init : syntax.Trees)
+pub plain_kept : (lams : Lambdas) → Lawful lams → (s : List Lexeme) (st : State) (name : List ℕ) (t : Typ) (at : At) (init : syntax.Trees)
     → On (Ends st) (plain_variable lams s st name t at init)
 plain_kept lams q s st name t at init = skip (Ends st) (declarable st.ctx at t) _
     (λ x. skip (Ends st) (check at BadDeclaration (is_bounded t)) _
@@ -117,24 +117,24 @@ plain_kept lams q s st name t at init = skip (Ends st) (declarable st.ctx at t) 
 
 -- `auto`
 
-abbrev Deduces : State → Deduction → Type 0
+abbrev pub Deduces : State → Deduction → Type 0
 Deduces st x = Leaves st x.done.state
 
-deduced_kept : (a : State) (f : Full) (t : Typ) (at : At) (u : Typ) → Leaves a f.state
+pub deduced_kept : (a : State) (f : Full) (t : Typ) (at : At) (u : Typ) → Leaves a f.state
     → On (Ends a) (auto_initialised f.state t at (length a.ctx.variables) u f.operand (auto_object f.state t at u f.operand))
 deduced_kept a f t at u h = bind (λ (m : Made). Grows f.state.work m.work) (Ends a) (auto_object f.state t at u f.operand) _
     (copy_grows f.state.ctx f.state.work u f.operand)
     (λ m g. after a (with_work f.state m.work) (auto_placed (with_work f.state m.work) (length a.ctx.variables) u)
     (after a f.state (with_work f.state m.work) h (work_kept f.state m.work g)) (item_kept (with_work f.state m.work) u))
 
-auto_variable_kept : (lams : Lambdas) → Lawful lams → (s : List Lexeme) (a st : State) (t : Typ) (at : At) (before : Option Typ) (e : syntax.Tree) → Leaves a st
+pub auto_variable_kept : (lams : Lambdas) → Lawful lams → (s : List Lexeme) (a st : State) (t : Typ) (at : At) (before : Option Typ) (e : syntax.Tree) → Leaves a st
     → On (Deduces a) (auto_variable lams s st (length a.ctx.variables) t at before e)
 auto_variable_kept lams q s a st t at before e h = bind (λ (f : Full). Leaves st f.state) (Deduces a) (full_operand lams s st e) _ (full_kept lams q s st e)
     (λ f g. skip (Deduces a) (deduced_type at t f.operand) _ (λ u. skip (Deduces a) (check at TypeDiffers (same_deduction before u)) _ (λ y.
     bind (Ends a) (Deduces a) (auto_initialised f.state t at (length a.ctx.variables) (replaced u t) f.operand
     (auto_object f.state t at (replaced u t) f.operand)) _ (deduced_kept a f t at (replaced u t) (after a st f.state h g)) (λ d i. i))))
 
-by_type_kept : (lams : Lambdas) → Lawful lams → (s : List Lexeme) (st : State) (name : List ℕ) (t : Typ) (at : At) (before : Option Typ) (init : syntax.Trees)
+pub by_type_kept : (lams : Lambdas) → Lawful lams → (s : List Lexeme) (st : State) (name : List ℕ) (t : Typ) (at : At) (before : Option Typ) (init : syntax.Trees)
     (b : Bool) → On (Deduces st) (variable_by lams s st name t at before init b)
 by_type_kept lams q s st name t at before init true =
     skip (Deduces st) (expect at BadInit (only_expression init)) _
@@ -143,17 +143,17 @@ by_type_kept lams q s st name t at before init false =
     bind (Ends st) (Deduces st) (plain_variable lams s st name (bound_by_initialiser s t init) at init) _
     (plain_kept lams q s st name (bound_by_initialiser s t init) at init) (λ d i. i)
 
-one_kept : (lams : Lambdas) → Lawful lams → (s : List Lexeme) (st : State) (name : List ℕ) (t : Typ) (at : At) (before : Option Typ) (init : syntax.Trees)
+pub one_kept : (lams : Lambdas) → Lawful lams → (s : List Lexeme) (st : State) (name : List ℕ) (t : Typ) (at : At) (before : Option Typ) (init : syntax.Trees)
     → On (Deduces st) (variable lams s st name t at before init)
 one_kept lams q s st name t at before init = skip (Deduces st) (check at Redeclared (is_fresh st.ctx name)) _
     (λ y. by_type_kept lams q s st name t at before init (has_auto t))
 
 -- Declarations in blocks
 
-abbrev of_declaring : Declaring → State
+abbrev pub of_declaring : Declaring → State
 of_declaring d = d.state
 
-declarator_kept : (lams : Lambdas) → Lawful lams → (s : List Lexeme) (t : Typ) (d : Declaring) (x : syntax.Tree)
+pub declarator_kept : (lams : Lambdas) → Lawful lams → (s : List Lexeme) (t : Typ) (d : Declaring) (x : syntax.Tree)
     → On (λ (y : Declaring). Leaves d.state y.state) (block_declarator lams s t d x)
 declarator_kept lams q s t d (syntax.node k.InitDeclarator p token (syntax.more x init)) =
     skip (λ (y : Declaring). Leaves d.state y.state) (declared_by s d.state.ctx d.state.work (at_of p) t x) _
@@ -162,13 +162,13 @@ declarator_kept lams q s t d (syntax.node k.InitDeclarator p token (syntax.more 
     (one_kept lams q s d.state (name_of s r.name) r.typ (at_of p) d.auto init) (λ y i. i)))
 declarator_kept lams q s t d x = tt
 
-declarators_kept : (lams : Lambdas) → Lawful lams → (s : List Lexeme) (t : Typ) (d : Declaring) (xs : syntax.Trees)
+pub declarators_kept : (lams : Lambdas) → Lawful lams → (s : List Lexeme) (t : Typ) (d : Declaring) (xs : syntax.Trees)
     → On (λ (y : Declaring). Leaves d.state y.state) (block_declarators lams s t d xs)
 declarators_kept lams q s t d syntax.none = stays d.state
 declarators_kept lams q s t d (syntax.more x xs) = follow of_declaring of_declaring d.state (block_declarator lams s t d x) _ (declarator_kept lams q s t d x)
     (λ y. declarators_kept lams q s t y xs)
 
-declaration_kept : (lams : Lambdas) → Lawful lams → (s : List Lexeme) (st : State) (at : At) (ts : syntax.Trees)
+pub declaration_kept : (lams : Lambdas) → Lawful lams → (s : List Lexeme) (st : State) (at : At) (ts : syntax.Trees)
     → On (Ends st) (block_declaration lams s st at ts)
 declaration_kept lams q s st at (syntax.more (syntax.node k.Attribute p token kids) ts) = declaration_kept lams q s st at ts
 declaration_kept lams q s st at (syntax.more (syntax.node k.TypeSpecifierSeq p token kids) ds) =
@@ -179,7 +179,7 @@ declaration_kept lams q s st at ts = tt
 
 -- `return`
 
-class_or_value : (at : At) (t : Typ) (f : Full) → On (Ends f.state)
+pub class_or_value : (at : At) (t : Typ) (f : Full) → On (Ends f.state)
     (if is_class_typ t then and_then (class_from f.state.ctx f.state.work t f.operand.at f.operand)
     (λ (m : Made). done (one (class_returned at t f m)) (with_work f.state m.work)) else and_then (initial f.state.ctx f.state.work t f.operand)
     (λ (m : Made). done (one (return_node at (one (full f.operand.at (result_of t f.operand.at m.tree))))) (with_work f.state m.work)))
@@ -189,26 +189,26 @@ class_or_value at t f = either (Ends f.state) (is_class_typ t) _ _
     (bind (λ (m : Made). Grows f.state.work m.work) (Ends f.state) (initial f.state.ctx f.state.work t f.operand) _
     (initial_grows f.state.ctx f.state.work t f.operand) (λ m g. work_kept f.state m.work g))
 
-value_returned : (at : At) (t : Typ) (f : Full) → On (Ends f.state) (return_value at t f)
+pub value_returned : (at : At) (t : Typ) (f : Full) → On (Ends f.state) (return_value at t f)
 value_returned at (typ void d v) f = skip (Ends f.state) (check at BadReturn (is_void (typ_in f.operand.tree))) _ (λ y. stays f.state)
 value_returned at t f = class_or_value at t f
 
-return_kept : (at : At) (r : Returns) (f : Full) → On (Ends f.state) (return_by at r f)
+pub return_kept : (at : At) (r : Returns) (f : Full) → On (Ends f.state) (return_by at r f)
 return_kept at (known t) f = value_returned at t f
 return_kept at (deduced t) f = skip (Ends f.state) (check at BadReturn (same_deduction t (unqualified (typ_in (value f.operand))))) _ (λ y. stays f.state)
 
-nothing_kept : (st : State) (at : At) (r : Returns) → On (Ends st) (return_nothing st at r)
+pub nothing_kept : (st : State) (at : At) (r : Returns) → On (Ends st) (return_nothing st at r)
 nothing_kept st at (known t) = skip (Ends st) (check at BadReturn (is_void t)) _ (λ y. stays st)
 nothing_kept st at (deduced t) = skip (Ends st) (check at BadReturn (same_deduction t (plain void))) _ (λ y. stays st)
 
-returned_kept : (lams : Lambdas) → Lawful lams → (s : List Lexeme) (st : State) (at : At) (ts : syntax.Trees) → On (Ends st) (returned lams s st at ts)
+pub returned_kept : (lams : Lambdas) → Lawful lams → (s : List Lexeme) (st : State) (at : At) (ts : syntax.Trees) → On (Ends st) (returned lams s st at ts)
 returned_kept lams q s st at syntax.none = nothing_kept st at st.ctx.returns
 returned_kept lams q s st at (syntax.more e ts) = follow of_full of_done st (full_operand lams s st e) _ (full_kept lams q s st e)
     (λ f. return_kept at f.state.ctx.returns f)
 
 -- Labels
 
-case_kept : (s : List Lexeme) (st : State) (at : At) (e : syntax.Tree) → On (Ends st) (case_label s st at e)
+pub case_kept : (s : List Lexeme) (st : State) (at : At) (e : syntax.Tree) → On (Ends st) (case_label s st at e)
 case_kept s st at e = skip (Ends st) (label_here st at) _
     (λ y. skip (Ends st) (and_then (expression_of s st.ctx st.work e) (chosen_operand st.ctx)) _
     (λ o. skip (Ends st) (initial st.ctx st.work st.ctx.labels.typ o.operand) _
@@ -217,48 +217,48 @@ case_kept s st at e = skip (Ends st) (label_here st at) _
     skip (Ends st) (check o.operand.at Narrowing (case_fits (kind_in (form_in (typ_in (value o.operand)))) (kind_in (form_in st.ctx.labels.typ)) w)) _
     (λ x. skip (Ends st) (check at BadCase (not (list_any (λ (n : ℕ). n == word) st.ctx.labels.words))) _ (λ z. stays st)))))))
 
-default_kept : (st : State) (at : At) → On (Ends st) (default_label st at)
+pub default_kept : (st : State) (at : At) → On (Ends st) (default_label st at)
 default_kept st at = skip (Ends st) (label_here st at) _ (λ y. skip (Ends st) (check at BadCase (not st.ctx.labels.has_default)) _ (λ z. stays st))
 
 -- Handlers, and parts of statements
 
-named_kept : (s : List Lexeme) (st : State) (at p : At) (t u : Typ) (o : Option ℕ) → On (λ (h : Caught). Leaves st h.state) (named_handler s st at p t u o)
+pub named_kept : (s : List Lexeme) (st : State) (at p : At) (t u : Typ) (o : Option ℕ) → On (λ (h : Caught). Leaves st h.state) (named_handler s st at p t u o)
 named_kept s st at p t u (Some n) = skip (λ (h : Caught). Leaves st h.state) (within_exception st.ctx p u) _ (λ y. placed_kept st (spelling s n) u)
 named_kept s st at p t u None = stays st
 
-handler_kept : (s : List Lexeme) (st : State) (at : At) (t : syntax.Tree) → On (λ (h : Caught). Leaves st h.state) (handler_type s st at t)
+pub handler_kept : (s : List Lexeme) (st : State) (at : At) (t : syntax.Tree) → On (λ (h : Caught). Leaves st h.state) (handler_type s st at t)
 handler_kept s st at (syntax.node k.ParameterDeclaration p token (syntax.more base (syntax.more d syntax.none))) =
     skip (λ (h : Caught). Leaves st h.state) (type_of_specifiers s st.ctx st.work base) _
     (λ t. skip (λ (h : Caught). Leaves st h.state) (declared_by s st.ctx st.work (at_of p) t d) _
     (λ r. skip (λ (h : Caught). Leaves st h.state) (caught_type st.ctx (at_of p) r.typ) _ (λ u. named_kept s st at (at_of p) r.typ u r.name)))
 handler_kept s st at t = stays st
 
-switched_kept : (lams : Lambdas) → Lawful lams → (s : List Lexeme) (st : State) (e : syntax.Tree)
+pub switched_kept : (lams : Lambdas) → Lawful lams → (s : List Lexeme) (st : State) (e : syntax.Tree)
     → On (λ (v : Switched). Leaves st v.state) (switched lams s st e)
 switched_kept lams q s st e = bind (λ (f : Full). Leaves st f.state) (λ (v : Switched). Leaves st v.state) (full_operand lams s st e) _
     (full_kept lams q s st e) (λ f h. skip (λ (v : Switched). Leaves st v.state) (switched_type f.operand.at (form_in (typ_in (value f.operand)))) _ (λ t. h))
 
-jump_kept : (allowed : Bool) (kind : TKind) (st : State) (at : At) → On (Ends st) (jump allowed kind st at)
+pub jump_kept : (allowed : Bool) (kind : TKind) (st : State) (at : At) → On (Ends st) (jump allowed kind st at)
 jump_kept allowed kind st at = skip (Ends st) (check at BadBreak allowed) _ (λ y. stays st)
 
-part_kept : (s : List Lexeme) (t : syntax.Tree) (st : State) (r : Result Done ElabFault) → On (Ends st) r → On (Ends st) (and_then r (a_part s t))
+pub part_kept : (s : List Lexeme) (t : syntax.Tree) (st : State) (r : Result Done ElabFault) → On (Ends st) r → On (Ends st) (and_then r (a_part s t))
 part_kept s t st r h = bind (Ends st) (Ends st) r (a_part s t) h (λ d i. i)
 
-first_kept : (lams : Lambdas) → Lawful lams → (s : List Lexeme) (st : State) (t : syntax.Tree) → On (Ends st) (for_first lams s st t)
+pub first_kept : (lams : Lambdas) → Lawful lams → (s : List Lexeme) (st : State) (t : syntax.Tree) → On (Ends st) (for_first lams s st t)
 first_kept lams q s st (syntax.node k.Absent p token kids) = stays st
 first_kept lams q s st (syntax.node k.SimpleDeclaration p token kids) = declaration_kept lams q s st (at_of p) kids
 first_kept lams q s st e = expression_kept lams q s st e
 
-test_kept : (lams : Lambdas) → Lawful lams → (s : List Lexeme) (st : State) (at : At) (t : syntax.Tree) → On (Ends st) (for_test lams s st at t)
+pub test_kept : (lams : Lambdas) → Lawful lams → (s : List Lexeme) (st : State) (at : At) (t : syntax.Tree) → On (Ends st) (for_test lams s st at t)
 test_kept lams q s st at (syntax.node k.Absent p token kids) = stays st
 test_kept lams q s st at e = condition_kept lams q s st e
 
-step_kept : (lams : Lambdas) → Lawful lams → (s : List Lexeme) (st : State) (at : At) (t : syntax.Tree) → On (Ends st) (for_step lams s st at t)
+pub step_kept : (lams : Lambdas) → Lawful lams → (s : List Lexeme) (st : State) (at : At) (t : syntax.Tree) → On (Ends st) (for_step lams s st at t)
 step_kept lams q s st at (syntax.node k.Absent p token kids) = stays st
 step_kept lams q s st at e = expression_kept lams q s st e
 
 -- the parts of a `for`, up to its body
-loop_kept : (st f x z y : State) → Leaves (in_loop st) f → Leaves f x → Leaves x z → Leaves z y → Leaves st (outer st y)
+pub loop_kept : (st f x z y : State) → Leaves (in_loop st) f → Leaves f x → Leaves x z → Leaves z y → Leaves st (outer st y)
 loop_kept st f x z y a b c d = (after (in_loop st) f y a (after f x y b (after x z y c d)))
 
 -- Statements
@@ -338,7 +338,7 @@ mutual
   statements_kept lams q s st (syntax.more t ts) = follow of_done of_done st (statement_of lams s st t) _ (statement_kept lams q s st t)
       (λ x. bind (Ends x.state) (Ends x.state) (statements_of lams s x.state ts) _ (statements_kept lams q s x.state ts) (λ y i. i))
 
-  handlers_kept : (lams : Lambdas) → Lawful lams → (s : List Lexeme) (st : State) (hs : syntax.Trees) → On (Ends st) (handlers_of lams s st hs)
+  pub handlers_kept : (lams : Lambdas) → Lawful lams → (s : List Lexeme) (st : State) (hs : syntax.Trees) → On (Ends st) (handlers_of lams s st hs)
   handlers_kept lams q s st syntax.none = stays st
   handlers_kept lams q s st (syntax.more (syntax.node kind p token (syntax.more x (syntax.more (syntax.node b r brace kids) syntax.none))) hs) =
       skip (Ends st) (in_order (at_of p) x hs) _ (λ y. bind (λ (h : Caught). Leaves (inner st) h.state) (Ends st) (handler_type s (inner st) (at_of p) x) _
@@ -350,7 +350,7 @@ mutual
 
 -- Parameters
 
-one_parameter : (s : List Lexeme) (st : State) (p : Parameter) (o : Option ℕ) → On (Leaves st) (parameter_named s st p o)
+pub one_parameter : (s : List Lexeme) (st : State) (p : Parameter) (o : Option ℕ) → On (Leaves st) (parameter_named s st p o)
 one_parameter s st p (Some n) = skip (Leaves st) (check p.at Redeclared (is_fresh st.ctx (spelling s n))) _
     (λ y. item_kept st (word_item p.typ))
 one_parameter s st p None = item_kept st (word_item p.typ)

@@ -2,12 +2,14 @@
 use Rattle.std.specs.Prelude.{◌≡◌, ℕ, List, slice_get, Some}
 use Rattle.elab_rules.specs.cpp_tree.Units.{Func, Unit, TypedProgram}
 use Rattle.elab_rules.specs.cpp_tree.Rows.{Setting}
+use Rattle.elab_rules.specs.cpp_tree.Trees.{Tree}
+use Rattle.elab_rules.specs.cpp_tree.WellFormed.{WellFormedBody}
 use Rattle.elab_rules.specs.elab_ctx.Ctx.{Traits}
 use Rattle.elab_rules.specs.Programs.{Source, start_behind, with_unit, unit_shown, program_from}
 use Rattle.elab_rules.specs.Statements.{State}
 use Rattle.elab_fits.specs.Standing.{On}
-use Rattle.setting_growth.specs.Growth.{ClassesGrow, SlotsGrow, Grows}
-use Rattle.state_growth.specs.Settings.{shown_setting}
+use Rattle.setting_growth.specs.Growth.{ClassesGrow, HeldEarlier, SlotsGrow, SameBody, Grows}
+use Rattle.state_growth.specs.Settings.{setting_at, shown_setting, UnitGrows}
 use Rattle.state_growth.specs.States.{NumbersGrow, IsTidy}
 
 -- the setting of a function of a unit of a program
@@ -31,3 +33,10 @@ ProgramsGo = (i : ℕ) (p : TypedProgram) (traits : List Traits) (xs : List Sour
 abbrev pub ProgramsShow : Type 0
 ProgramsShow = (p q : TypedProgram) (x : Source) (st : State) (f : Func) → ProgramGrows (with_unit p x st) q
     → Grows (shown_setting st f) (unit_setting q (unit_shown x.tokens x.decls st) f)
+
+-- A body that is well-formed at its end, in the state in which its last statement leaves it, is well-formed in the whole program, where the unit shows its
+-- function with the frame of that state
+abbrev pub BodiesStay : Type 0
+BodiesStay = (f g : Func) (end st : State) (p q : TypedProgram) (x : Source) (body : Tree) → HeldEarlier end.ctx.classes → UnitGrows end st
+    → ProgramGrows (with_unit p x st) q → SameBody (record f { frame = end.work.frame }) g → WellFormedBody (setting_at f end.ctx end.work) body
+    → WellFormedBody (unit_setting q (unit_shown x.tokens x.decls st) g) body

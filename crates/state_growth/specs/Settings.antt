@@ -2,12 +2,15 @@
 use Rattle.std.specs.Prelude.{◌≡◌, ℕ, List, map, length, take, slice_get, Some, None}
 use Rattle.elab_rules.specs.cpp_types.Typ.{Typ}
 use Rattle.elab_rules.specs.cpp_types.Class.{Class, InOrder}
+use Rattle.elab_rules.specs.cpp_types.declared.classes.At.{At}
+use Rattle.elab_rules.specs.cpp_tree.Trees.{Tree}
 use Rattle.elab_rules.specs.cpp_tree.Units.{Func as UnitFunc}
 use Rattle.elab_rules.specs.cpp_tree.Rows.{Setting}
 use Rattle.elab_rules.specs.elab_ctx.Ctx.{Ctx, Work, Func}
+use Rattle.elab_rules.specs.Functions.{body_made}
 use Rattle.elab_rules.specs.Statements.{State}
 use Rattle.elab_rules.specs.Programs.{typed_func, typed_funcs}
-use Rattle.elab_fits.specs.Standing.{IsSetting, Reaches}
+use Rattle.elab_fits.specs.Standing.{IsSetting, Reaches, On}
 use Rattle.elab_growth.specs.Growth.{Follows}
 use Rattle.setting_growth.specs.Growth.{ClassesGrow, SlotsGrow, GlobalsGrow, Grows}
 
@@ -96,3 +99,13 @@ abbrev pub BegunGrow : Type 0
 BegunGrow = (old new : State) → take (length old.ctx.classes) new.ctx.classes ≡ old.ctx.classes
     → take (length old.ctx.slots) new.ctx.slots ≡ old.ctx.slots → take (length old.ctx.funcs) new.ctx.funcs ≡ old.ctx.funcs
     → take (length old.work.globals) new.work.globals ≡ old.work.globals → UnitGrows old new
+
+abbrev pub StatesGoOn : Type 0
+StatesGoOn = (a b c : State) → StateGrows a b → StateGrows b c → StateGrows a c
+
+abbrev pub UnitsGoOn : Type 0
+UnitsGoOn = (a b c : State) → UnitGrows a b → UnitGrows b c → UnitGrows a c
+
+-- what stands at the end of a body stands behind the function
+abbrev pub BodiesLeft : Type 0
+BodiesLeft = (before end : State) (at : At) (place : ℕ) (body : Tree) → On (UnitGrows end) (body_made before at place body end)

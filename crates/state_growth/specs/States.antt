@@ -7,10 +7,11 @@ use Rattle.elab_rules.specs.cpp_ast.Trees as syntax
 use Rattle.elab_rules.specs.elab_ctx.Ctx.{Ctx}
 use Rattle.elab_rules.specs.Classes.{is_completed}
 use Rattle.elab_rules.specs.cpp_tree.Units.{TypedProgram}
-use Rattle.elab_rules.specs.Functions.{Storage, Header, function_body}
+use Rattle.elab_rules.specs.Functions.{Storage, Header, function_body, with_parameters}
 use Rattle.elab_rules.specs.Lambdas.{lambdas_of}
 use Rattle.elab_rules.specs.Programs.{Source, start_behind, with_unit}
-use Rattle.elab_rules.specs.Statements.{State, Done, statements_of}
+use Rattle.elab_rules.specs.Statements.{State, Done, Full, full_operand, statement_of, statements_of}
+use Rattle.elab_rules.specs.Types.{Parameter}
 use Rattle.elab_rules.specs.Units.{declarations_of, unit_from, start}
 use Rattle.elab_fits.specs.Standing.{On}
 use Rattle.setting_growth.specs.Growth.{ClassesGrow, HeldEarlier, slot_at}
@@ -33,9 +34,25 @@ pub record Goes (old new : State) : Type 0 where
   pub numbers : NumbersGrow old.ctx.classes new.ctx.classes
   pub tidy : IsTidy old.ctx → IsTidy new.ctx
 
+abbrev pub GoesOn : Type 0
+GoesOn = (a b c : State) → Goes a b → Goes b c → Goes a c
+
+abbrev pub NumbersGoOn : Type 0
+NumbersGoOn = (a b c : List Class) → NumbersGrow a b → ClassesGrow b c → NumbersGrow b c → NumbersGrow a c
+
 -- the lambdas of a full-expression
 abbrev pub LambdasGo : Type 0
 LambdasGo = (s : List Lexeme) (st : State) (e : syntax.Tree) → On (Goes st) (lambdas_of s st e)
+
+-- a full-expression behind them
+abbrev pub OperandsGo : Type 0
+OperandsGo = (s : List Lexeme) (st : State) (e : syntax.Tree) → On (λ (f : Full). Goes st f.state) (full_operand lambdas_of s st e)
+
+abbrev pub ParametersGo : Type 0
+ParametersGo = (s : List Lexeme) (st : State) (ps : List Parameter) → On (Goes st) (with_parameters s st ps)
+
+abbrev pub StatementGo : Type 0
+StatementGo = (s : List Lexeme) (st : State) (t : syntax.Tree) → On (λ (d : Done). Goes st d.state) (statement_of lambdas_of s st t)
 
 abbrev pub StatementsGo : Type 0
 StatementsGo = (s : List Lexeme) (st : State) (ts : syntax.Trees) → On (λ (d : Done). Goes st d.state) (statements_of lambdas_of s st ts)

@@ -2,9 +2,11 @@
 
 ghost use Rattle.state_growth.specs.Judgements.{TreesFit, ExpressionsStand, OperandsStand, ScalarsGive, InitialsStand, ObjectsBuilt, ObjectsCopied};
 ghost use Rattle.state_growth.specs.Judgements.{ObjectsDestroyed};
-ghost use Rattle.state_growth.specs.Programs.{ProgramsGo, ProgramsShow};
+ghost use Rattle.state_growth.specs.Programs.{ProgramsGo, ProgramsShow, BodiesStay};
 ghost use Rattle.state_growth.specs.Settings.{SettingsStand, WorksReached, WorksGrow, SettingsGrow, LeftGrow, ShownGrow, BegunGrow};
-ghost use Rattle.state_growth.specs.States.{LambdasGo, StatementsGo, BodiesGo, DeclarationsGo, UnitsGo, UnitsBegin, HeldBefore};
+ghost use Rattle.state_growth.specs.Settings.{StatesGoOn, UnitsGoOn, BodiesLeft};
+ghost use Rattle.state_growth.specs.States.{GoesOn, NumbersGoOn, LambdasGo, OperandsGo, ParametersGo, StatementGo, StatementsGo, BodiesGo};
+ghost use Rattle.state_growth.specs.States.{DeclarationsGo, UnitsGo, UnitsBegin, HeldBefore};
 
 /// The setting of a body while it is made, and how it grows.
 pub fn settings()
@@ -29,9 +31,21 @@ pub fn judgements()
     ensures destroyed { ObjectsDestroyed }
 {}
 
+/// Growth of states is transitive, and a body is left with what stands at its end.
+pub fn growth()
+    ensures states { StatesGoOn }
+    ensures units { UnitsGoOn }
+    ensures left { BodiesLeft }
+    ensures steps { GoesOn }
+    ensures numbers { NumbersGoOn }
+{}
+
 /// Behind lambdas, statements and bodies stands what stood before them.
 pub fn steps()
     ensures lambdas { LambdasGo }
+    ensures operands { OperandsGo }
+    ensures parameters { ParametersGo }
+    ensures statement { StatementGo }
     ensures statements { StatementsGo }
     ensures bodies { BodiesGo }
 {}
@@ -48,4 +62,5 @@ pub fn units()
 pub fn programs()
     ensures go { ProgramsGo }
     ensures show { ProgramsShow }
+    ensures stay { BodiesStay }
 {}
