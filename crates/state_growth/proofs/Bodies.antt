@@ -1,25 +1,23 @@
 -- Bodies of functions and lambdas: behind them stands what stood before, and the frame is what it was.
-use Rattle.std.proofs.Common.{◌≡◌, refl, sym, ap, ◌∙◌, subst, ℕ, zero, suc, ◌+◌, ◌≤◌, Bool, true, false, List, [], ◌∷◌, ◌++◌, length, slice_get, Option, Some, None, option_and_then, arith}
+use Rattle.std.proofs.Common.{◌≡◌, refl, sym, ap, ◌∙◌, subst, ℕ, zero, suc, ◌+◌, List, [], ◌∷◌, ◌++◌, length, slice_get, Option, Some, None, option_and_then, arith}
 use Rattle.std.proofs.lemmas.List.{length-append}
-use Rattle.elab_rules.specs.cpp_types.Typ.{Typ, void, Signature}
+use Rattle.elab_rules.specs.cpp_types.Typ.{Typ, Signature}
 use Rattle.elab_rules.specs.cpp_types.Class.{held, Class, completion_of}
 use Rattle.elab_rules.specs.cpp_types.declared.classes.At.{At}
 use Rattle.elab_rules.specs.cpp_lex.Tokens.{Lexeme}
 use Rattle.elab_rules.specs.cpp_ast.declared.kinds.NodeKind.TheVariants as k
 use Rattle.elab_rules.specs.cpp_ast.Trees as syntax
-use Rattle.elab_rules.specs.cpp_tree.declared.kinds.TKind.TheVariants as forms
 use Rattle.elab_rules.specs.cpp_tree.declared.faults.IllRule.TheVariants.{Incomplete}
-use Rattle.elab_rules.specs.cpp_tree.Notation.{plain}
 use Rattle.elab_rules.specs.cpp_tree.Trees.{Tree}
 use Rattle.elab_rules.specs.cpp_tree.Typing.{form_in}
 use Rattle.elab_rules.specs.cpp_tree.Units.{SlotFunc}
-use Rattle.elab_rules.specs.elab_ctx.Ctx.{Ctx, Func, Capture, Returns, known, deduced}
-use Rattle.elab_rules.specs.elab_ctx.Steps.{and_then, check, at_of}
+use Rattle.elab_rules.specs.elab_ctx.Ctx.{Func, Returns, known}
+use Rattle.elab_rules.specs.elab_ctx.Steps.{check, at_of}
 use Rattle.elab_rules.specs.Initialising.{signature_result}
 use Rattle.elab_rules.specs.Operators.{is_complete}
-use Rattle.elab_rules.specs.Types.{Parameter, qualifiers_from, no_qualifiers}
-use Rattle.elab_rules.specs.Statements.{State, Done, Lambdas, statements_of}
-use Rattle.elab_rules.specs.Functions.{Header, entered, with_parameters, within_frame, leaving, body_made, function_body}
+use Rattle.elab_rules.specs.Types.{qualifiers_from, no_qualifiers}
+use Rattle.elab_rules.specs.Statements.{State, Lambdas, statements_of}
+use Rattle.elab_rules.specs.Functions.{Header, entered, with_parameters, within_frame, body_made, function_body}
 use Rattle.elab_rules.specs.Lambdas.{lambdas_of, lambdas_among, lambda_of, lambda_written, lambda_made, lambda_with, lambda_known, lambda_type, Written, refused_at}
 use Rattle.elab_rules.specs.Lambdas.{no_lambda, first_lambda, lambda_entered, declared_closure, inside, body_statements, signature_in, result_of, kids_of, has_mutable}
 use Rattle.elab_rules.specs.Lambdas.{explicit_captures, default_in, parameters_among, not_dynamic, result_among, default_captures, used_in, place_of_tree, closing}
@@ -32,7 +30,7 @@ use Rattle.state_growth.proofs.Numbers.{numbers_stay, numbers_go_on, numbers_add
 use Rattle.elab_rules.specs.Classes.{is_completed}
 use Rattle.std.specs.Prelude.{count_by, ◌<◌}
 use Rattle.std.proofs.lemmas.Option.{same_Some}
-use Rattle.state_growth.proofs.Steps.{Seen, seen, Tidy, Kept, Steps, Leaves, stays, after, funcs_stay, funcs_go_on, bind, skip, follow, of_state, of_done, Ends, weaken}
+use Rattle.state_growth.proofs.Steps.{Seen, seen, Tidy, Steps, Leaves, stays, after, funcs_stay, funcs_go_on, bind, skip, follow, of_state, of_done, Ends}
 use Rattle.state_growth.proofs.Items.{Lawful}
 use Rattle.state_growth.proofs.Statements.{statements_kept, parameters_kept}
 

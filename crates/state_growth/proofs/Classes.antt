@@ -1,5 +1,5 @@
 -- Behind a class that is defined stands what stood before it; the class itself becomes complete.
-use Rattle.std.proofs.Common.{◌≡◌, ℕ, suc, Bool, true, false, List, [], ◌∷◌, ◌++◌, length, refl, sym, ap, ◌∙◌, subst, Option, Some, None, Result, Ok}
+use Rattle.std.proofs.Common.{◌≡◌, ℕ, Bool, true, false, List, [], ◌∷◌, ◌++◌, length, refl, ap, ◌∙◌, Option, Some, None, Result, Ok}
 use Rattle.std.specs.Prelude.{if◌then◌else◌, ◌&&◌, not, is_none, is_some, nat_le, ◌||◌}
 use Rattle.elab_rules.specs.cpp_types.Typ.{Typ, typ, Form, class, func}
 use Rattle.elab_rules.specs.cpp_types.Class.{Class, Member, completion_of, held}
@@ -11,37 +11,35 @@ use Rattle.elab_rules.specs.cpp_tree.declared.program.FuncKind.{FuncKind}
 use Rattle.elab_rules.specs.cpp_tree.declared.program.FuncKind.TheVariants.{Plain, Constructor, Destructor}
 use Rattle.elab_rules.specs.cpp_tree.declared.faults.ElabFault.{ElabFault}
 use Rattle.elab_rules.specs.elab_ctx.Ctx.{Ctx, Func}
-use Rattle.elab_rules.specs.elab_ctx.Steps.{and_then, at_of, check, each_of}
+use Rattle.elab_rules.specs.elab_ctx.Steps.{and_then, at_of, check}
 use Rattle.elab_rules.specs.Types.{Declared, has_auto, is_bounded, is_abstract_type, type_named}
-use Rattle.elab_rules.specs.Statements.{State, Lambdas, statements_of, initialised, is_own_name, is_trivial, name_of}
-use Rattle.elab_rules.specs.Functions.{Header, Storage, function_body, text_sized, with_parameters, entered, first_from, header_sized, is_same_function}
-use Rattle.elab_rules.specs.Functions.{new_function, no_storage, within_frame}
-use Rattle.elab_rules.specs.Classes.{Home, Members, Begun, begun, begun_in, members_of, member_of, completed, closed_class, Method, method_of, body_in}
+use Rattle.elab_rules.specs.Statements.{State, Lambdas, initialised, is_own_name, is_trivial, name_of}
+use Rattle.elab_rules.specs.Functions.{Header, Storage, text_sized, first_from, header_sized, is_same_function}
+use Rattle.elab_rules.specs.Functions.{new_function, no_storage}
+use Rattle.elab_rules.specs.Classes.{Home, Members, Begun, begun, begun_in, members_of, member_of, completed, closed_class, method_of, body_in}
 use Rattle.elab_rules.specs.Classes.{class_text, Marks, Definition, Started, data_member, member_function, declared_method, declared_member, member_declarator}
 use Rattle.elab_rules.specs.Classes.{member_declarators, Specials, with_destructor, with_copy, with_default, all_held, base_default, declarator_among}
 use Rattle.elab_rules.specs.Classes.{definition_between, definition_sized, has_equal, has_function, has_initialiser, has_member, has_no_pointer, header_in}
 use Rattle.elab_rules.specs.Classes.{is_destructor_of, is_no_place, is_trivial_default, last_token, marks_fit, marks_from, may_copy, member_form, member_named}
 use Rattle.elab_rules.specs.Classes.{members_default, no_function_words, no_marks, overridden, overrides_well, started_from, within_bounds, written_copy}
-use Rattle.elab_rules.specs.Members.{place_of_header, base_named, has_final, members_among, all_given, in_object, parts_built}
+use Rattle.elab_rules.specs.Members.{base_named, has_final, members_among}
 use Rattle.elab_rules.specs.cpp_tree.declared.faults.IllRule.TheVariants.{AbstractObject, BadDeclaration, Incomplete, OutOfProfile, Redeclared}
 use Rattle.elab_rules.specs.cpp_layout.Layout.{class_extent}
 use Rattle.elab_rules.specs.Expressions.{declared_by, type_of_specifiers}
 use Rattle.elab_rules.specs.Objects.{element_of, traits_at}
 use Rattle.elab_rules.specs.cpp_tree.Typing.{form_in}
 use Rattle.elab_rules.specs.Operators.{is_complete}
-use Rattle.elab_rules.specs.Initialising.{is_constructor, places_from, signature_result}
+use Rattle.elab_rules.specs.Initialising.{is_constructor, places_from}
 use Rattle.elab_rules.specs.Sizes.{typ_sized}
-use Rattle.elab_rules.specs.cpp_tree.Notation.{plain}
-use Rattle.elab_rules.specs.Classes.{with_class, begun_by, with_function, with_implicit, kept_special, with_record, class_named, own_functions, slots_of}
-use Rattle.elab_rules.specs.Classes.{is_completed, as_defined, member_func, is_default_constructor, written_default}
+use Rattle.elab_rules.specs.Classes.{with_class, begun_by, with_function, with_implicit, with_record, class_named, own_functions, slots_of}
+use Rattle.elab_rules.specs.Classes.{is_completed, as_defined, member_func}
 use Rattle.elab_rules.specs.Members.{declared_only, class_closed, class_with, class_defined, all_defaults, all_late}
-use Rattle.std.specs.Prelude.{count_by, slice_get}
+use Rattle.std.specs.Prelude.{count_by}
 use Rattle.elab_rules.specs.cpp_tree.declared.faults.IllRule.{IllRule}
 use Rattle.elab_fits.specs.Standing.{On}
 use Rattle.setting_growth.proofs.Settings.{classes_stay, slots_stay, globals_stay}
-use Rattle.state_growth.specs.Settings.{DeclaredGrow}
 use Rattle.state_growth.proofs.Numbers.{numbers_stay, numbers_added}
-use Rattle.state_growth.proofs.Steps.{Seen, seen, Tidy, Kept, Leaves, stays, after, funcs_stay, funcs_go_on, bind, skip, either, behind}
+use Rattle.state_growth.proofs.Steps.{seen, Leaves, stays, after, funcs_stay, bind, skip, either}
 use Rattle.state_growth.proofs.Items.{Lawful}
 use Rattle.state_growth.proofs.Bodies.{classes_added, slots_added, funcs_added, tidy_added}
 use Rattle.state_growth.proofs.Members.{each_holds, defaults_kept, all_late_kept}

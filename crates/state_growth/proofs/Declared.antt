@@ -1,7 +1,7 @@
 -- Behind a declaration of variables, functions, names of types and enums stands what stood before it.
 use Rattle.std.proofs.Common.{◌≡◌, refl, ap, ℕ, Bool, true, false, List, [], ◌∷◌, ◌++◌, Option, Some, None, unwrap_or}
 use Rattle.std.specs.Prelude.{slice_set}
-use Rattle.std.specs.Prelude.{ℤ, pos, if◌then◌else◌, not, is_none, pos, slice_get, ◌||◌}
+use Rattle.std.specs.Prelude.{ℤ, pos, if◌then◌else◌, not, is_none, pos, slice_get}
 use Rattle.elab_rules.specs.cpp_types.Typ.{Typ, Form, func, enum}
 use Rattle.elab_rules.specs.cpp_types.declared.classes.At.{At}
 use Rattle.elab_rules.specs.cpp_lex.Tokens.{Lexeme}
@@ -11,22 +11,18 @@ use Rattle.elab_rules.specs.cpp_names.declared.entity.Entity.{Entity}
 use Rattle.elab_rules.specs.cpp_names.declared.entity.EntityKind.{EntityKind}
 use Rattle.elab_rules.specs.cpp_names.declared.entity.EntityKind.TheVariants as entities
 use Rattle.elab_rules.specs.cpp_tree.Notation.{plain}
-use Rattle.elab_rules.specs.elab_ctx.Ctx.{Ctx}
 use Rattle.elab_rules.specs.elab_ctx.Steps.{and_then, check, at_of, spelling, expect}
 use Rattle.elab_rules.specs.Types.{Declared, has_auto, type_named}
 use Rattle.elab_rules.specs.Statements.{State, name_of, bound_by_initialiser, is_own_name}
-use Rattle.elab_rules.specs.Functions.{Storage, Header, Placed, with_specifier, function_named, name_declared, declared_in, function_declared, agrees}
-use Rattle.elab_rules.specs.Functions.{dynamic_fits, first_from, header_sized, is_function_entity, is_same_function, main_fits, may_be_c}
+use Rattle.elab_rules.specs.Functions.{Storage, with_specifier, function_declared}
 use Rattle.elab_rules.specs.Globals.{PlacedGlobal, Enumerating, global_again, global_named, global_defined, global_declared_as, global_declared, alias_declared}
 use Rattle.elab_rules.specs.Globals.{named_enumerator, enumerator_made, enumerator_declared, enumerators_declared, enum_with, enum_declared, with_type}
 use Rattle.elab_rules.specs.Globals.{cells_of, enumerator_value, global_agrees, global_declarable, global_from, is_definition, is_trivial_class, type_agrees}
 use Rattle.elab_rules.specs.Units.{header_of, declared_of_type, file_declarator, file_declarators, file_declaration, alias_of}
-use Rattle.elab_rules.specs.Members.{declared_only}
 use Rattle.elab_rules.specs.cpp_tree.declared.faults.IllRule.TheVariants.{BadDeclaration, Incomplete, Narrowing, NotConstant, OutOfProfile, Redeclared}
-use Rattle.elab_rules.specs.Classes.{Begun, begun}
 use Rattle.elab_rules.specs.tx_ints.declared.kinds.IntKind.TheVariants.{Int}
 use Rattle.elab_rules.specs.Expressions.{chosen_operand, declared_by, expression_of, scope_name, type_id_of, type_of_specifiers}
-use Rattle.elab_rules.specs.Initialising.{class_number, func_at}
+use Rattle.elab_rules.specs.Initialising.{class_number}
 use Rattle.elab_rules.specs.Objects.{element_of}
 use Rattle.elab_rules.specs.cpp_tree.Typing.{form_in}
 use Rattle.elab_rules.specs.cpp_types.Class.{held}
@@ -37,21 +33,20 @@ use Rattle.elab_rules.specs.Sizes.{typ_sized}
 use Rattle.elab_rules.specs.tx_ints.Words.{word_of}
 use Rattle.elab_rules.specs.cpp_tree.Units.{Cell, Global}
 use Rattle.elab_rules.specs.elab_ctx.Ctx.{Work}
-use Rattle.elab_rules.specs.Braces.{is_char_array, item_of, string_object, string_token, syntax_place}
+use Rattle.elab_rules.specs.Braces.{is_char_array, string_object, string_token, syntax_place}
 use Rattle.elab_rules.specs.Expressions.{operands_of}
 use Rattle.elab_rules.specs.Globals.{new_global, no_global_storage, added_global, defined_global, global_object, from_expression}
 use Rattle.elab_rules.specs.Statements.{copy_initialised, default_object, directly_initialised}
 use Rattle.elab_rules.specs.Strings.{string_bytes}
-use Rattle.elab_rules.specs.elab_ctx.Steps.{Made, Typed, TypedAll}
 use Rattle.elab_fits.specs.Standing.{On}
 use Rattle.elab_growth.proofs.Growth.{same}
 use Rattle.setting_growth.specs.Growth.{GlobalsGrow}
 use Rattle.setting_growth.proofs.Settings.{classes_stay, slots_stay, globals_go_on}
 use Rattle.state_growth.proofs.Lists.{added, behind as at_front}
 use Rattle.state_growth.proofs.Numbers.{numbers_stay}
-use Rattle.state_growth.proofs.Steps.{Leaves, stays, after, funcs_stay, bind, skip, behind, of_state}
-use Rattle.state_growth.proofs.Works.{Grows, Mades, Types, TypesAll, grown, made_after, operand_grows, operands_grow, copy_grows, directly_grows, item_grows}
-use Rattle.state_growth.proofs.Members.{each_holds, each_leaves}
+use Rattle.state_growth.proofs.Steps.{Leaves, stays, funcs_stay, bind, skip, behind, of_state}
+use Rattle.state_growth.proofs.Works.{Grows, Mades, Types, TypesAll, made_after, operand_grows, operands_grow, copy_grows, directly_grows, item_grows}
+use Rattle.state_growth.proofs.Members.{each_leaves}
 use Rattle.state_growth.proofs.Outside.{Placing, function_further}
 use Rattle.state_growth.proofs.Changing.{globals_set, further_leaves}
 

@@ -1,14 +1,12 @@
 -- The laws of lambdas, statements and bodies.
-use Rattle.elab_rules.specs.cpp_types.Typ.{Typ}
 use Rattle.elab_rules.specs.Functions.{function_body, with_parameters, within_frame}
 use Rattle.elab_rules.specs.Lambdas.{lambdas_of}
-use Rattle.elab_rules.specs.Statements.{State, Done, Full, full_operand, statement_of, statements_of}
+use Rattle.elab_rules.specs.Statements.{Done, Full, full_operand, statement_of, statements_of}
 use Rattle.state_growth.proofs.Numbers.{numbers_go_on}
 use Rattle.state_growth.specs.States.{Goes, GoesOn, NumbersGoOn, LambdasGo, OperandsGo, ParametersGo, StatementGo, StatementsGo, BodiesGo}
 use Rattle.setting_growth.proofs.Settings.{classes_stay, classes_go_on, slots_stay, slots_go_on, globals_stay, globals_go_on}
 use Rattle.state_growth.specs.Settings.{UnitGrows, UnitsGoOn, StatesGoOn, BodiesLeft}
 use Rattle.state_growth.proofs.Steps.{Leaves, Ends, goes, weaken, skip, funcs_stay, funcs_go_on}
-use Rattle.state_growth.proofs.Items.{Lawful}
 use Rattle.state_growth.proofs.Statements.{full_kept, parameters_kept, statement_kept, statements_kept}
 use Rattle.state_growth.proofs.Bodies.{lambdas_lawful, function_kept}
 

@@ -1,6 +1,6 @@
 -- Behind the bodies of implicit members stands what stood before them.
-use Rattle.std.proofs.Common.{◌≡◌, refl, ℕ, zero, suc, Bool, List, [], ◌∷◌, length, Option, Some, None}
-use Rattle.std.specs.Prelude.{slice_get, ◌&&◌, if◌then◌else◌}
+use Rattle.std.proofs.Common.{refl, ℕ, zero, suc, Bool, List, [], ◌∷◌, length, Option, Some, None}
+use Rattle.std.specs.Prelude.{slice_get, ◌&&◌}
 use Rattle.elab_rules.specs.cpp_types.Typ.{Typ, class, Typs, none as no_typs, more as and_typ}
 use Rattle.elab_rules.specs.cpp_types.Class.{Member}
 use Rattle.elab_rules.specs.cpp_types.declared.classes.At.{At}
@@ -10,18 +10,18 @@ use Rattle.elab_rules.specs.cpp_tree.Notation.{plain}
 use Rattle.elab_rules.specs.cpp_tree.Trees.{Tree, none}
 use Rattle.elab_rules.specs.cpp_tree.Typing.{is_class_typ}
 use Rattle.elab_rules.specs.elab_ctx.Ctx.{Func}
-use Rattle.elab_rules.specs.elab_ctx.Steps.{and_then, Operand}
+use Rattle.elab_rules.specs.elab_ctx.Steps.{Operand}
 use Rattle.elab_rules.specs.Objects.{is_array}
 use Rattle.elab_rules.specs.Initialising.{as_source, class_from, func_at, signature_parameters}
 use Rattle.elab_rules.specs.Names.{members_in}
 use Rattle.elab_rules.specs.Calls.{base_of_class}
-use Rattle.elab_rules.specs.Statements.{State, Done, with_work}
+use Rattle.elab_rules.specs.Statements.{State, with_work}
 use Rattle.elab_rules.specs.Members.{as_base_of, in_object, parts_built, constructor_tree, destructor_tree}
 use Rattle.elab_rules.specs.Implicit.{own_operand, part_copied, part_of_source, members_copied, base_copied, parts_copied, with_source, source_object, source_const}
 use Rattle.elab_rules.specs.Implicit.{constructor_implied, body_implied, implied_of, implied, implied_below, with_implied, is_referred}
 use Rattle.elab_fits.specs.Standing.{On}
 use Rattle.elab_growth.proofs.Growth.{same}
-use Rattle.state_growth.proofs.Steps.{Leaves, stays, after, bind, skip, either, follow, of_state, of_done, Ends}
+use Rattle.state_growth.proofs.Steps.{Leaves, stays, after, bind, either, follow, of_state, of_done, Ends}
 use Rattle.state_growth.proofs.Items.{work_kept, item_kept}
 use Rattle.state_growth.proofs.Works.{Mades, class_grows}
 use Rattle.state_growth.proofs.Bodies.{made_kept}

@@ -1,5 +1,5 @@
 -- Steps that add items to the frame, and globals.
-use Rattle.std.proofs.Common.{◌≡◌, refl, ℕ, List, []}
+use Rattle.std.proofs.Common.{refl, ℕ, List}
 use Rattle.elab_rules.specs.cpp_types.Typ.{Typ}
 use Rattle.elab_rules.specs.cpp_lex.Tokens.{Lexeme}
 use Rattle.elab_rules.specs.cpp_ast.Trees as syntax

@@ -1,6 +1,4 @@
 -- What elab_fits says of trees holds still.
-use Rattle.std.proofs.Common.{◌≡◌}
-use Rattle.elab_rules.specs.cpp_types.Typ.{Typ, Form}
 use Rattle.elab_rules.specs.cpp_tree.declared.roles.Role.{Role}
 use Rattle.elab_rules.specs.cpp_tree.declared.roles.Role.TheVariants.{Value, Initialiser, CopyInit, Destruction}
 use Rattle.elab_rules.specs.cpp_tree.Trees.{Tree, Trees, none, more}

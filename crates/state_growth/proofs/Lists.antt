@@ -1,5 +1,5 @@
 -- What stands in a list stands in a longer one, in its place.
-use Rattle.std.proofs.Common.{◌≡◌, refl, sym, ap, ◌∙◌, ℕ, zero, suc, List, [], ◌∷◌, ◌++◌, map, length, take, slice_get, Option, Some, None, option_map}
+use Rattle.std.proofs.Common.{◌≡◌, sym, ap, ◌∙◌, ℕ, zero, suc, List, [], ◌∷◌, ◌++◌, map, length, take, slice_get, Some, option_map}
 use Rattle.std.proofs.lemmas.Option.{slice_get-map}
 use Rattle.setting_growth.proofs.Still.{mapped}
 

@@ -1,5 +1,5 @@
 -- Behind the body of a member, and behind an initialiser of a member, stands what stood before it.
-use Rattle.std.proofs.Common.{◌≡◌, refl, ℕ, suc, Bool, true, false, List, [], ◌∷◌, Option, Some, None, Result}
+use Rattle.std.proofs.Common.{refl, ℕ, suc, Bool, true, List, [], ◌∷◌, Option, Some, None, Result}
 use Rattle.std.specs.Prelude.{slice_get, is_none, not}
 use Rattle.elab_rules.specs.cpp_types.Typ.{Typ, void, class}
 use Rattle.elab_rules.specs.cpp_types.Class.{Member}
@@ -14,7 +14,7 @@ use Rattle.elab_rules.specs.cpp_tree.declared.program.FuncKind.TheVariants.{Plai
 use Rattle.elab_rules.specs.cpp_tree.Notation.{plain}
 use Rattle.elab_rules.specs.cpp_tree.Typing.{unqualified}
 use Rattle.elab_rules.specs.elab_ctx.Ctx.{Default}
-use Rattle.elab_rules.specs.elab_ctx.Steps.{and_then, check, expect, each_of, at_of, spelling}
+use Rattle.elab_rules.specs.elab_ctx.Steps.{check, expect, each_of, at_of, spelling}
 use Rattle.elab_rules.specs.Names.{members_in}
 use Rattle.elab_rules.specs.Calls.{base_of_class}
 use Rattle.elab_rules.specs.Types.{type_named}
@@ -24,13 +24,13 @@ use Rattle.elab_rules.specs.Expressions.{operands_of}
 use Rattle.elab_rules.specs.Statements.{State, Lambdas, with_work, all_lambdas, default_object, directly_initialised, statements_of, full_operand, copy_initialised}
 use Rattle.elab_rules.specs.Functions.{Header, with_parameters}
 use Rattle.elab_rules.specs.Classes.{Method, method_of, body_in}
-use Rattle.elab_rules.specs.Members.{Given, Giving, member_index, member_type, given_part, given_base, given_member, is_named_class, is_base_type, given_for}
+use Rattle.elab_rules.specs.Members.{Given, Giving, member_index, member_type, given_part, given_base, is_named_class, is_base_type, given_for}
 use Rattle.elab_rules.specs.Members.{for_part, given_by, all_given, default_built, base_built, member_built, members_built, parts_built, in_object}
 use Rattle.elab_rules.specs.Members.{this_type, constructor_body, destructor_body, method_body, default_value, default_made, default_for, default_of, defaults_of}
 use Rattle.elab_rules.specs.Members.{all_defaults, initialiser_in, place_of_header, late_method, late_function, late_of, all_late}
 use Rattle.elab_fits.specs.Standing.{On}
 use Rattle.elab_growth.proofs.Growth.{same}
-use Rattle.state_growth.proofs.Steps.{Seen, seen, Steps, Leaves, stays, after, bind, skip, behind, follow, of_done, of_full, Ends}
+use Rattle.state_growth.proofs.Steps.{seen, Steps, Leaves, stays, after, bind, skip, behind, follow, of_done, of_full, Ends}
 use Rattle.state_growth.proofs.Items.{Lawful, work_kept}
 use Rattle.state_growth.proofs.Works.{Mades, TypesAll, grown, items_added, operands_grow, directly_grows, copy_grows}
 use Rattle.state_growth.proofs.Statements.{statements_kept, parameters_kept, all_lambdas_kept, full_kept}

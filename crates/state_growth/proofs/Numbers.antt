@@ -1,13 +1,13 @@
 -- The numbers of complete classes: how many were complete before.
-use Rattle.std.proofs.Common.{◌≡◌, refl, sym, ap, ◌∙◌, subst, ℕ, zero, suc, ◌+◌, ◌<◌, ◌≤◌, List, [], ◌∷◌, ◌++◌, slice_get, Option, Some, None, is_some, cond}
-use Rattle.std.proofs.Common.{option_and_then, arith}
+use Rattle.std.proofs.Common.{◌≡◌, refl, sym, ap, ◌∙◌, subst, ℕ, zero, suc, ◌+◌, ◌<◌, ◌≤◌, List, [], ◌∷◌, ◌++◌, Option, Some, None, is_some, cond}
+use Rattle.std.proofs.Common.{arith}
 use Rattle.std.specs.Prelude.{count_by, slice_set}
 use Rattle.std.proofs.lemmas.List.Sums.{sum_by-cons}
 use Rattle.std.proofs.lemmas.Option.{same_Some}
 use Rattle.elab_rules.specs.cpp_types.Class.{Class, CompleteBelow, completion_of}
 use Rattle.elab_rules.specs.Classes.{is_completed}
 use Rattle.setting_growth.specs.Growth.{ClassesGrow}
-use Rattle.setting_growth.proofs.Classes.{Known, known_by, completion_is, completion_same}
+use Rattle.setting_growth.proofs.Classes.{known_by, completion_same}
 use Rattle.state_growth.specs.States.{NumbersGrow}
 
 abbrev many : List Class → ℕ

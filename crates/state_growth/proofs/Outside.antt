@@ -1,5 +1,5 @@
 -- Functions that are declared and defined, in their class or outside: what stood before stands behind them.
-use Rattle.std.proofs.Common.{◌≡◌, refl, ap, ◌∙◌, subst, ℕ, Bool, true, false, List, [], ◌∷◌, ◌++◌, Option, Some, None, unwrap_or}
+use Rattle.std.proofs.Common.{◌≡◌, refl, ap, subst, ℕ, Bool, true, false, List, [], ◌∷◌, ◌++◌, Option, Some, None, unwrap_or}
 use Rattle.std.specs.Prelude.{slice_get, slice_set, not, ◌||◌, if◌then◌else◌}
 use Rattle.std.specs.List.{list_any}
 use Rattle.elab_rules.specs.cpp_types.declared.classes.At.{At}
@@ -10,17 +10,17 @@ use Rattle.elab_rules.specs.cpp_names.declared.entity.Entity.{Entity}
 use Rattle.elab_rules.specs.cpp_tree.declared.faults.IllRule.TheVariants.{BadDeclaration, NoMember, OutOfProfile, Redeclared, TypeDiffers}
 use Rattle.elab_rules.specs.cpp_tree.declared.program.FuncKind.{FuncKind}
 use Rattle.elab_rules.specs.elab_ctx.Ctx.{Ctx, Func}
-use Rattle.elab_rules.specs.elab_ctx.Steps.{and_then, check, expect}
+use Rattle.elab_rules.specs.elab_ctx.Steps.{check, expect}
 use Rattle.elab_rules.specs.Initialising.{func_at, no_function}
 use Rattle.elab_rules.specs.Statements.{State, Lambdas}
 use Rattle.elab_rules.specs.Functions.{Storage, Header, Placed, new_function, is_same_function, first_from, agrees, is_function_entity, function_named}
 use Rattle.elab_rules.specs.Functions.{name_declared, declared_in, main_fits, may_be_c, dynamic_fits, header_sized, text_sized, function_declared}
-use Rattle.elab_rules.specs.Functions.{defined_function, with_definition, function_body}
+use Rattle.elab_rules.specs.Functions.{defined_function, with_definition}
 use Rattle.elab_rules.specs.Classes.{Method, Started, started_from, body_in, last_token, token_end}
 use Rattle.elab_rules.specs.Members.{outside_linkage, outside_text, linked_definition, outside_defined, outside_body, outside_words, is_member_named}
-use Rattle.elab_rules.specs.Members.{outside_agrees, outside_method, outside_with, outside_started, member_defined, method_body}
+use Rattle.elab_rules.specs.Members.{outside_agrees, outside_method, outside_with, member_defined, method_body}
 use Rattle.elab_fits.specs.Standing.{On}
-use Rattle.state_growth.specs.Settings.{SameDeclared, DeclaredGrow}
+use Rattle.state_growth.specs.Settings.{SameDeclared}
 use Rattle.state_growth.proofs.Steps.{Leaves, funcs_stay, funcs_go_on, bind, skip, behind}
 use Rattle.state_growth.proofs.Items.{Lawful}
 use Rattle.state_growth.proofs.Bodies.{funcs_added}

@@ -1,5 +1,5 @@
 -- Programs, unit by unit.
-use Rattle.std.proofs.Common.{◌≡◌, refl, sym, subst, ℕ, suc, List, [], ◌∷◌, ◌++◌, slice_get, Some, Result, Ok, Err}
+use Rattle.std.proofs.Common.{sym, subst, ℕ, suc, List, [], ◌∷◌}
 use Rattle.elab_rules.specs.cpp_types.Typ.{Typ}
 use Rattle.elab_rules.specs.cpp_tree.Rows.{Setting}
 use Rattle.elab_rules.specs.cpp_tree.Units.{TypedProgram}
@@ -7,14 +7,13 @@ use Rattle.elab_rules.specs.elab_ctx.Ctx.{Traits}
 use Rattle.elab_rules.specs.Programs.{Source, start_behind, with_unit, unit_shown, program_from, typed_funcs}
 use Rattle.elab_rules.specs.Statements.{State}
 use Rattle.elab_rules.specs.Units.{unit_from}
-use Rattle.elab_fits.specs.Standing.{On}
 use Rattle.setting_growth.specs.Growth.{Grows}
 use Rattle.setting_growth.proofs.Bodies.{body_law}
 use Rattle.setting_growth.proofs.Settings.{classes_stay, classes_go_on, slots_stay, slots_go_on, funcs_stay, globals_stay, frame_stays, goes_on_law}
 use Rattle.state_growth.specs.Programs.{unit_setting, ProgramGrows, ProgramsGo, ProgramsShow, BodiesStay}
 use Rattle.state_growth.specs.Settings.{setting_at, shown_setting}
 use Rattle.state_growth.proofs.Settings.{left_law, shown_law}
-use Rattle.state_growth.specs.States.{Gone, IsTidy}
+use Rattle.state_growth.specs.States.{Gone}
 use Rattle.state_growth.proofs.Lists.{added}
 use Rattle.state_growth.proofs.Numbers.{numbers_stay, numbers_go_on}
 use Rattle.state_growth.proofs.Steps.{bind, weaken}

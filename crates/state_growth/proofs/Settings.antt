@@ -2,16 +2,14 @@
 use Rattle.std.proofs.Common.{◌≡◌, refl, sym, ap, ◌∙◌, subst, ℕ, zero, suc, ◌≤◌, List, [], ◌∷◌, map, length, take, slice_get, Option, Some, None, option_and_then, arith}
 use Rattle.std.proofs.lemmas.List.{length-take}
 use Rattle.std.proofs.lemmas.Option.{same_Some, none-some}
-use Rattle.elab_rules.specs.cpp_types.Typ.{Typ, Signature}
-use Rattle.elab_rules.specs.cpp_types.Class.{Class, Function, InOrder}
-use Rattle.elab_rules.specs.cpp_tree.Units.{Func as UnitFunc, Global, SlotFunc}
-use Rattle.elab_rules.specs.elab_ctx.Ctx.{Ctx, Work, Func}
+use Rattle.elab_rules.specs.cpp_types.Class.{Class, Function}
+use Rattle.elab_rules.specs.cpp_tree.Units.{Func as UnitFunc, SlotFunc}
+use Rattle.elab_rules.specs.elab_ctx.Ctx.{Func}
 use Rattle.elab_rules.specs.Statements.{State}
 use Rattle.elab_rules.specs.Programs.{typed_func, typed_funcs, body_of}
-use Rattle.elab_growth.specs.Growth.{Follows}
-use Rattle.setting_growth.specs.Growth.{ClassesGrow, SlotsGrow, slot_at, SameFunc, HasFunc, FuncsGrow, GlobalsGrow, FrameGrows, Grows}
-use Rattle.setting_growth.proofs.Settings.{classes_stay, slots_stay, funcs_stay, globals_stay, frame_stays}
-use Rattle.state_growth.specs.Settings.{shown, setting_at, shown_setting, SameDeclared, HasDeclared, DeclaredGrow, UnitGrows, StateGrows}
+use Rattle.setting_growth.specs.Growth.{slot_at, SameFunc, HasFunc, FuncsGrow}
+use Rattle.setting_growth.proofs.Settings.{classes_stay, slots_stay, funcs_stay, globals_stay}
+use Rattle.state_growth.specs.Settings.{shown, SameDeclared, DeclaredGrow}
 use Rattle.state_growth.specs.Settings.{SettingsStand, WorksReached, WorksGrow, SettingsGrow, LeftGrow, ShownGrow, BegunGrow}
 use Rattle.state_growth.proofs.Lists.{begun, at_map, from_map}
 

@@ -1,17 +1,17 @@
 -- Steps of elaboration: what they keep of what settings show.
-use Rattle.std.proofs.Common.{◌≡◌, refl, sym, ap, ◌∙◌, ℕ, ◌≤◌, Bool, true, false, List, ◌++◌, length, slice_get, Some, None, Result, Ok, Err, arith, rules}
+use Rattle.std.proofs.Common.{◌≡◌, refl, ◌∙◌, ℕ, Bool, true, false, List, length, slice_get, Some, None, Result, Ok, Err}
 use Rattle.std.specs.Prelude.{if◌then◌else◌}
 use Rattle.elab_rules.specs.cpp_types.Typ.{Typ}
 use Rattle.elab_rules.specs.cpp_types.Class.{Class, completion_of}
 use Rattle.elab_rules.specs.cpp_tree.Units.{Global, SlotFunc}
 use Rattle.elab_rules.specs.cpp_tree.declared.faults.ElabFault.{ElabFault}
-use Rattle.elab_rules.specs.elab_ctx.Ctx.{Work, Func}
+use Rattle.elab_rules.specs.elab_ctx.Ctx.{Func}
 use Rattle.elab_rules.specs.elab_ctx.Steps.{and_then}
 use Rattle.elab_rules.specs.Statements.{State, Done, Full}
 use Rattle.elab_fits.specs.Standing.{On}
 use Rattle.setting_growth.specs.Growth.{ClassesGrow, SlotsGrow, GlobalsGrow, slot_at}
 use Rattle.setting_growth.proofs.Settings.{classes_stay, classes_go_on, slots_stay, slots_go_on, globals_stay, globals_go_on}
-use Rattle.state_growth.specs.Settings.{SameDeclared, HasDeclared, DeclaredGrow, UnitGrows, StateGrows}
+use Rattle.state_growth.specs.Settings.{DeclaredGrow, UnitGrows, StateGrows}
 use Rattle.state_growth.specs.States.{NumbersGrow, IsTidy, Goes}
 use Rattle.state_growth.proofs.Numbers.{numbers_stay, numbers_go_on}
 use Rattle.elab_rules.specs.Classes.{is_completed}

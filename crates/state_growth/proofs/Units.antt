@@ -1,5 +1,5 @@
 -- Declarations and whole units.
-use Rattle.std.proofs.Common.{◌≡◌, refl, ap, ◌∙◌, option_and_then, ℕ, Bool, true, false, List, [], length, Option, Some, None, Result, Ok, Err}
+use Rattle.std.proofs.Common.{refl, ap, ◌∙◌, option_and_then, ℕ, Bool, true, false, List, Some, None}
 use Rattle.elab_rules.specs.cpp_types.Typ.{Typ, Form, func}
 use Rattle.elab_rules.specs.cpp_types.declared.classes.At.{At}
 use Rattle.elab_rules.specs.cpp_lex.Tokens.{Lexeme}
@@ -14,18 +14,18 @@ use Rattle.elab_rules.specs.Types.{Declared}
 use Rattle.elab_rules.specs.Strings.{string_bytes}
 use Rattle.elab_rules.specs.Expressions.{type_of_specifiers, declared_by}
 use Rattle.elab_rules.specs.Statements.{State}
-use Rattle.elab_rules.specs.Functions.{Storage, Header, Placed, no_storage, with_specifier, function_declared, function_body, with_definition, text_sized}
+use Rattle.elab_rules.specs.Functions.{Storage, Header, no_storage, with_specifier, function_declared, function_body, with_definition, text_sized}
 use Rattle.elab_rules.specs.Implicit.{with_implied}
 use Rattle.elab_rules.specs.Lambdas.{lambdas_of}
 use Rattle.elab_rules.specs.Units.{header_of, definition_text, closing_offset, is_qualified, defined_with, defined_by, function_defined, is_c, declaration_of}
-use Rattle.elab_rules.specs.Units.{declarations_of, unit_from, start}
+use Rattle.elab_rules.specs.Units.{declarations_of}
 use Rattle.elab_fits.specs.Standing.{On}
-use Rattle.state_growth.specs.States.{IsTidy, Gone, DeclarationsGo, UnitsGo, UnitsBegin, HeldBefore}
+use Rattle.state_growth.specs.States.{Gone, DeclarationsGo, UnitsGo, UnitsBegin, HeldBefore}
 use Rattle.state_growth.proofs.Numbers.{earlier_below}
 use Rattle.elab_rules.specs.cpp_types.Class.{Class}
-use Rattle.state_growth.proofs.Steps.{Leaves, stays, bind, skip, behind, of_state, weaken, state_grows, is_tidy, to_tidy}
+use Rattle.state_growth.proofs.Steps.{Leaves, bind, skip, behind, of_state, weaken, state_grows, is_tidy, to_tidy}
 use Rattle.state_growth.proofs.Bodies.{function_kept, lambdas_lawful}
-use Rattle.state_growth.proofs.Changing.{From, begin, since, leaves_from, Further, further_on, further_leaves}
+use Rattle.state_growth.proofs.Changing.{From, begin, leaves_from, further_on, further_leaves}
 use Rattle.state_growth.proofs.Classes.{declared_kept, class_from}
 use Rattle.state_growth.proofs.Declared.{declaration_kept, aliases_kept, enum_kept}
 use Rattle.state_growth.proofs.Implied.{implied_kept}

@@ -1,49 +1,32 @@
 -- Initialisers add items of the frame and globals at the end.
 use Rattle.std.proofs.Common.{refl, sym, append-nil, ◌++◌, ◌-◌, drop, ℕ, zero, suc, Bool, true, false, List, [], ◌∷◌, Option, Some, None, Result, Ok, Err}
-use Rattle.std.specs.Prelude.{slice_get, not, ◌&&◌, ◌||◌, is_some, codes, if◌then◌else◌}
-use Rattle.std.specs.Str.{bytes_eq}
-use Rattle.elab_rules.specs.cpp_types.Typ.{Typ, typ, Form, void, ptr, ref, array, func, class, closure, tx_ex, Signature, Typs, none as no_typs}
+use Rattle.std.specs.Prelude.{slice_get, not, ◌&&◌, is_some, if◌then◌else◌}
+use Rattle.elab_rules.specs.cpp_types.Typ.{Typ, typ, Form, ref, array, class, closure, tx_ex, Typs, none as no_typs}
 use Rattle.elab_rules.specs.cpp_types.Typ.{more as and_typ}
 use Rattle.elab_rules.specs.cpp_types.Class.{Member}
 use Rattle.elab_rules.specs.cpp_types.declared.classes.At.{At}
-use Rattle.elab_rules.specs.cpp_types.declared.ranks.Binding.{Binding}
-use Rattle.elab_rules.specs.cpp_types.declared.ranks.Binding.TheVariants.{Value, Direct, Temporary}
-use Rattle.elab_rules.specs.cpp_types.declared.ranks.Step.{Step}
-use Rattle.elab_rules.specs.cpp_types.declared.ranks.Cat.TheVariants.{Lvalue}
 use Rattle.elab_rules.specs.cpp_lex.Tokens.{Lexeme}
-use Rattle.elab_rules.specs.cpp_ast.declared.kinds.NodeKind.{NodeKind}
 use Rattle.elab_rules.specs.cpp_ast.declared.kinds.NodeKind.TheVariants as k
 use Rattle.elab_rules.specs.cpp_ast.Trees as syntax
-use Rattle.elab_rules.specs.cpp_tree.declared.kinds.TKind.{TKind}
-use Rattle.elab_rules.specs.cpp_tree.declared.kinds.TKind.TheVariants as forms
-use Rattle.elab_rules.specs.cpp_tree.declared.kinds.Builtin.{Builtin}
 use Rattle.elab_rules.specs.cpp_tree.declared.faults.ElabFault.{ElabFault}
-use Rattle.elab_rules.specs.cpp_tree.Trees.{Tree, node, Trees, none, more, one, typ_in, cat_of}
-use Rattle.elab_rules.specs.cpp_tree.Typing.{form_in, unqualified, is_void, is_class_typ, is_class_prvalue, is_volatile_typ, kind_in, qualified}
-use Rattle.elab_rules.specs.cpp_tree.Typing.{without_exception, is_reference}
-use Rattle.elab_rules.specs.elab_ctx.Ctx.{Ctx, Work, Closure, Capture, Default, with_item}
-use Rattle.elab_rules.specs.elab_ctx.Steps.{and_then, Operand, Made, MadeAll, Typed, TypedAll, at_of, spelling, token_place, check, expect, value_at}
-use Rattle.elab_rules.specs.Objects.{Part, parts_of, traits_at}
-use Rattle.elab_rules.specs.Initialising.{object_of, bound_by, initial, is_prvalue_of_class, parameters_at, reference_word, constructed_copy, constructor_at}
+use Rattle.elab_rules.specs.cpp_tree.Trees.{Tree, typ_in, cat_of}
+use Rattle.elab_rules.specs.cpp_tree.Typing.{form_in, unqualified, is_class_typ, is_class_prvalue, is_volatile_typ, qualified}
+use Rattle.elab_rules.specs.cpp_tree.Typing.{without_exception}
+use Rattle.elab_rules.specs.elab_ctx.Ctx.{Ctx, Work, Default, with_item}
+use Rattle.elab_rules.specs.elab_ctx.Steps.{and_then, Operand, Made, MadeAll, Typed, TypedAll, at_of, spelling, check, expect}
+use Rattle.elab_rules.specs.Objects.{traits_at}
+use Rattle.elab_rules.specs.Initialising.{object_of, initial, is_prvalue_of_class, parameters_at, reference_word, constructed_copy, constructor_at}
 use Rattle.elab_rules.specs.Initialising.{copied_object, class_from, passed, words, constructed_by, is_prvalue_itself, constructed, only, scalar_from}
-use Rattle.elab_rules.specs.Initialising.{exception_from, is_exception_itself, from_values, func_at, argument, arguments, class_number, conversion}
-use Rattle.elab_rules.specs.Initialising.{is_written_exception, is_given_value, is_other_prvalue, object_operand, exact_object}
-use Rattle.elab_rules.specs.Initialising.{from_nothing, has_copy, is_same_or_base, makeable, makers, meant, places_from, same_number, signature_result}
-use Rattle.elab_rules.specs.Initialising.{with_tree, as_source, signature_parameters, is_closure_itself}
-use Rattle.elab_rules.specs.Operators.{value, throws, is_volatile_scalar, is_read_when_dropped, dropped, copy_assigned, class_assigned_in, assignment}
-use Rattle.elab_rules.specs.Operators.{same_lvalues, both_of_class, two_objects, same_work, branches, conditional, value_form, assigned, step, target, truth}
-use Rattle.elab_rules.specs.Operators.{compound, compound_operator, same_object, subscript, two_values, settled, comma}
-use Rattle.elab_rules.specs.Operators.{common_class, is_shared, is_assignable_form}
-use Rattle.elab_rules.specs.Names.{is_tx_exception, member_access, class_member, exception_member, is_free, is_method, resolved, is_const_typ}
-use Rattle.elab_rules.specs.Names.{is_volatile_object, members_in, named, offset_at, this_tree}
-use Rattle.elab_rules.specs.Casts.{is_numeric, scalar_cast, cast_in, cast, functional, throw_object, throw_in, throw, string_global, is_thrown_scalar}
-use Rattle.elab_rules.specs.Casts.{within_exception, as_expression, size_literal}
-use Rattle.elab_rules.specs.Calls.{called, call_free, call_method_of, call_method, call_get, call_closure, call_pointer, call_value, call_abort, call_form}
-use Rattle.elab_rules.specs.Calls.{call, best_of, complete_result, is_closure_call, is_main, value_type, as_object, call_kind, member_kind}
+use Rattle.elab_rules.specs.Initialising.{exception_from, is_exception_itself, from_values, argument, arguments, class_number, conversion}
+use Rattle.elab_rules.specs.Initialising.{is_given_value, is_other_prvalue, object_operand, exact_object}
+use Rattle.elab_rules.specs.Initialising.{from_nothing, has_copy, is_same_or_base, makeable, makers, meant, same_number}
+use Rattle.elab_rules.specs.Initialising.{is_closure_itself}
+use Rattle.elab_rules.specs.Operators.{throws, is_volatile_scalar, is_read_when_dropped, dropped}
+use Rattle.elab_rules.specs.Names.{is_const_typ}
+use Rattle.elab_rules.specs.Names.{is_volatile_object, members_in, offset_at}
 use Rattle.elab_rules.specs.Strings.{string_bytes}
-use Rattle.elab_rules.specs.Expressions.{an_operand, a_tree, chosen_operand, leaf_of, assignment_of, row_of, leaf_or_row, captured_value, captured}
-use Rattle.elab_rules.specs.Expressions.{captured_pieces, closure_object, expression_with, operands_with, expression_of, operands_of, capture_source}
-use Rattle.elab_rules.specs.Expressions.{closure_at, pointed_operand, specified_with, type_id_with, written_type, operator_of, postfix_operator, qualified_name, unary_of}
+use Rattle.elab_rules.specs.Expressions.{chosen_operand}
+use Rattle.elab_rules.specs.Expressions.{expression_of, operands_of}
 use Rattle.elab_rules.specs.Braces.{is_char_array, string_token, is_aggregate_class, is_object_of, item_in, not_narrowed, default_member, rest_piece}
 use Rattle.elab_rules.specs.Braces.{rest_members, with_piece, rest_in, item_expression, item_of, items_of, braceable, is_not_narrowed, part_in, string_object}
 use Rattle.elab_rules.specs.Braces.{syntax_place, default_at, this_of, tree_place}
@@ -51,15 +34,12 @@ use Rattle.elab_rules.specs.Statements.{bound_reference, copy_initialised, direc
 use Rattle.elab_fits.specs.Standing.{On}
 use Rattle.elab_growth.proofs.Growth.{Behind, Holds, same, after, initial as initial_holds, chosen as chosen_holds, expression, operands}
 use Rattle.state_growth.proofs.Steps.{bind, skip, either}
-use Rattle.elab_rules.specs.cpp_tree.declared.faults.IllRule.TheVariants.{BadInit, BadMain, BadOperand, BadThrow, Narrowing, NoConversion, NoCopy, NoViable}
-use Rattle.elab_rules.specs.cpp_tree.declared.faults.IllRule.TheVariants.{NotCallable, NotTriviallyCopyable, OutOfProfile}
+use Rattle.elab_rules.specs.cpp_tree.declared.faults.IllRule.TheVariants.{BadInit, Narrowing, NoConversion, NoCopy, NoViable}
+use Rattle.elab_rules.specs.cpp_tree.declared.faults.IllRule.TheVariants.{OutOfProfile}
 use Rattle.elab_rules.specs.cpp_overload.Choosing.{chosen}
 use Rattle.elab_rules.specs.cpp_types.Equal.{form_eq}
-use Rattle.elab_rules.specs.cpp_lex.Ints.{int_type_of}
-use Rattle.elab_rules.specs.Types.{no_specifiers, specified_type}
 use Rattle.elab_rules.specs.cpp_tree.Notation.{plain}
-use Rattle.elab_rules.specs.tx_ints.declared.kinds.BinOp.{BinOp}
-use Rattle.elab_rules.specs.Values.{part_at, valued, builder}
+use Rattle.elab_rules.specs.Values.{part_at, builder}
 
 -- what is made stands behind what was made
 abbrev pub Grows : Work → Work → Type 0

@@ -1,5 +1,4 @@
 -- What elab_fits says of trees holds still where the setting has grown.
-use Rattle.std.specs.Prelude.{◌≡◌}
 use Rattle.elab_rules.specs.cpp_types.Typ.{Typ, Form}
 use Rattle.elab_rules.specs.cpp_tree.declared.roles.Role.{Role}
 use Rattle.elab_rules.specs.cpp_tree.Trees.{Tree, Trees}
