@@ -1,0 +1,17 @@
+//! Laws of places of the frame. A function here does nothing: its clauses are the laws.
+
+ghost use Rattle.elab_places.specs.Places.{ExpressionsOwn, OperandsOwn, InitialsOwn, ClassObjectsOwn, ValuesOwn, WordsOwn};
+
+/// What an expression and several operands own.
+pub fn expressions()
+    ensures expressions { ExpressionsOwn }
+    ensures operands { OperandsOwn }
+{}
+
+/// What is made of operands owns what they own, and what was added for it.
+pub fn initials()
+    ensures initials { InitialsOwn }
+    ensures objects { ClassObjectsOwn }
+    ensures values { ValuesOwn }
+    ensures words { WordsOwn }
+{}
