@@ -1,15 +1,19 @@
 pub use Rattle.elab_rules.proofs as elab_rules
+pub mod Bodies
 pub mod Braces
 pub mod Calls
 pub mod Choices
 pub mod Counting
+pub mod Declaring
 pub mod Expressions
 pub mod Initials
 pub mod Names
 pub mod OfExpressions
+pub mod OfStatements
 pub mod Operators
 pub mod Owned
 pub mod Parts
 pub mod Relocated
+pub mod Statements
 pub mod Steps
 pub mod Values

@@ -1,5 +1,6 @@
 //! Laws of places of the frame. A function here does nothing: its clauses are the laws.
 
+ghost use Rattle.elab_places.specs.Bodies.{ItemsOwn, StatementsOwn, BlocksOwn, HandlersOwn};
 ghost use Rattle.elab_places.specs.Places.{ExpressionsOwn, OperandsOwn, InitialsOwn, ClassObjectsOwn, ValuesOwn, WordsOwn};
 
 /// What an expression and several operands own.
@@ -14,4 +15,12 @@ pub fn initials()
     ensures objects { ClassObjectsOwn }
     ensures values { ValuesOwn }
     ensures words { WordsOwn }
+{}
+
+/// What braces and statements own.
+pub fn statements()
+    ensures items { ItemsOwn }
+    ensures statements { StatementsOwn }
+    ensures blocks { BlocksOwn }
+    ensures handlers { HandlersOwn }
 {}
