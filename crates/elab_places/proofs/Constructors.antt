@@ -173,7 +173,7 @@ module _ (p : ℕ) where
     pub own : DefaultsOwn d.state.ctx.defaults
 
   -- an object that is told by its address
-  part_init : (c : Ctx) (at q : At) (t : Typ) (object e : Tree) → local_count (place p) (kind_of object) ≡ 0 → held (place p) object ≡ 0
+  pub part_init : (c : Ctx) (at q : At) (t : Typ) (object e : Tree) → local_count (place p) (kind_of object) ≡ 0 → held (place p) object ≡ 0
       → held (place p) (Members.part_init c at q t object e) ≤ held (place p) e
   part_init c at q t object e h i = let d = declared_none p in let r = parts.destroys (place p) c at t in omega arith
 

@@ -3,10 +3,13 @@ pub mod Bodies
 pub mod Braces
 pub mod Calls
 pub mod Choices
+pub mod Constructors
 pub mod Counting
 pub mod Declaring
 pub mod Expressions
+pub mod Implied
 pub mod Initials
+pub mod Lambdas
 pub mod Names
 pub mod OfExpressions
 pub mod OfStatements

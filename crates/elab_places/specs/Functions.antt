@@ -51,14 +51,17 @@ DestructorBodiesOwn = (lams : Lambdas) → LeavesFrame lams → (s : List Lexeme
     → DefaultsOwn st.ctx.defaults → destructor_body lams s st h n func t ≡ Ok x → MakesBody 1 func st x
 
 -- the parameter of an implicit member: that of a copy
-abbrev pub source_words : FuncKind → Typs → ℕ
-source_words Destructor ps = 0
-source_words kind (and_typ t ps) = 1
-source_words kind no_typs = 0
+abbrev pub copy_words : Typs → ℕ
+copy_words (and_typ t ps) = 1
+copy_words no_typs = 0
+
+abbrev pub implied_words : FuncKind → Typs → ℕ
+implied_words Destructor ps = 1
+implied_words kind ps = 1 + copy_words ps
 
 abbrev pub ImpliedBodiesOwn : Type 0
 ImpliedBodiesOwn = (st : State) (at : At) (func n : ℕ) (kind : FuncKind) (ps : Typs) (x : State) → DefaultsOwn st.ctx.defaults
-    → body_implied st at func n kind ps ≡ Ok x → MakesBody (1 + source_words kind ps) func st x
+    → body_implied st at func n kind ps ≡ Ok x → MakesBody (implied_words kind ps) func st x
 
 -- the call of a lambda, whose object is of its own class
 abbrev pub LambdaBodiesOwn : Type 0
