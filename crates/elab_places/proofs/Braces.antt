@@ -55,8 +55,11 @@ module _ (g : Sought) where
 
   byte_pieces : (t : Typ) (at : At) (i : ℕ) (bs : List ℕ) → all_held g (Braces.byte_pieces t at i bs) ≡ 0
   byte_pieces t at i [] = refl
-  byte_pieces t at i (b ∷ bs) = omega (arith, byte_pieces t at (suc i) bs,
-      parts.stored g at t (node (Literal (Braces.byte_word (kind_in (form_in t)) b)) (unqualified t) Prvalue at none))
+  byte_pieces t at i (b ∷ bs) = omega (
+    arith,
+    byte_pieces t at (suc i) bs,
+    parts.stored g at t (node (Literal (Braces.byte_word (kind_in (form_in t)) b)) (unqualified t) Prvalue at none),
+  )
 
   zero_rest : (c : Ctx) (t : Typ) (at : At) (i n : ℕ) → all_held g (Braces.zero_rest c t at i n) ≡ 0
   zero_rest c t at i zero = refl
@@ -68,8 +71,12 @@ module _ (g : Sought) where
 
   pub string_object : (c : Ctx) (t : Typ) (at : At) (bytes : List ℕ) → On (names.Bare g) (Braces.string_object c t at bytes)
   string_object c (typ (array e n) d v) at bytes = skip (names.Bare g) (check at BadInit (nat_lt (length bytes) n)) _
-      (λ y. omega (arith, followed (Braces.byte_pieces e at 0 bytes) (Braces.zero_rest c e at (length bytes) (n - length bytes)),
-      byte_pieces e at 0 bytes, zero_rest c e at (length bytes) (n - length bytes)))
+      (λ y. omega (
+        arith,
+        followed (Braces.byte_pieces e at 0 bytes) (Braces.zero_rest c e at (length bytes) (n - length bytes)),
+        byte_pieces e at 0 bytes,
+        zero_rest c e at (length bytes) (n - length bytes),
+      ))
   string_object c t at bytes = tt
 
   -- Pieces

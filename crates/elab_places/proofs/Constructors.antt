@@ -112,7 +112,7 @@ module _ (p : ℕ) where
   first_given i [] = omega arith
   first_given i (x ∷ gs) = let q = picked (Members.same_part (Some i) x.member) x (Members.given_for (Some i) gs) in
       let r = one_first i x.member (held (place p) x.tree) (given_from (suc i) gs) (given_from i gs) (found_held (Members.given_for (Some i) gs))
-          (first_given i gs) in omega arith
+      (first_given i gs) in omega arith
 
   base_given : (gs : List Given) → found_held (Members.given_for None gs) + given_from 0 gs ≤ given_all gs
   base_given [] = omega arith
@@ -259,7 +259,7 @@ module _ (p : ℕ) where
       let e = deferred_if at (own_part c.classes n at (offset_at c.classes n i) m.typ) (Objects.destroys c at m.typ) refl d in
       let r = members_deferred c at n (suc i) ms in
       let f = parts.followed (place p) (Members.deferred_if at (own_part c.classes n at (offset_at c.classes n i) m.typ) (Objects.destroys c at m.typ))
-          (Members.members_deferred c at n (suc i) ms) in omega arith
+      (Members.members_deferred c at n (suc i) ms) in omega arith
 
   pub destructor_held : (c : Ctx) (at q : At) (n : ℕ) (ts : Trees) → held (place p) (Members.destructor_tree c at q n ts) ≡ all_held (place p) ts
   destructor_held c at q n ts =
@@ -267,10 +267,10 @@ module _ (p : ℕ) where
       let d = members_deferred c at n 0 (members_in (slice_get c.classes n)) in
       let u = parts.followed (place p) (Members.members_deferred c at n 0 (members_in (slice_get c.classes n))) (one (statement (forms.Block false) q ts)) in
       let v = parts.followed (place p) (Members.base_deferred c at n (base_of_class (slice_get c.classes n)))
-          (followed_by (Members.members_deferred c at n 0 (members_in (slice_get c.classes n))) (one (statement (forms.Block false) q ts))) in
+      (followed_by (Members.members_deferred c at n 0 (members_in (slice_get c.classes n))) (one (statement (forms.Block false) q ts))) in
       let w = parts.followed (place p) (Members.pointer_stored at n (pointer_offset c.classes n))
-          (followed_by (Members.base_deferred c at n (base_of_class (slice_get c.classes n)))
-          (followed_by (Members.members_deferred c at n 0 (members_in (slice_get c.classes n))) (one (statement (forms.Block false) q ts)))) in omega arith
+      (followed_by (Members.base_deferred c at n (base_of_class (slice_get c.classes n)))
+      (followed_by (Members.members_deferred c at n 0 (members_in (slice_get c.classes n))) (one (statement (forms.Block false) q ts)))) in omega arith
 
 -- Bodies
 

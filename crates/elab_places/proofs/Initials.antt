@@ -56,8 +56,12 @@ module _ (g : Sought) where
   bound c w Direct s t at e = of_object c w at e (Initialising.seen_as at (referred t)) (λ x. values.seen_as g at (referred t) x)
   bound c w Temporary s t at e = temporary (held g e) w (unqualified (referred t)) at
       (Values.stored at (unqualified (referred t)) (Values.stepped at s (referred t) (Values.valued at e))) none
-      (omega (arith, parts.stored g at (unqualified (referred t)) (Values.stepped at s (referred t) (Values.valued at e)),
-      values.stepped g at s (referred t) (Values.valued at e), values.valued g at e)) refl
+      (omega (
+        arith,
+        parts.stored g at (unqualified (referred t)) (Values.stepped at s (referred t) (Values.valued at e)),
+        values.stepped g at s (referred t) (Values.valued at e),
+        values.valued g at e,
+      )) refl
 
   pub initial : (c : Ctx) (w : Work) (t : Typ) (o : Operand) → On (Gives g (held g o.tree) w) (Initialising.initial c w t o)
   initial c w t o = skip (Gives g (held g o.tree) w) (expect o.at NoConversion (Initialising.conversion c t o)) _

@@ -6,6 +6,7 @@ pub mod Choices
 pub mod Constructors
 pub mod Counting
 pub mod Declaring
+pub mod Defaults
 pub mod Expressions
 pub mod Implied
 pub mod Initials
@@ -20,3 +21,4 @@ pub mod Relocated
 pub mod Statements
 pub mod Steps
 pub mod Values
+pub mod Words

@@ -72,8 +72,12 @@ module _ (g : Sought) where
   moved_back c at t a b = omega (arith, value b, scaled c at t a)
 
   difference : (c : Ctx) (at : At) (t : Typ) (a b : Operand) → Both a b (Operators.difference c at t a b)
-  difference c at t a b = omega (arith, value a, value b,
-      values.converted g at (plain (int Long)) (Values.operated Sub ULong Values.size_type at (Operators.value a) (Operators.value b)))
+  difference c at t a b = omega (
+    arith,
+    value a,
+    value b,
+    values.converted g at (plain (int Long)) (Values.operated Sub ULong Values.size_type at (Operators.value a) (Operators.value b)),
+  )
 
   pointer_and_number : (c : Ctx) (op : BinOp) (at : At) (t : Typ) (a b : Operand)
       → On (Both a b) (and_then (check at BadOperand (is_some (Operators.arithmetic (Operators.value_form b))))

@@ -114,10 +114,12 @@ module _ (g : Sought) where
   class_whole : (depth : ℕ) (leaf : Leaf) (classes : List Class) (at : At) (n : ℕ) (c v : Bool) → ((u : Typ) (p : At) → held g (leaf u p) ≡ 0)
       → held g (Objects.class_whole depth leaf classes at n c v) ≡ 0
   class_whole zero leaf classes at n c v i = refl
-  class_whole (suc depth) leaf classes at n c v i = omega (arith,
-      pieces (λ (p : Part). Objects.whole (Objects.class_whole depth leaf classes at) leaf classes at c v p.typ) (λ (p : Part). qualified c v p.typ) at
-      (parts_of classes n)
-      (λ p. whole (Objects.class_whole depth leaf classes at) leaf classes at c v p.typ (λ m d w. class_whole depth leaf classes at m d w i) i))
+  class_whole (suc depth) leaf classes at n c v i = omega (
+    arith,
+    pieces (λ (p : Part). Objects.whole (Objects.class_whole depth leaf classes at) leaf classes at c v p.typ) (λ (p : Part). qualified c v p.typ) at
+        (parts_of classes n)
+        (λ p. whole (Objects.class_whole depth leaf classes at) leaf classes at c v p.typ (λ m d w. class_whole depth leaf classes at m d w i) i),
+  )
 
   each_scalar : (leaf : Leaf) (classes : List Class) (at : At) (t : Typ) → ((u : Typ) (p : At) → held g (leaf u p) ≡ 0)
       → held g (Objects.each_scalar leaf classes at t) ≡ 0

@@ -1,11 +1,13 @@
 -- Places of the frame that bodies of functions have: behind the words of the call, each once.
-use Rattle.std.specs.Prelude.{◌≡◌, ℕ, ◌+◌, List, [], ◌∷◌, ◌++◌, length, true, Option, Some, None, Result, Ok}
+use Rattle.std.specs.Prelude.{◌≡◌, ℕ, ◌+◌, List, [], ◌∷◌, ◌++◌, length, true, Option, Some, None, is_some, Result, Ok}
 use Rattle.std.specs.List.{list_all}
 use Rattle.elab_rules.specs.cpp_types.Typ.{Typ, typ, closure, Signature, Typs, none as no_typs, more as and_typ}
 use Rattle.elab_rules.specs.cpp_types.declared.classes.At.{At}
 use Rattle.elab_rules.specs.cpp_lex.Tokens.{Lexeme}
 use Rattle.elab_rules.specs.cpp_ast.Trees as syntax
-use Rattle.elab_rules.specs.cpp_tree.Units.{Func}
+use Rattle.elab_rules.specs.cpp_tree.Units.{Func as Shown}
+use Rattle.elab_rules.specs.elab_ctx.Ctx.{Func}
+use Rattle.elab_rules.specs.Programs.{words_of}
 use Rattle.elab_rules.specs.cpp_tree.WellFormed.{places_of, is_free_place}
 use Rattle.elab_rules.specs.cpp_tree.declared.program.FuncKind.{FuncKind}
 use Rattle.elab_rules.specs.cpp_tree.declared.program.FuncKind.TheVariants.{Destructor}
@@ -23,6 +25,11 @@ use Rattle.elab_places.specs.Bodies.{DefaultsOwn, FrameKept, LeavesFrame}
 abbrev pub call_words : Typ → Option Typ → ℕ → ℕ
 call_words result this params = length (result_items result) + length (this_items this) + params
 
+-- that many words has the function that is shown, where it has this result, is a member where the object is told, and has these parameters
+abbrev pub WordsCounted : Type 0
+WordsCounted = (f : Func) (this : Option Typ) → is_some this ≡ is_some f.class
+    → words_of f ≡ call_words (signature_result f.declared.signature) this (length f.params)
+
 -- behind a function: what stands round it is as it was, and the last body is that of the function, whose places are those behind the words of its call
 pub record MakesBody (words func : ℕ) (old new : State) : Type 0 where
   pub kept : FrameKept old new
@@ -34,7 +41,7 @@ pub record MakesBody (words func : ℕ) (old new : State) : Type 0 where
 
 -- what that says of a function that is shown with these words and this frame
 abbrev pub PlacesFree : Type 0
-PlacesFree = (f : Func) (places : List ℕ) → Owned f.words (length f.frame) places → list_all (is_free_place f) places ≡ true
+PlacesFree = (f : Shown) (places : List ℕ) → Owned f.words (length f.frame) places → list_all (is_free_place f) places ≡ true
 
 abbrev pub FunctionBodiesOwn : Type 0
 FunctionBodiesOwn = (lams : Lambdas) → LeavesFrame lams → (s : List Lexeme) (st : State) (h : Header) (this : Option Typ) (func : ℕ) (t : syntax.Tree) (x : State)

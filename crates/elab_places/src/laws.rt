@@ -1,6 +1,8 @@
 //! Laws of places of the frame. A function here does nothing: its clauses are the laws.
 
 ghost use Rattle.elab_places.specs.Bodies.{ItemsOwn, StatementsOwn, BlocksOwn, HandlersOwn};
+ghost use Rattle.elab_places.specs.Functions.{FunctionBodiesOwn, ConstructorBodiesOwn, DestructorBodiesOwn, ImpliedBodiesOwn, DefaultsMadeOwn};
+ghost use Rattle.elab_places.specs.Functions.{LambdaBodiesOwn, LambdasLeave, NoLambdasLeave, WordsCounted, PlacesFree};
 ghost use Rattle.elab_places.specs.Places.{ExpressionsOwn, OperandsOwn, InitialsOwn, ClassObjectsOwn, ValuesOwn, WordsOwn};
 
 /// What an expression and several operands own.
@@ -23,4 +25,26 @@ pub fn statements()
     ensures statements { StatementsOwn }
     ensures blocks { BlocksOwn }
     ensures handlers { HandlersOwn }
+{}
+
+/// What the bodies of functions own, and the initialisers that are kept for members.
+pub fn bodies()
+    ensures functions { FunctionBodiesOwn }
+    ensures constructors { ConstructorBodiesOwn }
+    ensures destructors { DestructorBodiesOwn }
+    ensures implied { ImpliedBodiesOwn }
+    ensures defaults { DefaultsMadeOwn }
+{}
+
+/// What the bodies of lambdas own, and that what makes them leaves the frame.
+pub fn lambdas()
+    ensures bodies { LambdaBodiesOwn }
+    ensures leave { LambdasLeave }
+    ensures none { NoLambdasLeave }
+{}
+
+/// How many words a call has, and which places are behind them.
+pub fn words()
+    ensures counted { WordsCounted }
+    ensures free { PlacesFree }
 {}
