@@ -132,7 +132,7 @@ block_counts p c t at q words e d h i =
     let a = i.counted in let b = end_of p c t q in let f = parts.followed (place p) d.trees (Functions.end_of c t q) in
     let r : used (place p) e.work ≡ room (place p) words = ap (room (place p)) h.frame in omega arith
 
-function_made : (lams : Lambdas) → LeavesFrame lams → (s : List Lexeme) (st : State) (h : Header) (this : Option Typ) (func : ℕ) (t : syntax.Tree)
+pub function_made : (lams : Lambdas) → LeavesFrame lams → (s : List Lexeme) (st : State) (h : Header) (this : Option Typ) (func : ℕ) (t : syntax.Tree)
     → DefaultsOwn st.ctx.defaults
     → On (MakesBody (call_words (signature_result h.signature) this (length h.params)) func st) (Functions.function_body lams s st h this func t)
 function_made lams leaves s st h this func (syntax.node kind q token kids) own =

@@ -293,7 +293,7 @@ block_made lams leaves s st h n func words x parts (syntax.node kind q token kid
     (λ d l. body_is_made st h.at func (Members.constructor_tree (at_of q) parts.trees d.trees) d.state words
     (λ p. constructor_counts p (at_of q) words x parts d (i p) (j p) (l p)))
 
-constructor_made : (lams : Lambdas) → LeavesFrame lams → (s : List Lexeme) (st : State) (h : Header) (n func : ℕ) (inits : syntax.Trees) (t : syntax.Tree)
+pub constructor_made : (lams : Lambdas) → LeavesFrame lams → (s : List Lexeme) (st : State) (h : Header) (n func : ℕ) (inits : syntax.Trees) (t : syntax.Tree)
     → DefaultsOwn st.ctx.defaults → On (MakesBody (1 + length h.params) func st) (Members.constructor_body lams s st h n func inits t)
 constructor_made lams leaves s st h n func inits t own =
     bind (Enters words) (MakesBody words func st) (with_parameters s (in_object st n) h.params) _
@@ -318,7 +318,7 @@ constructor_bodies_law lams leaves s st h n func inits t x own e =
     held_by (MakesBody (1 + length h.params) func st) (Members.constructor_body lams s st h n func inits t) x
     (constructor_made lams leaves s st h n func inits t own) e
 
-destructor_made : (lams : Lambdas) → LeavesFrame lams → (s : List Lexeme) (st : State) (h : Header) (n func : ℕ) (t : syntax.Tree)
+pub destructor_made : (lams : Lambdas) → LeavesFrame lams → (s : List Lexeme) (st : State) (h : Header) (n func : ℕ) (t : syntax.Tree)
     → DefaultsOwn st.ctx.defaults → On (MakesBody 1 func st) (Members.destructor_body lams s st h n func t)
 destructor_made lams leaves s st h n func (syntax.node kind q token kids) own =
     bind (λ (d : Done). (p : ℕ) → Ends p (in_object st n) d) (MakesBody 1 func st) (statements_of lams s (in_object st n) kids) _

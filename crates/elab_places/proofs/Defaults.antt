@@ -123,7 +123,7 @@ first_owned : (st : State) (n : ℕ) (at : At) (d : Done) → Kept st n d → Ow
 first_owned st n at d h = tree_owned 1 (length d.state.work.frame) (Members.first_tree at d.trees)
     (λ p. let i = (h.ends p).counted in let r = first_held (place p) at d.trees in omega arith)
 
-default_made : (lams : Lambdas) → LeavesFrame lams → (s : List Lexeme) (st : State) (n i : ℕ) (t : Typ) (e : syntax.Tree) → DefaultsOwn st.ctx.defaults
+pub default_made : (lams : Lambdas) → LeavesFrame lams → (s : List Lexeme) (st : State) (n i : ℕ) (t : Typ) (e : syntax.Tree) → DefaultsOwn st.ctx.defaults
     → On (λ (x : State). DefaultsOwn x.ctx.defaults) (Members.default_made lams s st n i t e)
 default_made lams leaves s st n i t e own =
     bind (Kept st n) (λ (x : State). DefaultsOwn x.ctx.defaults)

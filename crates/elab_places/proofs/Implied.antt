@@ -118,7 +118,7 @@ constructor_implied st at func n no_typs own =
     (λ p. constructors.parts_built p (in_object st n) at n [] own))
     (λ d i. parts_made st at func 1 (in_object st n) d (in_object_enters st n own) i)
 
-implied_made : (st : State) (at : At) (func n : ℕ) (kind : FuncKind) (ps : Typs) → DefaultsOwn st.ctx.defaults
+pub implied_made : (st : State) (at : At) (func n : ℕ) (kind : FuncKind) (ps : Typs) → DefaultsOwn st.ctx.defaults
     → On (MakesBody (implied_words kind ps) func st) (Implicit.body_implied st at func n kind ps)
 implied_made st at func n Destructor ps own =
     body_is_made st at func (Members.destructor_tree st.ctx at at n none) (in_object st n) 1

@@ -1,10 +1,12 @@
 pub use Rattle.elab_rules.proofs as elab_rules
+pub mod AtFile
 pub mod Bodies
 pub mod Braces
 pub mod Calls
 pub mod Choices
 pub mod Constructors
 pub mod Counting
+pub mod Declarations
 pub mod Declaring
 pub mod Defaults
 pub mod Expressions

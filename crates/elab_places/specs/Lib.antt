@@ -1,3 +1,4 @@
 pub mod Bodies
+pub mod Declared
 pub mod Functions
 pub mod Places
