@@ -1,6 +1,7 @@
 //! Laws of places of the frame. A function here does nothing: its clauses are the laws.
 
 ghost use Rattle.elab_places.specs.Bodies.{ItemsOwn, StatementsOwn, BlocksOwn, HandlersOwn};
+ghost use Rattle.elab_places.specs.Declared.{DeclarationsKeep, AllDeclarationsKeep, UnitsKeep, UnitsBegin, AllDefaultsOwn};
 ghost use Rattle.elab_places.specs.Functions.{FunctionBodiesOwn, ConstructorBodiesOwn, DestructorBodiesOwn, ImpliedBodiesOwn, DefaultsMadeOwn};
 ghost use Rattle.elab_places.specs.Functions.{LambdaBodiesOwn, LambdasLeave, NoLambdasLeave, WordsCounted, PlacesFree};
 ghost use Rattle.elab_places.specs.Places.{ExpressionsOwn, OperandsOwn, InitialsOwn, ClassObjectsOwn, ValuesOwn, WordsOwn};
@@ -47,4 +48,13 @@ pub fn lambdas()
 pub fn words()
     ensures counted { WordsCounted }
     ensures free { PlacesFree }
+{}
+
+/// The initialisers that are kept for members own their places wherever elaboration comes.
+pub fn declarations()
+    ensures each { DeclarationsKeep }
+    ensures all { AllDeclarationsKeep }
+    ensures units { UnitsKeep }
+    ensures begin { UnitsBegin }
+    ensures defaults { AllDefaultsOwn }
 {}
