@@ -1,5 +1,5 @@
 -- Declarations at file scope leave the initialisers of members as they are.
-use Rattle.std.proofs.Common.{◌≡◌, refl, sym, subst, ℕ, Bool, true, false, not, ◌&&◌, ◌||◌, List, [], ◌∷◌, length, Option, Some, None, is_none, slice_get, Result, Ok, Err, ℤ, pos}
+use Rattle.std.proofs.Common.{sym, subst, ℕ, Bool, true, false, not, ◌||◌, List, length, Option, Some, None, is_none, slice_get, Result, ℤ, pos}
 use Rattle.std.specs.Prelude.{if◌then◌else◌}
 use Rattle.elab_rules.specs.tx_ints.declared.kinds.IntKind.TheVariants.{Int}
 use Rattle.elab_rules.specs.tx_ints.Integers.{is_in_range}

@@ -1,9 +1,8 @@
 -- Bodies of functions, of lambdas too: their places are those behind the words of a call.
-use Rattle.std.proofs.Common.{◌≡◌, refl, sym, ap, ◌∙◌, subst, ℕ, zero, suc, ◌+◌, ◌≤◌, Bool, true, false, List, [], ◌∷◌, ◌++◌, length, length-append, Option}
+use Rattle.std.proofs.Common.{◌≡◌, refl, ap, ◌∙◌, ℕ, ◌+◌, ◌≤◌, Bool, true, false, List, [], ◌∷◌, length, length-append, Option}
 use Rattle.std.proofs.Common.{Some, None, Result, Ok, Err, arith}
 use Rattle.std.specs.Prelude.{if◌then◌else◌}
-use Rattle.std.specs.List.{list_all}
-use Rattle.elab_rules.specs.cpp_types.Typ.{Typ, typ, ref, closure, Signature}
+use Rattle.elab_rules.specs.cpp_types.Typ.{Typ, typ, ref}
 use Rattle.elab_rules.specs.cpp_types.Class.{held as held_class}
 use Rattle.elab_rules.specs.cpp_types.declared.classes.At.{At}
 use Rattle.elab_rules.specs.cpp_lex.Tokens.{Lexeme}
@@ -14,20 +13,20 @@ use Rattle.elab_rules.specs.cpp_tree.declared.faults.ElabFault.{ElabFault}
 use Rattle.elab_rules.specs.cpp_tree.declared.faults.IllRule.TheVariants.{Incomplete, Redeclared}
 use Rattle.elab_rules.specs.cpp_tree.Trees.{Tree, node, Trees, none, more, one, kind_of}
 use Rattle.elab_rules.specs.cpp_tree.Typing.{is_void, is_class_typ}
-use Rattle.elab_rules.specs.elab_ctx.Ctx.{Ctx, Work, Returns, with_item}
-use Rattle.elab_rules.specs.elab_ctx.Steps.{and_then, check, at_of, spelling}
+use Rattle.elab_rules.specs.elab_ctx.Ctx.{Ctx}
+use Rattle.elab_rules.specs.elab_ctx.Steps.{check, at_of, spelling}
 use Rattle.elab_rules.specs.Objects
 use Rattle.elab_rules.specs.Objects.{followed_by}
 use Rattle.elab_rules.specs.Initialising.{signature_result}
 use Rattle.elab_rules.specs.Operators.{is_complete}
 use Rattle.elab_rules.specs.Types.{Parameter}
-use Rattle.elab_rules.specs.Statements.{State, Done, Body, Lambdas, statement, statements_of, is_fresh}
+use Rattle.elab_rules.specs.Statements.{State, Done, Lambdas, statement, statements_of, is_fresh}
 use Rattle.elab_rules.specs.Functions
 use Rattle.elab_rules.specs.Functions.{Header, result_items, this_items, word_item, body_made, entered, with_parameters}
 use Rattle.elab_places.specs.Bodies.{DefaultsOwn, LeavesFrame}
 use Rattle.elab_places.specs.Functions.{MakesBody, call_words, FunctionBodiesOwn}
-use Rattle.elab_places.proofs.Counting.{Sought, place, declared, own_count, init_count, local_count, held, all_held, used, room, same}
-use Rattle.elab_places.proofs.Steps.{On, bind, skip, either, choose, turn, held_by}
+use Rattle.elab_places.proofs.Counting.{Sought, place, declared, own_count, local_count, held, all_held, used, room}
+use Rattle.elab_places.proofs.Steps.{On, bind, skip, turn, held_by}
 use Rattle.elab_places.proofs.Owned.{declared_none}
 use Rattle.elab_places.proofs.OfExpressions.{tree_owned}
 use Rattle.elab_places.proofs.Parts as parts

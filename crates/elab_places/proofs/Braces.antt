@@ -1,10 +1,9 @@
 -- What braces make owns what was added for it.
-use Rattle.std.proofs.Common.{◌≡◌, refl, ap, ◌∙◌, ℕ, zero, suc, ◌+◌, ◌-◌, ◌*◌, ◌≤◌, Bool, true, false, not, ◌&&◌, List, [], ◌∷◌, length, Option, Some, None}
-use Rattle.std.proofs.Common.{is_some, Result, Ok, Err, arith, slice_get, drop, nat_lt}
+use Rattle.std.proofs.Common.{◌≡◌, refl, ℕ, zero, suc, ◌+◌, ◌-◌, Bool, true, false, not, ◌&&◌, List, [], ◌∷◌, length, Option, Some, None}
+use Rattle.std.proofs.Common.{is_some, Result, arith, slice_get, drop, nat_lt}
 use Rattle.std.specs.Prelude.{if◌then◌else◌, ◌==◌}
-use Rattle.elab_rules.specs.tx_ints.declared.kinds.IntKind.{IntKind}
 use Rattle.elab_rules.specs.cpp_types.Typ.{Typ, typ, Form, array, class}
-use Rattle.elab_rules.specs.cpp_types.Class.{Member, completion_of}
+use Rattle.elab_rules.specs.cpp_types.Class.{Member}
 use Rattle.elab_rules.specs.cpp_types.declared.classes.At.{At}
 use Rattle.elab_rules.specs.cpp_types.declared.ranks.Cat.TheVariants.{Prvalue}
 use Rattle.elab_rules.specs.cpp_lex.Tokens.{Lexeme}
@@ -12,15 +11,14 @@ use Rattle.elab_rules.specs.cpp_ast.declared.kinds.NodeKind.TheVariants as k
 use Rattle.elab_rules.specs.cpp_ast.Trees as syntax
 use Rattle.elab_rules.specs.cpp_tree.declared.kinds.TKind.TheVariants.{Literal}
 use Rattle.elab_rules.specs.cpp_tree.declared.faults.ElabFault.{ElabFault}
-use Rattle.elab_rules.specs.cpp_tree.declared.faults.ElabFault.TheVariants.{Ill}
-use Rattle.elab_rules.specs.cpp_tree.declared.faults.IllRule.TheVariants.{BadInit, Narrowing, OutOfProfile}
-use Rattle.elab_rules.specs.cpp_tree.Trees.{Tree, node, Trees, none, more, typ_in}
+use Rattle.elab_rules.specs.cpp_tree.declared.faults.IllRule.TheVariants.{BadInit, Narrowing}
+use Rattle.elab_rules.specs.cpp_tree.Trees.{Tree, node, Trees, none, more}
 use Rattle.elab_rules.specs.cpp_tree.Notation.{plain}
 use Rattle.elab_rules.specs.cpp_tree.Typing.{form_in, qualified, unqualified, is_class_typ, kind_in}
 use Rattle.elab_rules.specs.elab_ctx.Ctx.{Ctx, Work, Default}
 use Rattle.elab_rules.specs.elab_ctx.Steps.{and_then, expect, check, at_of, spelling, Operand, Made, MadeAll, Typed}
-use Rattle.elab_rules.specs.Objects.{Part, size_of}
-use Rattle.elab_rules.specs.Values.{part_at, stored}
+use Rattle.elab_rules.specs.Objects.{Part}
+use Rattle.elab_rules.specs.Values.{part_at}
 use Rattle.elab_rules.specs.Initialising
 use Rattle.elab_rules.specs.Names.{members_in, offset_at, is_const_typ, is_volatile_object}
 use Rattle.elab_rules.specs.Strings.{string_bytes}
@@ -28,11 +26,10 @@ use Rattle.elab_rules.specs.Expressions.{expression_of, chosen_operand}
 use Rattle.elab_rules.specs.Braces
 use Rattle.elab_rules.specs.Braces.{ThisAt}
 use Rattle.elab_places.specs.Bodies.{DefaultOwns, DefaultsOwn}
-use Rattle.elab_places.proofs.Counting.{Sought, held, all_held, used, Gives, GiveAll, HoldsAtMost, same}
+use Rattle.elab_places.proofs.Counting.{Sought, held, all_held, used, Gives, GiveAll, same}
 use Rattle.elab_places.proofs.Steps.{On, bind, skip, either}
 use Rattle.elab_places.proofs.Parts as parts
 use Rattle.elab_places.proofs.Initials as initials
-use Rattle.elab_places.proofs.Calls as calls
 use Rattle.elab_places.proofs.Names as names
 use Rattle.elab_places.proofs.Expressions as expressions
 use Rattle.elab_places.proofs.Relocated as relocated

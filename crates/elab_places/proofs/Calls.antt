@@ -1,22 +1,20 @@
 -- Calls, casts and throws own what their operands own, and what was added for them.
-use Rattle.std.proofs.Common.{◌≡◌, refl, ap, ℕ, ◌+◌, ◌≤◌, Bool, true, false, not, ◌&&◌, List, [], ◌∷◌, Option, Some, None, is_some, Result, Ok, Err, arith}
+use Rattle.std.proofs.Common.{◌≡◌, refl, ap, ℕ, ◌+◌, ◌≤◌, false, not, ◌&&◌, List, [], ◌∷◌, Option, Some, None, is_some, Result, Ok, Err, arith}
 use Rattle.std.specs.Prelude.{if◌then◌else◌}
 use Rattle.elab_rules.specs.tx_ints.declared.kinds.IntKind.{IntKind}
 use Rattle.elab_rules.specs.cpp_types.Typ.{Typ, typ, Form, void, ptr, ref, array, func, class, closure, tx_ex, Signature}
 use Rattle.elab_rules.specs.cpp_types.declared.classes.At.{At}
-use Rattle.elab_rules.specs.cpp_types.declared.ranks.Cat.TheVariants.{Lvalue, Prvalue}
+use Rattle.elab_rules.specs.cpp_types.declared.ranks.Cat.TheVariants.{Lvalue}
 use Rattle.elab_rules.specs.cpp_overload.Choosing.{chosen}
 use Rattle.elab_rules.specs.cpp_tree.declared.kinds.TKind.{TKind}
 use Rattle.elab_rules.specs.cpp_tree.declared.kinds.TKind.TheVariants as forms
 use Rattle.elab_rules.specs.cpp_tree.declared.kinds.Builtin.{Builtin}
 use Rattle.elab_rules.specs.cpp_tree.declared.faults.ElabFault.{ElabFault}
 use Rattle.elab_rules.specs.cpp_tree.declared.faults.IllRule.TheVariants.{NotCallable, NoViable, BadMain, BadInit, BadThrow, NoCopy, NotTriviallyCopyable}
-use Rattle.elab_rules.specs.cpp_tree.Trees.{Tree, node, Trees, none, more, one, two, typ_in}
-use Rattle.elab_rules.specs.cpp_tree.Notation.{plain}
+use Rattle.elab_rules.specs.cpp_tree.Trees.{Tree, node, Trees, none, more, one, typ_in}
 use Rattle.elab_rules.specs.cpp_tree.Typing.{form_in, unqualified, is_class_typ, is_void, is_volatile_typ, is_reference, kind_in}
 use Rattle.elab_rules.specs.elab_ctx.Ctx.{Ctx, Work}
-use Rattle.elab_rules.specs.elab_ctx.Steps.{and_then, expect, check, Operand, Made, MadeAll}
-use Rattle.elab_rules.specs.Objects
+use Rattle.elab_rules.specs.elab_ctx.Steps.{and_then, expect, check, Operand, Made}
 use Rattle.elab_rules.specs.Objects.{followed_by, traits_at}
 use Rattle.elab_rules.specs.Values
 use Rattle.elab_rules.specs.Initialising
@@ -25,8 +23,8 @@ use Rattle.elab_rules.specs.Operators
 use Rattle.elab_rules.specs.Names.{is_free, is_method}
 use Rattle.elab_rules.specs.Calls
 use Rattle.elab_rules.specs.Casts
-use Rattle.elab_places.proofs.Counting.{Sought, held, all_held, operands_held, own_count, used, Gives, GiveAll, HoldsAtMost, same}
-use Rattle.elab_places.proofs.Steps.{On, bind, skip, either, choose, turn}
+use Rattle.elab_places.proofs.Counting.{Sought, held, all_held, operands_held, own_count, Gives, GiveAll, HoldsAtMost, same}
+use Rattle.elab_places.proofs.Steps.{On, bind, skip, either, choose}
 use Rattle.elab_places.proofs.Parts as parts
 use Rattle.elab_places.proofs.Values as values
 use Rattle.elab_places.proofs.Initials as initials

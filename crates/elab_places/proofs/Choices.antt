@@ -1,25 +1,24 @@
 -- `,` and `?:` own what their operands own, and what was added for them.
-use Rattle.std.proofs.Common.{◌≡◌, refl, ℕ, ◌+◌, ◌≤◌, Bool, true, false, ◌&&◌, ◌||◌, List, [], ◌∷◌, Option, Some, None, is_some, Result, Ok, Err, arith}
+use Rattle.std.proofs.Common.{ℕ, ◌+◌, ◌≤◌, ◌&&◌, ◌||◌, Option, Some, None, is_some, Result, Ok, arith}
 use Rattle.std.specs.Prelude.{if◌then◌else◌}
 use Rattle.elab_rules.specs.tx_ints.declared.kinds.IntKind.{IntKind}
 use Rattle.elab_rules.specs.tx_ints.Integers.{usual_of}
 use Rattle.elab_rules.specs.cpp_types.Typ.{Typ, Form, ptr}
 use Rattle.elab_rules.specs.cpp_types.Equal.{typ_eq, form_eq}
 use Rattle.elab_rules.specs.cpp_types.declared.classes.At.{At}
-use Rattle.elab_rules.specs.cpp_types.declared.ranks.Cat.{Cat}
 use Rattle.elab_rules.specs.cpp_types.declared.ranks.Cat.TheVariants.{Prvalue}
 use Rattle.elab_rules.specs.cpp_tree.Notation.{plain}
 use Rattle.elab_rules.specs.cpp_tree.declared.kinds.TKind.TheVariants.{Retype}
 use Rattle.elab_rules.specs.cpp_tree.declared.faults.ElabFault.{ElabFault}
 use Rattle.elab_rules.specs.cpp_tree.declared.faults.IllRule.TheVariants.{BadOperand}
-use Rattle.elab_rules.specs.cpp_tree.Trees.{Tree, node, Trees, none, more, typ_in, cat_of, kind_of}
+use Rattle.elab_rules.specs.cpp_tree.Trees.{Tree, node, none, more, typ_in, kind_of}
 use Rattle.elab_rules.specs.cpp_tree.Typing.{is_void, kind_in}
 use Rattle.elab_rules.specs.elab_ctx.Ctx.{Ctx, Work}
-use Rattle.elab_rules.specs.elab_ctx.Steps.{and_then, check, Operand, Made}
+use Rattle.elab_rules.specs.elab_ctx.Steps.{check, Operand, Made}
 use Rattle.elab_rules.specs.Values
 use Rattle.elab_rules.specs.Initialising
 use Rattle.elab_rules.specs.Operators
-use Rattle.elab_places.proofs.Counting.{Sought, held, all_held, used, Gives, HoldsAtMost, same}
+use Rattle.elab_places.proofs.Counting.{Sought, held, used, Gives, HoldsAtMost, same}
 use Rattle.elab_places.proofs.Steps.{On, bind, skip, either, choose}
 use Rattle.elab_places.proofs.Values as values
 use Rattle.elab_places.proofs.Initials as initials

@@ -1,21 +1,20 @@
 -- Bodies of constructors and destructors, and the initialisers of members and bases.
-use Rattle.std.proofs.Common.{◌≡◌, refl, sym, ap, ◌∙◌, ℕ, zero, suc, ◌+◌, ◌≤◌, ◌<◌, Bool, true, false, eqb, leb, List, [], ◌∷◌, ◌++◌, length, Option, Some, None}
-use Rattle.std.proofs.Common.{is_none, slice_get, Result, Ok, Err, arith, eqb-true, le-leb, leb-true}
+use Rattle.std.proofs.Common.{◌≡◌, refl, ap, ℕ, suc, ◌+◌, ◌≤◌, Bool, true, false, leb, List, [], ◌∷◌, ◌++◌, length, Option, Some, None}
+use Rattle.std.proofs.Common.{is_none, slice_get, arith, eqb-true, le-leb, leb-true}
 use Rattle.std.specs.Prelude.{if◌then◌else◌, not, nat_eq}
-use Rattle.elab_rules.specs.cpp_types.Typ.{Typ, typ, void, class}
-use Rattle.elab_rules.specs.cpp_types.Class.{Class, Member}
+use Rattle.elab_rules.specs.cpp_types.Typ.{Typ, class}
+use Rattle.elab_rules.specs.cpp_types.Class.{Member}
 use Rattle.elab_rules.specs.cpp_types.declared.classes.At.{At}
 use Rattle.elab_rules.specs.cpp_lex.Tokens.{Lexeme}
 use Rattle.elab_rules.specs.cpp_ast.declared.kinds.NodeKind.TheVariants as k
 use Rattle.elab_rules.specs.cpp_ast.Trees as syntax
 use Rattle.elab_rules.specs.cpp_tree.declared.kinds.TKind.TheVariants as forms
-use Rattle.elab_rules.specs.cpp_tree.declared.faults.ElabFault.{ElabFault}
 use Rattle.elab_rules.specs.cpp_tree.declared.faults.IllRule.TheVariants.{Redeclared, NoMember, UnknownName, OutOfProfile}
-use Rattle.elab_rules.specs.cpp_tree.Trees.{Tree, node, Trees, none, more, one, kind_of}
+use Rattle.elab_rules.specs.cpp_tree.Trees.{Tree, Trees, none, more, one, kind_of}
 use Rattle.elab_rules.specs.cpp_tree.Notation.{plain}
 use Rattle.elab_rules.specs.cpp_tree.Typing.{unqualified}
 use Rattle.elab_rules.specs.elab_ctx.Ctx.{Ctx, Default}
-use Rattle.elab_rules.specs.elab_ctx.Steps.{and_then, expect, check, each_of, at_of, spelling, Made, TypedAll}
+use Rattle.elab_rules.specs.elab_ctx.Steps.{expect, check, at_of, spelling}
 use Rattle.elab_rules.specs.Objects
 use Rattle.elab_rules.specs.Objects.{followed_by}
 use Rattle.elab_rules.specs.Names.{this_pointer, members_in, offset_at}
@@ -30,8 +29,8 @@ use Rattle.elab_rules.specs.Members
 use Rattle.elab_rules.specs.Members.{Given, Giving, in_object, own_this, own_part, own_base}
 use Rattle.elab_places.specs.Bodies.{DefaultsOwn, LeavesFrame}
 use Rattle.elab_places.specs.Functions.{MakesBody, ConstructorBodiesOwn, DestructorBodiesOwn}
-use Rattle.elab_places.proofs.Counting.{Sought, place, declared, local_count, held, all_held, operands_held, used, room, Gives, same}
-use Rattle.elab_places.proofs.Steps.{On, bind, skip, turn, held_by}
+use Rattle.elab_places.proofs.Counting.{place, local_count, held, all_held, operands_held, used, room, Gives, same}
+use Rattle.elab_places.proofs.Steps.{On, bind, skip, held_by}
 use Rattle.elab_places.proofs.Owned.{declared_none}
 use Rattle.elab_places.proofs.Parts as parts
 use Rattle.elab_places.proofs.Names as names
@@ -40,7 +39,7 @@ use Rattle.elab_places.proofs.Relocated as relocated
 use Rattle.elab_places.proofs.Braces.{FoundOwns, default_found}
 use Rattle.elab_places.proofs.Declaring as declaring
 use Rattle.elab_places.proofs.Declaring.{Ends, Stays, full}
-use Rattle.elab_places.proofs.Bodies.{on_all, Enters, enters, parameters, in_body, body_is_made}
+use Rattle.elab_places.proofs.Bodies.{on_all, Enters, parameters, in_body, body_is_made}
 
 -- Each initialiser is used for one part: the first that is given for it
 

@@ -1,6 +1,6 @@
 -- How often a place stands in a tree, and how a frame makes room for it. A tree with `held` of a place that is made while the frame grows from `w` to `x`
 -- satisfies `held + room w ≤ room x`: so the place is one that was added meanwhile, and stands once.
-use Rattle.std.proofs.Common.{◌≡◌, refl, sym, ap, ◌∙◌, ℕ, zero, suc, ◌+◌, ◌-◌, ◌≤◌, ◌<◌, Bool, true, false, ◌&&◌, ◌||◌, cond, eqb, ltb, leb, List, [], ◌∷◌}
+use Rattle.std.proofs.Common.{◌≡◌, ℕ, ◌+◌, ◌≤◌, Bool, cond, eqb, ltb, List, [], ◌∷◌}
 use Rattle.std.proofs.Common.{◌++◌, length, length-append, Option, Some, None, arith}
 use Rattle.std.proofs.lemmas.Bool.Decides.{nat_tests}
 use Rattle.elab_rules.specs.cpp_types.Typ.{Typ}

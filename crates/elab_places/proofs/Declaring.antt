@@ -1,19 +1,18 @@
 -- Full-expressions, and the variables of a block, own what was added for them.
-use Rattle.std.proofs.Common.{◌≡◌, refl, sym, ap, ◌∙◌, subst, ℕ, zero, suc, ◌+◌, ◌≤◌, Bool, true, false, not, ◌&&◌, ◌||◌, List, [], ◌∷◌, ◌++◌, length, Option}
+use Rattle.std.proofs.Common.{◌≡◌, refl, sym, ap, subst, ℕ, ◌+◌, ◌≤◌, Bool, true, false, List, [], ◌∷◌, length, Option}
 use Rattle.std.proofs.Common.{Some, None, Result, Ok, Err, arith}
 use Rattle.std.specs.Prelude.{if◌then◌else◌}
-use Rattle.elab_rules.specs.cpp_types.Typ.{Typ, typ, Form, void, ref, array, func, class}
+use Rattle.elab_rules.specs.cpp_types.Typ.{Typ, typ, ref, array}
 use Rattle.elab_rules.specs.cpp_types.declared.classes.At.{At}
 use Rattle.elab_rules.specs.cpp_lex.Tokens.{Lexeme}
 use Rattle.elab_rules.specs.cpp_ast.declared.kinds.NodeKind.TheVariants as k
 use Rattle.elab_rules.specs.cpp_ast.Trees as syntax
 use Rattle.elab_rules.specs.cpp_tree.declared.faults.ElabFault.{ElabFault}
-use Rattle.elab_rules.specs.cpp_tree.declared.faults.IllRule.TheVariants.{Redeclared, BadDeclaration, TypeDiffers, BadInit, NoConversion, OutOfProfile}
-use Rattle.elab_rules.specs.cpp_tree.Trees.{Tree, node, Trees, none, more, one, kind_of, typ_in}
-use Rattle.elab_rules.specs.cpp_tree.Typing.{form_in, is_class_typ, is_void}
-use Rattle.elab_rules.specs.elab_ctx.Ctx.{Ctx, Work, with_item, next_place}
-use Rattle.elab_rules.specs.elab_ctx.Steps.{and_then, expect, check, at_of, spelling, Operand, Made, Typed, TypedAll}
-use Rattle.elab_rules.specs.Objects
+use Rattle.elab_rules.specs.cpp_tree.declared.faults.IllRule.TheVariants.{Redeclared, BadDeclaration, TypeDiffers, BadInit, OutOfProfile}
+use Rattle.elab_rules.specs.cpp_tree.Trees.{Tree, none, kind_of}
+use Rattle.elab_rules.specs.cpp_tree.Typing.{is_class_typ}
+use Rattle.elab_rules.specs.elab_ctx.Ctx.{Ctx, Work, next_place}
+use Rattle.elab_rules.specs.elab_ctx.Steps.{and_then, expect, check, at_of, spelling, Operand, Made, TypedAll}
 use Rattle.elab_rules.specs.Objects.{element_of}
 use Rattle.elab_rules.specs.Values
 use Rattle.elab_rules.specs.Initialising
@@ -27,12 +26,11 @@ use Rattle.elab_rules.specs.Expressions.{expression_of, operands_of, chosen_oper
 use Rattle.elab_rules.specs.Statements
 use Rattle.elab_rules.specs.Statements.{State, Done, Full, Lambdas, Deduction, Declaring, statement, done, with_work}
 use Rattle.elab_places.specs.Bodies.{DefaultsOwn, FrameKept, LeavesFrame}
-use Rattle.elab_places.proofs.Counting.{Sought, place, declared, at_place, local_count, held, all_held, operands_held, used, room, item_fits, item_more, Gives}
-use Rattle.elab_places.proofs.Counting.{GiveAll, HoldsAtMost, same}
+use Rattle.elab_places.proofs.Counting.{Sought, place, at_place, local_count, held, all_held, operands_held, used, room, item_fits, Gives}
+use Rattle.elab_places.proofs.Counting.{HoldsAtMost, same}
 use Rattle.elab_places.proofs.Steps.{On, bind, skip, either, choose, turn}
 use Rattle.elab_places.proofs.Owned.{declared_none}
 use Rattle.elab_places.proofs.Parts as parts
-use Rattle.elab_places.proofs.Values as values
 use Rattle.elab_places.proofs.Initials as initials
 use Rattle.elab_places.proofs.Operators as operators
 use Rattle.elab_places.proofs.Choices as choices

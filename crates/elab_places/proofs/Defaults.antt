@@ -1,5 +1,5 @@
 -- Initialisers that are kept for members own their places.
-use Rattle.std.proofs.Common.{◌≡◌, refl, sym, ap, ◌∙◌, subst, ℕ, suc, ◌+◌, ◌-◌, ◌≤◌, Bool, true, false, List, [], ◌∷◌, ◌++◌, length, drop, length-drop}
+use Rattle.std.proofs.Common.{◌≡◌, refl, sym, ap, ◌∙◌, subst, ℕ, suc, ◌-◌, ◌≤◌, Bool, true, false, List, [], ◌∷◌, ◌++◌, length, drop, length-drop}
 use Rattle.std.proofs.Common.{Option, Some, None, Result, Ok, Err, arith}
 use Rattle.elab_rules.specs.cpp_types.Typ.{Typ}
 use Rattle.elab_rules.specs.cpp_types.declared.classes.At.{At}
@@ -9,7 +9,7 @@ use Rattle.elab_rules.specs.cpp_tree.declared.faults.ElabFault.{ElabFault}
 use Rattle.elab_rules.specs.cpp_tree.Trees.{Tree, Trees, none, more}
 use Rattle.elab_rules.specs.cpp_tree.WellFormed.{places_of}
 use Rattle.elab_rules.specs.elab_ctx.Ctx.{Default}
-use Rattle.elab_rules.specs.elab_ctx.Steps.{and_then, spelling, Made, Typed}
+use Rattle.elab_rules.specs.elab_ctx.Steps.{and_then, spelling, Made}
 use Rattle.elab_rules.specs.Strings.{string_bytes}
 use Rattle.elab_rules.specs.Braces
 use Rattle.elab_rules.specs.Braces.{string_token, is_char_array, syntax_place}
@@ -21,8 +21,8 @@ use Rattle.elab_rules.specs.Members.{in_object}
 use Rattle.elab_places.specs.Places.{Owned, declares}
 use Rattle.elab_places.specs.Bodies.{DefaultOwns, DefaultsOwn, LeavesFrame}
 use Rattle.elab_places.specs.Functions.{DefaultsMadeOwn}
-use Rattle.elab_places.proofs.Counting.{Sought, place, declaring, held, all_held, used, room, Gives, same}
-use Rattle.elab_places.proofs.Steps.{On, bind, skip, turn, held_by}
+use Rattle.elab_places.proofs.Counting.{Sought, place, declaring, held, all_held, Gives, same}
+use Rattle.elab_places.proofs.Steps.{On, bind, skip, held_by}
 use Rattle.elab_places.proofs.Owned.{no_room, to_plain}
 use Rattle.elab_places.proofs.OfExpressions.{tree_owned}
 use Rattle.elab_places.proofs.Names as names

@@ -1,6 +1,5 @@
 -- Each form of an expression owns what was added for it.
-use Rattle.std.proofs.Common.{◌≡◌, refl, ℕ, ◌+◌, ◌≤◌, Bool, true, false, not, ◌&&◌, List, [], ◌∷◌, Option, Some, None, Result, Ok, Err, arith, codes, slice_get}
-use Rattle.std.specs.Prelude.{if◌then◌else◌}
+use Rattle.std.proofs.Common.{refl, ℕ, ◌+◌, ◌≤◌, true, false, not, ◌&&◌, List, [], ◌∷◌, Option, Some, None, Result, Ok, Err, arith, codes}
 use Rattle.std.specs.Str.{bytes_eq}
 use Rattle.elab_rules.specs.tx_ints.declared.kinds.IntKind.{IntKind}
 use Rattle.elab_rules.specs.tx_ints.declared.kinds.BinOp.{BinOp}
@@ -18,20 +17,19 @@ use Rattle.elab_rules.specs.cpp_tree.declared.faults.ElabFault.{ElabFault}
 use Rattle.elab_rules.specs.cpp_tree.declared.faults.IllRule.TheVariants.{OutOfProfile, UnknownName, BadOperand, Incomplete}
 use Rattle.elab_rules.specs.cpp_tree.Trees.{Tree, typ_in}
 use Rattle.elab_rules.specs.elab_ctx.Ctx.{Ctx, Work, Capture, Closure}
-use Rattle.elab_rules.specs.elab_ctx.Steps.{and_then, expect, check, at_of, spelling, value_at, token_place, Operand, Made, MadeAll, Typed, TypedAll}
+use Rattle.elab_rules.specs.elab_ctx.Steps.{and_then, expect, check, at_of, spelling, value_at, token_place, Operand, Made, Typed, TypedAll}
 use Rattle.elab_rules.specs.Objects.{Part, parts_of}
-use Rattle.elab_rules.specs.Types.{Specifiers, no_specifiers, specified_type, type_named, is_bounded}
+use Rattle.elab_rules.specs.Types.{no_specifiers, specified_type, type_named, is_bounded}
 use Rattle.elab_rules.specs.cpp_types.Conversion.{referred}
 use Rattle.elab_rules.specs.cpp_tree.Typing.{is_void}
-use Rattle.elab_rules.specs.Initialising
 use Rattle.elab_rules.specs.Operators
 use Rattle.elab_rules.specs.Names
 use Rattle.elab_rules.specs.Calls
 use Rattle.elab_rules.specs.Casts
 use Rattle.elab_rules.specs.Values
 use Rattle.elab_rules.specs.Expressions
-use Rattle.elab_places.proofs.Counting.{Sought, held, all_held, operands_held, used, Gives, GiveAll, HoldsAtMost, same}
-use Rattle.elab_places.proofs.Steps.{On, bind, skip, either, turn}
+use Rattle.elab_places.proofs.Counting.{Sought, held, operands_held, used, Gives, GiveAll, HoldsAtMost, same}
+use Rattle.elab_places.proofs.Steps.{On, bind, skip, either}
 use Rattle.elab_places.proofs.Parts as parts
 use Rattle.elab_places.proofs.Values as values
 use Rattle.elab_places.proofs.Initials as initials

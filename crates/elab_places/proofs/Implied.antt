@@ -1,18 +1,15 @@
 -- Bodies of implicit members.
-use Rattle.std.proofs.Common.{◌≡◌, refl, sym, ap, ◌∙◌, ℕ, zero, suc, ◌+◌, ◌≤◌, Bool, true, false, List, [], ◌∷◌, ◌++◌, length, length-append, Option, Some, None}
-use Rattle.std.proofs.Common.{slice_get, Result, Ok, Err, arith}
-use Rattle.std.specs.Prelude.{if◌then◌else◌}
+use Rattle.std.proofs.Common.{◌≡◌, refl, ap, ℕ, suc, ◌+◌, Bool, List, [], ◌∷◌, Option, Some, None}
+use Rattle.std.proofs.Common.{slice_get, arith}
 use Rattle.elab_rules.specs.cpp_types.Typ.{Typ, typ, ref, class, Typs, none as no_typs, more as and_typ}
 use Rattle.elab_rules.specs.cpp_types.Class.{Member}
 use Rattle.elab_rules.specs.cpp_types.declared.classes.At.{At}
 use Rattle.elab_rules.specs.cpp_tree.declared.program.FuncKind.{FuncKind}
 use Rattle.elab_rules.specs.cpp_tree.declared.program.FuncKind.TheVariants.{Destructor}
-use Rattle.elab_rules.specs.cpp_tree.declared.faults.ElabFault.{ElabFault}
-use Rattle.elab_rules.specs.cpp_tree.Trees.{Tree, node, Trees, none, more, one}
+use Rattle.elab_rules.specs.cpp_tree.Trees.{Tree, none}
 use Rattle.elab_rules.specs.cpp_tree.Notation.{plain}
 use Rattle.elab_rules.specs.cpp_tree.Typing.{is_class_typ}
-use Rattle.elab_rules.specs.elab_ctx.Ctx.{Ctx, with_item}
-use Rattle.elab_rules.specs.elab_ctx.Steps.{and_then, Operand, Made}
+use Rattle.elab_rules.specs.elab_ctx.Ctx.{Ctx}
 use Rattle.elab_rules.specs.Objects.{followed_by, is_array}
 use Rattle.elab_rules.specs.Values
 use Rattle.elab_rules.specs.Initialising
@@ -25,8 +22,8 @@ use Rattle.elab_rules.specs.Implicit
 use Rattle.elab_rules.specs.Implicit.{own_operand, with_source}
 use Rattle.elab_places.specs.Bodies.{DefaultsOwn}
 use Rattle.elab_places.specs.Functions.{MakesBody, copy_words, implied_words, ImpliedBodiesOwn}
-use Rattle.elab_places.proofs.Counting.{Sought, place, held, all_held, used, room, Gives, same}
-use Rattle.elab_places.proofs.Steps.{On, bind, skip, either, held_by}
+use Rattle.elab_places.proofs.Counting.{place, held, used, room, Gives}
+use Rattle.elab_places.proofs.Steps.{On, bind, either, held_by}
 use Rattle.elab_places.proofs.Parts as parts
 use Rattle.elab_places.proofs.Values as values
 use Rattle.elab_places.proofs.Initials as initials

@@ -1,5 +1,5 @@
 -- What initialises an object owns what its operands own, and what was added for it.
-use Rattle.std.proofs.Common.{◌≡◌, refl, ℕ, zero, suc, ◌+◌, ◌≤◌, Bool, true, false, not, ◌&&◌, List, [], ◌∷◌, Option, Some, None, Result, Ok, Err, arith}
+use Rattle.std.proofs.Common.{◌≡◌, refl, ℕ, ◌+◌, ◌≤◌, Bool, not, ◌&&◌, List, [], ◌∷◌, Option, Some, None, Result, Ok, arith}
 use Rattle.std.specs.Prelude.{if◌then◌else◌}
 use Rattle.elab_rules.specs.cpp_types.Typ.{Typ, typ, array, class, closure, tx_ex, Typs, none as no_typs, more as and_typ}
 use Rattle.elab_rules.specs.cpp_types.Equal.{form_eq}
@@ -11,18 +11,18 @@ use Rattle.elab_rules.specs.cpp_types.declared.ranks.Binding.TheVariants.{Value,
 use Rattle.elab_rules.specs.cpp_types.declared.ranks.Conversion.{Conversion}
 use Rattle.elab_rules.specs.cpp_overload.Choosing.{chosen}
 use Rattle.elab_rules.specs.cpp_tree.declared.faults.ElabFault.{ElabFault}
-use Rattle.elab_rules.specs.cpp_tree.declared.faults.IllRule.TheVariants.{NoConversion, NoViable, NoCopy, BadInit, OutOfProfile}
-use Rattle.elab_rules.specs.cpp_tree.Trees.{Tree, node, Trees, none, more, two, typ_in, cat_of}
+use Rattle.elab_rules.specs.cpp_tree.declared.faults.IllRule.TheVariants.{NoConversion, NoCopy, BadInit, OutOfProfile}
+use Rattle.elab_rules.specs.cpp_tree.Trees.{Tree, node, Trees, none, two, typ_in, cat_of}
 use Rattle.elab_rules.specs.cpp_tree.declared.kinds.TKind.TheVariants.{CopyFrom}
 use Rattle.elab_rules.specs.cpp_types.declared.ranks.Cat.TheVariants.{Prvalue}
 use Rattle.elab_rules.specs.cpp_tree.Typing.{form_in, unqualified, is_class_typ, is_volatile_typ, without_exception, is_class_prvalue}
-use Rattle.elab_rules.specs.elab_ctx.Ctx.{Ctx, Work, with_item, next_place}
-use Rattle.elab_rules.specs.elab_ctx.Steps.{and_then, expect, check, Operand, Made, MadeAll}
+use Rattle.elab_rules.specs.elab_ctx.Ctx.{Ctx, Work, with_item}
+use Rattle.elab_rules.specs.elab_ctx.Steps.{and_then, expect, check, Operand, Made}
 use Rattle.elab_rules.specs.Objects
 use Rattle.elab_rules.specs.Objects.{parts_of, traits_at}
 use Rattle.elab_rules.specs.Values
 use Rattle.elab_rules.specs.Initialising
-use Rattle.elab_places.proofs.Counting.{Sought, held, all_held, operands_held, used, at_place, item_fits, item_more, Gives, GiveAll, same}
+use Rattle.elab_places.proofs.Counting.{Sought, held, all_held, operands_held, used, item_fits, Gives, GiveAll, same}
 use Rattle.elab_places.proofs.Steps.{On, bind, skip, either, choose, turn}
 use Rattle.elab_places.proofs.Parts as parts
 use Rattle.elab_places.proofs.Values as values

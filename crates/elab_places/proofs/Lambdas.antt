@@ -1,7 +1,7 @@
 -- Lambdas: their bodies own the places behind the words of their calls, and what makes them leaves the frame.
-use Rattle.std.proofs.Common.{◌≡◌, refl, sym, ap, ◌∙◌, ℕ, ◌+◌, ◌≤◌, Bool, true, false, not, List, [], ◌∷◌, ◌++◌, length, length-append, Option, Some, None}
-use Rattle.std.proofs.Common.{Result, Ok, Err, arith}
-use Rattle.elab_rules.specs.cpp_types.Typ.{Typ, typ, closure, Signature}
+use Rattle.std.proofs.Common.{◌≡◌, refl, ◌∙◌, ℕ, ◌+◌, false, List, length, length-append, Option, Some, None}
+use Rattle.std.proofs.Common.{Result, Ok, Err}
+use Rattle.elab_rules.specs.cpp_types.Typ.{Typ, Signature}
 use Rattle.elab_rules.specs.cpp_types.Class.{held as held_class}
 use Rattle.elab_rules.specs.cpp_types.declared.classes.At.{At}
 use Rattle.elab_rules.specs.cpp_lex.Tokens.{Lexeme}
@@ -12,22 +12,21 @@ use Rattle.elab_rules.specs.cpp_tree.declared.faults.ElabFault.{ElabFault}
 use Rattle.elab_rules.specs.cpp_tree.declared.faults.IllRule.TheVariants.{Incomplete}
 use Rattle.elab_rules.specs.cpp_tree.Trees.{Tree}
 use Rattle.elab_rules.specs.cpp_tree.Typing.{form_in}
-use Rattle.elab_rules.specs.elab_ctx.Ctx.{Ctx, Returns, known, Capture}
+use Rattle.elab_rules.specs.elab_ctx.Ctx.{Ctx, Returns, known}
 use Rattle.elab_rules.specs.elab_ctx.Steps.{and_then, check, at_of}
 use Rattle.elab_rules.specs.Objects.{followed_by}
 use Rattle.elab_rules.specs.Operators.{is_complete}
-use Rattle.elab_rules.specs.Types.{Parameter, no_qualifiers, qualifiers_from}
+use Rattle.elab_rules.specs.Types.{no_qualifiers, qualifiers_from}
 use Rattle.elab_rules.specs.Statements.{State, Done, statement, statements_of}
 use Rattle.elab_rules.specs.Functions
 use Rattle.elab_rules.specs.Functions.{result_items, with_parameters}
 use Rattle.elab_rules.specs.Lambdas
 use Rattle.elab_rules.specs.Lambdas.{Written, no_lambda, first_lambda, lambda_entered, declared_closure}
-use Rattle.elab_places.specs.Bodies.{DefaultsOwn, FrameKept, LeavesFrame}
+use Rattle.elab_places.specs.Bodies.{DefaultsOwn, FrameKept}
 use Rattle.elab_places.specs.Functions.{MakesBody, LambdaBodiesOwn, LambdasLeave, NoLambdasLeave}
-use Rattle.elab_places.proofs.Counting.{place, held, all_held, used, room}
-use Rattle.elab_places.proofs.Steps.{On, bind, skip, either, turn, held_by}
+use Rattle.elab_places.proofs.Steps.{On, bind, skip, turn, held_by}
 use Rattle.elab_places.proofs.Declaring.{Ends}
-use Rattle.elab_places.proofs.Bodies.{on_all, Enters, parameters, in_body, body_is_made, block_counts}
+use Rattle.elab_places.proofs.Bodies.{Enters, parameters, in_body, body_is_made, block_counts}
 
 -- In a lambda there is none
 

@@ -1,8 +1,8 @@
 -- Names, members and `this` have no places of their own.
-use Rattle.std.proofs.Common.{◌≡◌, refl, ℕ, ◌+◌, ◌≤◌, Bool, true, false, not, ◌&&◌, List, [], ◌∷◌, Option, Some, None, is_some, Result, Ok, Err, arith, slice_get, codes}
+use Rattle.std.proofs.Common.{◌≡◌, refl, ℕ, ◌≤◌, Bool, true, false, not, ◌&&◌, List, [], ◌∷◌, Option, Some, None, is_some, Result, Ok, Err, arith, slice_get, codes}
 use Rattle.std.specs.Prelude.{if◌then◌else◌}
 use Rattle.std.specs.Str.{bytes_eq}
-use Rattle.elab_rules.specs.cpp_types.Typ.{Typ, typ, void, ref, func}
+use Rattle.elab_rules.specs.cpp_types.Typ.{Typ, typ, void, ref}
 use Rattle.elab_rules.specs.cpp_types.Class.{completion_of}
 use Rattle.elab_rules.specs.cpp_types.declared.classes.At.{At}
 use Rattle.elab_rules.specs.cpp_types.declared.ranks.Cat.TheVariants.{Lvalue}
@@ -18,14 +18,14 @@ use Rattle.elab_rules.specs.cpp_tree.Trees.{Tree, node, Trees, none, more, typ_i
 use Rattle.elab_rules.specs.cpp_tree.Typing.{form_in, is_class_typ}
 use Rattle.elab_rules.specs.cpp_tree.Units.{Global}
 use Rattle.elab_rules.specs.elab_ctx.Ctx.{Ctx, Work, Variable, This, Lambda}
-use Rattle.elab_rules.specs.elab_ctx.Steps.{and_then, expect, check, Operand, Made}
+use Rattle.elab_rules.specs.elab_ctx.Steps.{expect, check, Operand, Made}
 use Rattle.elab_rules.specs.Values
 use Rattle.elab_rules.specs.Initialising
 use Rattle.elab_rules.specs.Initialising.{func_at, places_from}
 use Rattle.elab_rules.specs.Names
 use Rattle.elab_rules.specs.Names.{Found, field, methods, Captured}
-use Rattle.elab_places.proofs.Counting.{Sought, held, all_held, used, Gives, HoldsAtMost, same}
-use Rattle.elab_places.proofs.Steps.{On, bind, skip, either, choose}
+use Rattle.elab_places.proofs.Counting.{Sought, held, Gives, HoldsAtMost, same}
+use Rattle.elab_places.proofs.Steps.{On, bind, skip, either}
 use Rattle.elab_places.proofs.Values as values
 use Rattle.elab_places.proofs.Initials as initials
 

@@ -1,16 +1,15 @@
 -- The laws of expressions, and of what initialises objects.
-use Rattle.std.proofs.Common.{◌≡◌, refl, sym, ap, ◌∙◌, ℕ, ◌+◌, ◌≤◌, List, length, Result, Ok, arith}
+use Rattle.std.proofs.Common.{ℕ, ◌+◌, ◌≤◌, List, length, arith}
 use Rattle.elab_rules.specs.cpp_tree.Trees.{Tree, Trees}
 use Rattle.elab_rules.specs.cpp_tree.WellFormed.{places_of, all_places}
-use Rattle.elab_rules.specs.cpp_tree.declared.faults.ElabFault.{ElabFault}
-use Rattle.elab_rules.specs.elab_ctx.Ctx.{Ctx, Work}
-use Rattle.elab_rules.specs.elab_ctx.Steps.{Operand, Made, MadeAll, Typed, TypedAll}
+use Rattle.elab_rules.specs.elab_ctx.Ctx.{Work}
+use Rattle.elab_rules.specs.elab_ctx.Steps.{Operand, Made}
 use Rattle.elab_rules.specs.Initialising.{initial, class_from, from_values, words}
 use Rattle.elab_rules.specs.Expressions.{expression_with, operands_with}
-use Rattle.elab_places.specs.Places.{Owned, operand_places, OwnsExpression, ExpressionsOwn, OperandsOwn, InitialsOwn, ClassObjectsOwn, ValuesOwn, WordsOwn}
-use Rattle.elab_places.proofs.Counting.{Sought, place, declaring, held, all_held, operands_held, room, used, Gives, GiveAll}
-use Rattle.elab_places.proofs.Steps.{On, held_by}
-use Rattle.elab_places.proofs.Owned.{Counted, from_counted, to_counted, tree_times, all_times, operand_times, plain_of_count}
+use Rattle.elab_places.specs.Places.{Owned, operand_places, ExpressionsOwn, OperandsOwn, InitialsOwn, ClassObjectsOwn, ValuesOwn, WordsOwn}
+use Rattle.elab_places.proofs.Counting.{Sought, place, declaring, held, all_held, operands_held, room, Gives, GiveAll}
+use Rattle.elab_places.proofs.Steps.{held_by}
+use Rattle.elab_places.proofs.Owned.{from_counted, to_counted, tree_times, all_times, operand_times, plain_of_count}
 use Rattle.elab_places.proofs.Initials as initials
 use Rattle.elab_places.proofs.Expressions as expressions
 

@@ -1,16 +1,13 @@
 -- The laws of braces and of statements.
-use Rattle.std.proofs.Common.{◌≡◌, refl, sym, ap, ◌∙◌, ℕ, ◌+◌, ◌≤◌, List, [], length, Result, Ok, arith}
-use Rattle.elab_rules.specs.cpp_lex.Tokens.{Lexeme}
-use Rattle.elab_rules.specs.cpp_ast.Trees as syntax
-use Rattle.elab_rules.specs.cpp_tree.Trees.{Tree, Trees}
+use Rattle.std.proofs.Common.{◌≡◌, sym, ap, ◌∙◌, ℕ, [], length, Result, Ok, arith}
+use Rattle.elab_rules.specs.cpp_tree.Trees.{Tree}
 use Rattle.elab_rules.specs.cpp_tree.WellFormed.{places_of, times}
 use Rattle.elab_rules.specs.cpp_tree.declared.faults.ElabFault.{ElabFault}
-use Rattle.elab_rules.specs.elab_ctx.Steps.{Made}
 use Rattle.elab_rules.specs.Braces.{item_of}
-use Rattle.elab_rules.specs.Statements.{State, Done, Lambdas, statement_of, statements_of, handlers_of}
+use Rattle.elab_rules.specs.Statements.{State, Done, statement_of, statements_of, handlers_of}
 use Rattle.elab_places.specs.Places.{AllOwn}
 use Rattle.elab_places.specs.Bodies.{ItemsOwn, StatementsOwn, BlocksOwn, HandlersOwn}
-use Rattle.elab_places.proofs.Counting.{Sought, place, held, Gives}
+use Rattle.elab_places.proofs.Counting.{place, held, Gives}
 use Rattle.elab_places.proofs.Steps.{On, held_by}
 use Rattle.elab_places.proofs.Owned.{tree_times}
 use Rattle.elab_places.proofs.OfExpressions.{tree_owned, trees_owned}

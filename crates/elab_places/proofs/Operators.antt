@@ -1,14 +1,13 @@
 -- Operators own what their operands own, and what was added for them.
-use Rattle.std.proofs.Common.{◌≡◌, refl, ℕ, zero, suc, ◌+◌, ◌≤◌, Bool, true, false, not, ◌&&◌, ◌||◌, List, [], ◌∷◌, Option, Some, None, is_some, Result, Ok, Err, cond}
-use Rattle.std.proofs.Common.{arith, codes}
+use Rattle.std.proofs.Common.{ℕ, ◌+◌, ◌≤◌, Bool, true, false, not, ◌&&◌, List, Option, Some, None, is_some, Ok, cond}
+use Rattle.std.proofs.Common.{arith}
 use Rattle.std.specs.Prelude.{if◌then◌else◌}
-use Rattle.std.specs.Str.{bytes_eq}
 use Rattle.elab_rules.specs.tx_ints.declared.kinds.IntKind.{IntKind}
 use Rattle.elab_rules.specs.tx_ints.declared.kinds.IntKind.TheVariants.{Bool as BoolKind, ULong, Int, Long}
 use Rattle.elab_rules.specs.tx_ints.declared.kinds.BinOp.{BinOp}
-use Rattle.elab_rules.specs.tx_ints.declared.kinds.BinOp.TheVariants.{Add, Sub, Mul, Div, Rem, Shl, Shr, And, Xor, Or, Lt, Gt, Le, Ge, Eq, Ne}
+use Rattle.elab_rules.specs.tx_ints.declared.kinds.BinOp.TheVariants.{Add, Sub, Xor}
 use Rattle.elab_rules.specs.tx_ints.Integers.{usual_of, promote_of, is_shift}
-use Rattle.elab_rules.specs.cpp_types.Typ.{Typ, typ, Form, void, int, enum, ptr, class, tx_ex}
+use Rattle.elab_rules.specs.cpp_types.Typ.{Typ, Form, int, enum, ptr, class, tx_ex}
 use Rattle.elab_rules.specs.cpp_types.Equal.{kind_eq, typ_eq, form_eq}
 use Rattle.elab_rules.specs.cpp_types.Conversion.{is_lvalue, decayed, has_value, step_of}
 use Rattle.elab_rules.specs.cpp_types.Conversion.{bound as to_value}
@@ -16,21 +15,20 @@ use Rattle.elab_rules.specs.cpp_types.declared.ranks.Step.{Step}
 use Rattle.elab_rules.specs.cpp_types.declared.ranks.Binding.TheVariants.{Value}
 use Rattle.elab_rules.specs.cpp_types.declared.ranks.Conversion.{Conversion}
 use Rattle.elab_rules.specs.cpp_types.declared.classes.At.{At}
-use Rattle.elab_rules.specs.cpp_types.declared.ranks.Cat.TheVariants.{Lvalue, Prvalue}
+use Rattle.elab_rules.specs.cpp_types.declared.ranks.Cat.TheVariants.{Prvalue}
 use Rattle.elab_rules.specs.cpp_tree.declared.kinds.TKind.TheVariants.{Conditional}
-use Rattle.elab_rules.specs.cpp_tree.declared.faults.ElabFault.{ElabFault}
-use Rattle.elab_rules.specs.cpp_tree.declared.faults.IllRule.TheVariants.{NoConversion, BadOperand, NotLvalue, ConstTarget, NoCopy}
-use Rattle.elab_rules.specs.cpp_tree.Trees.{Tree, node, Trees, none, more, three, typ_in, cat_of, kind_of}
+use Rattle.elab_rules.specs.cpp_tree.declared.faults.IllRule.TheVariants.{NoConversion, BadOperand, NotLvalue, NoCopy}
+use Rattle.elab_rules.specs.cpp_tree.Trees.{Tree, node, three, typ_in, cat_of}
 use Rattle.elab_rules.specs.cpp_tree.Notation.{plain}
-use Rattle.elab_rules.specs.cpp_tree.Typing.{form_in, unqualified, is_class_typ, is_void, is_volatile_typ, kind_in}
+use Rattle.elab_rules.specs.cpp_tree.Typing.{form_in, unqualified, is_class_typ, is_volatile_typ, kind_in}
 use Rattle.elab_rules.specs.elab_ctx.Ctx.{Ctx, Work}
 use Rattle.elab_rules.specs.elab_ctx.Steps.{and_then, expect, check, Operand, Made}
 use Rattle.elab_rules.specs.Objects
 use Rattle.elab_rules.specs.Values
 use Rattle.elab_rules.specs.Initialising
 use Rattle.elab_rules.specs.Operators
-use Rattle.elab_places.proofs.Counting.{Sought, held, all_held, used, Gives, HoldsAtMost, same}
-use Rattle.elab_places.proofs.Steps.{On, bind, skip, either, choose, turn}
+use Rattle.elab_places.proofs.Counting.{Sought, held, Gives, HoldsAtMost, same}
+use Rattle.elab_places.proofs.Steps.{On, bind, skip, either, choose}
 use Rattle.elab_places.proofs.Parts as parts
 use Rattle.elab_places.proofs.Values as values
 use Rattle.elab_places.proofs.Initials as initials

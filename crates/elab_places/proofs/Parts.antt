@@ -1,11 +1,10 @@
 -- What is done to each part of an object has no places: zeros, copies, destructions, and the scalars of an exception.
-use Rattle.std.proofs.Common.{◌≡◌, refl, sym, ap, ◌∙◌, ℕ, zero, suc, ◌+◌, ◌*◌, ◌≤◌, Bool, true, false, ◌||◌, List, [], ◌∷◌, length, Option, Some, None, Ok, arith}
-use Rattle.std.specs.Prelude.{if◌then◌else◌}
+use Rattle.std.proofs.Common.{◌≡◌, refl, ◌∙◌, ℕ, zero, suc, ◌+◌, Bool, false, ◌||◌, List, [], ◌∷◌, length, Option, Some, None, arith}
 use Rattle.elab_rules.specs.tx_ints.declared.kinds.IntKind.{IntKind}
 use Rattle.elab_rules.specs.cpp_types.Typ.{Typ, typ, Form, void, int, ref, array, func, class, closure, tx_ex}
 use Rattle.elab_rules.specs.cpp_types.Class.{Class}
 use Rattle.elab_rules.specs.cpp_types.declared.classes.At.{At}
-use Rattle.elab_rules.specs.cpp_tree.Trees.{Tree, node, Trees, none, more, one}
+use Rattle.elab_rules.specs.cpp_tree.Trees.{Tree, node, Trees, none, more}
 use Rattle.elab_rules.specs.cpp_tree.Typing.{form_in, kind_in, qualified, unqualified}
 use Rattle.elab_rules.specs.cpp_tree.Notation.{plain}
 use Rattle.elab_rules.specs.cpp_tree.declared.kinds.TKind.TheVariants.{Literal}

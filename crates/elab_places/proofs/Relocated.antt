@@ -1,18 +1,15 @@
 -- The initialiser that is kept for a member, with its places moved behind the frame at hand.
-use Rattle.std.proofs.Common.{◌≡◌, refl, sym, ap, ◌∙◌, ℕ, zero, suc, ◌+◌, ◌-◌, ◌≤◌, ◌<◌, Bool, true, false, ◌||◌, cond, eqb, ltb, leb, List, [], ◌∷◌, ◌++◌, length}
+use Rattle.std.proofs.Common.{◌≡◌, refl, sym, ap, ◌∙◌, ℕ, zero, suc, ◌+◌, ◌-◌, ◌≤◌, ◌<◌, Bool, true, false, eqb, ltb, leb, ◌++◌, length}
 use Rattle.std.proofs.Common.{length-append, arith, ltb-true, ltb-false, leb-true, leb-false, eqb-true, eq-eqb}
 use Rattle.elab_rules.specs.cpp_types.declared.classes.At.{At}
 use Rattle.elab_rules.specs.cpp_types.declared.ranks.Cat.TheVariants.{Prvalue}
-use Rattle.elab_rules.specs.cpp_tree.declared.kinds.TKind.{TKind}
 use Rattle.elab_rules.specs.cpp_tree.declared.kinds.TKind.TheVariants as forms
 use Rattle.elab_rules.specs.cpp_tree.Trees.{Tree, node, Trees, none, more}
 use Rattle.elab_rules.specs.elab_ctx.Ctx.{Work, Default}
-use Rattle.elab_rules.specs.elab_ctx.Steps.{Made}
 use Rattle.elab_rules.specs.Braces
 use Rattle.elab_rules.specs.Braces.{ThisAt}
-use Rattle.elab_places.specs.Places.{Owned}
 use Rattle.elab_places.specs.Bodies.{DefaultOwns}
-use Rattle.elab_places.proofs.Counting.{Sought, one_if, place, declaring, at_place, room, held, all_held, used, Gives, same}
+use Rattle.elab_places.proofs.Counting.{Sought, one_if, place, declaring, at_place, room, held, all_held, Gives, same}
 use Rattle.elab_places.proofs.Owned.{init_declares, handler_declares, from_plain, no_room, no_place, room_low, room_high, room_grows, room_most}
 use Rattle.elab_places.proofs.OfExpressions.{owned_tree}
 

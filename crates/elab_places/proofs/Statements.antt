@@ -1,8 +1,8 @@
 -- Each form of a statement owns what was added for it.
-use Rattle.std.proofs.Common.{◌≡◌, refl, ℕ, ◌+◌, ◌≤◌, Bool, true, false, not, ◌&&◌, ◌||◌, List, [], ◌∷◌, Option, Some, None, Result, Ok, Err, arith}
+use Rattle.std.proofs.Common.{◌≡◌, refl, ℕ, ◌+◌, ◌≤◌, Bool, true, false, not, List, Option, Some, None, Result, arith}
 use Rattle.std.specs.Prelude.{if◌then◌else◌, ◌==◌}
 use Rattle.std.specs.List.{list_any}
-use Rattle.elab_rules.specs.cpp_types.Typ.{Typ, typ, Form, void, int, ref}
+use Rattle.elab_rules.specs.cpp_types.Typ.{Typ, typ, void, int, ref}
 use Rattle.elab_rules.specs.cpp_types.declared.classes.At.{At}
 use Rattle.elab_rules.specs.cpp_lex.Tokens.{Lexeme}
 use Rattle.elab_rules.specs.cpp_ast.declared.kinds.NodeKind.TheVariants as k
@@ -11,15 +11,14 @@ use Rattle.elab_rules.specs.cpp_tree.declared.kinds.TKind.{TKind}
 use Rattle.elab_rules.specs.cpp_tree.declared.kinds.TKind.TheVariants as forms
 use Rattle.elab_rules.specs.cpp_tree.declared.faults.ElabFault.{ElabFault}
 use Rattle.elab_rules.specs.cpp_tree.declared.faults.IllRule.TheVariants.{NotConstant, Narrowing, BadReturn, BadBreak, BadCase}
-use Rattle.elab_rules.specs.cpp_tree.Trees.{Tree, node, Trees, none, more, one, two, three, typ_in}
+use Rattle.elab_rules.specs.cpp_tree.Trees.{Tree, Trees, none, more, one, two, three, typ_in}
 use Rattle.elab_rules.specs.cpp_tree.Notation.{plain}
 use Rattle.elab_rules.specs.cpp_tree.Typing.{form_in, unqualified, is_class_typ, is_void, kind_in}
-use Rattle.elab_rules.specs.elab_ctx.Ctx.{Ctx, Work, Returns, known, deduced, with_item, next_place}
-use Rattle.elab_rules.specs.elab_ctx.Steps.{and_then, expect, check, at_of, spelling, Operand, Made, Typed}
+use Rattle.elab_rules.specs.elab_ctx.Ctx.{Returns, known, deduced}
+use Rattle.elab_rules.specs.elab_ctx.Steps.{and_then, expect, check, at_of, Operand, Made}
 use Rattle.elab_rules.specs.Objects.{followed_by}
 use Rattle.elab_rules.specs.Constants.{constant}
 use Rattle.elab_rules.specs.Casts.{within_exception}
-use Rattle.elab_rules.specs.Values
 use Rattle.elab_rules.specs.Initialising
 use Rattle.elab_rules.specs.Operators
 use Rattle.elab_rules.specs.Operators.{value}
@@ -28,8 +27,8 @@ use Rattle.elab_rules.specs.Statements
 use Rattle.elab_rules.specs.Statements.{State, Done, Full, Lambdas, Caught, Switched, done, statement, inner, outer, in_loop, in_switch, in_block, with_work}
 use Rattle.elab_rules.specs.Statements.{statement_of, statements_of, handlers_of, condition, for_first, for_test, for_step, a_part, the_tree, block}
 use Rattle.elab_places.specs.Bodies.{DefaultsOwn, LeavesFrame}
-use Rattle.elab_places.proofs.Counting.{Sought, place, declared, at_place, own_count, handler_count, held, all_held, used, item_fits, Gives, HoldsAtMost, same}
-use Rattle.elab_places.proofs.Steps.{On, bind, skip, either, choose, turn}
+use Rattle.elab_places.proofs.Counting.{place, own_count, handler_count, held, all_held, used, item_fits, Gives, HoldsAtMost, same}
+use Rattle.elab_places.proofs.Steps.{On, bind, skip, either, choose}
 use Rattle.elab_places.proofs.Owned.{declared_none}
 use Rattle.elab_places.proofs.Parts as parts
 use Rattle.elab_places.proofs.Values as values

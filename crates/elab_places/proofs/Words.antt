@@ -1,12 +1,12 @@
 -- The words of a call, and free places.
-use Rattle.std.proofs.Common.{◌≡◌, refl, sym, ap, ◌∙◌, ℕ, ◌+◌, Bool, true, false, List, [], ◌∷◌, length, Option, Some, None, is_some, arith}
+use Rattle.std.proofs.Common.{◌≡◌, refl, ap, Bool, true, false, [], ◌∷◌, length, Option, Some, None, is_some, arith}
 use Rattle.std.specs.Prelude.{if◌then◌else◌}
 use Rattle.elab_rules.specs.cpp_types.Typ.{Typ, ptr}
 use Rattle.elab_rules.specs.cpp_tree.Notation.{plain}
 use Rattle.elab_rules.specs.cpp_tree.Typing.{is_class_typ}
 use Rattle.elab_rules.specs.Initialising.{signature_result}
 use Rattle.elab_rules.specs.Programs.{one_if}
-use Rattle.elab_rules.specs.Functions.{result_items, this_items}
+use Rattle.elab_rules.specs.Functions.{this_items}
 use Rattle.elab_places.specs.Functions.{PlacesFree, WordsCounted}
 
 result_words : (t : Typ) (b : Bool) → one_if b ≡ length (if b then plain (ptr t) ∷ [] else [])

@@ -1,5 +1,5 @@
 -- Places of the frame that initialisers, statements and bodies have.
-use Rattle.std.specs.Prelude.{◌≡◌, ℕ, suc, List, [], ◌∷◌, length, false, Result, Ok}
+use Rattle.std.specs.Prelude.{◌≡◌, suc, List, [], ◌∷◌, length, false, Ok}
 use Rattle.elab_rules.specs.cpp_types.Typ.{Typ}
 use Rattle.elab_rules.specs.cpp_lex.Tokens.{Lexeme}
 use Rattle.elab_rules.specs.cpp_ast.Trees as syntax

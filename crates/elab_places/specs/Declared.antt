@@ -1,15 +1,13 @@
 -- The initialisers that are kept for members own their places wherever elaboration comes: what the laws of statements and bodies ask of a context holds.
-use Rattle.std.specs.Prelude.{◌≡◌, ℕ, List, Result, Ok}
+use Rattle.std.specs.Prelude.{◌≡◌, ℕ, List, Ok}
 use Rattle.elab_rules.specs.cpp_lex.Tokens.{Lexeme}
 use Rattle.elab_rules.specs.cpp_ast.Trees as syntax
 use Rattle.elab_rules.specs.cpp_tree.Units.{TypedProgram}
 use Rattle.elab_rules.specs.elab_ctx.Ctx.{Traits}
-use Rattle.elab_rules.specs.cpp_tree.declared.program.FuncKind.{FuncKind}
 use Rattle.elab_rules.specs.Statements.{State, Lambdas}
 use Rattle.elab_rules.specs.Functions.{Storage}
-use Rattle.elab_rules.specs.Classes.{Method}
-use Rattle.elab_rules.specs.Members.{method_body, all_defaults}
-use Rattle.elab_rules.specs.Units.{declaration_of, declarations_of, unit_from, start}
+use Rattle.elab_rules.specs.Members.{all_defaults}
+use Rattle.elab_rules.specs.Units.{declaration_of, declarations_of, unit_from}
 use Rattle.elab_rules.specs.Programs.{start_behind}
 use Rattle.elab_places.specs.Bodies.{DefaultsOwn, LeavesFrame}
 

@@ -1,7 +1,7 @@
 -- Places of the frame that bodies of functions have: behind the words of the call, each once.
-use Rattle.std.specs.Prelude.{◌≡◌, ℕ, ◌+◌, List, [], ◌∷◌, ◌++◌, length, true, Option, Some, None, is_some, Result, Ok}
+use Rattle.std.specs.Prelude.{◌≡◌, ℕ, ◌+◌, List, [], ◌∷◌, ◌++◌, length, true, Option, is_some, Ok}
 use Rattle.std.specs.List.{list_all}
-use Rattle.elab_rules.specs.cpp_types.Typ.{Typ, typ, closure, Signature, Typs, none as no_typs, more as and_typ}
+use Rattle.elab_rules.specs.cpp_types.Typ.{Typ, Signature, Typs, none as no_typs, more as and_typ}
 use Rattle.elab_rules.specs.cpp_types.declared.classes.At.{At}
 use Rattle.elab_rules.specs.cpp_lex.Tokens.{Lexeme}
 use Rattle.elab_rules.specs.cpp_ast.Trees as syntax
@@ -12,7 +12,6 @@ use Rattle.elab_rules.specs.cpp_tree.WellFormed.{places_of, is_free_place}
 use Rattle.elab_rules.specs.cpp_tree.declared.program.FuncKind.{FuncKind}
 use Rattle.elab_rules.specs.cpp_tree.declared.program.FuncKind.TheVariants.{Destructor}
 use Rattle.elab_rules.specs.Initialising.{signature_result}
-use Rattle.elab_rules.specs.Types.{Parameter}
 use Rattle.elab_rules.specs.Statements.{State, Body, Lambdas}
 use Rattle.elab_rules.specs.Functions.{Header, result_items, this_items, function_body}
 use Rattle.elab_rules.specs.Members.{constructor_body, destructor_body, default_made}
