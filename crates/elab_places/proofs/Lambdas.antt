@@ -42,7 +42,7 @@ no_lambdas_law = record { each = λ s st t x e. refused_leaves st (first_lambda 
 
 -- Bodies
 
-entered : (st : State) (w : Written) (rs : Returns) (r : Typ) (c : Ctx) → DefaultsOwn st.ctx.defaults
+pub entered : (st : State) (w : Written) (rs : Returns) (r : Typ) (c : Ctx) → DefaultsOwn st.ctx.defaults
     → Enters (length (result_items r) + 1) (Lambdas.inside st (lambda_entered st w rs r) c)
 entered st w rs r c own = record { frame = length-append (result_items r) _; own = own }
 

@@ -12,6 +12,7 @@ pub mod Defaults
 pub mod Expressions
 pub mod Implied
 pub mod Initials
+pub mod Keeping
 pub mod Lambdas
 pub mod Names
 pub mod OfExpressions
@@ -20,6 +21,7 @@ pub mod Operators
 pub mod Owned
 pub mod Parts
 pub mod Relocated
+pub mod Rounds
 pub mod Statements
 pub mod Steps
 pub mod Values

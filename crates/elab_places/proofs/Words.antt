@@ -9,11 +9,11 @@ use Rattle.elab_rules.specs.Programs.{one_if}
 use Rattle.elab_rules.specs.Functions.{this_items}
 use Rattle.elab_places.specs.Functions.{PlacesFree, WordsCounted}
 
-result_words : (t : Typ) (b : Bool) → one_if b ≡ length (if b then plain (ptr t) ∷ [] else [])
+pub result_words : (t : Typ) (b : Bool) → one_if b ≡ length (if b then plain (ptr t) ∷ [] else [])
 result_words t true = refl
 result_words t false = refl
 
-this_words : (o : Option Typ) → one_if (is_some o) ≡ length (this_items o)
+pub this_words : (o : Option Typ) → one_if (is_some o) ≡ length (this_items o)
 this_words (Some t) = refl
 this_words None = refl
 

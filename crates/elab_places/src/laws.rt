@@ -1,6 +1,7 @@
 //! Laws of places of the frame. A function here does nothing: its clauses are the laws.
 
 ghost use Rattle.elab_places.specs.Bodies.{ItemsOwn, StatementsOwn, BlocksOwn, HandlersOwn};
+ghost use Rattle.elab_places.specs.Round.{LambdasKeepBodies, StatementsKeepBodies, FunctionsKeepBodies};
 ghost use Rattle.elab_places.specs.Declared.{DeclarationsKeep, AllDeclarationsKeep, UnitsKeep, UnitsBegin, AllDefaultsOwn};
 ghost use Rattle.elab_places.specs.Functions.{FunctionBodiesOwn, ConstructorBodiesOwn, DestructorBodiesOwn, ImpliedBodiesOwn, DefaultsMadeOwn};
 ghost use Rattle.elab_places.specs.Functions.{LambdaBodiesOwn, LambdasLeave, NoLambdasLeave, WordsCounted, PlacesFree};
@@ -57,4 +58,11 @@ pub fn declarations()
     ensures units { UnitsKeep }
     ensures begin { UnitsBegin }
     ensures defaults { AllDefaultsOwn }
+{}
+
+/// All bodies that are made so far own the places behind the words that their functions are shown with.
+pub fn made()
+    ensures lambdas { LambdasKeepBodies }
+    ensures statements { StatementsKeepBodies }
+    ensures functions { FunctionsKeepBodies }
 {}
