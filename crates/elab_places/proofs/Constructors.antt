@@ -161,7 +161,7 @@ module _ (p : ℕ) where
         skip (Gathers words) (expect (at_of q) UnknownName (type_named (spelling s t) x.state.ctx.types)) _ (λ (u : Typ). given_base x (at_of q) u es h)
     given_by x t h = h
 
-    all_given : (x : Giving) (ts : syntax.Trees) → Gathers words x → On (Gathers words) (Members.all_given lams s n x ts)
+    pub all_given : (x : Giving) (ts : syntax.Trees) → Gathers words x → On (Gathers words) (Members.all_given lams s n x ts)
     all_given x syntax.none h = h
     all_given x (syntax.more t ts) h = bind (Gathers words) (Gathers words) (Members.given_by lams s n x t) _ (given_by x t h) (λ y i. all_given y ts i)
 
@@ -277,7 +277,7 @@ module _ (p : ℕ) where
 pub in_object_enters : (st : State) (n : ℕ) → DefaultsOwn st.ctx.defaults → Enters 1 (in_object st n)
 in_object_enters st n own = record { frame = refl; own = own }
 
-constructor_counts : (p : ℕ) (at : At) (words : ℕ) (x : Giving) (parts d : Done) → Gathers p words x → PartsEnd p (given_all p x.given) x.state parts
+pub constructor_counts : (p : ℕ) (at : At) (words : ℕ) (x : Giving) (parts d : Done) → Gathers p words x → PartsEnd p (given_all p x.given) x.state parts
     → Ends p parts.state d
     → held (place p) (Members.constructor_tree at parts.trees d.trees) + room (place p) words ≤ used (place p) d.state.work
 constructor_counts p at words x parts d h i j = let a = h.counted in let b = i.counted in let c = j.counted in

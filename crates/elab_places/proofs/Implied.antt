@@ -32,7 +32,7 @@ use Rattle.elab_places.proofs.Constructors as constructors
 use Rattle.elab_places.proofs.Constructors.{PartsEnd, in_object_enters}
 
 module _ (p : ℕ) where
-  source_object : (n : ℕ) (t : Typ) (at : At) → held (place p) (Implicit.source_object n t at) ≡ 0
+  pub source_object : (n : ℕ) (t : Typ) (at : At) → held (place p) (Implicit.source_object n t at) ≡ 0
   source_object n (typ (ref (typ f c v)) d w) at = refl
   source_object n (typ f c v) at = refl
 
@@ -74,7 +74,7 @@ module _ (p : ℕ) where
         own = own;
       })
 
-  parts_copied : (st : State) (at : At) (n : ℕ) (source : Tree) (b : Bool) → held (place p) source ≡ 0 → DefaultsOwn st.ctx.defaults
+  pub parts_copied : (st : State) (at : At) (n : ℕ) (source : Tree) (b : Bool) → held (place p) source ≡ 0 → DefaultsOwn st.ctx.defaults
       → On (PartsEnd p 0 st) (Implicit.parts_copied st at n source b)
   parts_copied st at n source b h own = bind (PartsEnd p 0 st) (PartsEnd p 0 st)
       (Implicit.base_copied st at n source (base_of_class (slice_get st.ctx.classes n))) _
@@ -97,7 +97,7 @@ parts_made st at func words e d h i = body_is_made st at func (Members.construct
     let a = (i p).counted in let c = constructors.constructor_held p at d.trees none in
     let r : used (place p) e.work ≡ room (place p) words = ap (room (place p)) h.frame in omega arith)
 
-source_enters : (st : State) (n : ℕ) (t : Typ) → DefaultsOwn st.ctx.defaults → Enters 2 (with_source (in_object st n) t)
+pub source_enters : (st : State) (n : ℕ) (t : Typ) → DefaultsOwn st.ctx.defaults → Enters 2 (with_source (in_object st n) t)
 source_enters st n t own = record { frame = refl; own = own }
 
 constructor_implied : (st : State) (at : At) (func n : ℕ) (ps : Typs) → DefaultsOwn st.ctx.defaults

@@ -62,7 +62,7 @@ module _ (K : Round → Type 0) where
 
   module _ (lams : Lambdas) (keeps : (s : List Lexeme) (st : State) (t : syntax.Tree) → K (round_of st) → On (λ (x : State). K (round_of x)) (lams s st t))
       (s : List Lexeme) where
-    all_lambdas : (st : State) (es : syntax.Trees) → Kept st → On Kept (Statements.all_lambdas lams s st es)
+    pub all_lambdas : (st : State) (es : syntax.Trees) → Kept st → On Kept (Statements.all_lambdas lams s st es)
     all_lambdas st syntax.none h = h
     all_lambdas st (syntax.more e es) h = bind Kept Kept (lams s st e) _ (keeps s st e h) (λ x i. all_lambdas x es i)
 

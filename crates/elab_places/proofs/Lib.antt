@@ -14,6 +14,7 @@ pub mod Implied
 pub mod Initials
 pub mod Keeping
 pub mod Lambdas
+pub mod MemberRounds
 pub mod Names
 pub mod OfExpressions
 pub mod OfStatements

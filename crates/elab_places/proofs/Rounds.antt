@@ -43,7 +43,7 @@ use Rattle.elab_places.proofs.Keeping as keeping
 use Rattle.elab_places.proofs.Lambdas as made
 use Rattle.elab_places.proofs.Words.{result_words, this_words}
 
-both : {A : Type 0} (P Q : A → Type 0) (r : Result A ElabFault) → On P r → On Q r → On (λ (a : A). P a × Q a) r
+pub both : {A : Type 0} (P Q : A → Type 0) (r : Result A ElabFault) → On P r → On Q r → On (λ (a : A). P a × Q a) r
 both P Q (Ok a) h i = (h, i)
 both P Q (Err e) h i = tt
 
@@ -246,10 +246,10 @@ statements_bodies_law s st t d h e = held_by (λ (y : Done). AllOwned (round_of 
 
 -- In a function that is known with its words
 
-record InBody (func words : ℕ) (r : Round) : Type 0 where
-  all : AllOwned r
-  known : func < length r.funcs
-  counted : words_of (func_at r.funcs func) ≡ words
+pub record InBody (func words : ℕ) (r : Round) : Type 0 where
+  pub all : AllOwned r
+  pub known : func < length r.funcs
+  pub counted : words_of (func_at r.funcs func) ≡ words
 
 in_added : (func words : ℕ) (st x : State) → InBody func words (round_of st) → Adds st x → InBody func words (round_of x)
 in_added func words st x h a = record {
@@ -258,11 +258,11 @@ in_added func words st x h a = record {
   counted = ap (λ (fs : List Func). words_of (func_at fs func)) a.funcs ∙ ap words_of (front st.ctx.funcs (a.func ∷ []) func h.known) ∙ h.counted;
 }
 
-in_keep : (func words : ℕ) (s : List Lexeme) (st : State) (t : syntax.Tree) → InBody func words (round_of st)
+pub in_keep : (func words : ℕ) (s : List Lexeme) (st : State) (t : syntax.Tree) → InBody func words (round_of st)
     → On (λ (x : State). InBody func words (round_of x)) (lambdas_of s st t)
 in_keep func words s st t h = each (InBody func words) (λ r i. i.all.defaults) (in_added func words) s st t h
 
-made_keep : (func words : ℕ) (old : State) (at : At) (tree : Tree) (st : State) → DefaultsOwn old.ctx.defaults → InBody func words (round_of st)
+pub made_keep : (func words : ℕ) (old : State) (at : At) (tree : Tree) (st : State) → DefaultsOwn old.ctx.defaults → InBody func words (round_of st)
     → ((p : ℕ) → held (place p) tree + room (place p) words ≤ used (place p) st.work)
     → On (λ (x : State). AllOwned (round_of x)) (Functions.body_made old at func tree st)
 made_keep func words old at tree st own h c = skip (λ (x : State). AllOwned (round_of x)) (Functions.within_frame st.ctx at st.work.frame) _ (λ y. record {

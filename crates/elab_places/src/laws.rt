@@ -1,7 +1,8 @@
 //! Laws of places of the frame. A function here does nothing: its clauses are the laws.
 
 ghost use Rattle.elab_places.specs.Bodies.{ItemsOwn, StatementsOwn, BlocksOwn, HandlersOwn};
-ghost use Rattle.elab_places.specs.Round.{LambdasKeepBodies, StatementsKeepBodies, FunctionsKeepBodies};
+ghost use Rattle.elab_places.specs.Round.{LambdasKeepBodies, StatementsKeepBodies, FunctionsKeepBodies, ConstructorsKeepBodies};
+ghost use Rattle.elab_places.specs.Round.{DestructorsKeepBodies, ImpliedKeepBodies};
 ghost use Rattle.elab_places.specs.Declared.{DeclarationsKeep, AllDeclarationsKeep, UnitsKeep, UnitsBegin, AllDefaultsOwn};
 ghost use Rattle.elab_places.specs.Functions.{FunctionBodiesOwn, ConstructorBodiesOwn, DestructorBodiesOwn, ImpliedBodiesOwn, DefaultsMadeOwn};
 ghost use Rattle.elab_places.specs.Functions.{LambdaBodiesOwn, LambdasLeave, NoLambdasLeave, WordsCounted, PlacesFree};
@@ -65,4 +66,7 @@ pub fn made()
     ensures lambdas { LambdasKeepBodies }
     ensures statements { StatementsKeepBodies }
     ensures functions { FunctionsKeepBodies }
+    ensures constructors { ConstructorsKeepBodies }
+    ensures destructors { DestructorsKeepBodies }
+    ensures implied { ImpliedKeepBodies }
 {}
