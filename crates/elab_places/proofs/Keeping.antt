@@ -1,5 +1,5 @@
 -- Whatever the lambdas in them keep of the functions that are known and of the bodies that are made, statements keep.
-use Rattle.std.proofs.Common.{◌≡◌, refl, ℕ, Bool, true, false, not, ◌&&◌, List, [], ◌∷◌, length, Option, Some, None, Result, Ok, Err}
+use Rattle.std.proofs.Common.{ℕ, Bool, true, false, not, List, [], ◌∷◌, length, Option, Some, None, Result, Ok}
 use Rattle.std.specs.Prelude.{if◌then◌else◌, ◌==◌}
 use Rattle.std.specs.List.{list_any}
 use Rattle.elab_rules.specs.cpp_types.Typ.{Typ, typ, void}
@@ -17,12 +17,12 @@ use Rattle.elab_rules.specs.cpp_tree.Trees.{Tree, none, one, three, typ_in}
 use Rattle.elab_rules.specs.cpp_tree.Notation.{plain}
 use Rattle.elab_rules.specs.cpp_tree.Typing.{form_in, unqualified, is_class_typ, is_void, kind_in}
 use Rattle.elab_rules.specs.elab_ctx.Ctx.{Returns, known, deduced}
-use Rattle.elab_rules.specs.elab_ctx.Steps.{and_then, expect, check, at_of, spelling, Operand, Made, TypedAll}
+use Rattle.elab_rules.specs.elab_ctx.Steps.{and_then, expect, check, at_of, spelling, Made, TypedAll}
 use Rattle.elab_rules.specs.Objects.{followed_by}
 use Rattle.elab_rules.specs.Constants.{constant}
 use Rattle.elab_rules.specs.Casts.{within_exception}
 use Rattle.elab_rules.specs.Initialising.{initial, class_from}
-use Rattle.elab_rules.specs.Operators.{value, truth, dropped, is_complete}
+use Rattle.elab_rules.specs.Operators.{value, truth, is_complete}
 use Rattle.elab_rules.specs.Sizes.{typ_sized}
 use Rattle.elab_rules.specs.Strings.{string_bytes}
 use Rattle.elab_rules.specs.Types.{Declared, Parameter, has_auto, is_bounded}
@@ -36,7 +36,6 @@ use Rattle.elab_rules.specs.Functions
 use Rattle.elab_rules.specs.Functions.{with_parameters}
 use Rattle.elab_places.specs.Round.{Round, round_of}
 use Rattle.elab_places.proofs.Steps.{On, bind, skip, either}
-use Rattle.elab_places.proofs.Declaring.{on}
 
 module _ (K : Round → Type 0) where
   abbrev Kept : State → Type 0

@@ -1,6 +1,5 @@
 -- Bodies of constructors, destructors and implicit members own the places behind the words that their functions are shown with, and those before them do.
-use Rattle.std.proofs.Common.{◌≡◌, refl, ap, ℕ, suc, ◌+◌, ◌<◌, ◌≤◌, Bool, List, [], ◌∷◌, length, Option, Some, None, is_none, not, slice_get, Result, Ok, Err, arith}
-use Rattle.std.specs.Prelude.{if◌then◌else◌}
+use Rattle.std.proofs.Common.{◌≡◌, ap, ℕ, suc, ◌+◌, Bool, List, [], ◌∷◌, length, Option, Some, None, is_none, not, slice_get, arith}
 use Rattle.elab_rules.specs.cpp_types.Typ.{Typ, class, Typs, none as no_typs, more as and_typ}
 use Rattle.elab_rules.specs.cpp_types.Class.{Member}
 use Rattle.elab_rules.specs.cpp_types.declared.classes.At.{At}
@@ -9,12 +8,11 @@ use Rattle.elab_rules.specs.cpp_ast.declared.kinds.NodeKind.TheVariants as k
 use Rattle.elab_rules.specs.cpp_ast.Trees as syntax
 use Rattle.elab_rules.specs.cpp_tree.declared.program.FuncKind.{FuncKind}
 use Rattle.elab_rules.specs.cpp_tree.declared.program.FuncKind.TheVariants.{Destructor}
-use Rattle.elab_rules.specs.cpp_tree.declared.faults.ElabFault.{ElabFault}
 use Rattle.elab_rules.specs.cpp_tree.declared.faults.IllRule.TheVariants.{Redeclared, NoMember, UnknownName, OutOfProfile}
 use Rattle.elab_rules.specs.cpp_tree.Trees.{Tree, none}
 use Rattle.elab_rules.specs.cpp_tree.Notation.{plain}
 use Rattle.elab_rules.specs.cpp_tree.Typing.{unqualified}
-use Rattle.elab_rules.specs.elab_ctx.Steps.{and_then, expect, check, at_of, spelling, TypedAll}
+use Rattle.elab_rules.specs.elab_ctx.Steps.{expect, check, at_of, spelling, TypedAll}
 use Rattle.elab_rules.specs.Initialising
 use Rattle.elab_rules.specs.Names.{members_in}
 use Rattle.elab_rules.specs.Calls.{base_of_class}
@@ -31,7 +29,7 @@ use Rattle.elab_rules.specs.Implicit
 use Rattle.elab_rules.specs.Implicit.{own_operand, with_source}
 use Rattle.elab_places.specs.Functions.{copy_words, implied_words}
 use Rattle.elab_places.specs.Round.{Round, round_of, AllOwned, ConstructorsKeepBodies, DestructorsKeepBodies, ImpliedKeepBodies}
-use Rattle.elab_places.proofs.Counting.{place, held, used, room}
+use Rattle.elab_places.proofs.Counting.{place, used, room}
 use Rattle.elab_places.proofs.Steps.{On, bind, skip, held_by}
 use Rattle.elab_places.proofs.Declaring.{Ends}
 use Rattle.elab_places.proofs.Bodies.{on_all, Enters, parameters, in_body}

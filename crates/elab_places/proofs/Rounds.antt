@@ -1,6 +1,6 @@
 -- Bodies of lambdas and of functions own the places behind the words that their functions are shown with.
-use Rattle.std.proofs.Common.{◌≡◌, refl, sym, ap, ◌∙◌, subst, ℕ, ◌+◌, ◌<◌, ◌≤◌, Bool, true, false, List, [], ◌∷◌, ◌++◌, length, length-append, get_or, Option, Some, None}
-use Rattle.std.proofs.Common.{is_some, map, not, Result, Ok, Err, arith}
+use Rattle.std.proofs.Common.{◌≡◌, refl, sym, ap, ◌∙◌, subst, ℕ, ◌+◌, ◌<◌, ◌≤◌, false, List, [], ◌∷◌, ◌++◌, length, length-append, Option, Some, None}
+use Rattle.std.proofs.Common.{not, Result, Ok, Err, arith}
 use Rattle.std.proofs.lemmas.List.{get_or_append_left, length-map}
 use Rattle.std.proofs.lemmas.Option.{unwrap_or-slice_get}
 use Rattle.std.proofs.Math.Seq.{get_or-append_seam}
@@ -29,7 +29,7 @@ use Rattle.elab_rules.specs.Functions
 use Rattle.elab_rules.specs.Functions.{Header, result_items, this_items, param_of, entered, with_parameters}
 use Rattle.elab_rules.specs.Lambdas
 use Rattle.elab_rules.specs.Lambdas.{Written, no_lambda, lambdas_of, first_lambda, lambda_entered, declared_closure}
-use Rattle.elab_rules.specs.Programs.{words_of, one_if}
+use Rattle.elab_rules.specs.Programs.{words_of}
 use Rattle.elab_places.specs.Places.{Owned}
 use Rattle.elab_places.specs.Bodies.{DefaultsOwn}
 use Rattle.elab_places.specs.Functions.{call_words}
@@ -41,7 +41,7 @@ use Rattle.elab_places.proofs.Declaring.{Ends}
 use Rattle.elab_places.proofs.Bodies.{Enters, enters, parameters, in_body, block_counts}
 use Rattle.elab_places.proofs.Keeping as keeping
 use Rattle.elab_places.proofs.Lambdas as made
-use Rattle.elab_places.proofs.Words.{result_words, this_words}
+use Rattle.elab_places.proofs.Words.{result_words}
 
 pub both : {A : Type 0} (P Q : A → Type 0) (r : Result A ElabFault) → On P r → On Q r → On (λ (a : A). P a × Q a) r
 both P Q (Ok a) h i = (h, i)
