@@ -11,7 +11,6 @@ use Rattle.elab_rules.specs.cpp_tree.declared.roles.Position.{Position}
 use Rattle.elab_rules.specs.cpp_tree.declared.roles.Role.{Role}
 use Rattle.elab_rules.specs.cpp_tree.declared.roles.Role.TheVariants.{Value}
 use Rattle.elab_rules.specs.cpp_tree.Trees.{Tree, node, Trees, none, more, kind_of}
-use Rattle.elab_rules.specs.cpp_tree.Typing.{Head}
 use Rattle.elab_rules.specs.cpp_tree.Roles.{Kids, role_at, serves, way_fits}
 use Rattle.elab_rules.specs.cpp_tree.Rows.{Setting, row_fits, result_of}
 use Rattle.elab_rules.specs.cpp_tree.WellFormed.{fits, kids_fit, enough, kids_in, heads_of, inside, is_kid, is_switch, labels_fit, may_stand, stands}

@@ -1,51 +1,40 @@
 -- Statements made of others, in the states that they come of.
-use Rattle.std.proofs.Common.{◌≡◌, refl, sym, ap, ◌∙◌, subst, ℕ, Bool, true, false, List, [], Option, Some, None, Result, Ok, Err}
+use Rattle.std.proofs.Common.{◌≡◌, refl, ap, ◌∙◌, ℕ, Bool, true, false, List, Option}
 use Rattle.elab_rules.specs.tx_ints.declared.kinds.IntKind.{IntKind}
 use Rattle.elab_rules.specs.tx_ints.declared.kinds.IntKind.TheVariants.{Bool as BoolKind}
 use Rattle.elab_rules.specs.cpp_lex.Tokens.{Lexeme}
 use Rattle.elab_rules.specs.cpp_ast.declared.arena.At.{At as SyntaxAt}
 use Rattle.elab_rules.specs.cpp_ast.declared.kinds.NodeKind.TheVariants as k
 use Rattle.elab_rules.specs.cpp_ast.Trees as syntax
-use Rattle.elab_rules.specs.cpp_types.Typ.{Typ}
 use Rattle.elab_rules.specs.cpp_types.declared.classes.At.{At}
-use Rattle.elab_rules.specs.cpp_tree.declared.faults.ElabFault.{ElabFault}
-use Rattle.elab_rules.specs.cpp_tree.declared.faults.IllRule.TheVariants.{BadBreak}
 use Rattle.elab_rules.specs.cpp_tree.declared.kinds.TKind.TheVariants as forms
-use Rattle.elab_rules.specs.cpp_tree.declared.roles.Role.TheVariants.{Value, Statement, BlockItem, SwitchItem, Step, Catch, Scalar}
-use Rattle.elab_rules.specs.cpp_tree.Trees.{Tree, Trees, none, more, one, three, typ_in}
-use Rattle.elab_rules.specs.cpp_tree.Typing.{form_in, kind_in}
+use Rattle.elab_rules.specs.cpp_tree.declared.roles.Role.TheVariants.{Statement, BlockItem, Step, Catch, Scalar}
+use Rattle.elab_rules.specs.cpp_tree.Trees.{Tree, Trees, none, more, one, three}
 use Rattle.elab_rules.specs.cpp_tree.Rows.{Setting, are_cases}
 use Rattle.elab_rules.specs.cpp_tree.WellFormed.{heads_of}
 use Rattle.elab_rules.specs.elab_ctx.declared.env.Label.TheVariants.{Direct}
-use Rattle.elab_rules.specs.elab_ctx.Ctx.{next_place}
-use Rattle.elab_rules.specs.elab_ctx.Steps.{and_then, check, at_of, spelling}
+use Rattle.elab_rules.specs.elab_ctx.Steps.{at_of}
 use Rattle.elab_rules.specs.Objects.{followed_by}
 use Rattle.elab_rules.specs.Operators.{true_at}
-use Rattle.elab_rules.specs.Statements.{State, Done, Lambdas, Switched, Caught, done, statement, block, the_tree, expression_statement, condition, block_declaration}
-use Rattle.elab_rules.specs.Statements.{returned, case_label, default_label, inner, in_loop, in_block, in_switch, outer, handler_node, handler_type, in_order, switched}
-use Rattle.elab_rules.specs.Statements.{jump, a_part, for_first, for_test, for_step, statement_of, statements_of, handlers_of, no_labels, inner_label, block_label}
-use Rattle.elab_rules.specs.Statements.{block_kind, is_not_none, is_direct_label}
+use Rattle.elab_rules.specs.Statements.{State, Done, Lambdas, Switched, Caught, statement, block, the_tree, expression_statement, block_declaration}
+use Rattle.elab_rules.specs.Statements.{inner, in_loop, in_block, in_switch, outer, handler_node}
+use Rattle.elab_rules.specs.Statements.{for_first, for_test, for_step, no_labels, inner_label, block_label}
+use Rattle.elab_rules.specs.Statements.{is_not_none, is_direct_label}
 use Rattle.elab_fits.specs.Standing.{On}
-use Rattle.elab_fits.proofs.Nodes.{clash}
 use Rattle.elab_fits.proofs.Numbers.{one_word}
-use Rattle.elab_fits.proofs.Steps.{bind, skip, checked}
 use Rattle.elab_fits.proofs.Values.{number_gives}
 use Rattle.elab_fits_statements.specs.Anywhere.{Serves, AllServe}
-use Rattle.elab_fits_statements.specs.Forms.{IsCondition}
-use Rattle.elab_fits_statements.specs.Items.{HasLabels, Items, StatementFits}
-use Rattle.elab_fits_statements.specs.Discipline.{Words, Goes, within, Discipline}
-use Rattle.elab_fits_statements.proofs.Forms.{value_serves, as_item, block_serves, branches_serve, loop_serves, switch_serves, jumps_serve, try_serves, handler_serves}
-use Rattle.elab_fits_statements.proofs.Forms.{marked_serve}
+use Rattle.elab_fits_statements.specs.Items.{Items, StatementFits}
+use Rattle.elab_fits_statements.specs.Discipline.{Words, Goes, Discipline}
+use Rattle.elab_fits_statements.proofs.Forms.{value_serves, as_item, block_serves, branches_serve, loop_serves, switch_serves, try_serves, handler_serves}
 use Rattle.elab_fits_statements.proofs.Items.{all_items, all_else, all_followed}
 use Rattle.elab_fits_statements.proofs.Variables.{condition_fits}
-use Rattle.elab_fits_statements.proofs.Full.{IsWhole, IsTest, IsSwitch, expression_fits, test_fits, switch_fits}
-use Rattle.elab_fits_statements.proofs.Returning.{IsReturn, returned_fits}
-use Rattle.elab_fits_statements.proofs.Labelled.{IsLabelled, case_stands, default_stands}
+use Rattle.elab_fits_statements.proofs.Full.{IsWhole, IsTest, IsSwitch, expression_fits, test_fits}
 use Rattle.elab_fits_statements.proofs.Declared.{Declares, declaration_fits}
-use Rattle.elab_fits_statements.proofs.Handlers.{Catches, catches}
-use Rattle.elab_fits_statements.proofs.Parts.{serves_as, all_as, no_inner, no_block, no_labels_there, IsPart, labels_later, statement_items, declaration_items}
-use Rattle.elab_fits_statements.proofs.Parts.{finish, join, no_items, left_behind, body_items, body_block, part_fits}
-use Rattle.elab_fits_statements.proofs.States.{told, mapped, goes_still, goes_then, serves_still, all_still, condition_still, switched_still}
+use Rattle.elab_fits_statements.proofs.Handlers.{Catches}
+use Rattle.elab_fits_statements.proofs.Parts.{serves_as, no_inner, IsPart}
+use Rattle.elab_fits_statements.proofs.Parts.{finish, left_behind, body_block}
+use Rattle.elab_fits_statements.proofs.States.{mapped, goes_still, goes_then, serves_still, all_still, condition_still, switched_still}
 
 -- Parts of `for`
 

@@ -26,20 +26,19 @@ use Rattle.elab_rules.specs.cpp_tree.declared.roles.Position.{Position}
 use Rattle.elab_rules.specs.cpp_tree.declared.roles.Role.TheVariants.{Value}
 use Rattle.elab_rules.specs.cpp_tree.Trees.{Tree, node, Trees, none, more, one, two, three, kind_of, typ_in, cat_of}
 use Rattle.elab_rules.specs.cpp_tree.Units.{Global, Cell}
-use Rattle.elab_rules.specs.cpp_tree.Notation.{plain}
 use Rattle.elab_rules.specs.cpp_tree.Typing.{Head, head_of, form_in, kind_in, is_kind, same_kind, word_kind, is_word_of, is_scalar_value, scalar_of, is_prvalue, is_void}
-use Rattle.elab_rules.specs.cpp_tree.Typing.{without_exception, is_prvalue_of, passes, is_promoted, gives, is_bool, is_volatile_typ, is_class_typ}
+use Rattle.elab_rules.specs.cpp_tree.Typing.{without_exception, passes, is_promoted, gives, is_bool}
 use Rattle.elab_rules.specs.cpp_tree.Roles.{is_throw}
-use Rattle.elab_rules.specs.cpp_tree.Rows.{Setting, row_fits, is_load, is_read, is_access, is_retyped, is_zero_literal, is_binary, is_right, is_comparison, is_branch}
+use Rattle.elab_rules.specs.cpp_tree.Rows.{Setting, is_load, is_read, is_access, is_retyped, is_zero_literal, is_binary, is_right, is_comparison, is_branch}
 use Rattle.elab_rules.specs.cpp_tree.Rows.{is_result_address, result_of}
-use Rattle.elab_rules.specs.cpp_tree.WellFormed.{fits, is_kid, kids_fit}
+use Rattle.elab_rules.specs.cpp_tree.WellFormed.{fits, is_kid}
 use Rattle.elab_rules.specs.Constants.{constant, word_in, number_in, value_of_global, is_constant_type, result_word, applied, branch, right_kind}
 use Rattle.elab_rules.specs.Constants
 use Rattle.elab_fits.specs.Standing.{FitsAs}
 use Rattle.elab_fits.proofs.Equal.{kind_same, form_same, typ_same}
 use Rattle.elab_fits.proofs.Nodes.{clash, head_typ, head_cat}
 use Rattle.elab_fits.proofs.Numbers.{zero_word}
-use Rattle.elab_fits_statements.proofs.Anywhere.{Fitting, fitting}
+use Rattle.elab_fits_statements.proofs.Anywhere.{fitting}
 
 -- Words
 

@@ -1,5 +1,5 @@
 -- Declarations in a block.
-use Rattle.std.proofs.Common.{◌≡◌, refl, sym, ap, ◌∙◌, subst, ℕ, Bool, true, false, not, ◌&&◌, ◌||◌, List, length, Option, Some, None, Result, Ok, Err}
+use Rattle.std.proofs.Common.{◌≡◌, refl, sym, ap, ◌∙◌, subst, ℕ, Bool, true, false, not, List, length, Option, Some, None}
 use Rattle.elab_rules.specs.cpp_lex.Tokens.{Lexeme}
 use Rattle.elab_rules.specs.cpp_ast.declared.kinds.NodeKind.TheVariants as k
 use Rattle.elab_rules.specs.cpp_ast.Trees as syntax
@@ -7,16 +7,15 @@ use Rattle.elab_rules.specs.cpp_types.Typ.{Typ}
 use Rattle.elab_rules.specs.cpp_types.declared.classes.At.{At}
 use Rattle.elab_rules.specs.cpp_tree.declared.faults.IllRule.TheVariants.{BadInit, BadDeclaration, TypeDiffers, Redeclared}
 use Rattle.elab_rules.specs.cpp_tree.declared.roles.Role.TheVariants.{Value, BlockItem}
-use Rattle.elab_rules.specs.cpp_tree.Trees.{Tree, Trees, none, one}
-use Rattle.elab_rules.specs.elab_ctx.Ctx.{Ctx, Labels, next_place}
-use Rattle.elab_rules.specs.elab_ctx.Steps.{and_then, check, expect, at_of, spelling, Made}
+use Rattle.elab_rules.specs.cpp_tree.Trees.{Trees, none}
+use Rattle.elab_rules.specs.elab_ctx.Ctx.{Ctx, next_place}
+use Rattle.elab_rules.specs.elab_ctx.Steps.{at_of, spelling}
 use Rattle.elab_rules.specs.Braces.{item_of, string_token, is_char_array, syntax_place, string_object}
 use Rattle.elab_rules.specs.Expressions.{operands_of, declared_by, type_of_specifiers}
-use Rattle.elab_rules.specs.Objects.{followed_by}
 use Rattle.elab_rules.specs.Sizes.{typ_sized}
 use Rattle.elab_rules.specs.Strings.{string_bytes}
-use Rattle.elab_rules.specs.Types.{Declared, has_auto, is_bounded}
-use Rattle.elab_rules.specs.Statements.{State, Done, Deduction, Declaring, Lambdas, Full, with_work, with_labels, full_operand, declared_variable, placed_variable}
+use Rattle.elab_rules.specs.Types.{has_auto, is_bounded}
+use Rattle.elab_rules.specs.Statements.{State, Done, Deduction, Declaring, Lambdas, with_work, full_operand, declared_variable, placed_variable}
 use Rattle.elab_rules.specs.Statements.{auto_placed, variable_tree, init_node, default_object, copy_initialised, directly_initialised, all_lambdas, values_place}
 use Rattle.elab_rules.specs.Statements.{bound_by_initialiser, by_expression, with_initialiser, deduced_type, replaced, auto_initialised, auto_object, auto_variable}
 use Rattle.elab_rules.specs.Statements.{plain_variable, variable_by, variable, name_of, block_declarator, block_declarators, block_declaration, declarable, is_fresh}
@@ -24,10 +23,10 @@ use Rattle.elab_rules.specs.Statements.{is_own_name, only_expression, same_deduc
 use Rattle.elab_fits.specs.Standing.{On}
 use Rattle.elab_fits.proofs.Nodes.{both, or_left, or_right, clash}
 use Rattle.elab_fits.proofs.Steps.{bind, checked, expected}
-use Rattle.elab_fits_statements.specs.Anywhere.{FitsAnywhere, AllServe}
+use Rattle.elab_fits_statements.specs.Anywhere.{AllServe}
 use Rattle.elab_fits_statements.specs.Variables.{HasItem}
 use Rattle.elab_fits_statements.specs.Items.{skipped}
-use Rattle.elab_fits_statements.specs.Discipline.{StandsAs, Words, Goes, Discipline}
+use Rattle.elab_fits_statements.specs.Discipline.{Words, Goes, Discipline}
 use Rattle.elab_fits_statements.proofs.Variables.{variable_stands, variable_fits}
 use Rattle.elab_fits_statements.proofs.Skipping.{skipped_law}
 use Rattle.elab_fits_statements.proofs.Items.{one_skips, skipped_followed, all_followed}

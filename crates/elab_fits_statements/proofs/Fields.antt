@@ -1,5 +1,5 @@
 -- The scalars of an exception are nodes of scalars.
-use Rattle.std.proofs.Common.{◌≡◌, refl, ℕ, zero, suc, ◌+◌, Bool, true, false, List, [], ◌∷◌, length, Option, Some, None}
+use Rattle.std.proofs.Common.{refl, ℕ, zero, suc, ◌+◌, false, List, [], ◌∷◌, length, Option, Some, None}
 use Rattle.elab_rules.specs.tx_ints.declared.kinds.IntKind.{IntKind}
 use Rattle.elab_rules.specs.cpp_types.Typ.{Typ, typ, Form, void, array, class, closure, tx_ex}
 use Rattle.elab_rules.specs.cpp_types.Class.{Class}

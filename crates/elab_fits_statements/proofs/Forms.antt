@@ -1,21 +1,18 @@
 -- Nodes of statements.
-use Rattle.std.proofs.Common.{◌≡◌, refl, sym, ap, ◌∙◌, subst, ℕ, zero, suc, ◌≤◌, Bool, true, false, not, ◌&&◌, ◌||◌, [], ◌∷◌, length, Option, Some, None, arith, le-leb}
+use Rattle.std.proofs.Common.{◌≡◌, refl, sym, ap, ◌∙◌, subst, ℕ, zero, suc, ◌≤◌, Bool, true, false, ◌&&◌, [], ◌∷◌, length, Option, Some, arith, le-leb}
 use Rattle.std.specs.Prelude.{nat_le, cond, is_some, unwrap_or}
-use Rattle.std.proofs.lemmas.Bool.{and_parts}
 use Rattle.elab_rules.specs.elab_ctx.tx_events.declared.BlockKind.{BlockKind}
 use Rattle.elab_rules.specs.cpp_types.Typ.{Typ, void}
 use Rattle.elab_rules.specs.cpp_types.declared.classes.At.{At}
-use Rattle.elab_rules.specs.cpp_types.declared.ranks.Cat.{Cat}
 use Rattle.elab_rules.specs.cpp_types.declared.ranks.Cat.TheVariants.{Prvalue}
-use Rattle.elab_rules.specs.cpp_tree.declared.kinds.TKind.{TKind}
 use Rattle.elab_rules.specs.cpp_tree.declared.kinds.TKind.TheVariants as forms
 use Rattle.elab_rules.specs.cpp_tree.declared.roles.Position.{Position}
 use Rattle.elab_rules.specs.cpp_tree.declared.roles.Role.{Role}
 use Rattle.elab_rules.specs.cpp_tree.declared.roles.Role.TheVariants.{Value, Statement, BlockItem, SwitchItem, Step, Catch, Scalar}
-use Rattle.elab_rules.specs.cpp_tree.Trees.{Tree, node, Trees, none, more, one, three, kind_of, typ_in, cat_of}
+use Rattle.elab_rules.specs.cpp_tree.Trees.{Tree, node, Trees, none, more, one, three, kind_of, typ_in}
 use Rattle.elab_rules.specs.cpp_tree.Notation.{plain}
 use Rattle.elab_rules.specs.cpp_tree.Typing.{Head, head_of, form_in, kind_in, is_prvalue, gives_promoted}
-use Rattle.elab_rules.specs.cpp_tree.Roles.{Kids, only, and_any, role_at, is_label}
+use Rattle.elab_rules.specs.cpp_tree.Roles.{Kids, only, and_any, role_at}
 use Rattle.elab_rules.specs.cpp_tree.Rows.{Setting, is_branch, are_cases, is_handler_of}
 use Rattle.elab_rules.specs.cpp_tree.WellFormed.{fits, kids_fit, heads_of, inside, is_kid, is_zero_role, labels_fit, skips, zeroes}
 use Rattle.elab_rules.specs.cpp_tree.Rows.{result_of}
@@ -23,7 +20,7 @@ use Rattle.elab_rules.specs.Statements.{statement, block, handler_node}
 use Rattle.elab_fits.proofs.Nodes.{both, or_left, or_right, node_fits, head_typ, head_cat}
 use Rattle.elab_fits_statements.specs.Anywhere.{FitsAnywhere, Allows, Serves, AllServe}
 use Rattle.elab_fits_statements.specs.Forms.{IsCondition, IsSwitched}
-use Rattle.elab_fits_statements.proofs.Anywhere.{Fitting, from_fitting}
+use Rattle.elab_fits_statements.proofs.Anywhere.{from_fitting}
 use Rattle.elab_fits_statements.proofs.Roles.{value_statement, value_step, statement_item, block_switch_item}
 
 -- Roles

@@ -1,20 +1,19 @@
 -- Expressions as statements, conditions and the values of `switch`.
-use Rattle.std.proofs.Common.{◌≡◌, refl, sym, ap, ◌∙◌, subst, Bool, true, false, List, Result, Ok, Err}
+use Rattle.std.proofs.Common.{◌≡◌, refl, subst, true, false, List, Result, Ok, Err}
 use Rattle.elab_rules.specs.cpp_lex.Tokens.{Lexeme}
 use Rattle.elab_rules.specs.cpp_ast.Trees as syntax
-use Rattle.elab_rules.specs.cpp_types.Typ.{Typ, typ, Form, int, enum, null, ptr, ref}
+use Rattle.elab_rules.specs.cpp_types.Typ.{Typ, Form, int, enum}
 use Rattle.elab_rules.specs.cpp_types.declared.classes.At.{At}
 use Rattle.elab_rules.specs.cpp_tree.declared.faults.ElabFault.{ElabFault}
 use Rattle.elab_rules.specs.cpp_tree.declared.roles.Role.TheVariants.{Value, Statement}
 use Rattle.elab_rules.specs.cpp_tree.Trees.{Tree, typ_in}
 use Rattle.elab_rules.specs.cpp_tree.Notation.{plain}
 use Rattle.elab_rules.specs.cpp_tree.Typing.{form_in}
-use Rattle.elab_rules.specs.elab_ctx.Steps.{and_then, Made}
+use Rattle.elab_rules.specs.elab_ctx.Steps.{and_then}
 use Rattle.elab_rules.specs.Operators.{value, value_form, truth, dropped}
 use Rattle.elab_rules.specs.Statements.{State, Done, Lambdas, Full, Switched, with_work, full, full_operand, full_made, expression_statement, condition, the_tree}
-use Rattle.elab_rules.specs.Statements.{switched, switched_type, switch_value}
+use Rattle.elab_rules.specs.Statements.{switched, switched_type}
 use Rattle.elab_fits.specs.Standing.{On}
-use Rattle.elab_fits.proofs.Steps.{bind}
 use Rattle.elab_fits.proofs.Numbers.{promoted_kind}
 use Rattle.elab_fits.proofs.Unary.{truth_gives}
 use Rattle.elab_fits.proofs.Arithmetic.{IsTruth}
@@ -22,7 +21,7 @@ use Rattle.elab_fits_statements.specs.Anywhere.{FitsAnywhere, AllServe}
 use Rattle.elab_fits_statements.specs.Forms.{IsCondition}
 use Rattle.elab_fits_statements.specs.Variables.{Switches}
 use Rattle.elab_fits_statements.specs.Items.{IsLabelType}
-use Rattle.elab_fits_statements.specs.Discipline.{StandsAs, Words, Goes, HasRead, Discipline}
+use Rattle.elab_fits_statements.specs.Discipline.{Words, Goes, HasRead, Discipline}
 use Rattle.elab_fits_statements.proofs.Wholes.{whole_value}
 use Rattle.elab_fits_statements.proofs.Forms.{value_serves}
 use Rattle.elab_fits_statements.proofs.Variables.{condition_fits}

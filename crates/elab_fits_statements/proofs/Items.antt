@@ -1,5 +1,5 @@
 -- Lists of items.
-use Rattle.std.proofs.Common.{◌≡◌, refl, sym, ap, ◌∙◌, subst, Bool, true, false, not, ◌&&◌, ◌||◌, Option}
+use Rattle.std.proofs.Common.{◌≡◌, refl, ap, ◌∙◌, Bool, true, false, not, ◌&&◌, ◌||◌, Option}
 use Rattle.std.proofs.lemmas.Bool.{and_parts}
 use Rattle.elab_rules.specs.tx_ints.declared.kinds.IntKind.{IntKind}
 use Rattle.elab_rules.specs.cpp_tree.declared.kinds.TKind.TheVariants as forms
@@ -13,7 +13,7 @@ use Rattle.elab_rules.specs.cpp_tree.Rows.{Setting, is_case_of, are_cases}
 use Rattle.elab_rules.specs.cpp_tree.WellFormed.{fits, heads_of, labels_fit, skips}
 use Rattle.elab_rules.specs.Objects.{followed_by}
 use Rattle.elab_fits.proofs.Nodes.{both}
-use Rattle.elab_fits_statements.specs.Anywhere.{Allows, Serves, AllServe}
+use Rattle.elab_fits_statements.specs.Anywhere.{Allows, AllServe}
 use Rattle.elab_fits_statements.specs.Items.{role_if, skipped}
 use Rattle.elab_fits_statements.proofs.Forms.{as_item, as_switch_item, anywhere_else}
 

@@ -1,17 +1,17 @@
 -- Labels of `switch`.
-use Rattle.std.proofs.Common.{◌≡◌, refl, sym, ap, ap₂, ◌∙◌, subst, ℕ, Bool, true, false, not, ◌&&◌, ◌||◌, List, [], ◌∷◌, ◌++◌, Option, Some, None, Result, Ok, Err}
+use Rattle.std.proofs.Common.{◌≡◌, refl, sym, ap, ap₂, ◌∙◌, subst, ℕ, Bool, true, false, not, ◌&&◌, List, [], ◌∷◌, ◌++◌, Option, Some, None, Result, Ok}
 use Rattle.std.specs.Prelude.{◌==◌}
 use Rattle.std.specs.List.{list_any}
 use Rattle.elab_rules.specs.cpp_lex.Tokens.{Lexeme}
 use Rattle.elab_rules.specs.cpp_ast.Trees as syntax
 use Rattle.elab_rules.specs.tx_ints.declared.kinds.IntKind.{IntKind}
-use Rattle.elab_rules.specs.cpp_types.Typ.{Typ, Form}
+use Rattle.elab_rules.specs.cpp_types.Typ.{Typ}
 use Rattle.elab_rules.specs.cpp_types.declared.classes.At.{At}
 use Rattle.elab_rules.specs.cpp_tree.declared.faults.ElabFault.{ElabFault}
 use Rattle.elab_rules.specs.cpp_tree.declared.faults.IllRule.TheVariants.{JumpPastInit, NotConstant, Narrowing, BadCase}
 use Rattle.elab_rules.specs.cpp_tree.declared.kinds.TKind.TheVariants as forms
 use Rattle.elab_rules.specs.cpp_tree.declared.roles.Role.TheVariants.{SwitchItem}
-use Rattle.elab_rules.specs.cpp_tree.Trees.{Tree, none, one, kind_of, typ_in, cat_of}
+use Rattle.elab_rules.specs.cpp_tree.Trees.{Tree, none, one, typ_in}
 use Rattle.elab_rules.specs.cpp_tree.Notation.{plain}
 use Rattle.elab_rules.specs.cpp_tree.Typing.{head_of, form_in, kind_in, gives_promoted, is_promoted, is_word_of, word_kind, passes}
 use Rattle.elab_rules.specs.cpp_tree.Rows.{is_case_of}
@@ -19,7 +19,7 @@ use Rattle.elab_rules.specs.cpp_tree.WellFormed.{skips}
 use Rattle.elab_rules.specs.elab_ctx.declared.env.Label.{Label}
 use Rattle.elab_rules.specs.elab_ctx.declared.env.Label.TheVariants.{Outside, Direct, Inside, InBlock}
 use Rattle.elab_rules.specs.elab_ctx.Ctx.{Labels}
-use Rattle.elab_rules.specs.elab_ctx.Steps.{and_then, check, expect, Operand, Made}
+use Rattle.elab_rules.specs.elab_ctx.Steps.{and_then, check, Operand, Made}
 use Rattle.elab_rules.specs.Constants.{constant}
 use Rattle.elab_rules.specs.Expressions.{expression_of, chosen_operand}
 use Rattle.elab_rules.specs.Initialising.{initial}
@@ -32,7 +32,7 @@ use Rattle.elab_fits.proofs.Nodes.{both, clash}
 use Rattle.elab_fits.proofs.Steps.{checked, expected}
 use Rattle.elab_fits.proofs.Initials.{initial_gives}
 use Rattle.elab_fits_statements.specs.Anywhere.{Serves, AllServe}
-use Rattle.elab_fits_statements.specs.Items.{role_if, skipped, IsLabelType, HasLabels, Behind, Items}
+use Rattle.elab_fits_statements.specs.Items.{role_if, IsLabelType, HasLabels, Behind, Items}
 use Rattle.elab_fits_statements.specs.Discipline.{Words, StandsSomewhere, Discipline}
 use Rattle.elab_fits_statements.proofs.Constants.{constants_law}
 use Rattle.elab_fits_statements.proofs.Forms.{labels_serve}

@@ -12,6 +12,7 @@ pub mod Labelled
 pub mod Parts
 pub mod Returning
 pub mod Roles
+pub mod Scalars
 pub mod Skipping
 pub mod Statements
 pub mod States

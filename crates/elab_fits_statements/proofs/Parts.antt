@@ -1,12 +1,12 @@
 -- Statements in others, and one behind the other.
-use Rattle.std.proofs.Common.{◌≡◌, refl, sym, ap, ◌∙◌, subst, Bool, true, false, List, Result, Ok, Err}
+use Rattle.std.proofs.Common.{◌≡◌, refl, sym, ap, ◌∙◌, subst, Bool, true, false, List, Result}
 use Rattle.elab_rules.specs.cpp_lex.Tokens.{Lexeme}
 use Rattle.elab_rules.specs.cpp_ast.Trees as syntax
 use Rattle.elab_rules.specs.cpp_types.Typ.{Typ}
 use Rattle.elab_rules.specs.cpp_types.declared.classes.At.{At}
 use Rattle.elab_rules.specs.cpp_tree.declared.faults.ElabFault.{ElabFault}
 use Rattle.elab_rules.specs.cpp_tree.declared.roles.Role.{Role}
-use Rattle.elab_rules.specs.cpp_tree.declared.roles.Role.TheVariants.{Statement, BlockItem, Step}
+use Rattle.elab_rules.specs.cpp_tree.declared.roles.Role.TheVariants.{Statement, BlockItem}
 use Rattle.elab_rules.specs.cpp_tree.Trees.{Tree, Trees, none, more, one}
 use Rattle.elab_rules.specs.cpp_tree.Typing.{form_in, kind_in}
 use Rattle.elab_rules.specs.cpp_tree.Rows.{Setting, are_cases}
@@ -20,7 +20,7 @@ use Rattle.elab_fits.specs.Standing.{On}
 use Rattle.elab_fits.proofs.Nodes.{clash}
 use Rattle.elab_fits.proofs.Steps.{bind}
 use Rattle.elab_fits_statements.specs.Anywhere.{Serves, AllServe}
-use Rattle.elab_fits_statements.specs.Items.{role_if, role_in, skipped, IsLabelType, HasLabels, Behind, Items, StatementFits}
+use Rattle.elab_fits_statements.specs.Items.{role_if, role_in, skipped, IsLabelType, HasLabels, Items, StatementFits}
 use Rattle.elab_fits_statements.specs.Discipline.{Words, Goes, Discipline}
 use Rattle.elab_fits_statements.proofs.Forms.{block_serves}
 use Rattle.elab_fits_statements.proofs.Items.{all_items, all_in, all_else, all_followed, item_cases, item_labels, statements_skip, skipped_followed}

@@ -1,22 +1,21 @@
 -- `return`.
-use Rattle.std.proofs.Common.{◌≡◌, refl, sym, ap, ◌∙◌, subst, Bool, true, false, not, ◌&&◌, List, Result, Ok, Err}
+use Rattle.std.proofs.Common.{◌≡◌, refl, sym, ap, ◌∙◌, subst, Bool, true, false, not, ◌&&◌, List}
 use Rattle.std.specs.Prelude.{if◌then◌else◌}
 use Rattle.elab_rules.specs.cpp_lex.Tokens.{Lexeme}
 use Rattle.elab_rules.specs.cpp_ast.Trees as syntax
-use Rattle.elab_rules.specs.cpp_types.Typ.{Typ, typ, Form, void, ptr}
+use Rattle.elab_rules.specs.cpp_types.Typ.{Typ, typ, void, ptr}
 use Rattle.elab_rules.specs.cpp_types.declared.classes.At.{At}
 use Rattle.elab_rules.specs.cpp_types.declared.ranks.Cat.{Cat}
 use Rattle.elab_rules.specs.cpp_types.declared.ranks.Cat.TheVariants.{Lvalue, Prvalue}
-use Rattle.elab_rules.specs.cpp_tree.declared.faults.ElabFault.{ElabFault}
 use Rattle.elab_rules.specs.cpp_tree.declared.faults.IllRule.TheVariants.{BadReturn}
-use Rattle.elab_rules.specs.cpp_tree.declared.roles.Role.TheVariants.{Value, Statement}
+use Rattle.elab_rules.specs.cpp_tree.declared.roles.Role.TheVariants.{Statement}
 use Rattle.elab_rules.specs.cpp_tree.Trees.{Tree, none, one, two, typ_in, cat_of}
 use Rattle.elab_rules.specs.cpp_tree.Notation.{plain}
 use Rattle.elab_rules.specs.cpp_tree.Typing.{is_void, is_class_typ, is_class_prvalue}
 use Rattle.elab_rules.specs.cpp_tree.Rows.{Setting, has_value}
 use Rattle.elab_rules.specs.cpp_tree.Rows
 use Rattle.elab_rules.specs.elab_ctx.Ctx.{Returns, known}
-use Rattle.elab_rules.specs.elab_ctx.Steps.{and_then, check, Made}
+use Rattle.elab_rules.specs.elab_ctx.Steps.{and_then, Made}
 use Rattle.elab_rules.specs.Initialising.{class_from, initial}
 use Rattle.elab_rules.specs.Operators.{bare_throw}
 use Rattle.elab_rules.specs.Statements as statements
@@ -29,7 +28,7 @@ use Rattle.elab_fits.proofs.Steps.{checked, either}
 use Rattle.elab_fits.proofs.Comma.{bare_fits}
 use Rattle.elab_fits_statements.specs.Anywhere.{Serves, AllServe}
 use Rattle.elab_fits_statements.specs.Variables.{HasItem, BuildsWhole}
-use Rattle.elab_fits_statements.specs.Discipline.{Words, Goes, HasRead, Gains, Discipline}
+use Rattle.elab_fits_statements.specs.Discipline.{Words, Goes, HasRead, Discipline}
 use Rattle.elab_fits_statements.proofs.Wholes.{whole_value}
 use Rattle.elab_fits_statements.proofs.Forms.{value_serves, as_item, block_serves}
 use Rattle.elab_fits_statements.proofs.Variables.{end_fits, return_fits, object_returned}

@@ -1,5 +1,5 @@
 -- What fits in one role fits in another.
-use Rattle.std.proofs.Common.{◌≡◌, refl, sym, ap, ◌∙◌, subst, ℕ, Bool, true, false, not, ◌&&◌, ◌||◌, List, [], ◌∷◌, length}
+use Rattle.std.proofs.Common.{◌≡◌, refl, subst, Bool, true, false, ◌&&◌, List, [], ◌∷◌, length}
 use Rattle.std.proofs.lemmas.Bool.{and_parts}
 use Rattle.elab_rules.specs.cpp_types.Typ.{Typ}
 use Rattle.elab_rules.specs.cpp_types.declared.ranks.Cat.{Cat}
@@ -16,7 +16,7 @@ use Rattle.elab_rules.specs.cpp_tree.Rows.{Setting}
 use Rattle.elab_rules.specs.cpp_tree.WellFormed.{fits, kids_fit, kids_in, heads_of, inside, is_kid, branches_fit, enough, no_object}
 use Rattle.elab_fits.proofs.Nodes.{both, or_right}
 use Rattle.elab_fits_statements.specs.Anywhere.{FitsAnywhere}
-use Rattle.elab_fits_statements.proofs.Anywhere.{Fitting, fitting, from_fitting}
+use Rattle.elab_fits_statements.proofs.Anywhere.{fitting, from_fitting}
 
 -- of two roles in which a kind has the same kids
 served_as : (s : Setting) (p : Position) (a b : Role) (kind : TKind) (t : Typ) (cat : Cat) (at : At) (kids : Trees)

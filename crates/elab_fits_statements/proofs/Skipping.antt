@@ -1,8 +1,8 @@
 -- A label may stand behind a declaration that may be jumped past.
-use Rattle.std.proofs.Common.{◌≡◌, refl, sym, ap, ◌∙◌, subst, ℕ, Bool, true, false, not, ◌&&◌, ◌||◌, Option, Some, None, Result, Ok, Err}
+use Rattle.std.proofs.Common.{◌≡◌, refl, sym, ap, ◌∙◌, subst, Bool, true, false, not, ◌||◌, Result, Ok, Err}
 use Rattle.std.specs.Prelude.{if◌then◌else◌}
 use Rattle.std.proofs.lemmas.Bool.{and_parts}
-use Rattle.elab_rules.specs.cpp_types.Typ.{Typ, typ, Form, void, int, enum, null, ptr, ref, array, func, class, closure, tx_ex}
+use Rattle.elab_rules.specs.cpp_types.Typ.{Typ, Form, void, int, enum, null, ptr, ref, array, func, class, closure, tx_ex}
 use Rattle.elab_rules.specs.cpp_types.declared.classes.At.{At}
 use Rattle.elab_rules.specs.cpp_ast.Trees as syntax
 use Rattle.elab_rules.specs.cpp_tree.declared.faults.ElabFault.{ElabFault}
@@ -14,7 +14,7 @@ use Rattle.elab_rules.specs.cpp_tree.WellFormed.{is_zero, are_zero, is_zeroing, 
 use Rattle.elab_rules.specs.elab_ctx.Ctx.{Ctx, Special, absent, trivial, function}
 use Rattle.elab_rules.specs.elab_ctx.Steps.{and_then}
 use Rattle.elab_rules.specs.Objects.{zeros, destroys, destroys_of, destroyed, element_of, count_in, stride_of, class_in, traits_at}
-use Rattle.elab_rules.specs.Initialising.{from_nothing, default_in, default_by, makeable, class_number}
+use Rattle.elab_rules.specs.Initialising.{from_nothing, default_in, default_by, makeable}
 use Rattle.elab_rules.specs.Statements.{State, init_node, default_object, may_be_skipped, is_trivial, is_const_element, const_initialised, full, whole_if}
 use Rattle.elab_rules.specs.Statements.{holds_temporary, hold_temporary, is_temporary_with, class_is_skipped, statement}
 use Rattle.elab_fits.proofs.AreZeros.{are_zero_law}

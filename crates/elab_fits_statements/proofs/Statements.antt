@@ -1,52 +1,37 @@
 -- Statements fit, form by form.
-use Rattle.std.proofs.Common.{◌≡◌, refl, sym, ap, ◌∙◌, subst, ℕ, Bool, true, false, List, [], Option, Some, None, Result, Ok, Err}
-use Rattle.elab_rules.specs.tx_ints.declared.kinds.IntKind.{IntKind}
-use Rattle.elab_rules.specs.tx_ints.declared.kinds.IntKind.TheVariants.{Bool as BoolKind}
+use Rattle.std.proofs.Common.{refl, sym, true, List, [], Some, ◌≡◌, false}
 use Rattle.elab_rules.specs.cpp_lex.Tokens.{Lexeme}
-use Rattle.elab_rules.specs.cpp_ast.declared.arena.At.{At as SyntaxAt}
 use Rattle.elab_rules.specs.cpp_ast.declared.kinds.NodeKind.TheVariants as k
 use Rattle.elab_rules.specs.cpp_ast.Trees as syntax
-use Rattle.elab_rules.specs.cpp_types.Typ.{Typ}
-use Rattle.elab_rules.specs.cpp_types.declared.classes.At.{At}
-use Rattle.elab_rules.specs.cpp_tree.declared.faults.ElabFault.{ElabFault}
 use Rattle.elab_rules.specs.cpp_tree.declared.faults.IllRule.TheVariants.{BadBreak}
 use Rattle.elab_rules.specs.cpp_tree.declared.kinds.TKind.TheVariants as forms
-use Rattle.elab_rules.specs.cpp_tree.declared.roles.Role.TheVariants.{Value, Statement, BlockItem, SwitchItem, Step, Catch, Scalar}
-use Rattle.elab_rules.specs.cpp_tree.Trees.{Tree, Trees, none, more, one, three, typ_in}
-use Rattle.elab_rules.specs.cpp_tree.Typing.{form_in, kind_in}
-use Rattle.elab_rules.specs.cpp_tree.Rows.{Setting, are_cases}
-use Rattle.elab_rules.specs.cpp_tree.WellFormed.{heads_of}
+use Rattle.elab_rules.specs.cpp_tree.declared.roles.Role.TheVariants.{Statement, BlockItem}
+use Rattle.elab_rules.specs.cpp_tree.Trees.{none, one, three}
 use Rattle.elab_rules.specs.elab_ctx.declared.env.Label.TheVariants.{Direct}
-use Rattle.elab_rules.specs.elab_ctx.Ctx.{next_place}
-use Rattle.elab_rules.specs.elab_ctx.Steps.{and_then, check, at_of, spelling}
+use Rattle.elab_rules.specs.elab_ctx.Steps.{and_then, at_of, spelling}
 use Rattle.elab_rules.specs.Objects.{followed_by}
-use Rattle.elab_rules.specs.Operators.{true_at}
-use Rattle.elab_rules.specs.Statements.{State, Done, Lambdas, Switched, Caught, done, statement, block, the_tree, expression_statement, condition, block_declaration}
-use Rattle.elab_rules.specs.Statements.{returned, case_label, default_label, inner, in_loop, in_block, in_switch, outer, handler_node, handler_type, in_order, switched}
-use Rattle.elab_rules.specs.Statements.{jump, a_part, for_first, for_test, for_step, statement_of, statements_of, handlers_of, no_labels, inner_label, block_label}
-use Rattle.elab_rules.specs.Statements.{block_kind, is_not_none, is_direct_label}
+use Rattle.elab_rules.specs.Statements.{State, Done, Lambdas, done, statement, block, the_tree, expression_statement, condition, block_declaration}
+use Rattle.elab_rules.specs.Statements.{returned, case_label, default_label, inner, in_loop, in_block, in_switch, outer, handler_type, in_order, switched}
+use Rattle.elab_rules.specs.Statements.{a_part, for_first, for_test, for_step, statement_of, statements_of, handlers_of, no_labels}
+use Rattle.elab_rules.specs.Statements.{block_kind, is_direct_label}
 use Rattle.elab_fits.specs.Standing.{On}
 use Rattle.elab_fits.proofs.Nodes.{clash}
-use Rattle.elab_fits.proofs.Numbers.{one_word}
 use Rattle.elab_fits.proofs.Steps.{bind, skip, checked}
-use Rattle.elab_fits.proofs.Values.{number_gives}
-use Rattle.elab_fits_statements.specs.Anywhere.{Serves, AllServe}
-use Rattle.elab_fits_statements.specs.Forms.{IsCondition}
 use Rattle.elab_fits_statements.specs.Items.{HasLabels, Items, StatementFits}
-use Rattle.elab_fits_statements.specs.Discipline.{Words, Goes, within, Discipline}
-use Rattle.elab_fits_statements.proofs.Forms.{value_serves, as_item, block_serves, branches_serve, loop_serves, switch_serves, jumps_serve, try_serves, handler_serves}
+use Rattle.elab_fits_statements.specs.Discipline.{Words, Discipline, Goes}
+use Rattle.elab_fits_statements.proofs.Forms.{block_serves, jumps_serve}
 use Rattle.elab_fits_statements.proofs.Forms.{marked_serve}
-use Rattle.elab_fits_statements.proofs.Items.{all_items, all_else, all_followed}
-use Rattle.elab_fits_statements.proofs.Variables.{condition_fits}
+use Rattle.elab_fits_statements.proofs.Items.{all_else}
 use Rattle.elab_fits_statements.proofs.Full.{IsWhole, IsTest, IsSwitch, expression_fits, test_fits, switch_fits}
 use Rattle.elab_fits_statements.proofs.Returning.{IsReturn, returned_fits}
 use Rattle.elab_fits_statements.proofs.Labelled.{IsLabelled, case_stands, default_stands}
 use Rattle.elab_fits_statements.proofs.Declared.{Declares, declaration_fits}
 use Rattle.elab_fits_statements.proofs.Handlers.{Catches, catches}
-use Rattle.elab_fits_statements.proofs.Parts.{serves_as, all_as, no_inner, no_block, no_labels_there, IsPart, labels_later, statement_items, declaration_items}
-use Rattle.elab_fits_statements.proofs.Parts.{finish, join, no_items, left_behind, body_items, body_block, part_fits}
-use Rattle.elab_fits_statements.proofs.States.{told, mapped, goes_still, goes_then, serves_still, all_still, condition_still, switched_still}
-use Rattle.elab_fits_statements.proofs.Composed.{IsFirst, IsStep, IsBody, some_handler, AreHandlers, first_fits, loop_test_fits, step_fits, loops_fit, leaving, inner_good, inner_leads, loop_good, loop_leads, block_good, block_leads, if_fits, else_fits, while_fits, do_fits, switches_fit, tries_fit, one_handler, looped, loop_direct, some_of}
+use Rattle.elab_fits_statements.proofs.Parts.{serves_as, no_inner, no_block, no_labels_there, IsPart, labels_later, statement_items, declaration_items}
+use Rattle.elab_fits_statements.proofs.Parts.{join, no_items, body_block, part_fits, all_as, body_items}
+use Rattle.elab_fits_statements.proofs.States.{mapped, goes_still}
+use Rattle.elab_fits_statements.proofs.Composed.{IsFirst, IsStep, AreHandlers, first_fits, loop_test_fits, step_fits, loops_fit, leaving, inner_good, inner_leads, loop_good, loop_leads, block_good, block_leads, if_fits, else_fits, while_fits, do_fits, switches_fit, tries_fit, one_handler, looped, loop_direct, some_of}
+use Rattle.elab_fits_statements.specs.Anywhere.{AllServe}
 
 module _ (w : Words) (lams : Lambdas) (s : List Lexeme) (d : Discipline w lams s) where
   -- Statements
@@ -276,3 +261,10 @@ module _ (w : Words) (lams : Lambdas) (s : List Lexeme) (d : Discipline w lams s
         (d.rest (syntax.node kind p token (syntax.more e (syntax.more (syntax.node b r brace kids) syntax.none))) hs x))
         (λ u l. one_handler w lams s d st (at_of p) (at_of r) hs (syntax.node kind p token (syntax.more e (syntax.more (syntax.node b r brace kids) syntax.none))) h y u g i j l))))
     handlers_fit st hs g x = tt
+
+  -- the statements of a function's body
+  pub body_serves : (st : State) (ts : syntax.Trees) → w.Good st → is_direct_label st.ctx.label ≡ false → st.ctx.breaks ≡ false → st.ctx.continues ≡ false
+      → w.Texts ts → On (λ (x : Done). Goes w st x.state × AllServe (w.at x.state) false false BlockItem x.trees) (statements_of lams s st ts)
+  body_serves st ts g n b c x = mapped (Items w st) (λ (y : Done). Goes w st y.state × AllServe (w.at y.state) false false BlockItem y.trees)
+      (statements_of lams s st ts) (statements_fit st ts g (no_labels_there st n) x)
+      (λ y i. (i.goes, all_as (w.at y.state) st.ctx.breaks st.ctx.continues false false BlockItem y.trees b c (body_items w lams s d st y n i)))

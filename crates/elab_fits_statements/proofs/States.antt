@@ -1,5 +1,5 @@
 -- States that come of others, and what fits in them still.
-use Rattle.std.proofs.Common.{◌≡◌, refl, sym, ap, ◌∙◌, subst, Bool, true, false, List, Result, Ok, Err}
+use Rattle.std.proofs.Common.{◌≡◌, refl, ◌∙◌, Bool, List, Result, Ok, Err}
 use Rattle.elab_rules.specs.cpp_lex.Tokens.{Lexeme}
 use Rattle.elab_rules.specs.cpp_types.Typ.{Typ}
 use Rattle.elab_rules.specs.cpp_tree.declared.faults.ElabFault.{ElabFault}
@@ -8,7 +8,7 @@ use Rattle.elab_rules.specs.cpp_tree.declared.roles.Role.TheVariants.{Value, Ini
 use Rattle.elab_rules.specs.cpp_tree.Trees.{Tree, Trees, none, more}
 use Rattle.elab_rules.specs.elab_ctx.Steps.{and_then}
 use Rattle.elab_rules.specs.Statements.{State, Lambdas}
-use Rattle.elab_fits.specs.Standing.{BuildsOne, On}
+use Rattle.elab_fits.specs.Standing.{On}
 use Rattle.elab_fits_statements.specs.Anywhere.{FitsAnywhere, Serves, AllServe}
 use Rattle.elab_fits_statements.specs.Forms.{IsCondition, IsSwitched}
 use Rattle.elab_fits_statements.specs.Variables.{BuildsWhole}

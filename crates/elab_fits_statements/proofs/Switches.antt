@@ -1,16 +1,15 @@
 -- The value of a `switch`, and declarations that a label may stand behind.
-use Rattle.std.proofs.Common.{◌≡◌, refl, sym, ap, ◌∙◌, subst, Bool, true, false, not, ◌&&◌, ◌||◌, Result, Ok, Err}
+use Rattle.std.proofs.Common.{◌≡◌, refl, sym, ap, ◌∙◌, subst, Bool, true, false, Result, Ok}
 use Rattle.std.specs.Prelude.{if◌then◌else◌}
-use Rattle.std.proofs.lemmas.Bool.{and_parts}
 use Rattle.elab_rules.specs.tx_ints.declared.kinds.IntKind.{IntKind}
 use Rattle.elab_rules.specs.tx_ints.declared.kinds.IntKind.TheVariants.{Int}
 use Rattle.elab_rules.specs.tx_ints.Integers.{promote_of}
-use Rattle.elab_rules.specs.cpp_types.Typ.{Typ, typ, Form, void, int, enum, null, ptr, ref, array, func, class, closure, tx_ex}
+use Rattle.elab_rules.specs.cpp_types.Typ.{Typ, Form, int, enum}
 use Rattle.elab_rules.specs.cpp_types.declared.classes.At.{At}
 use Rattle.elab_rules.specs.cpp_tree.declared.faults.ElabFault.{ElabFault}
-use Rattle.elab_rules.specs.cpp_tree.Trees.{Tree, typ_in}
+use Rattle.elab_rules.specs.cpp_tree.Trees.{Tree}
 use Rattle.elab_rules.specs.cpp_tree.Notation.{plain}
-use Rattle.elab_rules.specs.cpp_tree.Typing.{form_in, kind_in, gives_promoted, is_promoted}
+use Rattle.elab_rules.specs.cpp_tree.Typing.{form_in, kind_in, gives_promoted}
 use Rattle.elab_rules.specs.cpp_tree.Rows.{Setting}
 use Rattle.elab_rules.specs.elab_ctx.Steps.{Operand}
 use Rattle.elab_rules.specs.Values.{converted}
@@ -20,9 +19,8 @@ use Rattle.elab_fits.specs.Scalars.{is_scalar, Gives, IsOperand}
 use Rattle.elab_fits.proofs.Numbers.{promoted_kind}
 use Rattle.elab_fits.proofs.Values.{converted_gives}
 use Rattle.elab_fits.proofs.Arithmetic.{value_of}
-use Rattle.elab_fits_statements.specs.Forms.{IsSwitched}
 use Rattle.elab_fits_statements.specs.Variables.{Switches}
-use Rattle.elab_fits_statements.proofs.Wholes.{tree_if, whole_value}
+use Rattle.elab_fits_statements.proofs.Wholes.{whole_value}
 use Rattle.elab_fits_statements.proofs.Variables.{given_thrown, whole_typ, whole_cat}
 
 -- The value of a `switch`

@@ -1,5 +1,5 @@
 -- Conditions, variables and `return`.
-use Rattle.std.proofs.Common.{◌≡◌, refl, sym, ap, ◌∙◌, subst, ℕ, Bool, true, false, not, ◌&&◌, ◌||◌, [], ◌∷◌, length, Option, Some, None, Result, Ok, Err}
+use Rattle.std.proofs.Common.{◌≡◌, refl, sym, ap, ◌∙◌, subst, ℕ, Bool, true, false, not, ◌&&◌, ◌||◌, [], ◌∷◌, Option, Some}
 use Rattle.std.specs.Prelude.{if◌then◌else◌, cond}
 use Rattle.std.proofs.lemmas.Bool.{and_parts}
 use Rattle.elab_rules.specs.tx_ints.declared.kinds.IntKind.{IntKind}
@@ -10,37 +10,36 @@ use Rattle.elab_rules.specs.cpp_types.Conversion.{is_lvalue}
 use Rattle.elab_rules.specs.cpp_types.declared.classes.At.{At}
 use Rattle.elab_rules.specs.cpp_types.declared.ranks.Cat.{Cat}
 use Rattle.elab_rules.specs.cpp_types.declared.ranks.Cat.TheVariants.{Lvalue, Prvalue}
-use Rattle.elab_rules.specs.cpp_tree.declared.kinds.TKind.{TKind}
 use Rattle.elab_rules.specs.cpp_tree.declared.kinds.TKind.TheVariants as forms
 use Rattle.elab_rules.specs.cpp_tree.declared.roles.Position.{Position}
 use Rattle.elab_rules.specs.cpp_tree.declared.roles.Role.TheVariants.{Value, Initialiser, Zero, Statement, BlockItem, Destruction}
 use Rattle.elab_rules.specs.cpp_tree.Trees.{Tree, node, Trees, none, more, one, two, kind_of, typ_in, cat_of}
 use Rattle.elab_rules.specs.cpp_tree.Notation.{plain}
-use Rattle.elab_rules.specs.cpp_tree.Typing.{Head, head_of, form_in, kind_in, is_prvalue, is_class_typ, is_void, is_bool, builds, initialises, is_bound}
-use Rattle.elab_rules.specs.cpp_tree.Typing.{is_prvalue_of, is_temporary, unqualified, word_kind, same_kind, gives_promoted, passes}
-use Rattle.elab_rules.specs.cpp_tree.Roles.{Kids, only, and_any}
-use Rattle.elab_rules.specs.cpp_tree.Rows.{Setting, is_retyped, result_of, has_value, is_returned, are_destructions, is_slot, is_load, is_zero_literal, is_return}
-use Rattle.elab_rules.specs.cpp_tree.WellFormed.{fits, kids_fit, heads_of, is_kid}
+use Rattle.elab_rules.specs.cpp_tree.Typing.{Head, head_of, is_prvalue, is_class_typ, is_void, builds, initialises, is_bound}
+use Rattle.elab_rules.specs.cpp_tree.Typing.{is_prvalue_of, is_temporary, unqualified, word_kind, same_kind}
+use Rattle.elab_rules.specs.cpp_tree.Roles.{only, and_any}
+use Rattle.elab_rules.specs.cpp_tree.Rows.{Setting, is_retyped, result_of, has_value, are_destructions}
+use Rattle.elab_rules.specs.cpp_tree.WellFormed.{fits, heads_of, is_kid}
 use Rattle.elab_rules.specs.elab_ctx.Ctx.{next_place}
-use Rattle.elab_rules.specs.elab_ctx.Steps.{Operand, Made}
+use Rattle.elab_rules.specs.elab_ctx.Steps.{Made}
 use Rattle.elab_rules.specs.Initialising.{seen_as}
 use Rattle.elab_rules.specs.Objects.{destroys}
-use Rattle.elab_rules.specs.Operators.{is_throw, value, value_form, without_value}
+use Rattle.elab_rules.specs.Operators.{is_throw, without_value}
 use Rattle.elab_rules.specs.Values.{place_of, retyped}
 use Rattle.elab_rules.specs.Statements as statements
 use Rattle.elab_rules.specs.Statements.{State, Full, full, whole_of, whole_if, holds_temporary, throws_object, statement, variable_tree, init_node, return_node}
 use Rattle.elab_rules.specs.Statements.{result_object, class_returned}
-use Rattle.elab_fits.specs.Standing.{FitsAs, BuildsOne}
-use Rattle.elab_fits.specs.Scalars.{is_scalar, Gives, Initialises, IsOperand}
+use Rattle.elab_fits.specs.Standing.{FitsAs}
+use Rattle.elab_fits.specs.Scalars.{is_scalar, Gives, Initialises}
 use Rattle.elab_fits.specs.Objects.{AllFit, DestroysOne}
 use Rattle.elab_fits.proofs.Equal.{typ_refl, typ_same}
-use Rattle.elab_fits.proofs.Nodes.{both, or_left, or_right, clash, head_typ, head_cat, node_fits, Simple, one_kid}
-use Rattle.elab_fits_statements.specs.Anywhere.{FitsAnywhere, BuildsAnywhere, Allows, Serves, AllServe}
+use Rattle.elab_fits.proofs.Nodes.{both, or_left, clash, head_typ, head_cat, node_fits, Simple, one_kid}
+use Rattle.elab_fits_statements.specs.Anywhere.{FitsAnywhere, BuildsAnywhere, Serves, AllServe}
 use Rattle.elab_fits_statements.specs.Forms.{IsCondition}
 use Rattle.elab_fits_statements.specs.Variables.{HasItem, BuildsWhole}
-use Rattle.elab_fits_statements.proofs.Anywhere.{Fitting, fitting}
-use Rattle.elab_fits_statements.proofs.Wholes.{tree_if, whole_value, whole_object}
-use Rattle.elab_fits_statements.proofs.Forms.{value_kid, value_serves, anywhere_serves, nowhere_open, as_item, all_kids, from_none, from_two, block_serves, two_enough}
+use Rattle.elab_fits_statements.proofs.Anywhere.{fitting}
+use Rattle.elab_fits_statements.proofs.Wholes.{whole_value, whole_object}
+use Rattle.elab_fits_statements.proofs.Forms.{value_kid, nowhere_open, as_item, all_kids, from_two, block_serves, two_enough}
 
 -- The type and the category of a whole
 

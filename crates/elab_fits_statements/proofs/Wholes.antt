@@ -15,8 +15,7 @@ use Rattle.elab_rules.specs.cpp_tree.declared.roles.Role.TheVariants.{Value, Ini
 use Rattle.elab_rules.specs.cpp_tree.Trees.{Tree, node, one, kind_of, typ_in, cat_of}
 use Rattle.elab_rules.specs.cpp_tree.Notation.{plain}
 use Rattle.elab_rules.specs.cpp_tree.Typing.{Head, head_of, is_prvalue, is_class_typ, is_class_prvalue, builds, goes_both_ways, same_shape, without_exception}
-use Rattle.elab_rules.specs.cpp_tree.Typing.{is_void}
-use Rattle.elab_rules.specs.cpp_tree.Roles.{only, may_give, way_fits}
+use Rattle.elab_rules.specs.cpp_tree.Roles.{only, may_give}
 use Rattle.elab_rules.specs.cpp_tree.Rows.{Setting, same_value}
 use Rattle.elab_rules.specs.cpp_tree.WellFormed.{fits, is_kid}
 use Rattle.elab_rules.specs.Values.{place_of}
@@ -24,9 +23,9 @@ use Rattle.elab_rules.specs.Operators.{is_throw, without_value}
 use Rattle.elab_rules.specs.Statements.{holds_temporary, throws_object, whole_of, whole_if, full}
 use Rattle.elab_fits.specs.Standing.{FitsAs, BuildsOne}
 use Rattle.elab_fits.proofs.Equal.{typ_refl}
-use Rattle.elab_fits.proofs.Nodes.{both, or_left, or_right, head_typ, head_cat, node_fits, Simple, one_kid, one_value}
+use Rattle.elab_fits.proofs.Nodes.{both, head_typ, head_cat, node_fits, Simple, one_kid, one_value}
 use Rattle.elab_fits_statements.specs.Anywhere.{FitsAnywhere, BuildsAnywhere}
-use Rattle.elab_fits_statements.proofs.Anywhere.{Fitting, fitting, anywhere, fully}
+use Rattle.elab_fits_statements.proofs.Anywhere.{fitting, anywhere, fully}
 
 pub tree_if : (P : Tree → Type 0) (b : Bool) (x y : Tree) → (b ≡ true → P x) → (b ≡ false → P y) → P (if b then x else y)
 tree_if P true x y h k = h refl

@@ -1,6 +1,7 @@
 -- What statements ask of the states of elaboration and of expressions: a discipline, with which they fit.
-use Rattle.std.specs.Prelude.{◌≡◌, ℕ, Bool, true, false, List, Option, None, Ok}
+use Rattle.std.specs.Prelude.{◌≡◌, ℕ, Bool, true, false, List, Option, None, is_some, Ok}
 use Rattle.elab_rules.specs.cpp_types.Typ.{Typ, ptr}
+use Rattle.elab_rules.specs.cpp_types.Class.{InOrder}
 use Rattle.elab_rules.specs.cpp_types.declared.classes.At.{At}
 use Rattle.elab_rules.specs.cpp_types.declared.ranks.Cat.TheVariants.{Lvalue}
 use Rattle.elab_rules.specs.cpp_lex.Tokens.{Lexeme}
@@ -10,21 +11,20 @@ use Rattle.elab_rules.specs.cpp_ast.declared.kinds.NodeKind.TheVariants as k
 use Rattle.elab_rules.specs.cpp_ast.Trees as syntax
 use Rattle.elab_rules.specs.cpp_tree.declared.roles.Position.{Position}
 use Rattle.elab_rules.specs.cpp_tree.declared.roles.Role.{Role}
-use Rattle.elab_rules.specs.cpp_tree.declared.roles.Role.TheVariants.{Value, Scalar}
+use Rattle.elab_rules.specs.cpp_tree.declared.roles.Role.TheVariants.{Value}
 use Rattle.elab_rules.specs.cpp_tree.Trees.{Tree, Trees, typ_in, cat_of}
 use Rattle.elab_rules.specs.cpp_tree.Notation.{plain}
 use Rattle.elab_rules.specs.cpp_tree.Typing.{is_class_typ}
-use Rattle.elab_rules.specs.cpp_tree.Parts.{are_scalars}
+use Rattle.elab_rules.specs.cpp_tree.Parts.{size_in}
 use Rattle.elab_rules.specs.cpp_tree.Rows.{Setting, result_of, has_value}
-use Rattle.elab_rules.specs.cpp_tree.WellFormed.{fits, heads_of}
+use Rattle.elab_rules.specs.cpp_tree.WellFormed.{fits}
 use Rattle.elab_rules.specs.elab_ctx.declared.env.Label.{Label}
 use Rattle.elab_rules.specs.elab_ctx.Ctx.{Labels, known, opened, next_place}
-use Rattle.elab_rules.specs.elab_ctx.Steps.{and_then, Operand, Made, Typed, TypedAll, at_of}
+use Rattle.elab_rules.specs.elab_ctx.Steps.{and_then, Operand, Made, Typed, TypedAll}
 use Rattle.elab_rules.specs.Braces.{item_of, string_object}
-use Rattle.elab_rules.specs.Casts.{within_exception}
 use Rattle.elab_rules.specs.Expressions.{expression_of, operands_of, chosen_operand, type_of_specifiers, declared_by}
 use Rattle.elab_rules.specs.Initialising.{class_from, initial}
-use Rattle.elab_rules.specs.Objects.{destroys, fields}
+use Rattle.elab_rules.specs.Objects.{destroys}
 use Rattle.elab_rules.specs.Operators.{dropped}
 use Rattle.elab_rules.specs.Sizes.{typ_sized}
 use Rattle.elab_rules.specs.Types.{Declared, has_auto, is_bounded}
@@ -33,8 +33,8 @@ use Rattle.elab_rules.specs.Statements.{all_lambdas, copy_initialised, directly_
 use Rattle.elab_rules.specs.Statements.{replaced, caught_type}
 use Rattle.elab_fits.specs.Standing.{FitsAs}
 use Rattle.elab_fits.specs.Scalars.{Initialises, IsOperand}
-use Rattle.elab_fits.specs.Objects.{DestroysOne}
-use Rattle.elab_fits_statements.specs.Anywhere.{FitsAnywhere, AllServe}
+use Rattle.elab_fits.specs.Objects.{is_ready, DestroysOne}
+use Rattle.elab_fits_statements.specs.Anywhere.{FitsAnywhere}
 use Rattle.elab_fits_statements.specs.Variables.{HasItem, BuildsWhole}
 
 -- States
@@ -95,6 +95,12 @@ pub record Places (w : Words) (a b : State) (place : ℕ) (t : Typ) : Type 0 whe
   pub leads : w.Leads a b
   pub item : HasItem (w.at b) place t
 
+-- the type of what a handler catches
+pub record CanBeCaught (w : Words) (a : State) (t : Typ) : Type 0 where
+  pub object : w.Object a t
+  pub sized : is_some (size_in a.ctx.classes t) ≡ true
+  pub ready : is_ready a.ctx.classes true t ≡ true
+
 pub record Discipline (w : Words) (lams : Lambdas) (s : List Lexeme) : Type 0 where
   -- the syntax
   pub kids : (kind : NodeKind) (p : SyntaxAt) (token : Option ℕ) (ts : syntax.Trees) → w.Text (syntax.node kind p token ts) → w.Texts ts
@@ -106,6 +112,8 @@ pub record Discipline (w : Words) (lams : Lambdas) (s : List Lexeme) : Type 0 wh
   pub stays : (a : State) → w.Leads a a
   pub goes_on : (a b c : State) → w.Leads a b → w.Leads b c → w.Leads a c
   pub still : (a b : State) → w.Good a → w.Leads a b → (p : Position) (role : Role) (e : Tree) → fits (w.at a) p role e ≡ true → fits (w.at b) p role e ≡ true
+  pub classes : (a : State) → w.Good a → (w.at a).classes ≡ a.ctx.classes
+  pub ordered : (a : State) → w.Good a → InOrder a.ctx.classes
   pub written_still : (a b : State) (t : Typ) → w.Leads a b → w.Written a t → w.Written b t
   pub object_still : (a b : State) (t : Typ) → w.Leads a b → w.Object a t → w.Object b t
   -- behind a full-expression no lambdas of it are at hand
@@ -161,7 +169,4 @@ pub record Discipline (w : Words) (lams : Lambdas) (s : List Lexeme) : Type 0 wh
   pub names_leads : (a : State) (name : List ℕ) → w.Leads a (declared_variable a name None)
   pub autos : (a : State) (i : ℕ) (t : Typ) → w.Good a → w.Object a t → Places w a (auto_placed a i t) (next_place a.work) t
   -- exceptions
-  pub caught : (a : State) (p q : At) (t u : Typ) (y : Bool) → w.Good a → w.Written a t → caught_type a.ctx p t ≡ Ok u → within_exception a.ctx p u ≡ Ok y
-      → w.Object a u
-  pub scalars : (a b : State) (p q : At) (t u : Typ) (y : Bool) → w.Good a → w.Written a t → caught_type a.ctx p t ≡ Ok u → within_exception a.ctx p u ≡ Ok y
-      → w.Good b → w.Leads a b → are_scalars (w.at b).classes u (heads_of (fields a.ctx.classes q u)) ≡ true
+  pub caught : (a : State) (p : At) (t u : Typ) → w.Good a → w.Written a t → caught_type a.ctx p t ≡ Ok u → CanBeCaught w a u

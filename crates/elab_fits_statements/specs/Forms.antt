@@ -1,5 +1,5 @@
 -- Statements fit where their parts do, form by form (C++14 clause 6, 15; the TS, [stmt.sync], [stmt.tx]).
-use Rattle.std.specs.Prelude.{◌≡◌, ℕ, Bool, true, false, Option, Some, None}
+use Rattle.std.specs.Prelude.{◌≡◌, ℕ, Bool, true, false, Option}
 use Rattle.elab_rules.specs.elab_ctx.tx_events.declared.BlockKind.{BlockKind}
 use Rattle.elab_rules.specs.cpp_types.Typ.{Typ}
 use Rattle.elab_rules.specs.cpp_types.declared.classes.At.{At}

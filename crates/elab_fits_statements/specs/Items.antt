@@ -1,13 +1,13 @@
 -- What a statement gives: items of a block or of a `switch`.
-use Rattle.std.specs.Prelude.{◌≡◌, Bool, true, false, ◌||◌, if◌then◌else◌}
+use Rattle.std.specs.Prelude.{◌≡◌, Bool, true, false, ◌||◌}
 use Rattle.elab_rules.specs.cpp_types.Typ.{Typ, Form}
 use Rattle.elab_rules.specs.cpp_ast.Trees as syntax
 use Rattle.elab_rules.specs.cpp_tree.declared.roles.Role.{Role}
 use Rattle.elab_rules.specs.cpp_tree.declared.roles.Role.TheVariants.{Statement, BlockItem, SwitchItem}
-use Rattle.elab_rules.specs.cpp_tree.Trees.{Tree, Trees, none, more}
+use Rattle.elab_rules.specs.cpp_tree.Trees.{Trees, none, more}
 use Rattle.elab_rules.specs.cpp_tree.Notation.{plain}
 use Rattle.elab_rules.specs.cpp_tree.Typing.{form_in, kind_in, gives_promoted}
-use Rattle.elab_rules.specs.cpp_tree.Rows.{Setting, are_cases}
+use Rattle.elab_rules.specs.cpp_tree.Rows.{are_cases}
 use Rattle.elab_rules.specs.cpp_tree.WellFormed.{heads_of, labels_fit, skips}
 use Rattle.elab_rules.specs.elab_ctx.declared.env.Label.{Label}
 use Rattle.elab_rules.specs.Statements.{State, Done, is_direct_label, is_declaration}

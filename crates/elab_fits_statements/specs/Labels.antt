@@ -11,7 +11,7 @@ use Rattle.elab_rules.specs.cpp_tree.Typing.{word_kind, is_word_of}
 use Rattle.elab_rules.specs.cpp_tree.Rows.{Setting}
 use Rattle.elab_rules.specs.cpp_tree.WellFormed.{skips}
 use Rattle.elab_rules.specs.Constants.{constant}
-use Rattle.elab_rules.specs.Statements.{State, variable_tree, init_node, default_object, may_be_skipped}
+use Rattle.elab_rules.specs.Statements.{State, init_node, default_object, may_be_skipped}
 use Rattle.elab_fits.specs.Standing.{FitsAs}
 
 -- the word of a constant expression is one of the expression's kind

@@ -1,25 +1,28 @@
 -- Conditions, the values of `switch`, variables, and `return` (C++14 6.4, 6.6.3, 6.7).
-use Rattle.std.specs.Prelude.{◌≡◌, ℕ, Bool, true, false, List, Ok}
+use Rattle.std.specs.Prelude.{◌≡◌, ℕ, Bool, nat_le, true, false, List, is_some, Ok}
 use Rattle.elab_rules.specs.tx_ints.declared.kinds.IntKind.TheVariants.{Bool as BoolKind}
-use Rattle.elab_rules.specs.cpp_types.Typ.{Typ, Form, int, ptr}
-use Rattle.elab_rules.specs.cpp_types.Class.{Class}
+use Rattle.elab_rules.specs.cpp_types.Typ.{Typ, int, ptr}
+use Rattle.elab_rules.specs.cpp_types.Class.{Class, InOrder}
 use Rattle.elab_rules.specs.cpp_types.declared.classes.At.{At}
 use Rattle.elab_rules.specs.cpp_types.declared.ranks.Cat.TheVariants.{Lvalue}
 use Rattle.elab_rules.specs.cpp_tree.declared.roles.Role.TheVariants.{Value, Statement, BlockItem, Scalar}
 use Rattle.elab_rules.specs.cpp_tree.Trees.{Tree, none, one, typ_in, cat_of}
 use Rattle.elab_rules.specs.cpp_tree.Notation.{plain}
-use Rattle.elab_rules.specs.cpp_tree.Typing.{form_in, kind_in, is_class_typ, gives_promoted}
+use Rattle.elab_rules.specs.cpp_tree.Typing.{form_in, kind_in, is_class_typ}
+use Rattle.elab_rules.specs.cpp_tree.Parts.{size_in, is_value_form, are_scalars}
+use Rattle.elab_rules.specs.cpp_tree.WellFormed.{heads_of}
+use Rattle.elab_rules.specs.elab_ctx.tx_events.declared.TheConstants.{EXCEPTION_SIZE}
 use Rattle.elab_rules.specs.cpp_tree.Rows.{Setting, at_place, has_value, result_of}
 use Rattle.elab_rules.specs.elab_ctx.Ctx.{next_place}
 use Rattle.elab_rules.specs.elab_ctx.Steps.{Operand, Made}
-use Rattle.elab_rules.specs.Objects.{destroys, fields}
+use Rattle.elab_rules.specs.Objects.{destroys, fields, size_of}
 use Rattle.elab_rules.specs.Operators.{value, value_form}
 use Rattle.elab_rules.specs.Statements as statements
 use Rattle.elab_rules.specs.Statements.{State, Full, full, throws_object, variable_tree, init_node, return_node, result_object, class_returned}
 use Rattle.elab_rules.specs.Statements.{switched_type, switch_value}
 use Rattle.elab_fits.specs.Standing.{BuildsOne}
 use Rattle.elab_fits.specs.Scalars.{Gives, Initialises, IsOperand}
-use Rattle.elab_fits.specs.Objects.{DestroysOne}
+use Rattle.elab_fits.specs.Objects.{is_ready, DestroysOne}
 use Rattle.elab_fits_statements.specs.Anywhere.{FitsAnywhere, Serves, AllServe}
 use Rattle.elab_fits_statements.specs.Forms.{IsCondition, IsSwitched}
 
@@ -72,3 +75,9 @@ ObjectsReturned = (s : Setting) (at : At) (f : Full) (m : Made) → is_class_typ
 -- the scalars of an exception, as kids of what throws or catches it
 abbrev pub FieldsServe : Type 0
 FieldsServe = (s : Setting) (classes : List Class) (at : At) (t : Typ) → AllServe s false false Scalar (fields classes at t)
+
+-- where objects of a type have a size, and at most that of an exception, its fields are its scalars
+abbrev pub FieldsAreScalars : Type 0
+FieldsAreScalars = (classes : List Class) (references : Bool) (at : At) (t : Typ) → InOrder classes → is_value_form (form_in t) ≡ true
+    → is_some (size_in classes t) ≡ true → nat_le (size_of classes t) EXCEPTION_SIZE ≡ true → is_ready classes references t ≡ true
+    → are_scalars classes t (heads_of (fields classes at t)) ≡ true

@@ -2,7 +2,7 @@
 
 ghost use Rattle.elab_fits_statements.specs.Wholes.{PlainPartsFit, WholesFit, WholesBuild, ValuesServe};
 ghost use Rattle.elab_fits_statements.specs.Forms.{BlocksFit, BranchesFit, LoopsFit, SwitchesFit, JumpsFit, LabelsFit, TriesFit, HandlersFit, MarkedBlocksFit};
-ghost use Rattle.elab_fits_statements.specs.Variables.{ConditionsFit, SwitchedFit, VariablesStand, VariablesFit, EndsFit, ReturnsFit, ObjectsReturned, FieldsServe};
+ghost use Rattle.elab_fits_statements.specs.Variables.{ConditionsFit, SwitchedFit, VariablesStand, VariablesFit, EndsFit, ReturnsFit, ObjectsReturned, FieldsServe, FieldsAreScalars};
 ghost use Rattle.elab_fits_statements.specs.Labels.{ConstantsInKind, SkippedFit};
 
 /// What fits inside of a full-expression fits anywhere as a whole.
@@ -36,6 +36,7 @@ pub fn variables()
     ensures returns { ReturnsFit }
     ensures returned { ObjectsReturned }
     ensures fields { FieldsServe }
+    ensures scalars { FieldsAreScalars }
 {}
 
 /// The words of labels, and the declarations that they may stand behind.

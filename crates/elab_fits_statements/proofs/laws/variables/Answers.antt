@@ -1,3 +1,4 @@
+use Rattle.elab_fits_statements.proofs.Scalars.{scalars_law}
 use Rattle.elab_fits_statements.proofs.Fields.{fields_serve}
 use Rattle.elab_fits_statements.proofs.Variables.{condition_fits, variable_stands, variable_fits, end_fits, return_fits, object_returned}
 use Rattle.elab_fits_statements.proofs.Switches.{switched_law}
@@ -26,3 +27,6 @@ returns-clause-returned c = object_returned
 
 pub returns-clause-fields : goal.returns-clause-fields
 returns-clause-fields c = fields_serve
+
+pub returns-clause-scalars : goal.returns-clause-scalars
+returns-clause-scalars c = scalars_law
