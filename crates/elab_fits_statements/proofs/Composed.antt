@@ -101,7 +101,8 @@ module _ (w : Words) (lams : Lambdas) (s : List Lexeme) (d : Discipline w lams s
       let zy = h.goes.leads in
       let xy = d.goes_on x.state z.state y.state c.goes.leads zy in
       let fy = d.goes_on f.state x.state y.state b.goes.leads xy in
-      let sy = d.goes_on st (in_loop st) y.state (d.opens_leads st (inner_label st.ctx.label) st.ctx.labels true true) (d.goes_on (in_loop st) f.state y.state a.goes.leads fy) in
+      let sy = d.goes_on st (in_loop st) y.state (d.opens_leads st (inner_label st.ctx.label) st.ctx.labels true true)
+      (d.goes_on (in_loop st) f.state y.state a.goes.leads fy) in
       let left = left_behind w lams s d st y.state g h.goes.good sy in
       let loop = loop_serves (w.at y.state) st.ctx.breaks st.ctx.continues true p (the_tree p x.trees) e (the_tree p z.trees)
       (condition_still w lams s d x.state y.state (the_tree p x.trees) b.goes.good xy (b.test p)) h.serve
@@ -155,7 +156,8 @@ module _ (w : Words) (lams : Lambdas) (s : List Lexeme) (d : Discipline w lams s
       (condition_still w lams s d y.state z.state (the_tree p y.trees) i.goes.good lead (i.test p)) (j.serve p)
       (block_serves (w.at z.state) y.state.ctx.breaks y.state.ctx.continues p none tt).0))
 
-  pub else_fits : (st : State) (p : At) (t : syntax.Tree) (y z u : Done) → IsTest w st y → IsPart w (inner y.state) z → IsPart w (inner (outer y.state z.state)) u
+  pub else_fits : (st : State) (p : At) (t : syntax.Tree) (y z u : Done) → IsTest w st y → IsPart w (inner y.state) z
+      → IsPart w (inner (outer y.state z.state)) u
       → StatementFits w st t (record {
         trees = one (statement forms.Conditional p (three (the_tree p y.trees) (the_tree p z.trees) (the_tree p u.trees)));
         state = outer y.state u.state;
@@ -169,7 +171,8 @@ module _ (w : Words) (lams : Lambdas) (s : List Lexeme) (d : Discipline w lams s
       (serves_still w lams s d u.state (outer y.state u.state) y.state.ctx.breaks y.state.ctx.continues Statement _ h.goes.good (d.closes_leads y.state u.state)
       (branches_serve (w.at u.state) y.state.ctx.breaks y.state.ctx.continues p (the_tree p y.trees) (the_tree p z.trees) (the_tree p u.trees)
       (condition_still w lams s d y.state u.state (the_tree p y.trees) i.goes.good to_u (i.test p))
-      (serves_still w lams s d z.state u.state y.state.ctx.breaks y.state.ctx.continues Statement (the_tree p z.trees) j.goes.good z_to_u (j.serve p)) (h.serve p)))
+      (serves_still w lams s d z.state u.state y.state.ctx.breaks y.state.ctx.continues Statement (the_tree p z.trees) j.goes.good z_to_u (j.serve p))
+      (h.serve p)))
 
   pub while_fits : (st : State) (p : At) (t : syntax.Tree) (y z : Done) → IsTest w st y → IsPart w (in_loop y.state) z
       → StatementFits w st t (record {
@@ -210,7 +213,8 @@ module _ (w : Words) (lams : Lambdas) (s : List Lexeme) (d : Discipline w lams s
       (ap (λ (o : Option IntKind). are_cases o (heads_of y.trees)) i.switches.kind ∙ j.cases) (j.behind false (λ n b. absurd cc)).fit))
 
   -- `try`
-  pub tries_fit : (st : State) (p q : At) (t : syntax.Tree) (y r : Done) (hs : syntax.Trees) → w.Good st → Items w (inner st) y → AreHandlers w (outer st y.state) hs r
+  pub tries_fit : (st : State) (p q : At) (t : syntax.Tree) (y r : Done) (hs : syntax.Trees) → w.Good st → Items w (inner st) y
+      → AreHandlers w (outer st y.state) hs r
       → some_handler hs ≡ true
       → StatementFits w st t (record { trees = one (statement forms.Try p (more (block q y.trees) r.trees)); state = r.state })
   tries_fit st p q t y r hs g i h n =
@@ -222,7 +226,8 @@ module _ (w : Words) (lams : Lambdas) (s : List Lexeme) (d : Discipline w lams s
       (d.goes_on y.state o r.state (d.closes_leads st y.state) h.goes.leads) (body_block w lams s d (inner st) q y (no_inner st.ctx.label) i)) h.serve)
 
   -- one handler before others
-  pub one_handler : (st : State) (p q : At) (hs : syntax.Trees) (x : syntax.Tree) (h : Caught) (y r : Done) → w.Good st → Catches w (inner st) h → Items w h.state y
+  pub one_handler : (st : State) (p q : At) (hs : syntax.Trees) (x : syntax.Tree) (h : Caught) (y r : Done) → w.Good st → Catches w (inner st) h
+      → Items w h.state y
       → AreHandlers w (outer st y.state) hs r
       → AreHandlers w st (syntax.more x hs) (record { trees = more (handler_node p h.place h.typ (block q y.trees) h.fields) r.trees; state = r.state })
   one_handler st p q hs x h y r g i j l = record {

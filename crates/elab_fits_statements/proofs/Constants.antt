@@ -1,5 +1,6 @@
 -- The words of constant expressions are those of their kinds.
-use Rattle.std.proofs.Common.{◌≡◌, refl, sym, ap, ◌∙◌, subst, ℕ, Bool, true, false, not, ◌&&◌, ◌||◌, List, [], ◌∷◌, Option, Some, None, is_some, Result, Ok, Err, eq-eqb, eqb-true, ap₂, inl, inr, ◌⊎◌}
+use Rattle.std.proofs.Common.{◌≡◌, refl, sym, ap, ◌∙◌, subst, ℕ, Bool, true, false, not, ◌&&◌, ◌||◌, List, [], ◌∷◌, Option, Some, None, is_some}
+use Rattle.std.proofs.Common.{Result, Ok, Err, eq-eqb, eqb-true, ap₂, inl, inr, ◌⊎◌}
 use Rattle.std.specs.Prelude.{if◌then◌else◌, cond, ℤ, slice_get, option_map, ◌==◌, int_lt, int_le}
 use Rattle.std.specs.Ordering.{int_eq}
 use Rattle.std.proofs.lemmas.Bool.{and_parts}
@@ -8,7 +9,8 @@ use Rattle.tx_ints.proofs.WordLaws.{word_back}
 use Rattle.tx_ints.proofs.OperatorLaws.{applies_into_range}
 use Rattle.elab_rules.specs.tx_ints.declared.kinds.ArithTrap.{ArithTrap}
 use Rattle.elab_rules.specs.tx_ints.declared.kinds.IntKind.{IntKind}
-use Rattle.elab_rules.specs.tx_ints.declared.kinds.IntKind.TheVariants.{Bool as BoolKind, Char, SChar, UChar, Short, UShort, Int, UInt, Long, ULong, LLong, ULLong}
+use Rattle.elab_rules.specs.tx_ints.declared.kinds.IntKind.TheVariants.{Bool as BoolKind, Char, SChar, UChar, Short, UShort, Int, UInt, Long, ULong}
+use Rattle.elab_rules.specs.tx_ints.declared.kinds.IntKind.TheVariants.{LLong, ULLong}
 use Rattle.elab_rules.specs.tx_ints.declared.kinds.BinOp.{BinOp}
 use Rattle.elab_rules.specs.tx_ints.declared.kinds.BinOp.TheVariants.{Lt, Gt, Le, Ge, Eq, Ne}
 use Rattle.elab_rules.specs.tx_ints.Integers.{InRange, apply_of, reduced, truth}
@@ -26,7 +28,8 @@ use Rattle.elab_rules.specs.cpp_tree.declared.roles.Position.{Position}
 use Rattle.elab_rules.specs.cpp_tree.declared.roles.Role.TheVariants.{Value}
 use Rattle.elab_rules.specs.cpp_tree.Trees.{Tree, node, Trees, none, more, one, two, three, kind_of, typ_in, cat_of}
 use Rattle.elab_rules.specs.cpp_tree.Units.{Global, Cell}
-use Rattle.elab_rules.specs.cpp_tree.Typing.{Head, head_of, form_in, kind_in, is_kind, same_kind, word_kind, is_word_of, is_scalar_value, scalar_of, is_prvalue, is_void}
+use Rattle.elab_rules.specs.cpp_tree.Typing.{Head, head_of, form_in, kind_in, is_kind, same_kind, word_kind, is_word_of, is_scalar_value, scalar_of}
+use Rattle.elab_rules.specs.cpp_tree.Typing.{is_prvalue, is_void}
 use Rattle.elab_rules.specs.cpp_tree.Typing.{without_exception, passes, is_promoted, gives, is_bool}
 use Rattle.elab_rules.specs.cpp_tree.Roles.{is_throw}
 use Rattle.elab_rules.specs.cpp_tree.Rows.{Setting, is_load, is_read, is_access, is_retyped, is_zero_literal, is_binary, is_right, is_comparison, is_branch}
@@ -218,7 +221,8 @@ binary_word : (op : BinOp) (j k : IntKind) (t : Typ) (w : ℕ) (x y : Head) (a b
 binary_word op j k t w x y None b r i h = absurd cc
 binary_word op j k t w x y (Some a) None r i h = absurd cc
 binary_word op j k t w x y (Some a) (Some b) r i h =
-    operator_word op j k (value_of_word j a) (value_of_word (right_kind op j) b) t w (apply_of op j (value_of_word j a) (value_of_word (right_kind op j) b)) refl
+    operator_word op j k (value_of_word j a) (value_of_word (right_kind op j) b) t w (apply_of op j (value_of_word j a) (value_of_word (right_kind op j) b))
+    refl
     (and_parts (is_promoted j && gives j x && is_right op j y) _ r).1 i h
 
 record IsKidOf (s : Setting) (p : Position) (e : Tree) (rest : Bool) : Type 0 where

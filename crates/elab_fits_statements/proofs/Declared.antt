@@ -16,9 +16,12 @@ use Rattle.elab_rules.specs.Sizes.{typ_sized}
 use Rattle.elab_rules.specs.Strings.{string_bytes}
 use Rattle.elab_rules.specs.Types.{has_auto, is_bounded}
 use Rattle.elab_rules.specs.Statements.{State, Done, Deduction, Declaring, Lambdas, with_work, full_operand, declared_variable, placed_variable}
-use Rattle.elab_rules.specs.Statements.{auto_placed, variable_tree, init_node, default_object, copy_initialised, directly_initialised, all_lambdas, values_place}
-use Rattle.elab_rules.specs.Statements.{bound_by_initialiser, by_expression, with_initialiser, deduced_type, replaced, auto_initialised, auto_object, auto_variable}
-use Rattle.elab_rules.specs.Statements.{plain_variable, variable_by, variable, name_of, block_declarator, block_declarators, block_declaration, declarable, is_fresh}
+use Rattle.elab_rules.specs.Statements.{auto_placed, variable_tree, init_node, default_object, copy_initialised, directly_initialised, all_lambdas}
+use Rattle.elab_rules.specs.Statements.{values_place}
+use Rattle.elab_rules.specs.Statements.{bound_by_initialiser, by_expression, with_initialiser, deduced_type, replaced, auto_initialised, auto_object}
+use Rattle.elab_rules.specs.Statements.{auto_variable}
+use Rattle.elab_rules.specs.Statements.{plain_variable, variable_by, variable, name_of, block_declarator, block_declarators, block_declaration}
+use Rattle.elab_rules.specs.Statements.{declarable, is_fresh}
 use Rattle.elab_rules.specs.Statements.{is_own_name, only_expression, same_deduction, may_be_skipped, is_direct_label, past_declaration, declared_more}
 use Rattle.elab_fits.specs.Standing.{On}
 use Rattle.elab_fits.proofs.Nodes.{both, or_left, or_right, clash}
@@ -64,15 +67,16 @@ module _ (w : Words) (lams : Lambdas) (s : List Lexeme) (d : Discipline w lams s
   by_fits : (st v : State) (t : Typ) (at : At) (e : syntax.Tree) (b : Bool) (o : Option ℕ) (init : syntax.Trees)
       → ((c : Ctx) → may_be_skipped c t init ≡ false) → w.Good v → w.Object v t → HasItem (w.at v) (next_place st.work) t → w.Text e
       → On (Inits w v t init) (by_expression lams s st v t at e b o)
-  by_fits st v t at e true (Some n) init kept g o i x = told (Inits w v t init) (string_object v.ctx t (syntax_place e) (string_bytes (spelling s n))) _ (λ z h. record {
-    goes = goes_still w lams s d v g;
-    serve = (
-      variable_fits (w.at v) v t at (syntax_place e) (variable_tree st t at) z (variable_stands (w.at v) st t at i) refl refl
-          (d.strings v t (syntax_place e) (string_bytes (spelling s n)) z g o h) (d.leaves v v t at g o g (d.stays v)),
-      tt,
-    );
-    skip = λ m q. clash _ (may_be_skipped v.ctx t init) (kept v.ctx) m;
-  })
+  by_fits st v t at e true (Some n) init kept g o i x = told (Inits w v t init) (string_object v.ctx t (syntax_place e) (string_bytes (spelling s n))) _
+      (λ z h. record {
+        goes = goes_still w lams s d v g;
+        serve = (
+          variable_fits (w.at v) v t at (syntax_place e) (variable_tree st t at) z (variable_stands (w.at v) st t at i) refl refl
+              (d.strings v t (syntax_place e) (string_bytes (spelling s n)) z g o h) (d.leaves v v t at g o g (d.stays v)),
+          tt,
+        );
+        skip = λ m q. clash _ (may_be_skipped v.ctx t init) (kept v.ctx) m;
+      })
   by_fits st v t at e b o init kept g j i x = told (Inits w v t init) (full_operand lams s v e) _ (λ f h.
       let r = d.reads v e f g x h in
       let u = d.object_still v f.state t r.goes.leads j in
@@ -108,7 +112,8 @@ module _ (w : Words) (lams : Lambdas) (s : List Lexeme) (d : Discipline w lams s
         goes = q.goes;
         serve = (
           variable_fits (w.at (with_work y m.work)) y t at (values_place t at xs.operands) (variable_tree st t at) m.tree
-              (fits_still w lams s d v (with_work y m.work) Value (variable_tree st t at) g q.goes.leads (variable_stands (w.at v) st t at i)) refl refl q.builds
+              (fits_still w lams s d v (with_work y m.work) Value (variable_tree st t at) g q.goes.leads (variable_stands (w.at v) st t at i)) refl refl
+              q.builds
               q.destroys,
           tt,
         );
@@ -124,7 +129,8 @@ module _ (w : Words) (lams : Lambdas) (s : List Lexeme) (d : Discipline w lams s
         goes = q.goes;
         serve = (
           variable_fits (w.at (with_work y m.work)) y t at (at_of r) (variable_tree st t at) m.tree
-              (fits_still w lams s d v (with_work y m.work) Value (variable_tree st t at) g q.goes.leads (variable_stands (w.at v) st t at i)) refl refl q.builds
+              (fits_still w lams s d v (with_work y m.work) Value (variable_tree st t at) g q.goes.leads (variable_stands (w.at v) st t at i)) refl refl
+              q.builds
               q.destroys,
           tt,
         );
@@ -179,8 +185,24 @@ module _ (w : Words) (lams : Lambdas) (s : List Lexeme) (d : Discipline w lams s
       let a = with_work f.state m.work in
       let p = d.autos a (length st.ctx.variables) (replaced u t) q.goes.good (d.object_still f.state a (replaced u t) q.goes.leads o) in
       let b = auto_placed a (length st.ctx.variables) (replaced u t) in
-      let z : Goes w st v = record { good = named; leads = d.names_leads st name; stands = record { label = refl; breaks = refl; continues = refl; typ = refl; past = λ i. i } } in
-      let i : Goes w a b = record { good = p.good; leads = p.leads; stands = record { label = refl; breaks = refl; continues = refl; typ = refl; past = λ i. i } } in
+      let z : Goes w st v = record {
+        good = named;
+        leads = d.names_leads st name;
+        stands = record
+            { label = refl; breaks = refl; continues = refl; typ = refl; past = λ i. i };
+      } in
+      let i : Goes w a b = record {
+        good = p.good;
+        leads = p.leads;
+        stands = record {
+          label = refl;
+          breaks = refl;
+          continues = refl;
+          typ = refl;
+          past = λ i.
+              i;
+        };
+      } in
       record {
         goes = goes_then w lams s d st v b z (goes_then w lams s d v f.state b r.goes (goes_then w lams s d f.state a b q.goes i));
         serve = (

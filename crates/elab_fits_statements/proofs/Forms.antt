@@ -37,7 +37,11 @@ pub anywhere_serves : (s : Setting) (b c : Bool) (role : Role) (e : Tree) → Fi
 anywhere_serves s b c role e h k = record { fits = λ p a. h p; kid = k }
 
 pub value_serves : (s : Setting) (b c : Bool) (e : Tree) → FitsAnywhere s Value e → Serves s b c Statement e × Serves s b c Step e
-value_serves s b c e h = (anywhere_serves s b c Statement e (λ p. value_statement s p e (h p)) kid, anywhere_serves s b c Step e (λ p. value_step s p e (h p)) kid)
+value_serves s b c e h = (
+  anywhere_serves s b c Statement e (λ p. value_statement s p e (h p)) kid,
+  anywhere_serves s b c Step e
+      (λ p. value_step s p e (h p)) kid,
+)
   where
     kid : is_kid (kind_of e) ≡ true
     kid = value_kid s nowhere_open e (h nowhere_open)
@@ -66,7 +70,8 @@ one_at s p o role e h z k f = subst (λ (x : Option Role). (is_some x && is_kid 
 pub record From (ks : Kids) (i : ℕ) (role : Role) : Type 0 where
   pub at : (j : ℕ) → i ≤ j → role_at ks j ≡ Some role
 
-pub all_kids : (s : Setting) (b c : Bool) (p : Position) (ks : Kids) (role : Role) (i : ℕ) (ts : Trees) → Allows b c p → From ks i role → is_zero_role role ≡ false
+pub all_kids : (s : Setting) (b c : Bool) (p : Position) (ks : Kids) (role : Role) (i : ℕ) (ts : Trees) → Allows b c p → From ks i role
+    → is_zero_role role ≡ false
     → AllServe s b c role ts → kids_fit s p ks i ts ≡ true
 all_kids s b c p ks role i none a f z h = refl
 all_kids s b c p ks role i (more t ts) a f z (h, hs) = both (one_at s p (role_at ks i) role t (f.at i (omega arith)) z h.kid (h.fits p a))
@@ -105,11 +110,13 @@ pub block_serves : (s : Setting) (b c : Bool) (at : At) (ts : Trees) → AllServ
     → Serves s b c Statement (block at ts) × Serves s b c Step (block at ts)
 block_serves s b c at ts h = (
   record {
-    fits = λ p a. node_fits s p Statement (forms.Block false) (plain void) Prvalue at ts (and_any [] BlockItem) refl refl refl refl refl refl (any_enough ts) refl (kids p a);
+    fits = λ p a. node_fits s p Statement (forms.Block false) (plain void) Prvalue at ts (and_any [] BlockItem) refl refl refl refl refl refl (any_enough ts)
+        refl (kids p a);
     kid = refl;
   },
   record {
-    fits = λ p a. node_fits s p Step (forms.Block false) (plain void) Prvalue at ts (and_any [] BlockItem) refl refl refl refl refl refl (any_enough ts) refl (kids p a);
+    fits = λ p a. node_fits s p Step (forms.Block false) (plain void) Prvalue at ts (and_any [] BlockItem) refl refl refl refl refl refl (any_enough ts) refl
+        (kids p a);
     kid = refl;
   },
 )
@@ -120,7 +127,8 @@ block_serves s b c at ts h = (
 pub branches_serve : (s : Setting) (b c : Bool) (at : At) (test x y : Tree) → IsCondition s test → Serves s b c Statement x → Serves s b c Statement y
     → Serves s b c Statement (statement forms.Conditional at (three test x y))
 branches_serve s b c at test x y t h g = record {
-  fits = λ p a. node_fits s p Statement forms.Conditional (plain void) Prvalue at (three test x y) (only (Value ∷ Statement ∷ Statement ∷ [])) refl refl refl refl
+  fits = λ p a. node_fits s p Statement forms.Conditional (plain void) Prvalue at (three test x y) (only (Value ∷ Statement ∷ Statement ∷ [])) refl refl refl
+      refl
       (both (both t.truth (no_type (head_of x))) (no_type (head_of y))) refl refl refl
       (both (both (value_kid s p test (t.fits p)) (t.fits p)) (both (both h.kid (h.fits p a)) (both (both g.kid (g.fits p a)) refl)));
   kid = refl;
@@ -135,7 +143,8 @@ looped first p = record { breaks = λ x. refl; continues = λ x. refl }
 pub loop_serves : (s : Setting) (b c first : Bool) (at : At) (test body step : Tree) → IsCondition s test → Serves s true true Statement body
     → Serves s true true Step step → Serves s b c Statement (statement (forms.Loop first) at (three test body step))
 loop_serves s b c first at test body step t h g = record {
-  fits = λ p a. node_fits s p Statement (forms.Loop first) (plain void) Prvalue at (three test body step) (only (Value ∷ Statement ∷ Step ∷ [])) refl refl refl refl
+  fits = λ p a. node_fits s p Statement (forms.Loop first) (plain void) Prvalue at (three test body step) (only (Value ∷ Statement ∷ Step ∷ [])) refl refl
+      refl refl
       t.truth refl refl refl (kids (inside (forms.Loop first) p) (looped first p));
   kid = refl;
 }
@@ -185,10 +194,12 @@ pub labels_serve : (s : Setting) (b c : Bool) (at : At) (word : ℕ)
     → Serves s b c SwitchItem (statement (forms.Case word) at none) × Serves s b c SwitchItem (statement forms.Default at none)
 labels_serve s b c at word = (record { fits = λ p a. refl; kid = refl }, record { fits = λ p a. refl; kid = refl })
 
-pub try_serves : (s : Setting) (b c : Bool) (at : At) (body h : Tree) (hs : Trees) → Serves s b c Statement body → Serves s b c Catch h → AllServe s b c Catch hs
+pub try_serves : (s : Setting) (b c : Bool) (at : At) (body h : Tree) (hs : Trees) → Serves s b c Statement body → Serves s b c Catch h
+    → AllServe s b c Catch hs
     → Serves s b c Statement (statement forms.Try at (more body (more h hs)))
 try_serves s b c at body h hs x y z = record {
-  fits = λ p a. node_fits s p Statement forms.Try (plain void) Prvalue at (more body (more h hs)) (and_any (Statement ∷ Catch ∷ []) Catch) refl refl refl refl refl refl
+  fits = λ p a. node_fits s p Statement forms.Try (plain void) Prvalue at (more body (more h hs)) (and_any (Statement ∷ Catch ∷ []) Catch) refl refl refl
+      refl refl refl
       (two_enough hs) refl (both (both x.kid (x.fits p a)) (both (both y.kid (y.fits p a))
       (all_kids s b c p (and_any (Statement ∷ Catch ∷ []) Catch) Catch 2 hs a (from_two Statement Catch Catch) refl z)));
   kid = refl;
@@ -198,7 +209,8 @@ pub handler_serves : (s : Setting) (b c : Bool) (at : At) (place : Option ℕ) (
     → AllServe s b c Scalar fs → is_handler_of s.classes s.function.frame place t (heads_of fs) ≡ true
     → Serves s b c Catch (handler_node at place t body fs)
 handler_serves s b c at place t body fs x y z = record {
-  fits = λ p a. node_fits s p Catch (forms.Handler place) t Prvalue at (more body fs) (and_any (Statement ∷ []) Scalar) refl refl refl refl z refl (one_enough fs) refl
+  fits = λ p a. node_fits s p Catch (forms.Handler place) t Prvalue at (more body fs) (and_any (Statement ∷ []) Scalar) refl refl refl refl z refl
+      (one_enough fs) refl
       (both (both x.kid (x.fits p a)) (all_kids s b c p (and_any (Statement ∷ []) Scalar) Scalar 1 fs a (from_one Statement Scalar) refl y));
   kid = refl;
 }

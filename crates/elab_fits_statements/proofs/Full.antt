@@ -11,7 +11,8 @@ use Rattle.elab_rules.specs.cpp_tree.Notation.{plain}
 use Rattle.elab_rules.specs.cpp_tree.Typing.{form_in}
 use Rattle.elab_rules.specs.elab_ctx.Steps.{and_then}
 use Rattle.elab_rules.specs.Operators.{value, value_form, truth, dropped}
-use Rattle.elab_rules.specs.Statements.{State, Done, Lambdas, Full, Switched, with_work, full, full_operand, full_made, expression_statement, condition, the_tree}
+use Rattle.elab_rules.specs.Statements.{State, Done, Lambdas, Full, Switched, with_work, full, full_operand, full_made, expression_statement}
+use Rattle.elab_rules.specs.Statements.{condition, the_tree}
 use Rattle.elab_rules.specs.Statements.{switched, switched_type}
 use Rattle.elab_fits.specs.Standing.{On}
 use Rattle.elab_fits.proofs.Numbers.{promoted_kind}
@@ -49,7 +50,8 @@ type_told t u h = cc
 -- the type of labels
 label_type : (at : At) (f : Form) (t : Typ) → switched_type at f ≡ Ok t → IsLabelType t
 label_type at (int j) t h = subst IsLabelType (type_told (plain (int _)) t h) (record { form = int _; typed = refl; scalar = refl; promoted = promoted_kind j })
-label_type at (enum n true) t h = subst IsLabelType (type_told (plain (enum n true)) t h) (record { form = enum n true; typed = refl; scalar = refl; promoted = refl })
+label_type at (enum n true) t h = subst IsLabelType (type_told (plain (enum n true)) t h) (record
+    { form = enum n true; typed = refl; scalar = refl; promoted = refl })
 label_type at (enum n false) t h = subst IsLabelType (type_told (plain (int _)) t h) (record { form = int _; typed = refl; scalar = refl; promoted = refl })
 label_type at f t h = absurd cc
 
@@ -67,7 +69,18 @@ module _ (w : Words) (lams : Lambdas) (s : List Lexeme) (d : Discipline w lams s
 
   -- a state behind a full-expression
   settled : (a : State) → w.Good a → Goes w a (with_work a a.work)
-  settled a g = record { good = d.settles a g; leads = d.settles_leads a; stands = record { label = refl; breaks = refl; continues = refl; typ = refl; past = λ x. x } }
+  settled a g = record {
+    good = d.settles a g;
+    leads = d.settles_leads a;
+    stands = record {
+      label = refl;
+      breaks = refl;
+      continues = refl;
+      typ = refl;
+      past =
+          λ x. x;
+    };
+  }
 
   pub test_fits : (st : State) (e : syntax.Tree) → w.Good st → w.Text e → On (IsTest w st) (condition lams s st e)
   test_fits st e g t = told (IsTest w st) (full_operand lams s st e) _ (λ f h. by_truth f (d.reads st e f g t h))

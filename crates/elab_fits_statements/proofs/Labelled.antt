@@ -105,7 +105,8 @@ module _ (w : Words) (lams : Lambdas) (s : List Lexeme) (d : Discipline w lams s
       expected (IsLabelled w st) o.operand.at NotConstant (constant st.work.globals (value o.operand)) _ (λ v a.
       expected (IsLabelled w st) o.operand.at NotConstant (constant st.work.globals m.tree) _ (λ word b.
       checked (IsLabelled w st) o.operand.at Narrowing
-      (statements.case_fits (kind_in (form_in (typ_in (value o.operand)))) (kind_in (form_in st.ctx.labels.typ)) v) _ (λ x. checked (IsLabelled w st) at BadCase (not (list_any (λ (n : ℕ). n == word) st.ctx.labels.words)) _ (λ z.
+      (statements.case_fits (kind_in (form_in (typ_in (value o.operand)))) (kind_in (form_in st.ctx.labels.typ)) v) _
+      (λ x. checked (IsLabelled w st) at BadCase (not (list_any (λ (n : ℕ). n == word) st.ctx.labels.words)) _ (λ z.
       let ls = record st.ctx.labels { words = st.ctx.labels.words ++ word ∷ [] } in
       one_label st (statement (forms.Case word) at none) ls g i refl refl
       (labels_serve (w.at (with_labels st ls)) st.ctx.breaks st.ctx.continues at word).0

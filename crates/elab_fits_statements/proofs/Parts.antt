@@ -14,7 +14,8 @@ use Rattle.elab_rules.specs.cpp_tree.WellFormed.{heads_of}
 use Rattle.elab_rules.specs.elab_ctx.declared.env.Label.{Label}
 use Rattle.elab_rules.specs.elab_ctx.declared.env.Label.TheVariants.{Outside, Direct, Inside, InBlock}
 use Rattle.elab_rules.specs.elab_ctx.Steps.{and_then}
-use Rattle.elab_rules.specs.Statements.{State, Done, Lambdas, the_tree, block, joined, outer, is_direct_label, is_declaration, inner_label, block_label, in_block_if}
+use Rattle.elab_rules.specs.Statements.{State, Done, Lambdas, the_tree, block, joined, outer, is_direct_label, is_declaration, inner_label}
+use Rattle.elab_rules.specs.Statements.{block_label, in_block_if}
 use Rattle.elab_rules.specs.Statements.{a_part, beginning}
 use Rattle.elab_fits.specs.Standing.{On}
 use Rattle.elab_fits.proofs.Nodes.{clash}

@@ -19,7 +19,8 @@ use Rattle.elab_rules.specs.elab_ctx.Steps.{and_then, Made}
 use Rattle.elab_rules.specs.Initialising.{class_from, initial}
 use Rattle.elab_rules.specs.Operators.{bare_throw}
 use Rattle.elab_rules.specs.Statements as statements
-use Rattle.elab_rules.specs.Statements.{State, Done, Lambdas, Full, with_work, full, full_operand, return_node, return_nothing, return_by, return_value, returned}
+use Rattle.elab_rules.specs.Statements.{State, Done, Lambdas, Full, with_work, full, full_operand, return_node, return_nothing, return_by}
+use Rattle.elab_rules.specs.Statements.{return_value, returned}
 use Rattle.elab_rules.specs.Statements.{class_returned, done, statement}
 use Rattle.elab_fits.specs.Standing.{On}
 use Rattle.elab_fits.specs.Scalars.{Initialises}

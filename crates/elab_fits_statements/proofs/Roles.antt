@@ -5,7 +5,8 @@ use Rattle.elab_rules.specs.cpp_types.Typ.{Typ}
 use Rattle.elab_rules.specs.cpp_types.declared.ranks.Cat.{Cat}
 use Rattle.elab_rules.specs.cpp_types.declared.classes.At.{At}
 use Rattle.elab_rules.specs.cpp_tree.declared.kinds.TKind.{TKind}
-use Rattle.elab_rules.specs.cpp_tree.declared.kinds.TKind.TheVariants.{Conditional, Block, Init, Defer, Loop, Switch, Break, Continue, Return, Try, Atomic, Synchronized}
+use Rattle.elab_rules.specs.cpp_tree.declared.kinds.TKind.TheVariants.{Conditional, Block, Init, Defer, Loop, Switch, Break, Continue, Return, Try}
+use Rattle.elab_rules.specs.cpp_tree.declared.kinds.TKind.TheVariants.{Atomic, Synchronized}
 use Rattle.elab_rules.specs.cpp_tree.declared.roles.Position.{Position}
 use Rattle.elab_rules.specs.cpp_tree.declared.roles.Role.{Role}
 use Rattle.elab_rules.specs.cpp_tree.declared.roles.Role.TheVariants.{Value, Statement, BlockItem, SwitchItem, Step}

@@ -1,6 +1,8 @@
 -- The fields of an exception are its scalars.
-use Rattle.std.proofs.Common.{◌≡◌, refl, sym, ap, ap₂, ◌∙◌, subst, ℕ, zero, suc, ◌+◌, ◌*◌, ◌/◌, ◌==◌, ◌<◌, ◌≤◌, Bool, true, false, not, ◌&&◌, ◌||◌, nat_le, nat_lt, max, List}
-use Rattle.std.proofs.Common.{[], ◌∷◌, ◌++◌, length, take, slice_get, Option, Some, None, is_some, cond, unwrap_or, arith, le-leb, leb-true, ltb-true, eq-eqb, ne_eqb, append_assoc}
+use Rattle.std.proofs.Common.{◌≡◌, refl, sym, ap, ap₂, ◌∙◌, subst, ℕ, zero, suc, ◌+◌, ◌*◌, ◌/◌, ◌==◌, ◌<◌, ◌≤◌, Bool, true, false, not, ◌&&◌, ◌||◌}
+use Rattle.std.proofs.Common.{nat_le, nat_lt, max, List}
+use Rattle.std.proofs.Common.{[], ◌∷◌, ◌++◌, length, take, slice_get, Option, Some, None, is_some, cond, unwrap_or, arith, le-leb, leb-true, ltb-true}
+use Rattle.std.proofs.Common.{eq-eqb, ne_eqb, append_assoc}
 use Rattle.std.proofs.Math.Nat.{suc-mul, mul_assoc}
 use Rattle.std.proofs.lemmas.Nat.{div-mul-add}
 use Rattle.std.proofs.lemmas.Bool.{and_parts}
@@ -21,7 +23,8 @@ use Rattle.elab_rules.specs.cpp_tree.Parts.{size_in, where_counted, scalar_at, o
 use Rattle.elab_rules.specs.cpp_tree.Parts.{scalars_within, scalars_of, is_field_of, are_fields, is_value_form, are_scalars, part_of, count_of_parts}
 use Rattle.elab_rules.specs.cpp_tree.Parts as told
 use Rattle.elab_rules.specs.cpp_tree.WellFormed.{heads_of}
-use Rattle.elab_rules.specs.Objects.{Part, parts_of, parts_in, base_part, members_from, size_of, followed_by, fields_of_parts, scalar_field, repeated, fields_in}
+use Rattle.elab_rules.specs.Objects.{Part, parts_of, parts_in, base_part, members_from, size_of, followed_by, fields_of_parts, scalar_field, repeated}
+use Rattle.elab_rules.specs.Objects.{fields_in}
 use Rattle.elab_rules.specs.Objects.{class_fields, fields}
 use Rattle.elab_rules.proofs.cpp_layout.Ends.{next_low, end_low, end_append, greatest_low}
 use Rattle.elab_rules.proofs.cpp_layout.Nesting.{class_whole, extents_aligned}
@@ -141,7 +144,8 @@ module _ (classes : List Class) (p : ℕ → Bool) (r : Bool) where
       }
   element (typ (func s) c v) q h = absurd cc
   element (typ (class n) c v) q h = own_element classes (typ (class n) c v) (typ (class n) c v) h (typ_low classes p r (typ (class n) c v) q) refl refl refl
-  element (typ (closure n) c v) q h = own_element classes (typ (closure n) c v) (typ (closure n) c v) h (typ_low classes p r (typ (closure n) c v) q) refl refl refl
+  element (typ (closure n) c v) q h = own_element classes (typ (closure n) c v) (typ (closure n) c v) h (typ_low classes p r (typ (closure n) c v) q) refl
+      refl refl
   element (typ (tx_ex (typ (int k) d w)) c v) q h = own_element classes (typ (tx_ex (typ (int k) d w)) c v) (typ (int k) d w)
       (record { complete = h.complete; within = h.within }) (typ_low classes p r (typ (tx_ex (typ (int k) d w)) c v) q) refl refl refl
   element (typ (tx_ex (typ (enum n s) d w)) c v) q h = own_element classes (typ (tx_ex (typ (enum n s) d w)) c v) (typ (enum n s) d w)
@@ -165,11 +169,13 @@ module _ (classes : List Class) (p : ℕ → Bool) (r : Bool) where
     low_of o n l = omega (arith, l)
 
     typ_same : (t : Typ) (o : ℕ) → typ_ready p r t ≡ true → Sized classes t → o + size_of classes t ≤ EXCEPTION_SIZE
-        → Same (element_scalars (one_element of_class (form_in (told.element_of t))) (size_of classes (told.element_of t)) (many t) o) (fields_in each classes at o t)
+        → Same (element_scalars (one_element of_class (form_in (told.element_of t))) (size_of classes (told.element_of t)) (many t) o)
+        (fields_in each classes at o t)
     typ_same (typ void c v) o q s l = absurd cc
     typ_same (typ (int k) c v) o q s l = leaf (one_element of_class (int k)) (size_of classes (typ (int k) c v)) o (scalar_field at o (kind_in (int k)))
         (low_of o (size_of classes (typ (int k) c v)) l) (scalar_same at o (kind_in (int k)))
-    typ_same (typ (enum n x) c v) o q s l = leaf (one_element of_class (enum n x)) (size_of classes (typ (enum n x) c v)) o (scalar_field at o (kind_in (enum n x)))
+    typ_same (typ (enum n x) c v) o q s l = leaf (one_element of_class (enum n x)) (size_of classes (typ (enum n x) c v)) o
+        (scalar_field at o (kind_in (enum n x)))
         (low_of o (size_of classes (typ (enum n x) c v)) l) (scalar_same at o (kind_in (enum n x)))
     typ_same (typ null c v) o q s l = leaf (one_element of_class null) (size_of classes (typ null c v)) o (scalar_field at o (kind_in null))
         (low_of o (size_of classes (typ null c v)) l) (scalar_same at o (kind_in null))
@@ -195,13 +201,16 @@ module _ (classes : List Class) (p : ℕ → Bool) (r : Bool) where
         (low_of o (size_of classes (typ (class n) c v)) l) (h n o q (record { complete = s.complete; within = s.within }) l)
     typ_same (typ (closure n) c v) o q s l = leaf (one_element of_class (closure n)) (size_of classes (typ (closure n) c v)) o (each n o)
         (low_of o (size_of classes (typ (closure n) c v)) l) (h n o q (record { complete = s.complete; within = s.within }) l)
-    typ_same (typ (tx_ex (typ (int k) d w)) c v) o q s l = leaf (one_element of_class (int k)) (size_of classes (typ (int k) d w)) o (scalar_field at o (kind_in (int k)))
+    typ_same (typ (tx_ex (typ (int k) d w)) c v) o q s l = leaf (one_element of_class (int k)) (size_of classes (typ (int k) d w)) o
+        (scalar_field at o (kind_in (int k)))
         (low_of o (size_of classes (typ (int k) d w)) l) (scalar_same at o (kind_in (int k)))
-    typ_same (typ (tx_ex (typ (enum n x) d w)) c v) o q s l = leaf (one_element of_class (enum n x)) (size_of classes (typ (enum n x) d w)) o (scalar_field at o (kind_in (enum n x)))
+    typ_same (typ (tx_ex (typ (enum n x) d w)) c v) o q s l = leaf (one_element of_class (enum n x)) (size_of classes (typ (enum n x) d w)) o
+        (scalar_field at o (kind_in (enum n x)))
         (low_of o (size_of classes (typ (enum n x) d w)) l) (scalar_same at o (kind_in (enum n x)))
     typ_same (typ (tx_ex (typ null d w)) c v) o q s l = leaf (one_element of_class null) (size_of classes (typ null d w)) o (scalar_field at o (kind_in null))
         (low_of o (size_of classes (typ null d w)) l) (scalar_same at o (kind_in null))
-    typ_same (typ (tx_ex (typ (ptr t) d w)) c v) o q s l = leaf (one_element of_class (ptr t)) (size_of classes (typ (ptr t) d w)) o (scalar_field at o (kind_in (ptr t)))
+    typ_same (typ (tx_ex (typ (ptr t) d w)) c v) o q s l = leaf (one_element of_class (ptr t)) (size_of classes (typ (ptr t) d w)) o
+        (scalar_field at o (kind_in (ptr t)))
         (low_of o (size_of classes (typ (ptr t) d w)) l) (scalar_same at o (kind_in (ptr t)))
     typ_same (typ (tx_ex (typ (class n) d w)) c v) o q s l = leaf (one_element of_class (class n)) (size_of classes (typ (class n) d w)) o (each n o)
         (low_of o (size_of classes (typ (class n) d w)) l) (h n o q (record { complete = s.complete; within = s.within }) l)
@@ -263,7 +272,8 @@ module _ (classes : List Class) (o : InOrder classes) (n : ℕ) (l : Laid classe
   abbrev EndsWithin : Part → Type 0
   EndsWithin q = q.offset + size_of classes q.typ ≤ (class_extent classes n).size
 
-  member_ends : (i : ℕ) (m : Member) → slice_get l.owner.members i ≡ Some m → member_offset classes n l.owner i m + size_of classes m.typ ≤ (class_extent classes n).size
+  member_ends : (i : ℕ) (m : Member) → slice_get l.owner.members i ≡ Some m → member_offset classes n l.owner i m + size_of classes m.typ ≤
+      (class_extent classes n).size
   member_ends i m h =
       let head : List Extent = head_items (class_extent classes) classes n l.owner in
       let a = member_within classes (end_from 0 head) l.owner.members i m h in

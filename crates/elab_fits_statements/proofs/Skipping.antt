@@ -51,7 +51,10 @@ tree_told x y h = cc
 
 zeros_skipped : (c : Ctx) (t : Typ) (at : At) (e : Tree) → destroys c at t ≡ none → ◌≡◌ {A = Result Tree ElabFault} (Ok (zeros c.classes at t)) (Ok e)
     → IsSkipped c t at e
-zeros_skipped c t at e d h = record { zero = subst (λ (x : Tree). is_zero x ≡ true) (tree_told (zeros c.classes at t) e h) (are_zero_law c.classes at t); plain = d }
+zeros_skipped c t at e d h = record {
+  zero = subst (λ (x : Tree). is_zero x ≡ true) (tree_told (zeros c.classes at t) e h) (are_zero_law c.classes at t);
+  plain = d;
+}
 
 behind_step : {A : Type 0} (r : Result A ElabFault) (x : Result Tree ElabFault) (e : Tree) → and_then r (λ k. x) ≡ Ok e → x ≡ Ok e
 behind_step (Ok a) x e h = h

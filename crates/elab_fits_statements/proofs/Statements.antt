@@ -30,7 +30,9 @@ use Rattle.elab_fits_statements.proofs.Handlers.{Catches, catches}
 use Rattle.elab_fits_statements.proofs.Parts.{serves_as, no_inner, no_block, no_labels_there, IsPart, labels_later, statement_items, declaration_items}
 use Rattle.elab_fits_statements.proofs.Parts.{join, no_items, body_block, part_fits, all_as, body_items}
 use Rattle.elab_fits_statements.proofs.States.{mapped, goes_still}
-use Rattle.elab_fits_statements.proofs.Composed.{IsFirst, IsStep, AreHandlers, first_fits, loop_test_fits, step_fits, loops_fit, leaving, inner_good, inner_leads, loop_good, loop_leads, block_good, block_leads, if_fits, else_fits, while_fits, do_fits, switches_fit, tries_fit, one_handler, looped, loop_direct, some_of}
+use Rattle.elab_fits_statements.proofs.Composed.{IsFirst, IsStep, AreHandlers, first_fits, loop_test_fits, step_fits, loops_fit, leaving, inner_good}
+use Rattle.elab_fits_statements.proofs.Composed.{inner_leads, loop_good, loop_leads, block_good, block_leads, if_fits, else_fits, while_fits, do_fits}
+use Rattle.elab_fits_statements.proofs.Composed.{switches_fit, tries_fit, one_handler, looped, loop_direct, some_of}
 use Rattle.elab_fits_statements.specs.Anywhere.{AllServe}
 
 module _ (w : Words) (lams : Lambdas) (s : List Lexeme) (d : Discipline w lams s) where
@@ -40,7 +42,8 @@ module _ (w : Words) (lams : Lambdas) (s : List Lexeme) (d : Discipline w lams s
     pub statement_fits : (st : State) (t : syntax.Tree) → w.Good st → HasLabels st → w.Text t → On (StatementFits w st t) (statement_of lams s st t)
     statement_fits st (syntax.node k.CompoundStatement p token kids) g l x =
         bind (Items w (inner st)) (StatementFits w st (syntax.node k.CompoundStatement p token kids)) (statements_of lams s (inner st) kids) _
-        (statements_fit (inner st) kids (inner_good w lams s d st g) (no_labels_there (inner st) (no_inner st.ctx.label)) (d.kids k.CompoundStatement p token kids x))
+        (statements_fit (inner st) kids (inner_good w lams s d st g) (no_labels_there (inner st) (no_inner st.ctx.label))
+        (d.kids k.CompoundStatement p token kids x))
         (λ y i. leaving w lams s d st (inner st) y (syntax.node k.CompoundStatement p token kids) (block (at_of p) y.trees) g (inner_leads w lams s d st) i.goes
         (body_block w lams s d (inner st) (at_of p) y (no_inner st.ctx.label) i))
     statement_fits st (syntax.node k.NullStatement p token kids) g l x =
@@ -98,30 +101,44 @@ module _ (w : Words) (lams : Lambdas) (s : List Lexeme) (d : Discipline w lams s
         bind (IsPart w (in_loop st)) (StatementFits w st (syntax.node k.DoStatement p token (syntax.more a (syntax.more e syntax.none))))
         (and_then (statement_of lams s (in_loop st) a) (a_part s a)) _
         (part_fits w lams s d (in_loop st) a (statement_of lams s (in_loop st) a) (no_inner st.ctx.label)
-        (statement_fits (in_loop st) a (loop_good w lams s d st g) (no_labels_there (in_loop st) (no_inner st.ctx.label)) (d.first a (syntax.more e syntax.none) ts)))
+        (statement_fits (in_loop st) a (loop_good w lams s d st g) (no_labels_there (in_loop st) (no_inner st.ctx.label))
+        (d.first a (syntax.more e syntax.none) ts)))
         (λ z j. bind (IsTest w (outer st z.state)) (StatementFits w st (syntax.node k.DoStatement p token (syntax.more a (syntax.more e syntax.none))))
         (condition lams s (outer st z.state) e) _
         (test_fits w lams s d (outer st z.state) e
         (d.closes st z.state g j.goes.good (d.goes_on st (in_loop st) z.state (loop_leads w lams s d st) j.goes.leads))
         (d.first e syntax.none (d.rest a (syntax.more e syntax.none) ts)))
         (λ y i. do_fits w lams s d st (at_of p) (syntax.node k.DoStatement p token (syntax.more a (syntax.more e syntax.none))) z y g j i))
-    statement_fits st (syntax.node k.ForStatement p token (syntax.more i (syntax.more e (syntax.more n (syntax.more (syntax.node k.CompoundStatement r brace kids) syntax.none))))) g l x =
-        let ts = d.kids k.ForStatement p token (syntax.more i (syntax.more e (syntax.more n (syntax.more (syntax.node k.CompoundStatement r brace kids) syntax.none)))) x in
+    statement_fits st (syntax.node k.ForStatement p token (syntax.more i (syntax.more e (syntax.more n
+        (syntax.more (syntax.node k.CompoundStatement r brace kids) syntax.none))))) g l x =
+        let ts = d.kids k.ForStatement p token (syntax.more i (syntax.more e (syntax.more n
+        (syntax.more (syntax.node k.CompoundStatement r brace kids) syntax.none)))) x in
         let us = d.rest i (syntax.more e (syntax.more n (syntax.more (syntax.node k.CompoundStatement r brace kids) syntax.none))) ts in
         let vs = d.rest e (syntax.more n (syntax.more (syntax.node k.CompoundStatement r brace kids) syntax.none)) us in
         let ws = d.rest n (syntax.more (syntax.node k.CompoundStatement r brace kids) syntax.none) vs in
-        bind (IsFirst w (in_loop st)) (StatementFits w st (syntax.node k.ForStatement p token (syntax.more i (syntax.more e (syntax.more n (syntax.more (syntax.node k.CompoundStatement r brace kids) syntax.none)))))) (for_first lams s (in_loop st) i) _
-        (first_fits w lams s d (in_loop st) i (loop_good w lams s d st g) (d.first i (syntax.more e (syntax.more n (syntax.more (syntax.node k.CompoundStatement r brace kids) syntax.none))) ts))
-        (λ f a. bind (IsTest w f.state) (StatementFits w st (syntax.node k.ForStatement p token (syntax.more i (syntax.more e (syntax.more n (syntax.more (syntax.node k.CompoundStatement r brace kids) syntax.none)))))) (for_test lams s f.state (at_of p) e) _
-        (loop_test_fits w lams s d f.state (at_of p) e a.goes.good (d.first e (syntax.more n (syntax.more (syntax.node k.CompoundStatement r brace kids) syntax.none)) us))
-        (λ y b. bind (IsStep w y.state) (StatementFits w st (syntax.node k.ForStatement p token (syntax.more i (syntax.more e (syntax.more n (syntax.more (syntax.node k.CompoundStatement r brace kids) syntax.none)))))) (for_step lams s y.state (at_of p) n) _
+        bind (IsFirst w (in_loop st)) (StatementFits w st (syntax.node k.ForStatement p token
+        (syntax.more i (syntax.more e (syntax.more n (syntax.more (syntax.node k.CompoundStatement r brace kids) syntax.none))))))
+        (for_first lams s (in_loop st) i) _
+        (first_fits w lams s d (in_loop st) i (loop_good w lams s d st g) (d.first i (syntax.more e
+        (syntax.more n (syntax.more (syntax.node k.CompoundStatement r brace kids) syntax.none))) ts))
+        (λ f a. bind (IsTest w f.state) (StatementFits w st (syntax.node k.ForStatement p token
+        (syntax.more i (syntax.more e (syntax.more n (syntax.more (syntax.node k.CompoundStatement r brace kids) syntax.none))))))
+        (for_test lams s f.state (at_of p) e) _
+        (loop_test_fits w lams s d f.state (at_of p) e a.goes.good (d.first e (syntax.more n
+        (syntax.more (syntax.node k.CompoundStatement r brace kids) syntax.none)) us))
+        (λ y b. bind (IsStep w y.state) (StatementFits w st (syntax.node k.ForStatement p token
+        (syntax.more i (syntax.more e (syntax.more n (syntax.more (syntax.node k.CompoundStatement r brace kids) syntax.none))))))
+        (for_step lams s y.state (at_of p) n) _
         (step_fits w lams s d y.state (at_of p) n b.goes.good (d.first n (syntax.more (syntax.node k.CompoundStatement r brace kids) syntax.none) vs))
         (λ z c.
         let q = looped w lams s d st f y z a b c in
-        bind (Items w z.state) (StatementFits w st (syntax.node k.ForStatement p token (syntax.more i (syntax.more e (syntax.more n (syntax.more (syntax.node k.CompoundStatement r brace kids) syntax.none)))))) (statements_of lams s z.state kids) _
+        bind (Items w z.state) (StatementFits w st (syntax.node k.ForStatement p token (syntax.more i
+        (syntax.more e (syntax.more n (syntax.more (syntax.node k.CompoundStatement r brace kids) syntax.none)))))) (statements_of lams s z.state kids) _
         (statements_fit z.state kids c.goes.good (no_labels_there z.state (loop_direct w lams s d st z.state q))
         (d.kids k.CompoundStatement r brace kids (d.first (syntax.node k.CompoundStatement r brace kids) syntax.none ws)))
-        (λ u h. loops_fit w lams s d st (at_of p) (syntax.node k.ForStatement p token (syntax.more i (syntax.more e (syntax.more n (syntax.more (syntax.node k.CompoundStatement r brace kids) syntax.none))))) f y z u (block (at_of r) u.trees) g a b c (record {
+        (λ u h. loops_fit w lams s d st (at_of p) (syntax.node k.ForStatement p token (syntax.more i
+        (syntax.more e (syntax.more n (syntax.more (syntax.node k.CompoundStatement r brace kids) syntax.none))))) f y z u (block (at_of r) u.trees) g a
+        b c (record {
           goes = h.goes;
           serve = serves_as (w.at u.state) z.state.ctx.breaks z.state.ctx.continues true true Statement (block (at_of r) u.trees) q.stands.breaks
               q.stands.continues (body_block w lams s d z.state (at_of r) u (loop_direct w lams s d st z.state q) h);
@@ -131,38 +148,47 @@ module _ (w : Words) (lams : Lambdas) (s : List Lexeme) (d : Discipline w lams s
         let us = d.rest i (syntax.more e (syntax.more n (syntax.more a syntax.none))) ts in
         let vs = d.rest e (syntax.more n (syntax.more a syntax.none)) us in
         let ws = d.rest n (syntax.more a syntax.none) vs in
-        bind (IsFirst w (in_loop st)) (StatementFits w st (syntax.node k.ForStatement p token (syntax.more i (syntax.more e (syntax.more n (syntax.more a syntax.none)))))) (for_first lams s (in_loop st) i) _
+        bind (IsFirst w (in_loop st)) (StatementFits w st (syntax.node k.ForStatement p token
+        (syntax.more i (syntax.more e (syntax.more n (syntax.more a syntax.none)))))) (for_first lams s (in_loop st) i) _
         (first_fits w lams s d (in_loop st) i (loop_good w lams s d st g) (d.first i (syntax.more e (syntax.more n (syntax.more a syntax.none))) ts))
-        (λ f a1. bind (IsTest w f.state) (StatementFits w st (syntax.node k.ForStatement p token (syntax.more i (syntax.more e (syntax.more n (syntax.more a syntax.none)))))) (for_test lams s f.state (at_of p) e) _
+        (λ f a1. bind (IsTest w f.state) (StatementFits w st (syntax.node k.ForStatement p token
+        (syntax.more i (syntax.more e (syntax.more n (syntax.more a syntax.none)))))) (for_test lams s f.state (at_of p) e) _
         (loop_test_fits w lams s d f.state (at_of p) e a1.goes.good (d.first e (syntax.more n (syntax.more a syntax.none)) us))
-        (λ y b. bind (IsStep w y.state) (StatementFits w st (syntax.node k.ForStatement p token (syntax.more i (syntax.more e (syntax.more n (syntax.more a syntax.none)))))) (for_step lams s y.state (at_of p) n) _
+        (λ y b. bind (IsStep w y.state) (StatementFits w st (syntax.node k.ForStatement p token
+        (syntax.more i (syntax.more e (syntax.more n (syntax.more a syntax.none)))))) (for_step lams s y.state (at_of p) n) _
         (step_fits w lams s d y.state (at_of p) n b.goes.good (d.first n (syntax.more a syntax.none) vs))
         (λ z c.
         let q = looped w lams s d st f y z a1 b c in
-        bind (IsPart w z.state) (StatementFits w st (syntax.node k.ForStatement p token (syntax.more i (syntax.more e (syntax.more n (syntax.more a syntax.none)))))) (and_then (statement_of lams s z.state a) (a_part s a))
+        bind (IsPart w z.state) (StatementFits w st (syntax.node k.ForStatement p token (syntax.more i
+        (syntax.more e (syntax.more n (syntax.more a syntax.none)))))) (and_then (statement_of lams s z.state a) (a_part s a))
         (λ (y1 : Done). done (one (block (at_of p) (followed_by f.trees
         (one (statement (forms.Loop true) (at_of p) (three (the_tree (at_of p) y.trees) (the_tree (at_of p) y1.trees) (the_tree (at_of p) z.trees)))))))
         (outer st y1.state))
         (part_fits w lams s d z.state a (statement_of lams s z.state a) (loop_direct w lams s d st z.state q)
         (statement_fits z.state a c.goes.good (no_labels_there z.state (loop_direct w lams s d st z.state q)) (d.first a syntax.none ws)))
-        (λ u h. loops_fit w lams s d st (at_of p) (syntax.node k.ForStatement p token (syntax.more i (syntax.more e (syntax.more n (syntax.more a syntax.none))))) f y z u (the_tree (at_of p) u.trees) g a1 b c (record {
+        (λ u h. loops_fit w lams s d st (at_of p) (syntax.node k.ForStatement p token (syntax.more i
+        (syntax.more e (syntax.more n (syntax.more a syntax.none))))) f y z u (the_tree (at_of p) u.trees) g a1 b c (record {
           goes = h.goes;
           serve = serves_as (w.at u.state) z.state.ctx.breaks z.state.ctx.continues true true Statement (the_tree (at_of p) u.trees) q.stands.breaks
               q.stands.continues (h.serve (at_of p));
         })))))
     statement_fits st (syntax.node k.SwitchStatement p token (syntax.more e (syntax.more (syntax.node kind r brace kids) syntax.none))) g l x =
         let ts = d.kids k.SwitchStatement p token (syntax.more e (syntax.more (syntax.node kind r brace kids) syntax.none)) x in
-        bind (IsSwitch w st) (StatementFits w st (syntax.node k.SwitchStatement p token (syntax.more e (syntax.more (syntax.node kind r brace kids) syntax.none))))
+        bind (IsSwitch w st) (StatementFits w st (syntax.node k.SwitchStatement p token (syntax.more e
+        (syntax.more (syntax.node kind r brace kids) syntax.none))))
         (switched lams s st e) _ (switch_fits w lams s d st e g (d.first e (syntax.more (syntax.node kind r brace kids) syntax.none) ts)) (λ v i.
         bind (Items w (in_switch v.state v.typ))
         (StatementFits w st (syntax.node k.SwitchStatement p token (syntax.more e (syntax.more (syntax.node kind r brace kids) syntax.none))))
         (statements_of lams s (in_switch v.state v.typ) kids) _
         (statements_fit (in_switch v.state v.typ) kids (d.opens v.state Direct (no_labels v.typ) true v.state.ctx.continues i.goes.good) (λ n. i.labels)
-        (d.kids kind r brace kids (d.first (syntax.node kind r brace kids) syntax.none (d.rest e (syntax.more (syntax.node kind r brace kids) syntax.none) ts))))
-        (λ y j. switches_fit w lams s d st (at_of p) (syntax.node k.SwitchStatement p token (syntax.more e (syntax.more (syntax.node kind r brace kids) syntax.none))) v y i j))
+        (d.kids kind r brace kids (d.first (syntax.node kind r brace kids) syntax.none (d.rest e (syntax.more (syntax.node kind r brace kids) syntax.none)
+        ts))))
+        (λ y j. switches_fit w lams s d st (at_of p) (syntax.node k.SwitchStatement p token
+        (syntax.more e (syntax.more (syntax.node kind r brace kids) syntax.none))) v y i j))
     statement_fits st (syntax.node k.CaseStatement p token (syntax.more e (syntax.more a syntax.none))) g l x =
         let ts = d.kids k.CaseStatement p token (syntax.more e (syntax.more a syntax.none)) x in
-        bind (IsLabelled w st) (StatementFits w st (syntax.node k.CaseStatement p token (syntax.more e (syntax.more a syntax.none)))) (case_label s st (at_of p) e) _
+        bind (IsLabelled w st) (StatementFits w st (syntax.node k.CaseStatement p token (syntax.more e (syntax.more a syntax.none))))
+        (case_label s st (at_of p) e) _
         (case_stands w lams s d st (at_of p) e g l (d.first e (syntax.more a syntax.none) ts)) (λ y i.
         bind (StatementFits w y.state a) (StatementFits w st (syntax.node k.CaseStatement p token (syntax.more e (syntax.more a syntax.none))))
         (statement_of lams s y.state a) _
@@ -187,7 +213,8 @@ module _ (w : Words) (lams : Lambdas) (s : List Lexeme) (d : Discipline w lams s
         ))
     statement_fits st (syntax.node k.ContinueStatement p token kids) g l x =
         checked (StatementFits w st (syntax.node k.ContinueStatement p token kids)) (at_of p) BadBreak st.ctx.continues _ (λ h.
-        statement_items w lams s d st (syntax.node k.ContinueStatement p token kids) (record { trees = one (statement forms.Continue (at_of p) none); state = st })
+        statement_items w lams s d st (syntax.node k.ContinueStatement p token kids) (record
+        { trees = one (statement forms.Continue (at_of p) none); state = st })
         (goes_still w lams s d st g) (
           serves_as (w.at st) st.ctx.breaks true st.ctx.breaks st.ctx.continues Statement (statement forms.Continue (at_of p) none) refl
               (sym h) (jumps_serve (w.at st) st.ctx.breaks st.ctx.continues (at_of p)).1,
@@ -207,11 +234,13 @@ module _ (w : Words) (lams : Lambdas) (s : List Lexeme) (d : Discipline w lams s
         bind (AreHandlers w (outer st y.state) hs) (StatementFits w st (syntax.node k.TryBlock p token (syntax.more (syntax.node kind r brace kids) hs)))
         (handlers_of lams s (outer st y.state) hs) _
         (handlers_fit (outer st y.state) hs
-        (d.closes st y.state g i.goes.good (d.goes_on st (inner st) y.state (inner_leads w lams s d st) i.goes.leads)) (d.rest (syntax.node kind r brace kids) hs ts))
+        (d.closes st y.state g i.goes.good (d.goes_on st (inner st) y.state (inner_leads w lams s d st) i.goes.leads))
+        (d.rest (syntax.node kind r brace kids) hs ts))
         (λ u j. tries_fit w lams s d st (at_of p) (at_of r) (syntax.node k.TryBlock p token (syntax.more (syntax.node kind r brace kids) hs)) y u hs g i j
         (some_of w lams s d p token (syntax.node kind r brace kids) hs x)))
     statement_fits st (syntax.node k.SynchronizedStatement p token (syntax.more (syntax.node kind r brace kids) syntax.none)) g l x =
-        bind (Items w (in_block st)) (StatementFits w st (syntax.node k.SynchronizedStatement p token (syntax.more (syntax.node kind r brace kids) syntax.none)))
+        bind (Items w (in_block st)) (StatementFits w st (syntax.node k.SynchronizedStatement p token
+        (syntax.more (syntax.node kind r brace kids) syntax.none)))
         (statements_of lams s (in_block st) kids) _
         (statements_fit (in_block st) kids (block_good w lams s d st g) (no_labels_there (in_block st) (no_block st.ctx.label))
         (d.kids kind r brace kids (d.first (syntax.node kind r brace kids) syntax.none
@@ -234,7 +263,8 @@ module _ (w : Words) (lams : Lambdas) (s : List Lexeme) (d : Discipline w lams s
 
     pub statements_fit : (st : State) (ts : syntax.Trees) → w.Good st → HasLabels st → w.Texts ts → On (Items w st) (statements_of lams s st ts)
     statements_fit st syntax.none g l x = no_items w lams s d st g
-    statements_fit st (syntax.more t ts) g l x = bind (StatementFits w st t) (Items w st) (statement_of lams s st t) _ (statement_fits st t g l (d.first t ts x))
+    statements_fit st (syntax.more t ts) g l x = bind (StatementFits w st t) (Items w st) (statement_of lams s st t) _
+        (statement_fits st t g l (d.first t ts x))
         (λ y i. bind (Items w y.state) (Items w st) (statements_of lams s y.state ts) _
         (statements_fit y.state ts i.items.goes.good (labels_later w lams s d st y.state i.items.goes l) (d.rest t ts x))
         (λ z j. join w lams s d st y z i.items j))
@@ -246,10 +276,12 @@ module _ (w : Words) (lams : Lambdas) (s : List Lexeme) (d : Discipline w lams s
         (d.first (syntax.node kind p token (syntax.more e (syntax.more (syntax.node b r brace kids) syntax.none))) hs x) in
         skip (AreHandlers w st (syntax.more (syntax.node kind p token (syntax.more e (syntax.more (syntax.node b r brace kids) syntax.none))) hs))
         (in_order (at_of p) e hs) _ (λ o.
-        bind (Catches w (inner st)) (AreHandlers w st (syntax.more (syntax.node kind p token (syntax.more e (syntax.more (syntax.node b r brace kids) syntax.none))) hs))
+        bind (Catches w (inner st)) (AreHandlers w st (syntax.more (syntax.node kind p token
+        (syntax.more e (syntax.more (syntax.node b r brace kids) syntax.none))) hs))
         (handler_type s (inner st) (at_of p) e) _
         (catches w lams s d (inner st) (at_of p) e (inner_good w lams s d st g) (d.first e (syntax.more (syntax.node b r brace kids) syntax.none) ts)) (λ h i.
-        bind (Items w h.state) (AreHandlers w st (syntax.more (syntax.node kind p token (syntax.more e (syntax.more (syntax.node b r brace kids) syntax.none))) hs))
+        bind (Items w h.state) (AreHandlers w st (syntax.more (syntax.node kind p token (syntax.more e
+        (syntax.more (syntax.node b r brace kids) syntax.none))) hs))
         (statements_of lams s h.state kids) _
         (statements_fit h.state kids i.goes.good (labels_later w lams s d (inner st) h.state i.goes (no_labels_there (inner st) (no_inner st.ctx.label)))
         (d.kids b r brace kids (d.first (syntax.node b r brace kids) syntax.none (d.rest e (syntax.more (syntax.node b r brace kids) syntax.none) ts)))) (λ y j.
@@ -259,7 +291,8 @@ module _ (w : Words) (lams : Lambdas) (s : List Lexeme) (d : Discipline w lams s
         (handlers_fit (outer st y.state) hs (d.closes st y.state g j.goes.good
         (d.goes_on st (inner st) y.state (inner_leads w lams s d st) (d.goes_on (inner st) h.state y.state i.goes.leads j.goes.leads)))
         (d.rest (syntax.node kind p token (syntax.more e (syntax.more (syntax.node b r brace kids) syntax.none))) hs x))
-        (λ u l. one_handler w lams s d st (at_of p) (at_of r) hs (syntax.node kind p token (syntax.more e (syntax.more (syntax.node b r brace kids) syntax.none))) h y u g i j l))))
+        (λ u l. one_handler w lams s d st (at_of p) (at_of r) hs (syntax.node kind p token
+        (syntax.more e (syntax.more (syntax.node b r brace kids) syntax.none))) h y u g i j l))))
     handlers_fit st hs g x = tt
 
   -- the statements of a function's body

@@ -115,7 +115,8 @@ destruction_serves s b c (node (forms.Destroy f o k d) t cat at none) h = record
   where
     within : Position
     within = record { full = true; breaks = false; continues = false }
-destruction_serves s b c (node (forms.Destroy f o k d) t cat at (more e es)) h = clash _ false refl (fitting s within Destruction (forms.Destroy f o k d) t cat (more e es) (h within refl)).within
+destruction_serves s b c (node (forms.Destroy f o k d) t cat at (more e es)) h = clash _ false refl
+    (fitting s within Destruction (forms.Destroy f o k d) t cat (more e es) (h within refl)).within
   where
     within : Position
     within = record { full = true; breaks = false; continues = false }
@@ -133,10 +134,12 @@ initial_kid s p (node (forms.Block b) t cat at kids) h = absurd cc
 initial_kid s p (node kind t cat at kids) h = refl
 
 -- an object with what builds and destroys it
-declares : (s : Setting) (at : At) (t : Typ) (variable init : Tree) (ds : Trees) → FitsAnywhere s Value variable → typ_in variable ≡ t → cat_of variable ≡ Lvalue
+declares : (s : Setting) (at : At) (t : Typ) (variable init : Tree) (ds : Trees) → FitsAnywhere s Value variable → typ_in variable ≡ t
+    → cat_of variable ≡ Lvalue
     → BuildsAnywhere s t init → DestroysOne s t ds → Serves s false false BlockItem (statement forms.Init at (more variable (more init ds)))
 declares s at t variable init ds v e l b d = record {
-  fits = λ p a. node_fits s p BlockItem forms.Init (plain void) Prvalue at (more variable (more init ds)) (and_any (Value ∷ Initialiser ∷ []) Destruction) refl refl
+  fits = λ p a. node_fits s p BlockItem forms.Init (plain void) Prvalue at (more variable (more init ds)) (and_any (Value ∷ Initialiser ∷ []) Destruction)
+      refl refl
       refl refl (or_left _ (both (both (ap is_lvalue (head_cat variable ∙ l))
       (ap (λ (u : Typ). builds u (head_of init)) (head_typ variable ∙ e) ∙ b.builds))
       (ap (λ (u : Typ). are_destructions s u (heads_of ds)) (head_typ variable ∙ e) ∙ d.right)))
@@ -150,7 +153,8 @@ declares s at t variable init ds v e l b d = record {
 pub variable_fits : (s : Setting) (st : State) (t : Typ) (at p : At) (variable init : Tree) → FitsAnywhere s Value variable → typ_in variable ≡ t
     → cat_of variable ≡ Lvalue → BuildsWhole s t init → DestroysOne s t (destroys st.ctx at t)
     → Serves s false false BlockItem (init_node st t at p variable init)
-variable_fits s st t at p variable init v e l b d = declares s at t variable (full p init) (destroys st.ctx at t) v e l (whole_object s p t init b.one b.no_throw) d
+variable_fits s st t at p variable init v e l b d = declares s at t variable (full p init) (destroys st.ctx at t) v e l
+    (whole_object s p t init b.one b.no_throw) d
 
 -- `return`
 
@@ -163,7 +167,8 @@ end_fits s at h = record {
 value_returned : (s : Setting) (at : At) (e : Tree) → has_value (result_of s.function) ≡ true → FitsAnywhere s Value e
     → initialises (result_of s.function) (head_of e) ≡ true → Serves s false false Statement (return_node at (one e))
 value_returned s at e h f i = record {
-  fits = λ p a. node_fits s p Statement forms.Return (plain void) Prvalue at (one e) (and_any [] Value) refl refl refl refl (both h (or_left _ i)) refl refl refl
+  fits = λ p a. node_fits s p Statement forms.Return (plain void) Prvalue at (one e) (and_any [] Value) refl refl refl refl (both h (or_left _ i)) refl refl
+      refl
       (both (both (value_kid s p e (f p)) (f p)) refl);
   kid = refl;
 }
@@ -208,8 +213,10 @@ bound_whole : (s : Setting) (p : At) (u : Typ) (c v : Bool) (e : Tree) → Initi
     → initialises (typ (ref u) c v) (head_of (full p (statements.result_of (typ (ref u) c v) p e))) ≡ true
 bound_whole s p u c v e h = by_hold (holds_temporary e) refl
   where
-    parts : (is_lvalue (head_of e).cat ≡ true) × ((typ_eq u (head_of e).typ || (is_temporary (head_of e).kind && typ_eq (unqualified u) (head_of e).typ)) ≡ true)
-    parts = and_parts (is_lvalue (head_of e).cat) (typ_eq u (head_of e).typ || (is_temporary (head_of e).kind && typ_eq (unqualified u) (head_of e).typ)) h.initialises
+    parts : (is_lvalue (head_of e).cat ≡ true) × ((typ_eq u (head_of e).typ || (is_temporary (head_of e).kind && typ_eq (unqualified u) (head_of e).typ)) ≡
+        true)
+    parts = and_parts (is_lvalue (head_of e).cat) (typ_eq u (head_of e).typ || (is_temporary (head_of e).kind && typ_eq (unqualified u) (head_of e).typ))
+        h.initialises
 
     lvalue : cat_of e ≡ Lvalue
     lvalue = lvalue_is (cat_of e) (ap is_lvalue (sym (head_cat e)) ∙ parts.0)

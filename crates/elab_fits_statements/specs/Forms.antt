@@ -24,7 +24,8 @@ pub record IsSwitched (s : Setting) (e : Tree) : Type 0 where
   pub promoted : gives_promoted (kind_in (form_in (typ_in e))) ≡ true
 
 abbrev pub BlocksFit : Type 0
-BlocksFit = (s : Setting) (b c : Bool) (at : At) (ts : Trees) → AllServe s b c BlockItem ts → Serves s b c Statement (block at ts) × Serves s b c Step (block at ts)
+BlocksFit = (s : Setting) (b c : Bool) (at : At) (ts : Trees) → AllServe s b c BlockItem ts
+    → Serves s b c Statement (block at ts) × Serves s b c Step (block at ts)
 
 abbrev pub BranchesFit : Type 0
 BranchesFit = (s : Setting) (b c : Bool) (at : At) (test x y : Tree) → IsCondition s test → Serves s b c Statement x → Serves s b c Statement y

@@ -1,4 +1,5 @@
-use Rattle.elab_fits_statements.proofs.Forms.{block_serves, branches_serve, loop_serves, switch_serves, jumps_serve, labels_serve, try_serves, handler_serves, marked_serve}
+use Rattle.elab_fits_statements.proofs.Forms.{block_serves, branches_serve, loop_serves, switch_serves, jumps_serve, labels_serve, try_serves}
+use Rattle.elab_fits_statements.proofs.Forms.{handler_serves, marked_serve}
 use Rattle.elab_fits_statements.proofs.laws.forms.Goals as goal
 
 pub returns-clause-blocks : goal.returns-clause-blocks
