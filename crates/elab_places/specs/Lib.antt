@@ -1,0 +1,5 @@
+pub mod Bodies
+pub mod Declared
+pub mod Functions
+pub mod Places
+pub mod Round
