@@ -1,0 +1,2 @@
+//! The types of expressions are types that C++ has.
+#![tactic(auto)]
