@@ -1,2 +1,14 @@
+pub mod Calls
+pub mod Casts
+pub mod Expressions
 pub mod Globals
+pub mod Heads
+pub mod Initial
+pub mod Names
+pub mod Objects
+pub mod Operators
+pub mod Pointers
 pub mod Sound
+pub mod Trees
+pub mod Written
+pub mod Zeros

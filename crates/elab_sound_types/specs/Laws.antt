@@ -14,7 +14,7 @@ use Rattle.elab_rules.specs.Types.{Declared, Parameter}
 use Rattle.elab_rules.specs.Expressions.{expression_with, operands_with, type_id_with, specifiers_with, declared_with, parameter_with}
 use Rattle.elab_fits.specs.Standing.{IsExpressionType}
 use Rattle.elab_fits.specs.Scalars.{IsZero}
-use Rattle.elab_sound_types.specs.Types.{is_sound, Use, object, target, declared, parameter, is_head, IsExpression, IsSoundTree}
+use Rattle.elab_sound_types.specs.Types.{is_sound, Use, object, target, declared, parameter, is_head, AreExpressions, IsSoundTree}
 use Rattle.elab_sound_types.specs.Contexts.{HasSoundTypes, are_sound_closures, is_spelled, are_spelled, is_sound_parameter}
 
 -- Types
@@ -72,10 +72,6 @@ pub record IsSoundTyped (c : Ctx) (x : Typed) : Type 0 where
 abbrev pub ExpressionsAreSound : Type 0
 ExpressionsAreSound = (s : List Lexeme) (c : Ctx) (l : List Closure) (w : Work) (e : syntax.Tree) (x : Typed) → HasSoundTypes c w
     → are_sound_closures (length c.classes) l ≡ true → is_spelled s e ≡ true → expression_with s c l w e ≡ Ok x → IsSoundTyped c x
-
-abbrev pub AreExpressions : (classes : ℕ) → List Operand → Type 0
-AreExpressions classes [] = Unit {0}
-AreExpressions classes (o ∷ os) = IsExpression classes o.tree × AreExpressions classes os
 
 pub record AreSoundTyped (c : Ctx) (x : TypedAll) : Type 0 where
   pub trees : AreExpressions (length c.classes) x.operands

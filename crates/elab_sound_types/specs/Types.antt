@@ -1,5 +1,5 @@
 -- Types that expressions can have, through and through, and the trees that have them.
-use Rattle.std.specs.Prelude.{◌≡◌, ℕ, nat_lt, Bool, true, false, not, ◌&&◌, ◌||◌}
+use Rattle.std.specs.Prelude.{◌≡◌, ℕ, nat_lt, Bool, true, false, not, ◌&&◌, ◌||◌, List, [], ◌∷◌}
 use Rattle.elab_rules.specs.cpp_types.Typ.{Typ, typ, Form, void, int, enum, null, ptr, ref, array, func, class, closure, tx_ex, Signature, signature, Typs}
 use Rattle.elab_rules.specs.cpp_types.Typ.{none as no_typs, more as and_typ}
 use Rattle.elab_rules.specs.cpp_types.declared.classes.At.{At}
@@ -11,6 +11,7 @@ use Rattle.elab_rules.specs.cpp_tree.declared.kinds.Builtin.TheVariants.{Abort}
 use Rattle.elab_rules.specs.cpp_tree.Trees.{Tree, node, Trees, none, more, one, kind_of, typ_in, cat_of, kids_of}
 use Rattle.elab_rules.specs.cpp_tree.Notation.{plain}
 use Rattle.elab_rules.specs.cpp_tree.Typing.{form_in, is_class_typ}
+use Rattle.elab_rules.specs.elab_ctx.Steps.{Operand}
 use Rattle.elab_rules.specs.Values.{is_exception_form}
 use Rattle.elab_rules.specs.Names.{functions}
 
@@ -133,3 +134,7 @@ pub data IsLookedUp (classes : ℕ) : Tree → Type 0 where
 pub data IsSoundTree (classes : ℕ) (e : Tree) : Type 0 where
   expression : IsExpression classes e → IsSoundTree classes e
   looked_up : IsLookedUp classes e → IsSoundTree classes e
+
+abbrev pub AreExpressions : (classes : ℕ) → List Operand → Type 0
+AreExpressions classes [] = Unit {0}
+AreExpressions classes (o ∷ os) = IsExpression classes o.tree × AreExpressions classes os
