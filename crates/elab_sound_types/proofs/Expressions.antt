@@ -67,7 +67,7 @@ moved c w x h b = record {
 
 -- Spellings
 
-kids_spelled : (s : List Lexeme) (kind : NodeKind) (p : SyntaxAt) (token : Option ℕ) (kids : syntax.Trees) → is_spelled s (syntax.node kind p token kids) ≡ true
+pub kids_spelled : (s : List Lexeme) (kind : NodeKind) (p : SyntaxAt) (token : Option ℕ) (kids : syntax.Trees) → is_spelled s (syntax.node kind p token kids) ≡ true
     → are_spelled s kids ≡ true
 kids_spelled s kind p (Some t) kids h = (and_parts (not (is_nothing (spelling s t))) (are_spelled s kids) h).1
 kids_spelled s kind p None kids h = h
@@ -76,10 +76,10 @@ token_spelled : (s : List Lexeme) (kind : NodeKind) (p : SyntaxAt) (t : ℕ) (ki
     → is_nothing (spelling s t) ≡ false
 token_spelled s kind p t kids h = not_true (is_nothing (spelling s t)) (and_parts (not (is_nothing (spelling s t))) (are_spelled s kids) h).0
 
-first_spelled : (s : List Lexeme) (t : syntax.Tree) (ts : syntax.Trees) → are_spelled s (syntax.more t ts) ≡ true → is_spelled s t ≡ true
+pub first_spelled : (s : List Lexeme) (t : syntax.Tree) (ts : syntax.Trees) → are_spelled s (syntax.more t ts) ≡ true → is_spelled s t ≡ true
 first_spelled s t ts h = (and_parts (is_spelled s t) (are_spelled s ts) h).0
 
-rest_spelled : (s : List Lexeme) (t : syntax.Tree) (ts : syntax.Trees) → are_spelled s (syntax.more t ts) ≡ true → are_spelled s ts ≡ true
+pub rest_spelled : (s : List Lexeme) (t : syntax.Tree) (ts : syntax.Trees) → are_spelled s (syntax.more t ts) ≡ true → are_spelled s ts ≡ true
 rest_spelled s t ts h = (and_parts (is_spelled s t) (are_spelled s ts) h).1
 
 -- Lambdas
@@ -284,6 +284,16 @@ module _ (s : List Lexeme) (c : Ctx) where
         (of_expression l w t h g (first_spelled s t ts i))))
         (λ x j. bind (AreSoundTyped c) (AreSoundTyped c) (expressions.operands_with s c l x.work ts) _
         (of_operands l x.work ts j.1 g (rest_spelled s t ts i)) (λ xs m. record { trees = (j.0, m.trees); work = m.work }))
+
+-- Operands, of which each names one function at most
+
+abbrev pub Chosen : Ctx → Typed → Type 0
+Chosen c x = IsExpression (length c.classes) x.operand.tree × HasSoundTypes c x.work
+
+pub operand_sound : (s : List Lexeme) (c : Ctx) (l : List Closure) (w : Work) (e : syntax.Tree) → HasSoundTypes c w → are_sound_closures (length c.classes) l ≡ true
+    → is_spelled s e ≡ true → On (Chosen c) (and_then (expressions.expression_with s c l w e) (expressions.chosen_operand c))
+operand_sound s c l w e h g i = chosen s c (expressions.expression_with s c l w e)
+    (with_work s c w (expressions.expression_with s c l w e) h (globals.expression s c l w e) (of_expression s c l w e h g i))
 
 -- The laws
 

@@ -91,7 +91,7 @@ either Q true x y h g = h
 either Q false x y h g = g
 
 -- what stands behind something stands behind what that stands behind
-moved : (w x : Work) (r : Result Made ElabFault) → Behind w x → On (made x) r → On (made w) r
+pub moved : (w x : Work) (r : Result Made ElabFault) → Behind w x → On (made x) r → On (made w) r
 moved w x (Ok m) h g = after h g
 moved w x (Err e) h g = tt
 
@@ -139,7 +139,7 @@ exception_by c w t at o false = same w
 exception_made : (c : Ctx) (w : Work) (t : Typ) (at : At) (o : Operand) → Behind w (Initialising.exception_made c w t at o).work
 exception_made c w t at o = exception_by c w t at o (Initialising.is_given_value (Values.builder o.tree))
 
-class_from : (c : Ctx) (w : Work) (t : Typ) (at : At) (o : Operand) → On (made w) (Initialising.class_from c w t at o)
+pub class_from : (c : Ctx) (w : Work) (t : Typ) (at : At) (o : Operand) → On (made w) (Initialising.class_from c w t at o)
 class_from c w (typ (closure n) q v) at o = either (made w) (Initialising.is_closure_itself n q v o.tree) _ _ (same w) (search (behind, object))
 class_from c w (typ (class n) q v) at o = behind (made w) (Initialising.makeable c at n) _
     (λ i. either (made w) (Initialising.is_prvalue_of_class n o.tree) _ _ (same w) (search (behind, copied_object)))
@@ -170,7 +170,7 @@ constructed c w n t at [] = search (behind, same)
 constructed c w n t at (o ∷ os) = behind (made w) (Initialising.makeable c at n) _
     (λ i. either (made w) (Initialising.is_prvalue_itself n (o ∷ os)) _ _ (same w) (search (behind, constructed_by)))
 
-scalar_from : (c : Ctx) (w : Work) (t : Typ) (o : Operand) → On (made w) (Initialising.scalar_from c w t o)
+pub scalar_from : (c : Ctx) (w : Work) (t : Typ) (o : Operand) → On (made w) (Initialising.scalar_from c w t o)
 scalar_from c w t o = passes (made w) (made w) (Initialising.initial c w t o) _ (initial c w t o) (λ m g. g)
 
 exact_object : (c : Ctx) (w : Work) (t : Typ) (at : At) (o : Operand) → On (made w) (Initialising.exact_object c w t at o)
@@ -192,7 +192,7 @@ one_value : (c : Ctx) (w : Work) (t : Typ) (at : At) (o : Operand) (os : List Op
     (λ (p : Operand). Initialising.scalar_from c w t p))
 one_value c w t at o os = either (made w) (is_class_typ t) _ _ (class_from c w t at o) (search (behind, scalar_from))
 
-from_values : (c : Ctx) (w : Work) (t : Typ) (at : At) (os : List Operand) → On (made w) (Initialising.from_values c w t at os)
+pub from_values : (c : Ctx) (w : Work) (t : Typ) (at : At) (os : List Operand) → On (made w) (Initialising.from_values c w t at os)
 from_values c w (typ (class n) q v) at os = constructed c w n (typ (class n) q v) at os
 from_values c w (typ (tx_ex t) q v) at [] = tt
 from_values c w (typ (tx_ex t) q v) at (o ∷ os) = either (made w) (Initialising.is_exception_itself t (o ∷ os)) _ _ (class_from c w (typ (tx_ex t) q v) at o)
@@ -228,7 +228,7 @@ dropped_by c w o true d = same w
 dropped_by c w o false true = same w
 dropped_by c w o false false = object c w o.at o.tree
 
-dropped : (c : Ctx) (w : Work) (o : Operand) → Behind w (Operators.dropped c w o).work
+pub dropped : (c : Ctx) (w : Work) (o : Operand) → Behind w (Operators.dropped c w o).work
 dropped c w o = dropped_by c w o (Operators.throws o.tree) (Operators.is_volatile_scalar (typ_in o.tree) && Operators.is_read_when_dropped o.tree)
 
 settled_by : (c : Ctx) (w : Work) (o : Operand) (b : Bool)

@@ -1,7 +1,10 @@
+pub mod Braces
 pub mod Calls
 pub mod Casts
+pub mod Deduced
 pub mod Expressions
 pub mod Globals
+pub mod Growth
 pub mod Heads
 pub mod Initial
 pub mod Names
@@ -9,6 +12,8 @@ pub mod Objects
 pub mod Operators
 pub mod Pointers
 pub mod Sound
+pub mod Statements
+pub mod States
 pub mod Trees
 pub mod Written
 pub mod Zeros

@@ -84,7 +84,7 @@ variable_tree n at place item (typ (class k) c v) h = class_tree n (names.is_poi
 variable_tree n at place item (typ (closure k) c v) h = class_tree n (names.is_pointer item) at place item (typ (closure k) c v) h
 variable_tree n at place item (typ (tx_ex (typ f d w)) c v) h = class_tree n (names.is_pointer item) at place item (typ (tx_ex (typ f d w)) c v) h
 
-known_sound : (n : ℕ) (o : Option Typ) (t : Typ) → is_sound_known n o ≡ true → o ≡ Some t → is_sound n variable t ≡ true
+pub known_sound : (n : ℕ) (o : Option Typ) (t : Typ) → is_sound_known n o ≡ true → o ≡ Some t → is_sound n variable t ≡ true
 known_sound n o t h e = subst (λ (z : Option Typ). is_sound_known n z ≡ true) e h
 
 own_variable : (n : ℕ) (w : Work) (at : At) (v : Variable) → is_sound_variable n v ≡ true → On (IsExpression n) (names.own_variable w at v)
@@ -105,7 +105,7 @@ this_target n (typ (array t k) c v) h = absurd cc
 this_target n (typ (func s) c v) h = absurd cc
 this_target n (typ (tx_ex t) c v) h = absurd cc
 
-this_object : (n : ℕ) (o : Option This) (t : This) → is_sound_this n o ≡ true → o ≡ Some t → is_sound n target t.typ ≡ true
+pub this_object : (n : ℕ) (o : Option This) (t : This) → is_sound_this n o ≡ true → o ≡ Some t → is_sound n target t.typ ≡ true
 this_object n o t h e = this_target n t.typ (subst (λ (z : Option This). is_sound_this n z ≡ true) e h)
 
 this_pointer : (n : ℕ) (at : At) (t : This) → is_sound n target t.typ ≡ true → IsExpression n (names.this_pointer at t)

@@ -3,6 +3,7 @@
 ghost use Rattle.elab_sound_types.specs.Laws.{TargetsAreTypes, HeadsAreTypes, PointersLead, ArraysHold, VoidsAreValues};
 ghost use Rattle.elab_sound_types.specs.Laws.{TypesAreSound, SpecifiersAreSound, DeclaratorsAreSound, ParametersAreSound};
 ghost use Rattle.elab_sound_types.specs.Laws.{ExpressionsAreSound, OperandsAreSound, ZerosAreLiterals, OperandZerosAreLiterals};
+ghost use Rattle.elab_sound_types.specs.States.{StatementsKeep, BlocksKeep};
 
 /// Sound types are types of expressions, and so is what lies behind them.
 pub fn types()
@@ -31,4 +32,10 @@ pub fn expressions()
 pub fn zeros()
     ensures expressions { ZerosAreLiterals }
     ensures operands { OperandZerosAreLiterals }
+{}
+
+/// Statements keep the types of a context sound.
+pub fn statements()
+    ensures statements { StatementsKeep }
+    ensures blocks { BlocksKeep }
 {}
