@@ -1,12 +1,16 @@
+pub mod Bodies
 pub mod Braces
 pub mod Calls
 pub mod Casts
+pub mod Closures
 pub mod Deduced
 pub mod Expressions
 pub mod Globals
 pub mod Growth
 pub mod Heads
 pub mod Initial
+pub mod Lambdas
+pub mod Leading
 pub mod Names
 pub mod Objects
 pub mod Operators

@@ -1,20 +1,23 @@
 -- The laws: each type that elaboration makes of a type that is written, or gives to an expression, is one that C++ has.
 use Rattle.std.specs.Prelude.{◌≡◌, ℕ, Bool, true, List, [], ◌∷◌, length, Ok}
 use Rattle.std.specs.List.{list_all}
-use Rattle.elab_rules.specs.cpp_types.Typ.{Typ, typ, Form, ptr, array}
+use Rattle.elab_rules.specs.tx_ints.declared.kinds.BinOp.TheVariants.{Add}
+use Rattle.elab_rules.specs.cpp_types.Typ.{Typ, typ, Form, ptr, ref, array}
 use Rattle.elab_rules.specs.cpp_types.declared.classes.At.{At}
 use Rattle.elab_rules.specs.cpp_types.declared.ranks.Cat.{Cat}
 use Rattle.elab_rules.specs.cpp_types.declared.ranks.Cat.TheVariants.{Lvalue, Prvalue}
 use Rattle.elab_rules.specs.cpp_lex.Tokens.{Lexeme}
 use Rattle.elab_rules.specs.cpp_ast.Trees as syntax
+use Rattle.elab_rules.specs.cpp_tree.Trees.{Tree, typ_in}
 use Rattle.elab_rules.specs.cpp_tree.Typing.{form_in, is_void}
 use Rattle.elab_rules.specs.elab_ctx.Ctx.{Ctx, Work, Closure}
 use Rattle.elab_rules.specs.elab_ctx.Steps.{Operand, Typed, TypedAll}
+use Rattle.elab_rules.specs.Operators.{value_form, pointed, sum_of}
 use Rattle.elab_rules.specs.Types.{Declared, Parameter}
 use Rattle.elab_rules.specs.Expressions.{expression_with, operands_with, type_id_with, specifiers_with, declared_with, parameter_with}
 use Rattle.elab_fits.specs.Standing.{IsExpressionType}
 use Rattle.elab_fits.specs.Scalars.{IsZero}
-use Rattle.elab_sound_types.specs.Types.{is_sound, Use, object, target, declared, parameter, is_head, AreExpressions, IsSoundTree}
+use Rattle.elab_sound_types.specs.Types.{is_sound, Use, object, target, declared, parameter, is_head, IsExpression, AreExpressions, IsSoundTree}
 use Rattle.elab_sound_types.specs.Contexts.{HasSoundTypes, are_sound_closures, is_spelled, are_spelled, is_sound_parameter}
 
 -- Types
@@ -34,6 +37,10 @@ PointersLead = (classes : ℕ) (t u : Typ) (cat : Cat) → is_head classes t cat
 -- so does an element in an array
 abbrev pub ArraysHold : Type 0
 ArraysHold = (classes : ℕ) (t u : Typ) (n : ℕ) (cat : Cat) → is_head classes t cat ≡ true → form_in t ≡ array u n → is_sound classes target u ≡ true
+
+-- so does what a reference refers to
+abbrev pub ReferencesLead : Type 0
+ReferencesLead = (classes : ℕ) (way : Use) (t : Typ) (c v : Bool) → is_sound classes way (typ (ref t) c v) ≡ true → is_sound classes target t ≡ true
 
 -- nothing of type `void` is an lvalue
 abbrev pub VoidsAreValues : Type 0
@@ -80,6 +87,16 @@ pub record AreSoundTyped (c : Ctx) (x : TypedAll) : Type 0 where
 abbrev pub OperandsAreSound : Type 0
 OperandsAreSound = (s : List Lexeme) (c : Ctx) (l : List Closure) (w : Work) (es : syntax.Trees) (x : TypedAll) → HasSoundTypes c w
     → are_sound_closures (length c.classes) l ≡ true → are_spelled s es ≡ true → operands_with s c l w es ≡ Ok x → AreSoundTyped c x
+
+-- What the laws of elab_fits ask of operands
+
+-- behind a pointer lies what an expression can be, where it is written with `*` or `[]`
+abbrev pub IndirectionsLead : Type 0
+IndirectionsLead = (classes : ℕ) (a : Operand) → IsExpression classes a.tree → (t : Typ) → value_form a ≡ ptr t → IsExpressionType t Lvalue
+
+abbrev pub SubscriptsLead : Type 0
+SubscriptsLead = (classes : ℕ) (c : Ctx) (at : At) (a b : Operand) → IsExpression classes a.tree → IsExpression classes b.tree → (e : Tree) (t : Typ)
+    → sum_of c Add at (pointed (value_form a)) (pointed (value_form b)) a b ≡ Ok e → form_in (typ_in e) ≡ ptr t → IsExpressionType t Lvalue
 
 -- The literal 0 (C++14 4.10)
 

@@ -48,6 +48,9 @@ abbrev pub BlocksKeep : Type 0
 BlocksKeep = (lambdas : Bool) (lams : Lambdas) (s : List Lexeme) (st : State) (ts : syntax.Trees) (d : Done) → KeepsSound lambdas s lams → IsSoundState st
     → are_spelled s ts ≡ true → statements_of lams s st ts ≡ Ok d → IsSoundAfter lambdas st d.state
 
--- so do the lambdas of an expression
+-- so do the lambdas of an expression, and, in a lambda, that there are none
 abbrev pub LambdasKeep : Type 0
-LambdasKeep = (s : List Lexeme) → KeepsSound false s no_lambda × KeepsSound true s lambdas_of
+LambdasKeep = (s : List Lexeme) → KeepsSound true s lambdas_of
+
+abbrev pub NoLambdasKeep : Type 0
+NoLambdasKeep = (s : List Lexeme) → KeepsSound false s no_lambda

@@ -1,4 +1,5 @@
 use Rattle.elab_sound_types.proofs.Heads.{targets_law, heads_law, arrays_law, voids_law}
+use Rattle.elab_sound_types.proofs.Leading.{references_law}
 use Rattle.elab_sound_types.proofs.Pointers.{pointers_law}
 use Rattle.elab_sound_types.proofs.laws.types.Goals as goal
 
@@ -16,3 +17,6 @@ returns-clause-arrays c = arrays_law
 
 pub returns-clause-voids : goal.returns-clause-voids
 returns-clause-voids c = voids_law
+
+pub returns-clause-references : goal.returns-clause-references
+returns-clause-references c = references_law
