@@ -1,29 +1,26 @@
 -- The lambdas of an expression keep the types of a context sound: their bodies are statements in which there are no lambdas.
-use Rattle.std.proofs.Common.{◌≡◌, refl, ap, ◌∙◌, sym, subst, ℕ, zero, suc, ◌≤◌, nat_lt, Bool, true, false, not, ◌&&◌, ◌||◌, List, [], ◌∷◌, ◌++◌, length}
-use Rattle.std.proofs.Common.{Option, Some, None, Result, Ok, Err}
+use Rattle.std.proofs.Common.{◌≡◌, refl, ◌∙◌, subst, ℕ, suc, ◌≤◌, nat_lt, Bool, true, false, not, ◌||◌, List, [], ◌∷◌, length}
+use Rattle.std.proofs.Common.{Option, Some, None, Result, Ok}
 use Rattle.std.specs.List.{list_all}
 use Rattle.std.proofs.lemmas.Bool.{and_parts}
 use Rattle.std.proofs.Math.Nat.{le-suc, le_trans}
-use Rattle.elab_rules.specs.cpp_types.Typ.{Typ, typ, Form, void, int, enum, null, ptr, ref, array, func, class, closure, tx_ex, Signature, signature}
-use Rattle.elab_rules.specs.cpp_types.Class.{Class, held}
+use Rattle.elab_rules.specs.cpp_types.Typ.{Typ, typ, void, int, enum, null, ptr, ref, array, func, class, closure, tx_ex, Signature}
+use Rattle.elab_rules.specs.cpp_types.Class.{held}
 use Rattle.elab_rules.specs.cpp_types.declared.classes.At.{At}
 use Rattle.elab_rules.specs.cpp_lex.Tokens.{Lexeme}
-use Rattle.elab_rules.specs.cpp_ast.declared.arena.At.{At as SyntaxAt}
-use Rattle.elab_rules.specs.cpp_ast.declared.kinds.NodeKind.{NodeKind}
 use Rattle.elab_rules.specs.cpp_ast.declared.kinds.NodeKind.TheVariants as k
 use Rattle.elab_rules.specs.cpp_ast.Trees as syntax
 use Rattle.elab_rules.specs.cpp_tree.declared.faults.ElabFault.{ElabFault}
 use Rattle.elab_rules.specs.cpp_tree.declared.faults.IllRule.{IllRule}
-use Rattle.elab_rules.specs.cpp_tree.declared.faults.IllRule.TheVariants.{OutOfProfile, Incomplete, Redeclared}
-use Rattle.elab_rules.specs.cpp_tree.Trees.{Tree}
+use Rattle.elab_rules.specs.cpp_tree.declared.faults.IllRule.TheVariants.{Incomplete, Redeclared}
 use Rattle.elab_rules.specs.cpp_tree.Notation.{plain}
 use Rattle.elab_rules.specs.cpp_tree.Typing.{form_in}
-use Rattle.elab_rules.specs.elab_ctx.Ctx.{Ctx, Work, Capture, Returns, known, deduced}
+use Rattle.elab_rules.specs.elab_ctx.Ctx.{Ctx, Work, Returns, known, deduced}
 use Rattle.elab_rules.specs.elab_ctx.Steps.{and_then, check, at_of, spelling}
 use Rattle.elab_rules.specs.Operators.{is_complete}
 use Rattle.elab_rules.specs.Sizes.{typ_sized}
 use Rattle.elab_rules.specs.Types.{Parameter, is_declared_safe, function_of, qualifiers_from, no_qualifiers}
-use Rattle.elab_rules.specs.Expressions.{type_id_of, parameters_in}
+use Rattle.elab_rules.specs.Expressions.{type_id_of}
 use Rattle.elab_rules.specs.Statements
 use Rattle.elab_rules.specs.Statements.{State, Done, is_fresh, statements_of}
 use Rattle.elab_rules.specs.Functions as functions
@@ -31,10 +28,10 @@ use Rattle.elab_rules.specs.Lambdas as lambdas
 use Rattle.elab_rules.specs.Lambdas.{Written, inside, lambda_entered, declared_closure, no_lambda}
 use Rattle.elab_fits.specs.Standing.{On}
 use Rattle.elab_fits.proofs.Steps.{bind, skip}
-use Rattle.elab_sound_types.specs.Types.{Use, variable, parameter, declared, is_sound, is_sound_signature}
+use Rattle.elab_sound_types.specs.Types.{variable, parameter, declared, is_sound, is_sound_signature}
 use Rattle.elab_sound_types.specs.Contexts.{HasSoundTypes, is_sound_parameter, is_sound_closure, is_spelled, are_spelled}
-use Rattle.elab_sound_types.specs.States.{IsSoundState, IsSoundAfter, Grown, is_sound_return, NoLambdasKeep, LambdasKeep}
-use Rattle.elab_sound_types.proofs.Sound.{both, sound_as, parameter_variable}
+use Rattle.elab_sound_types.specs.States.{IsSoundState, IsSoundAfter, is_sound_return, NoLambdasKeep, LambdasKeep}
+use Rattle.elab_sound_types.proofs.Sound.{sound_as, parameter_variable}
 use Rattle.elab_sound_types.proofs.Growth.{number_more, sound_more}
 use Rattle.elab_sound_types.proofs.Names.{IfThere}
 use Rattle.elab_sound_types.proofs.Written as written

@@ -1,23 +1,21 @@
 -- Initialisers keep the types of globals sound.
-use Rattle.std.proofs.Common.{◌≡◌, refl, ℕ, zero, suc, ◌-◌, Bool, true, false, not, ◌&&◌, List, [], ◌∷◌, drop, Option, Some, None, is_some, Result, Ok, Err}
+use Rattle.std.proofs.Common.{ℕ, zero, suc, ◌-◌, Bool, not, ◌&&◌, List, [], ◌∷◌, drop, Option, Some, None, Result}
 use Rattle.std.specs.Prelude.{if◌then◌else◌, slice_get}
-use Rattle.elab_rules.specs.cpp_types.Typ.{Typ, typ, Form, void, int, enum, null, ptr, ref, array, func, class, closure, tx_ex}
+use Rattle.elab_rules.specs.cpp_types.Typ.{Typ, typ, Form, ref, array, class}
 use Rattle.elab_rules.specs.cpp_types.Class.{Member}
 use Rattle.elab_rules.specs.cpp_types.declared.classes.At.{At}
 use Rattle.elab_rules.specs.cpp_lex.Tokens.{Lexeme}
-use Rattle.elab_rules.specs.cpp_ast.declared.kinds.NodeKind.{NodeKind}
 use Rattle.elab_rules.specs.cpp_ast.declared.kinds.NodeKind.TheVariants as k
 use Rattle.elab_rules.specs.cpp_ast.Trees as syntax
 use Rattle.elab_rules.specs.cpp_tree.declared.faults.ElabFault.{ElabFault}
 use Rattle.elab_rules.specs.cpp_tree.declared.faults.IllRule.TheVariants.{OutOfProfile, Narrowing, BadInit}
 use Rattle.elab_rules.specs.cpp_tree.Trees.{Tree}
 use Rattle.elab_rules.specs.cpp_tree.Notation.{plain}
-use Rattle.elab_rules.specs.cpp_tree.Typing.{form_in, qualified, is_class_typ, is_class_prvalue}
+use Rattle.elab_rules.specs.cpp_tree.Typing.{form_in, qualified, is_class_typ}
 use Rattle.elab_rules.specs.elab_ctx.Ctx.{Ctx, Work, Default}
 use Rattle.elab_rules.specs.elab_ctx.Steps.{and_then, expect, check, at_of, spelling, Operand, Made, MadeAll, Typed}
 use Rattle.elab_rules.specs.Values
 use Rattle.elab_rules.specs.Strings.{string_bytes}
-use Rattle.elab_rules.specs.Objects.{Part, size_of}
 use Rattle.elab_rules.specs.Names.{is_const_typ, is_volatile_object, offset_at, members_in}
 use Rattle.elab_rules.specs.Initialising.{class_from, scalar_from, from_nothing, conversion}
 use Rattle.elab_rules.specs.Braces as braces

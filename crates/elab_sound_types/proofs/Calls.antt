@@ -1,8 +1,8 @@
 -- Calls give what has the type of an expression.
-use Rattle.std.proofs.Common.{◌≡◌, refl, ap, ◌∙◌, sym, ℕ, Bool, true, false, not, ◌&&◌, ◌||◌, List, [], ◌∷◌, length, Option, Some, None, Result, Ok, Err}
+use Rattle.std.proofs.Common.{◌≡◌, refl, ap, ◌∙◌, sym, ℕ, Bool, true, false, not, ◌&&◌, ◌||◌, List, [], ◌∷◌, length, Option, Some, None}
 use Rattle.std.specs.Prelude.{if◌then◌else◌}
 use Rattle.std.proofs.lemmas.Bool.{and_parts}
-use Rattle.elab_rules.specs.cpp_types.Typ.{Typ, typ, Form, void, int, enum, null, ptr, ref, array, func, class, closure, tx_ex, Signature, signature, Typs}
+use Rattle.elab_rules.specs.cpp_types.Typ.{Typ, typ, Form, void, int, enum, null, ptr, ref, array, func, class, closure, tx_ex, Signature, signature}
 use Rattle.elab_rules.specs.cpp_types.declared.classes.At.{At}
 use Rattle.elab_rules.specs.cpp_types.declared.ranks.Cat.{Cat}
 use Rattle.elab_rules.specs.cpp_types.declared.ranks.Cat.TheVariants.{Lvalue, Prvalue}
@@ -10,19 +10,18 @@ use Rattle.elab_rules.specs.cpp_overload.Choosing.{chosen}
 use Rattle.elab_rules.specs.cpp_tree.declared.kinds.Builtin.{Builtin}
 use Rattle.elab_rules.specs.cpp_tree.declared.kinds.TKind.{TKind}
 use Rattle.elab_rules.specs.cpp_tree.declared.kinds.TKind.TheVariants as forms
-use Rattle.elab_rules.specs.cpp_tree.declared.faults.ElabFault.{ElabFault}
 use Rattle.elab_rules.specs.cpp_tree.declared.faults.IllRule.TheVariants.{NotCallable, NoViable, BadMain}
 use Rattle.elab_rules.specs.cpp_tree.Trees.{Tree, node, Trees, none, more, one, typ_in, cat_of}
-use Rattle.elab_rules.specs.cpp_tree.Typing.{form_in, is_volatile_typ}
+use Rattle.elab_rules.specs.cpp_tree.Typing.{form_in}
 use Rattle.elab_rules.specs.elab_ctx.Ctx.{Ctx, Work}
-use Rattle.elab_rules.specs.elab_ctx.Steps.{and_then, expect, check, Operand, Made}
+use Rattle.elab_rules.specs.elab_ctx.Steps.{expect, check, Operand}
 use Rattle.elab_rules.specs.Values.{valued}
 use Rattle.elab_rules.specs.Initialising.{func_at, object_of, arguments, meant, words, places_from, signature_parameters, signature_result}
 use Rattle.elab_rules.specs.Names.{is_free, is_method}
 use Rattle.elab_rules.specs.Calls as calls
 use Rattle.elab_fits.specs.Standing.{On}
 use Rattle.elab_fits.proofs.Steps.{skip, expected}
-use Rattle.elab_sound_types.specs.Types.{Use, target, result, value, is_held, is_sound, is_sound_signature, are_sound, is_head, is_unqualified, IsExpression, IsLookedUp}
+use Rattle.elab_sound_types.specs.Types.{target, result, value, is_held, is_sound, is_sound_signature, are_sound, is_head, IsExpression, IsLookedUp}
 use Rattle.elab_sound_types.specs.Types.{IsSoundTree, free, method, get, abort, expression, looked_up}
 use Rattle.elab_sound_types.specs.Contexts.{HasSoundTypes}
 use Rattle.elab_sound_types.proofs.Sound.{both}

@@ -1,25 +1,24 @@
 -- Casts, `sizeof`, `throw` and strings have the types of expressions.
-use Rattle.std.proofs.Common.{◌≡◌, refl, ap, ◌∙◌, sym, ℕ, Bool, true, false, not, ◌&&◌, ◌||◌, List, [], ◌∷◌, Option, Some, None, is_some, Result, Ok, Err}
-use Rattle.std.specs.Prelude.{if◌then◌else◌}
+use Rattle.std.proofs.Common.{◌≡◌, refl, ℕ, true, false, not, ◌&&◌, ◌||◌, List, [], ◌∷◌, is_some, Ok}
 use Rattle.std.proofs.lemmas.Bool.{and_parts}
-use Rattle.elab_rules.specs.cpp_types.Typ.{Typ, typ, Form, void, int, enum, null, ptr, ref, array, func, class, closure, tx_ex}
+use Rattle.elab_rules.specs.cpp_types.Typ.{Typ, typ, void, int, enum, null, ptr, ref, array, func, class, closure, tx_ex}
 use Rattle.elab_rules.specs.cpp_types.Conversion.{referred}
 use Rattle.elab_rules.specs.cpp_types.declared.classes.At.{At}
 use Rattle.elab_rules.specs.cpp_types.declared.ranks.Cat.TheVariants.{Lvalue, Prvalue}
 use Rattle.elab_rules.specs.cpp_tree.declared.kinds.TKind.TheVariants.{Retype}
 use Rattle.elab_rules.specs.cpp_tree.declared.faults.IllRule.TheVariants.{BadOperand, BadInit, Incomplete}
-use Rattle.elab_rules.specs.cpp_tree.Trees.{Tree, node, Trees, typ_in}
+use Rattle.elab_rules.specs.cpp_tree.Trees.{Tree, node, typ_in}
 use Rattle.elab_rules.specs.cpp_tree.Typing.{form_in, unqualified, is_class_typ, is_void, is_reference, kind_in}
 use Rattle.elab_rules.specs.elab_ctx.Ctx.{Ctx, Work}
 use Rattle.elab_rules.specs.elab_ctx.Steps.{and_then, check, Operand, Made}
 use Rattle.elab_rules.specs.Initialising
 use Rattle.elab_rules.specs.Initialising.{initial}
-use Rattle.elab_rules.specs.Operators.{value, dropped, is_function, measurable}
+use Rattle.elab_rules.specs.Operators.{value, is_function, measurable}
 use Rattle.elab_rules.specs.Types.{is_bounded}
 use Rattle.elab_rules.specs.Casts as casts
 use Rattle.elab_fits.specs.Standing.{On}
-use Rattle.elab_fits.proofs.Steps.{bind, skip, checked, either as either_of}
-use Rattle.elab_sound_types.specs.Types.{Use, target, result, value as a_value, declared, is_sound, is_head, IsExpression, AreExpressions}
+use Rattle.elab_fits.proofs.Steps.{skip, checked, either as either_of}
+use Rattle.elab_sound_types.specs.Types.{target, result, value as a_value, declared, is_sound, is_head, IsExpression, AreExpressions}
 use Rattle.elab_sound_types.proofs.Sound.{both, unqualified_sound}
 use Rattle.elab_sound_types.proofs.Trees.{lvalue_retyped, converted_sound}
 use Rattle.elab_sound_types.proofs.Initial.{made, initial_sound}

@@ -1,23 +1,23 @@
 -- Contexts in which a class is added: the types that were sound are so still.
-use Rattle.std.proofs.Common.{◌≡◌, refl, ap, ◌∙◌, sym, subst, ℕ, zero, suc, ◌≤◌, nat_lt, Bool, true, false, not, ◌&&◌, ◌||◌, List, [], ◌∷◌, ◌++◌, length, map}
-use Rattle.std.proofs.Common.{Option, Some, None, Result, Ok, Err}
+use Rattle.std.proofs.Common.{◌≡◌, refl, ap, ◌∙◌, sym, subst, ℕ, suc, ◌≤◌, nat_lt, Bool, true, false, List, [], ◌∷◌, ◌++◌, length}
+use Rattle.std.proofs.Common.{Option, Some, None}
 use Rattle.std.specs.Prelude.{count_by}
 use Rattle.std.specs.List.{list_all}
 use Rattle.std.proofs.lemmas.Bool.{and_parts}
 use Rattle.std.proofs.lemmas.List.Folds.{list_all-append}
-use Rattle.std.proofs.Math.Nat.{le-suc, le_refl, lt-suc_self}
+use Rattle.std.proofs.Math.Nat.{le-suc, lt-suc_self}
 use Rattle.std.proofs.lemmas.Bool.{lt-ltb}
-use Rattle.elab_rules.specs.cpp_types.Typ.{Typ, typ, Form, void, int, enum, null, ptr, ref, array, func, class, closure, tx_ex, Signature, signature}
-use Rattle.elab_rules.specs.cpp_types.Class.{Class, Member, Function}
+use Rattle.elab_rules.specs.cpp_types.Typ.{Typ, Form, void, int, enum, null, ptr, ref, array, func, class, closure, tx_ex}
+use Rattle.elab_rules.specs.cpp_types.Class.{Class, Function}
 use Rattle.elab_rules.specs.elab_ctx.Ctx.{Ctx, Work, Func, Variable, This, Capture, Lambda, Closure, Returns, known, deduced}
 use Rattle.elab_rules.specs.elab_ctx.Types.{Named}
 use Rattle.elab_rules.specs.Types.{Parameter, is_nothing}
 use Rattle.elab_rules.specs.Classes
 use Rattle.elab_rules.specs.Lambdas as lambdas
-use Rattle.elab_sound_types.specs.Types.{Use, variable, parameter, declared, is_sound, is_sound_signature}
+use Rattle.elab_sound_types.specs.Types.{variable, parameter, declared, is_sound_signature}
 use Rattle.elab_sound_types.specs.Contexts.{HasSoundTypes, member_use, is_sound_member, has_sound_members, is_sound_function, is_sound_known, is_sound_variable}
 use Rattle.elab_sound_types.specs.Contexts.{is_sound_this, is_object_of_class, is_sound_capture, are_sound_captures, is_sound_closure, is_sound_name, is_sound_global}
-use Rattle.elab_sound_types.specs.Contexts.{is_sound_parameter, is_sound_enumerator, are_sound_closures, are_sound_globals}
+use Rattle.elab_sound_types.specs.Contexts.{is_sound_parameter, are_sound_closures, are_sound_globals}
 use Rattle.elab_sound_types.specs.States.{is_sound_return}
 use Rattle.elab_sound_types.proofs.Sound.{both}
 use Rattle.elab_sound_types.proofs.Growth.{number_more, sound_more, signature_more}

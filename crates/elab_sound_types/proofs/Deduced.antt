@@ -1,5 +1,5 @@
 -- What stands for `auto` gives the type of a variable (C++14 7.1.6.4).
-use Rattle.std.proofs.Common.{◌≡◌, refl, ap, ◌∙◌, sym, ℕ, Bool, true, false, not, ◌&&◌, ◌||◌, List, [], ◌∷◌, Option, Some, None, Result, Ok, Err}
+use Rattle.std.proofs.Common.{◌≡◌, refl, ap, ◌∙◌, ℕ, Bool, true, false, not, ◌&&◌, ◌||◌, [], ◌∷◌, Option, Some, None}
 use Rattle.std.proofs.lemmas.Bool.{and_parts}
 use Rattle.elab_rules.specs.cpp_types.Typ.{Typ, typ, Form, void, int, enum, null, ptr, ref, array, func, class, closure, tx_ex}
 use Rattle.elab_rules.specs.cpp_types.Conversion.{decayed}
@@ -19,7 +19,7 @@ use Rattle.elab_fits.specs.Standing.{On}
 use Rattle.elab_fits.proofs.Steps.{skip, checked}
 use Rattle.elab_fits.proofs.Initials.{value_form_is}
 use Rattle.elab_sound_types.specs.Types.{Use, object, target, variable, value as a_value, declared, may_refer, may_be_array, may_be_function, is_sound, is_sound_form}
-use Rattle.elab_sound_types.specs.Types.{is_sound_signature, is_head, is_unqualified, IsExpression}
+use Rattle.elab_sound_types.specs.Types.{is_sound_signature, is_head, IsExpression}
 use Rattle.elab_sound_types.proofs.Sound.{both, sound_as, all_declared, object_target, object_variable, target_object, unqualified_sound, written_sound}
 use Rattle.elab_sound_types.proofs.Objects.{not_true}
 use Rattle.elab_sound_types.proofs.Names.{IfThere}

@@ -1,6 +1,5 @@
 -- Each form of an expression has the type of an expression, or is looked up and not yet chosen.
-use Rattle.std.proofs.Common.{◌≡◌, refl, ap, ◌∙◌, sym, ℕ, Bool, true, false, not, ◌&&◌, nat_lt, List, [], ◌∷◌, length, Option, Some, None, Result, Ok, Err, codes}
-use Rattle.std.specs.Prelude.{if◌then◌else◌}
+use Rattle.std.proofs.Common.{◌≡◌, refl, ℕ, true, false, not, nat_lt, List, [], ◌∷◌, length, Option, Some, None, Result, Ok, Err, codes}
 use Rattle.std.specs.List.{list_all}
 use Rattle.std.specs.Str.{bytes_eq}
 use Rattle.std.proofs.lemmas.Bool.{and_parts}
@@ -19,9 +18,9 @@ use Rattle.elab_rules.specs.cpp_names.Names.{found_in}
 use Rattle.elab_rules.specs.cpp_names.declared.entity.Entity.{Entity}
 use Rattle.elab_rules.specs.cpp_tree.declared.faults.ElabFault.{ElabFault}
 use Rattle.elab_rules.specs.cpp_tree.declared.faults.IllRule.TheVariants.{UnknownName, OutOfProfile}
-use Rattle.elab_rules.specs.cpp_tree.Trees.{Tree, node, typ_in}
+use Rattle.elab_rules.specs.cpp_tree.Trees.{Tree, typ_in}
 use Rattle.elab_rules.specs.elab_ctx.Ctx.{Ctx, Work, Closure}
-use Rattle.elab_rules.specs.elab_ctx.Steps.{and_then, expect, check, at_of, spelling, token_place, value_at, Operand, Made, Typed, TypedAll}
+use Rattle.elab_rules.specs.elab_ctx.Steps.{and_then, expect, check, at_of, spelling, token_place, value_at, Operand, Made, Typed}
 use Rattle.elab_rules.specs.Objects.{parts_of}
 use Rattle.elab_rules.specs.Values.{same_at}
 use Rattle.elab_rules.specs.Types.{Specifiers, no_specifiers, has_auto, is_nothing, type_named}
@@ -33,7 +32,7 @@ use Rattle.elab_rules.specs.Casts as casts
 use Rattle.elab_rules.specs.Expressions as expressions
 use Rattle.elab_fits.specs.Standing.{On}
 use Rattle.elab_fits.proofs.Steps.{bind, skip, expected}
-use Rattle.elab_sound_types.specs.Types.{Use, value, declared, is_sound, is_head, IsExpression, IsLookedUp, IsSoundTree, AreExpressions, abort, expression, looked_up}
+use Rattle.elab_sound_types.specs.Types.{is_head, IsExpression, IsSoundTree, AreExpressions, abort, expression, looked_up}
 use Rattle.elab_sound_types.specs.Contexts.{HasSoundTypes, is_sound_closure, are_sound_closures, is_spelled, are_spelled}
 use Rattle.elab_sound_types.specs.Laws.{IsSoundTyped, AreSoundTyped, ExpressionsAreSound, OperandsAreSound, TypesAreSound, SpecifiersAreSound, DeclaratorsAreSound}
 use Rattle.elab_sound_types.specs.Laws.{ParametersAreSound, IsSoundDeclared}

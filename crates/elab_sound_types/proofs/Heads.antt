@@ -1,12 +1,11 @@
 -- The types of expressions are what the laws of trees ask of them.
-use Rattle.std.proofs.Common.{◌≡◌, refl, sym, ap, ◌∙◌, ℕ, Bool, true, false, not, ◌&&◌, ◌||◌}
+use Rattle.std.proofs.Common.{◌≡◌, refl, sym, ap, ◌∙◌, ℕ, Bool, true, false, not, ◌||◌}
 use Rattle.std.proofs.lemmas.Bool.{and_parts}
 use Rattle.elab_rules.specs.cpp_types.Typ.{Typ, typ, Form, void, int, enum, null, ptr, ref, array, func, class, closure, tx_ex}
-use Rattle.elab_rules.specs.cpp_types.declared.ranks.Cat.{Cat}
 use Rattle.elab_rules.specs.cpp_types.declared.ranks.Cat.TheVariants.{Lvalue, Prvalue}
-use Rattle.elab_rules.specs.cpp_tree.Typing.{form_in, is_void, is_class_typ, is_scalar_value}
+use Rattle.elab_rules.specs.cpp_tree.Typing.{is_scalar_value}
 use Rattle.elab_fits.specs.Standing.{IsExpressionType}
-use Rattle.elab_sound_types.specs.Types.{Use, object, target, value, is_sound, is_head}
+use Rattle.elab_sound_types.specs.Types.{object, target, is_sound, is_head}
 use Rattle.elab_sound_types.specs.Laws.{TargetsAreTypes, HeadsAreTypes, ArraysHold, VoidsAreValues}
 use Rattle.elab_sound_types.proofs.Sound.{sound_as, object_target}
 

@@ -1,11 +1,11 @@
 -- Temporaries, references that are bound, and conversions have the types of expressions.
-use Rattle.std.proofs.Common.{◌≡◌, refl, ap, ◌∙◌, sym, subst, ℕ, Bool, true, false, not, ◌&&◌, ◌||◌, cond, List, Option, Some, None, Result, Ok}
+use Rattle.std.proofs.Common.{◌≡◌, refl, sym, subst, ℕ, Bool, true, false, not, ◌&&◌, ◌||◌, cond, List, Option, Some, None, Result, Ok}
 use Rattle.std.specs.Prelude.{if◌then◌else◌}
 use Rattle.std.proofs.lemmas.Bool.{and_parts}
 use Rattle.elab_rules.specs.cpp_types.Typ.{Typ, typ, Form, void, int, enum, null, ptr, ref, array, func, class, closure, tx_ex}
 use Rattle.elab_rules.specs.cpp_types.Equal.{form_eq, typ_eq}
 use Rattle.elab_rules.specs.cpp_types.Class.{Class}
-use Rattle.elab_rules.specs.cpp_types.Conversion.{step_of, bound, has_value, decayed, is_object, object_binding, related_step, temporary, direct, keeps, const_of}
+use Rattle.elab_rules.specs.cpp_types.Conversion.{step_of, bound, has_value, decayed, is_object, object_binding, related_step, temporary, keeps, const_of}
 use Rattle.elab_rules.specs.cpp_types.Conversion.{volatile_of, is_lvalue, only_const, form_of}
 use Rattle.elab_rules.specs.cpp_types.declared.classes.At.{At}
 use Rattle.elab_rules.specs.cpp_types.declared.ranks.Cat.{Cat}
@@ -17,13 +17,13 @@ use Rattle.elab_rules.specs.cpp_types.declared.ranks.Binding.TheVariants.{Value,
 use Rattle.elab_rules.specs.cpp_tree.declared.faults.ElabFault.{ElabFault}
 use Rattle.elab_rules.specs.cpp_tree.declared.faults.IllRule.TheVariants.{NoConversion}
 use Rattle.elab_rules.specs.cpp_tree.Trees.{Tree, typ_in, cat_of}
-use Rattle.elab_rules.specs.cpp_tree.Typing.{form_in, unqualified, is_class_prvalue}
+use Rattle.elab_rules.specs.cpp_tree.Typing.{is_class_prvalue}
 use Rattle.elab_rules.specs.elab_ctx.Ctx.{Ctx, Work}
 use Rattle.elab_rules.specs.elab_ctx.Steps.{and_then, expect, Operand, Made}
 use Rattle.elab_rules.specs.Values.{valued, stepped}
 use Rattle.elab_rules.specs.Initialising.{object_of, seen_as, bound_by, initial}
 use Rattle.elab_fits.specs.Standing.{On}
-use Rattle.elab_sound_types.specs.Types.{Use, target, result, value, is_sound, is_head, IsExpression}
+use Rattle.elab_sound_types.specs.Types.{target, result, value, is_sound, is_head, IsExpression}
 use Rattle.elab_sound_types.proofs.Sound.{unqualified_sound}
 use Rattle.elab_sound_types.proofs.Trees.{tree_if, class_sound, lvalue_retyped, valued_sound, converted_sound, stepped_sound}
 

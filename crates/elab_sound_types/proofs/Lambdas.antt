@@ -1,43 +1,34 @@
 -- Lambdas keep the types of a context sound: each adds a class, whose members are its captures, and a function, its call.
-use Rattle.std.proofs.Common.{◌≡◌, refl, ap, ◌∙◌, sym, subst, ℕ, zero, suc, ◌≤◌, nat_lt, Bool, true, false, not, ◌&&◌, ◌||◌, List, [], ◌∷◌, ◌++◌, length, map}
-use Rattle.std.proofs.Common.{Option, Some, None, is_some, Result, Ok, Err}
+use Rattle.std.proofs.Common.{◌≡◌, refl, ◌∙◌, ℕ, Bool, true, false, not, ◌&&◌, ◌||◌, List, [], ◌∷◌, ◌++◌, length}
+use Rattle.std.proofs.Common.{Option, Some, None, is_some, Result, Ok}
 use Rattle.std.specs.Prelude.{if◌then◌else◌, slice_get}
 use Rattle.std.specs.List.{list_all}
 use Rattle.std.proofs.lemmas.Bool.{and_parts}
 use Rattle.std.proofs.lemmas.List.Folds.{list_all-append}
-use Rattle.std.proofs.Math.Nat.{le-suc}
-use Rattle.elab_rules.specs.cpp_types.Typ.{Typ, typ, Form, void, int, enum, null, ptr, ref, array, func, class, closure, tx_ex, Signature, signature}
+use Rattle.elab_rules.specs.cpp_types.Typ.{Typ, typ, void, int, enum, null, ptr, ref, array, func, class, closure, tx_ex}
 use Rattle.elab_rules.specs.cpp_types.Class.{Class, Member, Function}
 use Rattle.elab_rules.specs.cpp_types.Conversion.{referred}
 use Rattle.elab_rules.specs.cpp_types.declared.classes.At.{At}
 use Rattle.elab_rules.specs.cpp_lex.Tokens.{Lexeme}
-use Rattle.elab_rules.specs.cpp_ast.declared.arena.At.{At as SyntaxAt}
-use Rattle.elab_rules.specs.cpp_ast.declared.kinds.NodeKind.{NodeKind}
 use Rattle.elab_rules.specs.cpp_ast.declared.kinds.NodeKind.TheVariants as k
 use Rattle.elab_rules.specs.cpp_ast.Trees as syntax
 use Rattle.elab_rules.specs.cpp_tree.declared.faults.ElabFault.{ElabFault}
-use Rattle.elab_rules.specs.cpp_tree.declared.faults.IllRule.{IllRule}
-use Rattle.elab_rules.specs.cpp_tree.declared.faults.IllRule.TheVariants.{UnknownName, BadInit, Capture as CaptureRule, OutOfProfile, Incomplete, NoCopy, Redeclared}
-use Rattle.elab_rules.specs.cpp_tree.Trees.{Tree}
+use Rattle.elab_rules.specs.cpp_tree.declared.faults.IllRule.TheVariants.{UnknownName, BadInit, Capture as CaptureRule, OutOfProfile, Incomplete, NoCopy}
 use Rattle.elab_rules.specs.cpp_tree.Notation.{plain}
 use Rattle.elab_rules.specs.cpp_tree.Typing.{form_in}
-use Rattle.elab_rules.specs.elab_ctx.Ctx.{Ctx, Work, Func, Variable, This, Capture, Lambda, Closure, Returns, known, deduced}
-use Rattle.elab_rules.specs.elab_ctx.Types.{Named}
-use Rattle.elab_rules.specs.elab_ctx.Steps.{and_then, expect, check, each_of, at_of, spelling}
+use Rattle.elab_rules.specs.elab_ctx.Ctx.{Ctx, Work, Capture}
+use Rattle.elab_rules.specs.elab_ctx.Steps.{expect, check, each_of, at_of, spelling}
 use Rattle.elab_rules.specs.Operators
 use Rattle.elab_rules.specs.cpp_types.Class
-use Rattle.elab_rules.specs.Types.{Parameter}
-use Rattle.elab_rules.specs.Statements.{State, Done}
 use Rattle.elab_rules.specs.Lambdas as lambdas
 use Rattle.elab_fits.specs.Standing.{On}
 use Rattle.elab_fits.proofs.Steps.{bind, skip, expected}
-use Rattle.elab_sound_types.specs.Types.{Use, object, target, variable, parameter, declared, is_sound, is_sound_signature}
-use Rattle.elab_sound_types.specs.Contexts.{HasSoundTypes, is_sound_member, has_sound_members, is_sound_function, is_sound_known, is_sound_variable, is_sound_this}
-use Rattle.elab_sound_types.specs.Contexts.{is_object_of_class, is_sound_capture, are_sound_captures, is_sound_closure, is_sound_name, is_sound_global, is_sound_parameter}
-use Rattle.elab_sound_types.specs.Contexts.{is_sound_enumerator, is_spelled, are_spelled}
-use Rattle.elab_sound_types.proofs.Sound.{both, sound_as, object_target, variable_object}
+use Rattle.elab_sound_types.specs.Types.{target, variable, is_sound}
+use Rattle.elab_sound_types.specs.Contexts.{HasSoundTypes, is_sound_known, is_sound_variable}
+use Rattle.elab_sound_types.specs.Contexts.{is_sound_capture}
+use Rattle.elab_sound_types.proofs.Sound.{both}
 use Rattle.elab_sound_types.proofs.Objects.{either}
-use Rattle.elab_sound_types.proofs.Names.{at_place, this_object, known_sound}
+use Rattle.elab_sound_types.proofs.Names.{at_place, this_object}
 
 -- Captures (C++14 5.1.2)
 

@@ -1,11 +1,11 @@
 -- What the laws of elab_fits ask of pointers and references.
-use Rattle.std.proofs.Common.{◌≡◌, refl, ℕ, Bool, true, not, ◌&&◌, ◌||◌}
+use Rattle.std.proofs.Common.{refl, not, ◌&&◌, ◌||◌}
 use Rattle.std.proofs.lemmas.Bool.{and_parts}
 use Rattle.elab_rules.specs.tx_ints.declared.kinds.BinOp.TheVariants.{Add}
 use Rattle.elab_rules.specs.cpp_tree.Trees.{typ_in, cat_of}
 use Rattle.elab_rules.specs.Operators as operators
 use Rattle.elab_rules.specs.Operators.{value, value_form, pointed}
-use Rattle.elab_sound_types.specs.Types.{Use, target, may_refer, is_sound, IsExpression}
+use Rattle.elab_sound_types.specs.Types.{target, may_refer, is_sound, IsExpression}
 use Rattle.elab_sound_types.specs.Laws.{ReferencesLead, IndirectionsLead, SubscriptsLead}
 use Rattle.elab_sound_types.proofs.Heads.{targets_law}
 use Rattle.elab_sound_types.proofs.Pointers.{pointers_law}

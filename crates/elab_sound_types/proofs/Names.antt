@@ -1,5 +1,5 @@
 -- What a name or a member means has the type of an expression, or is looked up and not yet chosen.
-use Rattle.std.proofs.Common.{◌≡◌, refl, ap, ◌∙◌, sym, subst, ℕ, zero, suc, Bool, true, false, not, ◌&&◌, ◌||◌, nat_lt, List, [], ◌∷◌, length, Option, Some}
+use Rattle.std.proofs.Common.{◌≡◌, refl, ap, ◌∙◌, sym, subst, ℕ, zero, suc, Bool, true, false, not, ◌||◌, nat_lt, List, [], ◌∷◌, length, Option, Some}
 use Rattle.std.proofs.Common.{None, is_some, Result, Ok, Err, codes}
 use Rattle.std.specs.Prelude.{if◌then◌else◌, slice_get, unwrap_or}
 use Rattle.std.specs.List.{list_all}
@@ -14,15 +14,12 @@ use Rattle.elab_rules.specs.cpp_names.Names.{found_in}
 use Rattle.elab_rules.specs.cpp_names.declared.entity.Entity.{Entity}
 use Rattle.elab_rules.specs.cpp_names.declared.entity.EntityKind.{EntityKind}
 use Rattle.elab_rules.specs.cpp_names.declared.entity.EntityKind.TheVariants as entities
-use Rattle.elab_rules.specs.cpp_tree.declared.kinds.TKind.{TKind}
 use Rattle.elab_rules.specs.cpp_tree.declared.kinds.TKind.TheVariants.{Local, Function, Default, Builtin}
 use Rattle.elab_rules.specs.cpp_tree.declared.faults.ElabFault.{ElabFault}
 use Rattle.elab_rules.specs.cpp_tree.declared.faults.IllRule.TheVariants.{UnknownName, BadInit, Capture as CaptureRule, OutOfProfile, BadOperand, Incomplete}
 use Rattle.elab_rules.specs.cpp_tree.declared.faults.IllRule.TheVariants.{NoMember}
-use Rattle.elab_rules.specs.cpp_tree.Trees.{Tree, node, Trees, none, more, one, typ_in, cat_of}
-use Rattle.elab_rules.specs.cpp_tree.Units.{Global}
-use Rattle.elab_rules.specs.cpp_tree.Notation.{plain}
-use Rattle.elab_rules.specs.cpp_tree.Typing.{form_in, qualified, is_class_typ}
+use Rattle.elab_rules.specs.cpp_tree.Trees.{Tree, node, none, typ_in}
+use Rattle.elab_rules.specs.cpp_tree.Typing.{form_in, qualified}
 use Rattle.elab_rules.specs.elab_ctx.Ctx.{Ctx, Work, Func, Variable, This, Capture, Lambda}
 use Rattle.elab_rules.specs.elab_ctx.Steps.{and_then, expect, check, Operand, Made}
 use Rattle.elab_rules.specs.Values.{retyped, valued, part_at}
@@ -33,14 +30,14 @@ use Rattle.elab_rules.specs.Names as names
 use Rattle.elab_rules.specs.Names.{Found, field, methods, Captured, captured_from, or_else, field_from, members_in, own_member, found_along, first_place, functions}
 use Rattle.elab_fits.specs.Standing.{On}
 use Rattle.elab_fits.proofs.Steps.{bind, skip, expected}
-use Rattle.elab_sound_types.specs.Types.{Use, object, target, variable, is_sound, is_sound_signature, is_head, IsExpression, IsLookedUp, IsSoundTree, free}
+use Rattle.elab_sound_types.specs.Types.{object, target, variable, is_sound, is_sound_signature, is_head, IsExpression, IsLookedUp, IsSoundTree, free}
 use Rattle.elab_sound_types.specs.Types.{method, get, abort, expression, looked_up}
-use Rattle.elab_sound_types.specs.Contexts.{HasSoundTypes, member_use, is_sound_member, has_sound_members, is_sound_function, is_number, is_number_form}
+use Rattle.elab_sound_types.specs.Contexts.{HasSoundTypes, member_use, is_sound_member, has_sound_members, is_sound_function, is_number}
 use Rattle.elab_sound_types.specs.Contexts.{is_sound_enumerator, is_sound_known, is_sound_variable, is_object_of_class, is_sound_this, is_sound_capture}
-use Rattle.elab_sound_types.specs.Contexts.{are_sound_captures, is_sound_global, are_sound_globals}
+use Rattle.elab_sound_types.specs.Contexts.{are_sound_captures, is_sound_global}
 use Rattle.elab_sound_types.proofs.Sound.{both, sound_as, object_target, qualified_object}
 use Rattle.elab_sound_types.proofs.Trees.{some_same, tree_if, valued_sound, lvalue_retyped}
-use Rattle.elab_sound_types.proofs.Initial.{made, object_sound}
+use Rattle.elab_sound_types.proofs.Initial.{object_sound}
 use Rattle.elab_sound_types.proofs.Objects.{either}
 use Rattle.elab_sound_types.proofs.Operators.{pointed_target}
 

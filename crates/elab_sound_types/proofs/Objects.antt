@@ -1,5 +1,5 @@
 -- What builds an object of a class has the type of an expression.
-use Rattle.std.proofs.Common.{◌≡◌, refl, ap, ◌∙◌, sym, ℕ, zero, suc, Bool, true, false, not, ◌&&◌, ◌||◌, nat_lt, List, [], ◌∷◌, length, Option, Some, None, Result, Ok, Err}
+use Rattle.std.proofs.Common.{◌≡◌, refl, ap, ◌∙◌, ℕ, zero, suc, Bool, true, false, not, ◌&&◌, ◌||◌, nat_lt, List, [], ◌∷◌, length, Option, Some, None, Result, Ok, Err}
 use Rattle.std.specs.Prelude.{if◌then◌else◌}
 use Rattle.std.proofs.lemmas.Bool.{and_parts}
 use Rattle.elab_rules.specs.cpp_types.Typ.{Typ, typ, Form, void, int, enum, null, ptr, ref, array, func, class, closure, tx_ex}
@@ -8,16 +8,16 @@ use Rattle.elab_rules.specs.cpp_types.Class.{Class}
 use Rattle.elab_rules.specs.cpp_types.Conversion.{is_object_form}
 use Rattle.elab_rules.specs.cpp_types.declared.classes.At.{At}
 use Rattle.elab_rules.specs.cpp_types.declared.ranks.Cat.{Cat}
-use Rattle.elab_rules.specs.cpp_types.declared.ranks.Cat.TheVariants.{Lvalue, Prvalue}
+use Rattle.elab_rules.specs.cpp_types.declared.ranks.Cat.TheVariants.{Prvalue}
 use Rattle.elab_rules.specs.cpp_overload.Choosing.{chosen}
 use Rattle.elab_rules.specs.cpp_tree.declared.kinds.TKind.{TKind}
 use Rattle.elab_rules.specs.cpp_tree.declared.kinds.TKind.TheVariants.{Retype, Construct, Store, CopyFrom, Pieces}
 use Rattle.elab_rules.specs.cpp_tree.declared.faults.ElabFault.{ElabFault}
-use Rattle.elab_rules.specs.cpp_tree.declared.faults.IllRule.TheVariants.{NoConversion, NoCopy, NoViable}
+use Rattle.elab_rules.specs.cpp_tree.declared.faults.IllRule.TheVariants.{NoConversion, NoCopy}
 use Rattle.elab_rules.specs.cpp_tree.Trees.{Tree, node, Trees, none, more, one, kind_of, typ_in, cat_of, kids_of}
-use Rattle.elab_rules.specs.cpp_tree.Typing.{form_in, unqualified, is_class_typ, is_class_prvalue, is_volatile_typ, without_exception}
+use Rattle.elab_rules.specs.cpp_tree.Typing.{form_in, is_class_prvalue, is_volatile_typ}
 use Rattle.elab_rules.specs.elab_ctx.Ctx.{Ctx, Work, Special, absent, trivial, function}
-use Rattle.elab_rules.specs.elab_ctx.Steps.{and_then, expect, check, Operand, Made}
+use Rattle.elab_rules.specs.elab_ctx.Steps.{and_then, check, Operand, Made}
 use Rattle.elab_rules.specs.Values.{place_of, builder, is_exception_form}
 use Rattle.elab_rules.specs.Objects
 use Rattle.elab_rules.specs.Objects.{Leaf, class_whole, zeros, zero_leaf}
@@ -26,9 +26,9 @@ use Rattle.elab_rules.specs.Initialising.{object_of, building, rebuilt, copied_a
 use Rattle.elab_rules.specs.Casts.{as_expression, stored_at}
 use Rattle.elab_fits.specs.Standing.{On}
 use Rattle.elab_fits.proofs.Steps.{bind, skip}
-use Rattle.elab_sound_types.specs.Types.{Use, target, value, is_held, is_sound, is_head, IsExpression, AreExpressions}
+use Rattle.elab_sound_types.specs.Types.{value, is_held, is_sound, is_head, IsExpression, AreExpressions}
 use Rattle.elab_sound_types.proofs.Trees.{tree_if, class_head}
-use Rattle.elab_sound_types.proofs.Initial.{made, made_if, object_sound}
+use Rattle.elab_sound_types.proofs.Initial.{made, object_sound}
 
 -- where it is an exception, it has the type of an expression; else it is the value that an exception is written with
 abbrev pub Writes : ℕ → Tree → Type 0

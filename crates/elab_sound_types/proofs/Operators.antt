@@ -1,5 +1,5 @@
 -- Operators give what has the type of an expression.
-use Rattle.std.proofs.Common.{◌≡◌, refl, ap, ◌∙◌, sym, subst, ℕ, Bool, true, false, not, ◌&&◌, ◌||◌, Option, Some, None, is_some, Result, Ok, Err}
+use Rattle.std.proofs.Common.{◌≡◌, refl, ap, ◌∙◌, subst, ℕ, Bool, true, false, not, ◌&&◌, ◌||◌, Option, Some, None, is_some, Result, Ok}
 use Rattle.std.specs.Prelude.{if◌then◌else◌}
 use Rattle.std.proofs.lemmas.Bool.{and_parts}
 use Rattle.elab_rules.specs.tx_ints.declared.kinds.IntKind.{IntKind}
@@ -9,31 +9,29 @@ use Rattle.elab_rules.specs.tx_ints.declared.kinds.BinOp.TheVariants.{Add, Sub}
 use Rattle.elab_rules.specs.tx_ints.Integers.{usual_of, promote_of, is_shift}
 use Rattle.elab_rules.specs.cpp_types.Typ.{Typ, typ, Form, void, int, enum, null, ptr, ref, array, func, class, closure, tx_ex}
 use Rattle.elab_rules.specs.cpp_types.Equal.{kind_eq, typ_eq, form_eq}
-use Rattle.elab_rules.specs.cpp_types.Conversion.{is_lvalue, is_object_form, const_of}
+use Rattle.elab_rules.specs.cpp_types.Conversion.{is_lvalue, const_of}
 use Rattle.elab_rules.specs.cpp_types.declared.classes.At.{At}
 use Rattle.elab_rules.specs.cpp_types.declared.ranks.Cat.{Cat}
 use Rattle.elab_rules.specs.cpp_types.declared.ranks.Cat.TheVariants.{Lvalue, Prvalue}
-use Rattle.elab_rules.specs.cpp_tree.declared.kinds.TKind.{TKind}
 use Rattle.elab_rules.specs.cpp_tree.declared.kinds.TKind.TheVariants.{Retype}
 use Rattle.elab_rules.specs.cpp_tree.declared.faults.ElabFault.{ElabFault}
 use Rattle.elab_rules.specs.cpp_tree.declared.faults.IllRule.{IllRule}
 use Rattle.elab_rules.specs.cpp_tree.declared.faults.IllRule.TheVariants.{NoConversion, BadOperand, NotLvalue, ConstTarget, NoCopy}
-use Rattle.elab_rules.specs.cpp_tree.Trees.{Tree, node, Trees, typ_in, cat_of}
+use Rattle.elab_rules.specs.cpp_tree.Trees.{Tree, node, typ_in, cat_of}
 use Rattle.elab_rules.specs.cpp_tree.Notation.{plain}
 use Rattle.elab_rules.specs.cpp_tree.Typing.{form_in, unqualified, kind_in, is_class_typ, is_class_prvalue, is_void, is_volatile_typ}
 use Rattle.elab_rules.specs.elab_ctx.Ctx.{Ctx, Work}
 use Rattle.elab_rules.specs.elab_ctx.Steps.{and_then, expect, check, Operand, Made}
-use Rattle.elab_rules.specs.Values.{valued, retyped, bool_type}
 use Rattle.elab_rules.specs.Objects.{traits_at}
-use Rattle.elab_rules.specs.Initialising.{initial, object_of, with_tree, is_written_exception, class_number, is_same_or_base, exact_object}
+use Rattle.elab_rules.specs.Initialising.{initial, is_written_exception, class_number, is_same_or_base, exact_object}
 use Rattle.elab_rules.specs.Operators as operators
 use Rattle.elab_rules.specs.Operators.{value, value_form, pointed, arithmetic, as_kind}
 use Rattle.elab_fits.specs.Standing.{On}
 use Rattle.elab_fits.proofs.Steps.{bind, skip, checked, expected}
-use Rattle.elab_sound_types.specs.Types.{Use, target, value as a_value, result, is_sound, is_head, IsExpression}
+use Rattle.elab_sound_types.specs.Types.{target, is_sound, is_head, IsExpression}
 use Rattle.elab_sound_types.proofs.Sound.{both, unqualified_sound}
 use Rattle.elab_sound_types.proofs.Trees.{some_same, class_head, class_sound, scalar_head, lvalue_retyped, valued_sound, in_kind_sound}
-use Rattle.elab_sound_types.proofs.Initial.{made, made_if, object_sound, initial_sound}
+use Rattle.elab_sound_types.proofs.Initial.{made, made_if}
 use Rattle.elab_sound_types.proofs.Objects.{either}
 use Rattle.elab_sound_types.proofs.Pointers.{pointers_law}
 

@@ -1,12 +1,12 @@
 -- Types that are used in one way serve in another, with fewer qualifiers or with more.
-use Rattle.std.proofs.Common.{◌≡◌, refl, ℕ, Bool, true, false, not, ◌&&◌, ◌||◌, nat_lt}
+use Rattle.std.proofs.Common.{◌≡◌, refl, ℕ, Bool, true, false, not, ◌&&◌, ◌||◌}
 use Rattle.std.proofs.lemmas.Bool.{and_parts, and_from}
 use Rattle.elab_rules.specs.cpp_types.Typ.{Typ, typ, Form, void, int, enum, null, ptr, ref, array, func, class, closure, tx_ex}
 use Rattle.elab_rules.specs.cpp_types.Conversion.{is_object_form}
 use Rattle.elab_rules.specs.cpp_tree.Notation.{plain}
-use Rattle.elab_rules.specs.cpp_tree.Typing.{form_in, qualified, unqualified, is_void, is_class_typ}
+use Rattle.elab_rules.specs.cpp_tree.Typing.{form_in, qualified, unqualified, is_void}
 use Rattle.elab_rules.specs.Types.{with_qualifiers, is_reference_form, is_array_form, is_function_form}
-use Rattle.elab_sound_types.specs.Types.{Use, object, target, variable, parameter, result, value, declared, may_be_void, may_refer, may_be_array}
+use Rattle.elab_sound_types.specs.Types.{Use, object, target, variable, parameter, result, declared, may_be_void, may_refer, may_be_array}
 use Rattle.elab_sound_types.specs.Types.{may_be_function, is_sound, is_sound_form, is_sound_signature}
 
 pub both : {a b : Bool} → a ≡ true → b ≡ true → (a && b) ≡ true

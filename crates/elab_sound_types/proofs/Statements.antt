@@ -1,39 +1,30 @@
 -- Statements keep the types of a context sound.
-use Rattle.std.proofs.Common.{◌≡◌, refl, ap, ◌∙◌, sym, ℕ, zero, suc, Bool, true, false, not, ◌&&◌, ◌||◌, List, [], ◌∷◌, ◌++◌, ◌==◌, length, Option, Some, None, Result, Ok, Err}
-use Rattle.std.specs.Prelude.{if◌then◌else◌, slice_set}
-use Rattle.std.specs.List.{list_all, list_any}
+use Rattle.std.proofs.Common.{◌≡◌, refl, ℕ, Bool, true, false, not, ◌||◌, List, ◌==◌, length, Option, Some, None, Result, Ok}
+use Rattle.std.specs.Prelude.{if◌then◌else◌}
+use Rattle.std.specs.List.{list_any}
 use Rattle.std.proofs.lemmas.Bool.{and_parts}
-use Rattle.std.proofs.lemmas.List.Folds.{list_all-append}
 use Rattle.elab_rules.specs.cpp_types.Typ.{Typ, typ, Form, void, int, enum, null, ptr, ref, array, func, class, closure, tx_ex}
-use Rattle.elab_rules.specs.cpp_types.Equal.{typ_eq}
-use Rattle.elab_rules.specs.cpp_types.Class.{held}
 use Rattle.elab_rules.specs.cpp_types.declared.classes.At.{At}
 use Rattle.elab_rules.specs.cpp_lex.Tokens.{Lexeme}
-use Rattle.elab_rules.specs.cpp_ast.declared.arena.At.{At as SyntaxAt}
-use Rattle.elab_rules.specs.cpp_ast.declared.kinds.NodeKind.{NodeKind}
 use Rattle.elab_rules.specs.cpp_ast.declared.kinds.NodeKind.TheVariants as k
 use Rattle.elab_rules.specs.cpp_ast.Trees as syntax
-use Rattle.elab_rules.specs.cpp_names.Names.{Names, innermost_of}
 use Rattle.elab_rules.specs.cpp_tree.declared.kinds.TKind.{TKind}
 use Rattle.elab_rules.specs.cpp_tree.declared.kinds.TKind.TheVariants as forms
 use Rattle.elab_rules.specs.cpp_tree.declared.faults.ElabFault.{ElabFault}
-use Rattle.elab_rules.specs.cpp_tree.declared.faults.IllRule.{IllRule}
 use Rattle.elab_rules.specs.cpp_tree.declared.faults.IllRule.TheVariants.{BadCatch, Redeclared, TypeDiffers, BadDeclaration, NotConstant, BadInit, BadReturn, BadBreak, BadCase}
-use Rattle.elab_rules.specs.cpp_tree.declared.faults.IllRule.TheVariants.{Narrowing, OutOfProfile, JumpPastInit, Incomplete}
+use Rattle.elab_rules.specs.cpp_tree.declared.faults.IllRule.TheVariants.{Narrowing, OutOfProfile}
 use Rattle.elab_rules.specs.cpp_tree.Trees.{Tree, Trees, one, three, typ_in}
-use Rattle.elab_rules.specs.cpp_tree.Trees
 use Rattle.elab_rules.specs.cpp_tree.Notation.{plain}
 use Rattle.elab_rules.specs.cpp_tree.Typing.{form_in, is_void, is_class_typ, unqualified, kind_in}
-use Rattle.elab_rules.specs.elab_ctx.declared.env.Label.{Label}
-use Rattle.elab_rules.specs.elab_ctx.Ctx.{Ctx, Work, Returns, known, deduced, Labels, Variable}
-use Rattle.elab_rules.specs.elab_ctx.Steps.{and_then, expect, check, at_of, spelling, Operand, Made, Typed, TypedAll}
+use Rattle.elab_rules.specs.elab_ctx.Ctx.{Ctx, Returns, known, deduced, Labels}
+use Rattle.elab_rules.specs.elab_ctx.Steps.{and_then, expect, check, at_of, spelling, Operand, Made}
 use Rattle.elab_rules.specs.Strings.{string_bytes}
 use Rattle.elab_rules.specs.Constants.{constant}
 use Rattle.elab_rules.specs.Initialising.{initial, class_from}
-use Rattle.elab_rules.specs.Operators.{value, dropped, truth, is_complete}
+use Rattle.elab_rules.specs.Operators.{value, dropped, truth}
 use Rattle.elab_rules.specs.Sizes.{typ_sized}
 use Rattle.elab_rules.specs.Casts.{within_exception}
-use Rattle.elab_rules.specs.Types.{Declared, has_auto, is_bounded, is_nothing}
+use Rattle.elab_rules.specs.Types.{has_auto, is_bounded, is_nothing}
 use Rattle.elab_rules.specs.Objects.{traits_at, followed_by}
 use Rattle.elab_rules.specs.Names
 use Rattle.elab_rules.specs.Braces
@@ -43,14 +34,14 @@ use Rattle.elab_rules.specs.Statements as statements
 use Rattle.elab_rules.specs.Statements.{State, Done, Full, Lambdas, Deduction, Declaring, Caught, Switched, with_work, full_operand, full_made, inner, in_loop, in_block}
 use Rattle.elab_rules.specs.Statements.{in_switch, outer, declared_variable, placed_variable, auto_placed, with_labels, past_declaration, replaced}
 use Rattle.elab_fits.specs.Standing.{On}
-use Rattle.elab_fits.proofs.Steps.{bind, skip, checked, expected}
-use Rattle.elab_sound_types.specs.Types.{Use, object, target, variable, declared, is_sound, IsExpression}
-use Rattle.elab_sound_types.specs.Contexts.{HasSoundTypes, is_sound_known, is_sound_variable, are_sound_closures, is_spelled, are_spelled}
+use Rattle.elab_fits.proofs.Steps.{bind, skip, expected}
+use Rattle.elab_sound_types.specs.Types.{target, variable, declared, is_sound}
+use Rattle.elab_sound_types.specs.Contexts.{is_spelled, are_spelled}
 use Rattle.elab_sound_types.specs.Laws.{IsSoundDeclared, AreSoundTyped}
-use Rattle.elab_sound_types.specs.States.{IsSoundState, IsSoundAfter, is_sound_return, KeepsSound, StatementsKeep, BlocksKeep}
-use Rattle.elab_sound_types.proofs.Sound.{both, sound_as, all_declared, object_variable}
+use Rattle.elab_sound_types.specs.States.{IsSoundState, IsSoundAfter, KeepsSound, StatementsKeep, BlocksKeep}
+use Rattle.elab_sound_types.proofs.Sound.{sound_as, all_declared}
 use Rattle.elab_sound_types.proofs.Objects.{either}
-use Rattle.elab_sound_types.proofs.Names.{IfThere, if_there}
+use Rattle.elab_sound_types.proofs.Names.{if_there}
 use Rattle.elab_sound_types.proofs.Globals as globals
 use Rattle.elab_sound_types.proofs.Globals.{Behind, same}
 use Rattle.elab_sound_types.proofs.Written as written

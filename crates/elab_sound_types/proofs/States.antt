@@ -1,11 +1,10 @@
 -- Sound states: what is known and made, where a statement stands, and with variables more.
-use Rattle.std.proofs.Common.{◌≡◌, refl, ap, ◌∙◌, sym, ℕ, zero, suc, Bool, true, false, not, ◌&&◌, ◌||◌, List, [], ◌∷◌, ◌++◌, length, Option, Some, None, Result, Ok, Err}
-use Rattle.std.specs.Prelude.{if◌then◌else◌, slice_set}
+use Rattle.std.proofs.Common.{◌≡◌, refl, ◌∙◌, ℕ, zero, suc, Bool, true, false, List, [], ◌∷◌, ◌++◌, length, Option, Result, Ok, Err}
+use Rattle.std.specs.Prelude.{slice_set}
 use Rattle.std.specs.List.{list_all}
 use Rattle.std.proofs.lemmas.Bool.{and_parts}
 use Rattle.std.proofs.lemmas.List.Folds.{list_all-append}
-use Rattle.elab_rules.specs.cpp_types.Typ.{Typ, typ, Form, void, int, enum, null, ptr, ref, array, func, class, closure, tx_ex}
-use Rattle.elab_rules.specs.cpp_types.Equal.{typ_eq}
+use Rattle.elab_rules.specs.cpp_types.Typ.{Typ, typ, void, int, enum, null, ptr, ref, array, func, class, closure, tx_ex}
 use Rattle.elab_rules.specs.cpp_types.Class.{held}
 use Rattle.elab_rules.specs.cpp_types.declared.classes.At.{At}
 use Rattle.elab_rules.specs.cpp_lex.Tokens.{Lexeme}
@@ -13,48 +12,29 @@ use Rattle.elab_rules.specs.cpp_ast.declared.arena.At.{At as SyntaxAt}
 use Rattle.elab_rules.specs.cpp_ast.declared.kinds.NodeKind.{NodeKind}
 use Rattle.elab_rules.specs.cpp_ast.declared.kinds.NodeKind.TheVariants as k
 use Rattle.elab_rules.specs.cpp_ast.Trees as syntax
-use Rattle.elab_rules.specs.cpp_names.Names.{Names, innermost_of}
-use Rattle.elab_rules.specs.cpp_tree.declared.kinds.TKind.{TKind}
+use Rattle.elab_rules.specs.cpp_names.Names.{Names}
 use Rattle.elab_rules.specs.cpp_tree.declared.faults.ElabFault.{ElabFault}
 use Rattle.elab_rules.specs.cpp_tree.declared.faults.IllRule.{IllRule}
-use Rattle.elab_rules.specs.cpp_tree.declared.faults.IllRule.TheVariants.{Redeclared, TypeDiffers, BadDeclaration, NotConstant, BadInit, BadReturn, BadBreak, BadCase}
-use Rattle.elab_rules.specs.cpp_tree.declared.faults.IllRule.TheVariants.{Narrowing, OutOfProfile, JumpPastInit, Incomplete}
-use Rattle.elab_rules.specs.cpp_tree.Trees.{Tree, Trees, one, typ_in}
-use Rattle.elab_rules.specs.cpp_tree.Typing.{form_in, is_void, is_class_typ, unqualified}
+use Rattle.elab_rules.specs.cpp_tree.declared.faults.IllRule.TheVariants.{Incomplete}
 use Rattle.elab_rules.specs.elab_ctx.declared.env.Label.{Label}
-use Rattle.elab_rules.specs.elab_ctx.Ctx.{Ctx, Work, Returns, known, deduced, Labels, Variable}
-use Rattle.elab_rules.specs.elab_ctx.Steps.{and_then, expect, check, at_of, spelling, Operand, Made, Typed, TypedAll}
-use Rattle.elab_rules.specs.Strings.{string_bytes}
-use Rattle.elab_rules.specs.Constants.{constant}
-use Rattle.elab_rules.specs.Initialising.{initial, class_from}
-use Rattle.elab_rules.specs.Operators.{value, dropped, truth, is_complete}
-use Rattle.elab_rules.specs.Sizes.{typ_sized}
-use Rattle.elab_rules.specs.Casts.{within_exception}
-use Rattle.elab_rules.specs.Types.{Declared, has_auto, is_bounded}
-use Rattle.elab_rules.specs.Braces
-use Rattle.elab_rules.specs.Braces.{item_of, string_token, string_object, is_char_array}
-use Rattle.elab_rules.specs.Expressions.{expression_of, operands_of, chosen_operand, type_of_specifiers, declared_by}
+use Rattle.elab_rules.specs.elab_ctx.Ctx.{Ctx, Work, Labels, Variable}
+use Rattle.elab_rules.specs.elab_ctx.Steps.{check, Made}
+use Rattle.elab_rules.specs.Operators.{is_complete}
+use Rattle.elab_rules.specs.Braces.{string_token}
 use Rattle.elab_rules.specs.Statements as statements
 use Rattle.elab_rules.specs.Statements.{State, Done, Full, Lambdas, Deduction, Declaring, Caught, Switched, with_work, full_operand, full_made, inner, in_loop, in_block}
 use Rattle.elab_rules.specs.Statements.{in_switch, outer, declared_variable, placed_variable, auto_placed, with_labels, past_declaration, replaced}
 use Rattle.elab_fits.specs.Standing.{On}
-use Rattle.elab_fits.proofs.Steps.{bind, skip, checked, expected}
-use Rattle.elab_sound_types.specs.Types.{Use, object, target, variable, declared, is_sound, IsExpression}
-use Rattle.elab_sound_types.specs.Contexts.{HasSoundTypes, is_sound_known, is_sound_variable, are_sound_closures, is_spelled, are_spelled}
-use Rattle.elab_sound_types.specs.Laws.{IsSoundDeclared, AreSoundTyped}
-use Rattle.elab_sound_types.specs.States.{IsSoundState, IsSoundAfter, is_sound_return, KeepsSound, StatementsKeep, BlocksKeep}
-use Rattle.elab_sound_types.proofs.Sound.{both, sound_as, object_variable}
-use Rattle.elab_sound_types.proofs.Objects.{either}
-use Rattle.elab_sound_types.proofs.Names.{IfThere, if_there}
+use Rattle.elab_fits.proofs.Steps.{bind}
+use Rattle.elab_sound_types.specs.Types.{variable, declared, is_sound, IsExpression}
+use Rattle.elab_sound_types.specs.Contexts.{HasSoundTypes, is_sound_known, is_sound_variable, is_spelled, are_spelled}
+use Rattle.elab_sound_types.specs.States.{IsSoundState, IsSoundAfter}
+use Rattle.elab_sound_types.proofs.Sound.{both}
+use Rattle.elab_sound_types.proofs.Names.{IfThere}
 use Rattle.elab_sound_types.proofs.Globals as globals
 use Rattle.elab_sound_types.proofs.Globals.{Behind, same}
-use Rattle.elab_sound_types.proofs.Written as written
-use Rattle.elab_sound_types.proofs.Written.{IsDeclared}
-use Rattle.elab_sound_types.proofs.Deduced.{IsReplaced, deduced_sound, returned_sound}
-use Rattle.elab_sound_types.proofs.Braces.{copy_kept, direct_kept, item_kept}
-use Rattle.elab_sound_types.proofs.Expressions.{Chosen, moved, operand_sound, of_operands, kids_spelled, first_spelled, rest_spelled}
+use Rattle.elab_sound_types.proofs.Expressions.{moved, kids_spelled, first_spelled}
 use Rattle.elab_sound_types.proofs.Growth.{grown_same, grown_joined}
-use Rattle.elab_sound_types.proofs.Zeros.{on_ok}
 
 -- States
 

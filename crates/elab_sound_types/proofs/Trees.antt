@@ -1,5 +1,5 @@
 -- Nodes, values and conversions have the types of expressions.
-use Rattle.std.proofs.Common.{◌≡◌, refl, ap, ◌∙◌, ℕ, Bool, true, false, not, ◌&&◌, ◌||◌, Option, Some, None, is_some}
+use Rattle.std.proofs.Common.{◌≡◌, refl, ap, ℕ, Bool, true, false, not, ◌||◌, Option, Some, None, is_some}
 use Rattle.std.specs.Prelude.{if◌then◌else◌}
 use Rattle.std.proofs.lemmas.Bool.{and_parts}
 use Rattle.elab_rules.specs.tx_ints.declared.kinds.IntKind.{IntKind}
@@ -14,7 +14,7 @@ use Rattle.elab_rules.specs.cpp_types.declared.ranks.Step.{Step}
 use Rattle.elab_rules.specs.cpp_types.declared.ranks.Step.TheVariants as steps
 use Rattle.elab_rules.specs.cpp_tree.declared.kinds.TKind.{TKind}
 use Rattle.elab_rules.specs.cpp_tree.declared.kinds.TKind.TheVariants.{Retype, Convert}
-use Rattle.elab_rules.specs.cpp_tree.Trees.{Tree, node, Trees, one, typ_in, cat_of}
+use Rattle.elab_rules.specs.cpp_tree.Trees.{Tree, node, Trees, one, typ_in}
 use Rattle.elab_rules.specs.cpp_tree.Notation.{plain}
 use Rattle.elab_rules.specs.cpp_tree.Typing.{form_in, unqualified, kind_in, is_class_typ}
 use Rattle.elab_rules.specs.Values.{is_exception_form, retyped, number, operated, valued, retyped_if, between, converted, in_kind, stepped}

@@ -1,20 +1,17 @@
 -- Types that are written are those that C++ has (C++14 8.3): what is not sound is refused.
-use Rattle.std.proofs.Common.{◌≡◌, refl, ap, ◌∙◌, sym, ℕ, zero, suc, Bool, true, false, not, ◌&&◌, ◌||◌, ◌==◌, nat_le, nat_lt, List, [], ◌∷◌, ◌++◌, length, Option}
-use Rattle.std.proofs.Common.{Some, None, is_some, Result, Ok, Err, codes, pos, int_lt}
+use Rattle.std.proofs.Common.{◌≡◌, refl, ℕ, Bool, true, false, not, ◌&&◌, ◌||◌, ◌==◌, nat_le, nat_lt, List, [], ◌∷◌, length, Option}
+use Rattle.std.proofs.Common.{Some, None, codes, pos, int_lt}
 use Rattle.std.specs.Prelude.{if◌then◌else◌}
 use Rattle.std.specs.List.{list_all}
 use Rattle.std.specs.Str.{bytes_eq}
 use Rattle.std.proofs.lemmas.Bool.{and_parts}
 use Rattle.elab_rules.specs.tx_ints.declared.kinds.IntKind.{IntKind}
-use Rattle.elab_rules.specs.tx_ints.declared.kinds.IntKind.TheVariants.{Bool as BoolKind}
 use Rattle.elab_rules.specs.tx_ints.Words.{value_of_word}
 use Rattle.elab_rules.specs.cpp_types.Typ.{Typ, typ, Form, void, int, enum, null, ptr, ref, array, func, class, closure, tx_ex}
 use Rattle.elab_rules.specs.cpp_types.declared.classes.At.{At}
 use Rattle.elab_rules.specs.cpp_lex.Tokens.{Lexeme}
-use Rattle.elab_rules.specs.cpp_ast.declared.kinds.NodeKind.{NodeKind}
 use Rattle.elab_rules.specs.cpp_ast.declared.kinds.NodeKind.TheVariants as k
 use Rattle.elab_rules.specs.cpp_ast.Trees as syntax
-use Rattle.elab_rules.specs.cpp_tree.declared.faults.ElabFault.{ElabFault}
 use Rattle.elab_rules.specs.cpp_tree.declared.faults.IllRule.TheVariants.{UnknownName, BadDeclaration, OutOfProfile, AbstractObject, NotConstant, NotTriviallyCopyable}
 use Rattle.elab_rules.specs.cpp_tree.Trees.{typ_in}
 use Rattle.elab_rules.specs.cpp_tree.Notation.{plain}
@@ -22,7 +19,7 @@ use Rattle.elab_rules.specs.cpp_tree.Typing.{form_in, is_void, unqualified, qual
 use Rattle.elab_rules.specs.cpp_layout.declared.extents.TheConstants.{GREATEST_SIZE}
 use Rattle.elab_rules.specs.elab_ctx.Ctx.{Ctx, Work, Closure}
 use Rattle.elab_rules.specs.elab_ctx.Types.{Named, type_called}
-use Rattle.elab_rules.specs.elab_ctx.Steps.{and_then, expect, check, at_of, spelling, Operand, Typed}
+use Rattle.elab_rules.specs.elab_ctx.Steps.{and_then, expect, check, at_of, spelling, Operand}
 use Rattle.elab_rules.specs.Constants.{constant}
 use Rattle.elab_rules.specs.Operators.{value, arithmetic}
 use Rattle.elab_rules.specs.Types as types
@@ -32,7 +29,7 @@ use Rattle.elab_rules.specs.Types.{qualifiers_of, is_declared_safe, is_name}
 use Rattle.elab_rules.specs.Expressions as expressions
 use Rattle.elab_fits.specs.Standing.{On}
 use Rattle.elab_fits.proofs.Steps.{bind, skip, checked, expected}
-use Rattle.elab_sound_types.specs.Types.{Use, object, target, parameter, result, declared, is_sound, are_sound, is_unqualified}
+use Rattle.elab_sound_types.specs.Types.{object, target, parameter, declared, is_sound, are_sound, is_unqualified}
 use Rattle.elab_sound_types.specs.Contexts.{HasSoundTypes, is_sound_name, is_sound_parameter}
 use Rattle.elab_sound_types.specs.Laws.{IsSoundDeclared}
 use Rattle.elab_sound_types.proofs.Sound.{both, declared_target, target_object, declared_result, unqualified_sound, written_sound, qualified_object, sound_as}

@@ -1,5 +1,5 @@
 -- An operand that is said to be the literal 0 is its tree.
-use Rattle.std.proofs.Common.{◌≡◌, refl, sym, ap, ◌∙◌, ℕ, Bool, true, false, List, [], ◌∷◌, Option, Some, None, Result, Ok, Err, subst, eqb-true}
+use Rattle.std.proofs.Common.{◌≡◌, refl, sym, ap, ℕ, Bool, true, false, List, [], ◌∷◌, Some, None, Result, Ok, subst, eqb-true}
 use Rattle.elab_rules.specs.tx_ints.declared.kinds.IntKind.{IntKind}
 use Rattle.elab_rules.specs.cpp_types.declared.classes.At.{At}
 use Rattle.elab_rules.specs.cpp_types.declared.ranks.Cat.TheVariants.{Prvalue}

@@ -2,7 +2,7 @@
 use Rattle.std.specs.Prelude.{◌≡◌, ℕ, Bool, true, List, [], ◌∷◌, length, Ok}
 use Rattle.std.specs.List.{list_all}
 use Rattle.elab_rules.specs.tx_ints.declared.kinds.BinOp.TheVariants.{Add}
-use Rattle.elab_rules.specs.cpp_types.Typ.{Typ, typ, Form, ptr, ref, array}
+use Rattle.elab_rules.specs.cpp_types.Typ.{Typ, typ, ptr, ref, array}
 use Rattle.elab_rules.specs.cpp_types.declared.classes.At.{At}
 use Rattle.elab_rules.specs.cpp_types.declared.ranks.Cat.{Cat}
 use Rattle.elab_rules.specs.cpp_types.declared.ranks.Cat.TheVariants.{Lvalue, Prvalue}
@@ -17,7 +17,7 @@ use Rattle.elab_rules.specs.Types.{Declared, Parameter}
 use Rattle.elab_rules.specs.Expressions.{expression_with, operands_with, type_id_with, specifiers_with, declared_with, parameter_with}
 use Rattle.elab_fits.specs.Standing.{IsExpressionType}
 use Rattle.elab_fits.specs.Scalars.{IsZero}
-use Rattle.elab_sound_types.specs.Types.{is_sound, Use, object, target, declared, parameter, is_head, IsExpression, AreExpressions, IsSoundTree}
+use Rattle.elab_sound_types.specs.Types.{is_sound, Use, target, declared, parameter, is_head, IsExpression, AreExpressions, IsSoundTree}
 use Rattle.elab_sound_types.specs.Contexts.{HasSoundTypes, are_sound_closures, is_spelled, are_spelled, is_sound_parameter}
 
 -- Types
