@@ -5,6 +5,7 @@ pub mod Casts
 pub mod Closures
 pub mod Deduced
 pub mod Expressions
+pub mod Functions
 pub mod Globals
 pub mod Growth
 pub mod Heads

@@ -1,12 +1,17 @@
 -- Statements keep the types of a context sound.
-use Rattle.std.specs.Prelude.{◌≡◌, ◌≤◌, ℕ, Bool, true, false, List, length, Some, None, Ok}
+use Rattle.std.specs.Prelude.{◌≡◌, ◌≤◌, ℕ, Bool, true, false, List, length, Option, Some, None, Ok}
+use Rattle.std.specs.List.{list_all}
+use Rattle.elab_rules.specs.cpp_types.Typ.{Typ}
 use Rattle.elab_rules.specs.cpp_types.Class.{Class}
 use Rattle.elab_rules.specs.cpp_lex.Tokens.{Lexeme}
 use Rattle.elab_rules.specs.cpp_ast.Trees as syntax
+use Rattle.elab_rules.specs.cpp_tree.Typing.{form_in}
 use Rattle.elab_rules.specs.elab_ctx.Ctx.{Returns, known, deduced}
 use Rattle.elab_rules.specs.Statements.{State, Done, Lambdas, statement_of, statements_of}
+use Rattle.elab_rules.specs.Functions.{Header, function_body}
 use Rattle.elab_rules.specs.Lambdas.{no_lambda, lambdas_of}
 use Rattle.elab_sound_types.specs.Types.{is_sound, declared}
+use Rattle.elab_sound_types.specs.Contexts.{is_object_of_class, is_sound_parameter}
 use Rattle.elab_sound_types.specs.Contexts.{HasSoundTypes, are_sound_closures, is_spelled, are_spelled}
 
 -- what a lambda's body has returned so far
@@ -53,3 +58,17 @@ LambdasKeep = (s : List Lexeme) → KeepsSound true s lambdas_of
 
 abbrev pub NoLambdasKeep : Type 0
 NoLambdasKeep = (s : List Lexeme) → KeepsSound false s no_lambda
+
+-- Functions
+
+-- the object of a member function
+abbrev pub is_sound_object : (classes : ℕ) → Option Typ → Bool
+is_sound_object classes None = true
+is_sound_object classes (Some t) = is_object_of_class classes (form_in t)
+
+-- so does the body of a function, in which its parameters and its object are known
+abbrev pub FunctionsKeep : Type 0
+FunctionsKeep = (lams : Lambdas) (s : List Lexeme) (st : State) (f : Header) (this : Option Typ) (place : ℕ) (body : syntax.Tree) (x : State)
+    → KeepsSound true s lams → IsSoundState st → list_all (is_sound_parameter (length st.ctx.classes)) f.params ≡ true
+    → is_sound_object (length st.ctx.classes) this ≡ true → is_spelled s body ≡ true → function_body lams s st f this place body ≡ Ok x
+    → IsSoundAfter true st x

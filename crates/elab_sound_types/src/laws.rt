@@ -4,7 +4,7 @@ ghost use Rattle.elab_sound_types.specs.Laws.{TargetsAreTypes, HeadsAreTypes, Po
 ghost use Rattle.elab_sound_types.specs.Laws.{TypesAreSound, SpecifiersAreSound, DeclaratorsAreSound, ParametersAreSound};
 ghost use Rattle.elab_sound_types.specs.Laws.{ExpressionsAreSound, OperandsAreSound, ZerosAreLiterals, OperandZerosAreLiterals};
 ghost use Rattle.elab_sound_types.specs.Laws.{IndirectionsLead, SubscriptsLead};
-ghost use Rattle.elab_sound_types.specs.States.{StatementsKeep, BlocksKeep, LambdasKeep, NoLambdasKeep};
+ghost use Rattle.elab_sound_types.specs.States.{StatementsKeep, BlocksKeep, FunctionsKeep, LambdasKeep, NoLambdasKeep};
 
 /// Sound types are types of expressions, and so is what lies behind them.
 pub fn types()
@@ -46,6 +46,7 @@ pub fn zeros()
 pub fn statements()
     ensures statements { StatementsKeep }
     ensures blocks { BlocksKeep }
+    ensures functions { FunctionsKeep }
 {}
 
 /// Lambdas keep them sound too.
