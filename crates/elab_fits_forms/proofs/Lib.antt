@@ -11,6 +11,7 @@ pub mod Joined
 pub mod Leaves
 pub mod Members
 pub mod Names
+pub mod ObjectThrows
 pub mod Operators
 pub mod Places
 pub mod Proper

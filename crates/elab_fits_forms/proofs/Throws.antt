@@ -103,7 +103,7 @@ scalar_throw_fits s c at f e h g = subst (λ (t : Typ). FitsAs s Value (throw_no
 pub rethrow_fits : (s : Setting) (at : At) → FitsAs s Value (node Rethrow (plain void) Prvalue at none)
 rethrow_fits s at = λ p full. node_fits s p Value Rethrow (plain void) Prvalue at none (only []) refl refl refl refl refl refl refl refl refl
 
-rethrow_proper : (s : Setting) (c : Ctx) (at : At) → Proper s c (node Rethrow (plain void) Prvalue at none)
+pub rethrow_proper : (s : Setting) (c : Ctx) (at : At) → Proper s c (node Rethrow (plain void) Prvalue at none)
 rethrow_proper s c at = record {
   stands = of_value s (node Rethrow (plain void) Prvalue at none) refl refl (rethrow_fits s at);
   sound = refl;
@@ -119,7 +119,7 @@ thrown_scalar f h = absurd cc
 
 -- `throw` (C++14 15.1)
 
-no_object_thrown : (s : Setting) (c : Ctx) (w : Work) (at : At) (f : Form) (o : Operand) → is_class_typ (typ f false false) ≡ false → ProperOperand s c o
+pub no_object_thrown : (s : Setting) (c : Ctx) (w : Work) (at : At) (f : Form) (o : Operand) → is_class_typ (typ f false false) ≡ false → ProperOperand s c o
     → On (λ (m : Made). FitsAs s Value m.tree) (throw_in c w at f o)
 no_object_thrown s c w at (class n) o k x = absurd cc
 no_object_thrown s c w at (tx_ex t) o k x = absurd cc

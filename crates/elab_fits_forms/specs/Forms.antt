@@ -1,6 +1,13 @@
 -- Laws of casts, `throw`, calls, choices between objects and all rows of expressions.
-use Rattle.std.specs.Prelude.{◌≡◌, ℕ, true, false, List, [], ◌∷◌}
-use Rattle.elab_rules.specs.cpp_types.Typ.{Typ}
+use Rattle.std.specs.Prelude.{◌≡◌, ℕ, true, false, List, [], ◌∷◌, Bool, is_some, nat_le}
+use Rattle.elab_rules.specs.cpp_types.Typ.{Typ, typ, Form}
+use Rattle.elab_rules.specs.cpp_types.Class.{Class, InOrder}
+use Rattle.elab_rules.specs.elab_ctx.tx_events.declared.TheConstants.{EXCEPTION_SIZE}
+use Rattle.elab_rules.specs.cpp_tree.Notation.{plain}
+use Rattle.elab_rules.specs.cpp_tree.Parts.{size_in, are_scalars}
+use Rattle.elab_rules.specs.cpp_tree.WellFormed.{heads_of}
+use Rattle.elab_rules.specs.Objects.{size_of, fields}
+use Rattle.elab_fits.specs.Objects.{is_ready}
 use Rattle.elab_rules.specs.cpp_types.declared.classes.At.{At}
 use Rattle.elab_rules.specs.cpp_lex.Tokens.{Lexeme}
 use Rattle.elab_rules.specs.cpp_ast.declared.kinds.NodeKind.{NodeKind}
@@ -28,9 +35,15 @@ pub data ProperOperands (s : Setting) (c : Ctx) : List Operand → Type 0 where
   none : ProperOperands s c []
   more : {o : Operand} {os : List Operand} → ProperOperand s c o → ProperOperands s c os → ProperOperands s c (o ∷ os)
 
--- `throw`
+-- `throw`: where the scalars that elaboration makes of each object of a class are those that the test reads
+abbrev pub FieldsAgree : Type 0
+FieldsAgree = (classes : List Class) (at : At) (f : Form) (q v : Bool) → InOrder classes → is_some (size_in classes (typ f q v)) ≡ true
+    → is_ready classes true (typ f q v) ≡ true → is_class_typ (plain f) ≡ true → nat_le (size_of classes (typ f q v)) EXCEPTION_SIZE ≡ true
+    → are_scalars classes (plain f) (heads_of (fields classes at (typ f q v))) ≡ true
+
 abbrev pub ThrowsStand : Type 0
-ThrowsStand = (s : Setting) (c : Ctx) (w : Work) (at : At) (os : List Operand) → Holds s c w → ProperOperands s c os → On (Stands_made s c) (throw c w at os)
+ThrowsStand = FieldsAgree → (s : Setting) (c : Ctx) (w : Work) (at : At) (os : List Operand) → Holds s c w → ProperOperands s c os
+    → On (Stands_made s c) (throw c w at os)
 
 -- the same of what is no object of a class, and of nothing
 abbrev pub ValueThrowsStand : Type 0

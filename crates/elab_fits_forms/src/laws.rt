@@ -1,7 +1,7 @@
 //! Laws of the forms of expressions. A function here does nothing: its clauses are the laws.
 
 ghost use Rattle.elab_fits_forms.specs.Names.{VariablesStand, ThisStands, EntitiesMean, MembersMean, NamesMean, ResolvedStand, LeavesMean};
-ghost use Rattle.elab_fits_forms.specs.Forms.{ValueThrowsStand, CastsStand, FunctionalsStand, SizesStand, ObjectCommasStand};
+ghost use Rattle.elab_fits_forms.specs.Forms.{ThrowsStand, ValueThrowsStand, CastsStand, FunctionalsStand, SizesStand, ObjectCommasStand};
 ghost use Rattle.elab_fits_forms.specs.Forms.{ObjectChoicesStand, ObjectAssignmentsStand, CallsStand, RowsMean};
 
 /// Names, members, `this` and literals.
@@ -21,6 +21,7 @@ pub fn casts()
     ensures functionals { FunctionalsStand }
     ensures sizes { SizesStand }
     ensures throws { ValueThrowsStand }
+    ensures objects { ThrowsStand }
 {}
 
 /// `,` and `?:` with objects of classes.
