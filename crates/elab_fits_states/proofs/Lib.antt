@@ -1,0 +1,11 @@
+pub use Rattle.elab_rules.proofs as elab_rules
+pub mod Added
+pub mod Bodies
+pub mod Discipline
+pub mod Globals
+pub mod Good
+pub mod Lists
+pub mod Making
+pub mod Moved
+pub mod Reading
+pub mod Texts

@@ -1,0 +1,8 @@
+//! Laws of the states of elaboration inside of a function. A function here does nothing: its clauses are the laws.
+
+ghost use Rattle.elab_fits_states.specs.Bodies.{BodiesFit};
+
+/// Statements of a function's body fit as items of a block.
+pub fn bodies()
+    ensures fit { BodiesFit }
+{}
