@@ -25,7 +25,7 @@ use Rattle.elab_rules.specs.Initialising.{initial, class_from, from_nothing}
 use Rattle.elab_rules.specs.Objects.{destroys}
 use Rattle.elab_rules.specs.Operators.{dropped}
 use Rattle.elab_rules.specs.Statements
-use Rattle.elab_rules.specs.Statements.{State, Lambdas, with_work, all_lambdas, copy_initialised, directly_initialised, default_object, auto_placed, placed_variable}
+use Rattle.elab_rules.specs.Statements.{State, Lambdas, throws_object, with_work, all_lambdas, copy_initialised, directly_initialised, default_object, auto_placed, placed_variable}
 use Rattle.elab_fits.specs.Standing.{On, FitsAs, Reaches}
 use Rattle.elab_fits.specs.Objects.{DestroysOne}
 use Rattle.elab_fits.specs.Scalars.{Initialises}
@@ -58,6 +58,7 @@ use Rattle.elab_fits_states.specs.States.{IsText, AreTexts, setting, IsGood, IsS
 use Rattle.elab_fits_states.specs.Premises.{Premises, GoesWell, AreNoThrows}
 use Rattle.elab_fits_states.proofs.Globals
 use Rattle.elab_fits_states.proofs.Added
+use Rattle.elab_fits_states.proofs.Apart.{Apart, class_apart, variable_apart, direct_apart, nothing_apart}
 use Rattle.elab_fits_states.proofs.Good.{good_worked, leads_worked, good_settled, good_within, good_outer, good_labels, good_named, good_placed, good_auto}
 use Rattle.elab_fits_states.proofs.Good.{item_there, leads_placed, leads_auto}
 use Rattle.elab_fits_states.proofs.Making.{result_parameter, result_sound, class_no_reference, initial_made, copy_made, direct_made, default_made}
@@ -141,7 +142,7 @@ module _ (f : UnitFunc) (lams : Lambdas) (s : List Lexeme) (p : Premises f lams 
               g.good.holds.makers (source_later a m.work o g.good b x) (object_typ_is (setting f a) a.ctx a.work t g.good.holds
               (result_sound a.ctx.classes t (subst (λ (u : Typ). Types.is_result a.ctx.classes u ≡ true) q g.good.sound)) k)) e
               (reached_law f a.ctx m.work)).one;
-          no_throw = p.throws.class a.ctx a.work t o.at o m x.no_throw e;
+          no_throw = answered Apart r m (class_apart a.ctx a.work t o.at o x.no_throw) e;
         };
       }
 
@@ -165,7 +166,7 @@ module _ (f : UnitFunc) (lams : Lambdas) (s : List Lexeme) (p : Premises f lams 
           one = (answered (λ (y : Made). Reaches (setting_at f a.ctx m.work) y.work → Makes (setting_at f a.ctx m.work) t y.tree) r m
               (copy_made (setting_at f a.ctx m.work) a.ctx (is_lambda a.ctx.classes) (stand_law f a.ctx m.work g.good.holds.setting.ordered) g.good.holds.makers
               a.work t o (source_later a m.work o g.good b x) (object_here a t g h).initialised) e (reached_law f a.ctx m.work)).one;
-          no_throw = p.throws.copied a.ctx a.work t o m x.no_throw e;
+          no_throw = answered Apart r m (variable_apart a.ctx (is_lambda a.ctx.classes) a.work t o x.no_throw (object_here a t g h).initialised) e;
         };
       }
 
@@ -173,7 +174,7 @@ module _ (f : UnitFunc) (lams : Lambdas) (s : List Lexeme) (p : Premises f lams 
   defaults a t at e g h k = record {
     one = (answered (Makes (setting f a) t) (default_object a.ctx t at) e (default_made (setting f a) a.ctx (is_lambda a.ctx.classes) g.good.holds.setting
         g.good.holds.makers t at (object_here a t g h).initialised) k).one;
-    no_throw = p.throws.nothing a.ctx t at e k;
+    no_throw = answered (λ (y : Tree). throws_object y ≡ false) (default_object a.ctx t at) e (nothing_apart a.ctx t at) k;
   }
 
   -- behind the lambdas of an initialiser
@@ -209,7 +210,8 @@ module _ (f : UnitFunc) (lams : Lambdas) (s : List Lexeme) (p : Premises f lams 
             (sources_of S x.ctx xs.operands (answered (λ (y : TypedAll). Reaches S y.work → ProperOperands S x.ctx y.operands) (operands_of s x.ctx x.work es) xs
             (p.operands s S x.ctx x.ctx.closures x.work es (later f x.ctx x.work m.work l.good.holds) l.good.closures ts.spelled) k
             (reached_behind f x.ctx xs.work m.work b))) (h x l.leads l.good).initialised) n (reached_law f x.ctx m.work)).one;
-        no_throw = p.throws.values x.ctx xs.work t at xs.operands m (p.throws.read_all x.ctx x.work es xs k) n;
+        no_throw = answered Apart r m (direct_apart x.ctx (is_lambda x.ctx.classes) xs.work t at xs.operands (p.throws.read_all x.ctx x.work es xs k)
+            (h x l.leads l.good).initialised (h x l.leads l.good).declared) n;
       })
 
   braces : (a x : State) (t : Typ) (q : At) (variable : Tree) (r : SyntaxAt) (token : Option ℕ) (es : syntax.Trees) (m : Made) → IsSettled f a

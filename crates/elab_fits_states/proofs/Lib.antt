@@ -1,5 +1,6 @@
 pub use Rattle.elab_rules.proofs as elab_rules
 pub mod Added
+pub mod Apart
 pub mod Bodies
 pub mod Discipline
 pub mod Globals

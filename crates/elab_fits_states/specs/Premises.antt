@@ -15,10 +15,9 @@ use Rattle.elab_rules.specs.elab_ctx.Ctx.{Ctx, Work}
 use Rattle.elab_rules.specs.elab_ctx.Steps.{and_then, Operand, Made, Typed, TypedAll}
 use Rattle.elab_rules.specs.Braces.{item_of, string_object}
 use Rattle.elab_rules.specs.Expressions.{expression_of, operands_of, chosen_operand, type_of_specifiers, declared_by}
-use Rattle.elab_rules.specs.Initialising.{class_from}
 use Rattle.elab_rules.specs.Sizes.{typ_sized}
 use Rattle.elab_rules.specs.Types.{Declared, has_auto, is_bounded}
-use Rattle.elab_rules.specs.Statements.{State, Lambdas, with_work, throws_object, copy_initialised, directly_initialised, default_object, declarable, bound_by_initialiser, deduced_type, replaced, caught_type}
+use Rattle.elab_rules.specs.Statements.{State, Lambdas, with_work, declarable, bound_by_initialiser, deduced_type, replaced, caught_type}
 use Rattle.elab_fits_forms.specs.Expressions.{ExpressionsMean, OperandsStand}
 use Rattle.elab_fits_statements.specs.Anywhere.{FitsAnywhere}
 use Rattle.elab_fits_statements.specs.Variables.{BuildsWhole}
@@ -40,17 +39,10 @@ abbrev pub AreNoThrows : List Operand → Type 0
 AreNoThrows [] = Unit {0}
 AreNoThrows (o ∷ os) = IsNoThrow o × AreNoThrows os
 
--- `throw` of an object is told from what builds one
 pub record ThrowsApart (s : List Lexeme) : Type 0 where
   -- an expression that elaborates is no `throw` of an object but behind what says that it has no value
   pub read : (c : Ctx) (w : Work) (e : syntax.Tree) (x : Typed) → and_then (expression_of s c w e) (chosen_operand c) ≡ Ok x → IsNoThrow x.operand
   pub read_all : (c : Ctx) (w : Work) (es : syntax.Trees) (x : TypedAll) → operands_of s c w es ≡ Ok x → AreNoThrows x.operands
-  -- nor is what builds a result or a variable of such ones, or of nothing
-  pub class : (c : Ctx) (w : Work) (t : Typ) (at : At) (o : Operand) (m : Made) → IsNoThrow o → class_from c w t at o ≡ Ok m → throws_object m.tree ≡ false
-  pub copied : (c : Ctx) (w : Work) (t : Typ) (o : Operand) (m : Made) → IsNoThrow o → copy_initialised c w t o ≡ Ok m → throws_object m.tree ≡ false
-  pub values : (c : Ctx) (w : Work) (t : Typ) (at : At) (os : List Operand) (m : Made) → AreNoThrows os → directly_initialised c w t at os ≡ Ok m
-      → throws_object m.tree ≡ false
-  pub nothing : (c : Ctx) (t : Typ) (at : At) (e : Tree) → default_object c t at ≡ Ok e → throws_object e ≡ false
 
 pub record Premises (f : UnitFunc) (lams : Lambdas) (s : List Lexeme) : Type 0 where
   -- whatever elaborates means something, and operands stand: the laws of elab_fits_forms
