@@ -56,6 +56,7 @@ use Rattle.state_growth.proofs.Lists.{behind}
 use Rattle.state_growth.proofs.Steps.{goes, stays}
 use Rattle.elab_fits_states.specs.States.{IsText, AreTexts, setting, IsGood, IsSettled, IsRead, IsWritten, IsObjectType, IsVariableType, words}
 use Rattle.elab_fits_states.specs.Premises.{Premises, GoesWell, AreNoThrows}
+use Rattle.elab_fits_states.proofs.Caught.{can_be_caught}
 use Rattle.elab_fits_states.proofs.Globals
 use Rattle.elab_fits_states.proofs.Added
 use Rattle.elab_fits_states.proofs.Apart.{Apart, class_apart, variable_apart, direct_apart, nothing_apart}
@@ -284,5 +285,5 @@ module _ (f : UnitFunc) (lams : Lambdas) (s : List Lexeme) (p : Premises f lams 
     names = λ a name g. good_named f a g name;
     names_leads = λ a name. goes a (Statements.declared_variable a name None) (stays a);
     autos = autos;
-    caught = p.caught;
+    caught = can_be_caught f s;
   }

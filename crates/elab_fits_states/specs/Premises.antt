@@ -17,11 +17,11 @@ use Rattle.elab_rules.specs.Braces.{item_of, string_object}
 use Rattle.elab_rules.specs.Expressions.{expression_of, operands_of, chosen_operand, type_of_specifiers, declared_by}
 use Rattle.elab_rules.specs.Sizes.{typ_sized}
 use Rattle.elab_rules.specs.Types.{Declared, has_auto, is_bounded}
-use Rattle.elab_rules.specs.Statements.{State, Lambdas, with_work, declarable, bound_by_initialiser, deduced_type, replaced, caught_type}
+use Rattle.elab_rules.specs.Statements.{State, Lambdas, with_work, declarable, bound_by_initialiser, deduced_type, replaced}
 use Rattle.elab_fits_forms.specs.Expressions.{ExpressionsMean, OperandsStand}
 use Rattle.elab_fits_statements.specs.Anywhere.{FitsAnywhere}
 use Rattle.elab_fits_statements.specs.Variables.{BuildsWhole}
-use Rattle.elab_fits_statements.specs.Discipline.{StandsAs, CanBeCaught, Gains}
+use Rattle.elab_fits_statements.specs.Discipline.{StandsAs, Gains}
 use Rattle.state_growth.specs.States.{Goes}
 use Rattle.elab_fits_states.specs.States.{IsText, AreTexts, setting, IsGood, IsSettled, IsNoThrow, IsRead, IsWritten, IsObjectType, words}
 
@@ -70,5 +70,3 @@ pub record Premises (f : UnitFunc) (lams : Lambdas) (s : List Lexeme) : Type 0 w
   -- so can those of a type that is deduced
   pub deduces : (a : State) (p : At) (t u : Typ) (o : Operand) → IsSettled f a → IsWritten f a t → has_auto t ≡ true → IsRead f a o → deduced_type p t o ≡ Ok u
       → IsObjectType f a (replaced u t)
-  -- and those of a type that may be caught
-  pub caught : (a : State) (p : At) (t u : Typ) → IsSettled f a → IsWritten f a t → caught_type a.ctx p t ≡ Ok u → CanBeCaught (words f s) a u
