@@ -1,0 +1,4 @@
+//! Names, calls, casts, `throw` and the choices between objects fit where they come to stand.
+#![tactic(auto)]
+
+pub mod laws;

@@ -1,0 +1,28 @@
+//! Laws of what initialises objects of class type. A function here does nothing: its clauses are the laws.
+
+ghost use Rattle.elab_fits_objects.specs.Making.{ObjectsPlaced, ClassesBuild, ExactsBuild, WordsPass, AllWordsFit, WordsKeep, ChosenViable};
+ghost use Rattle.elab_fits_objects.specs.Making.{NothingBuilds, ConstructorsBuild, ScalarsBuild, ExceptionsBuild, ValuesBuild};
+
+/// An object of class type, by an expression.
+pub fn objects()
+    ensures placed { ObjectsPlaced }
+    ensures classes { ClassesBuild }
+    ensures exacts { ExactsBuild }
+{}
+
+/// The words of a call.
+pub fn words()
+    ensures passed { WordsPass }
+    ensures words { AllWordsFit }
+    ensures kept { WordsKeep }
+    ensures chosen { ChosenViable }
+{}
+
+/// An object from nothing, or from values in parentheses.
+pub fn values()
+    ensures nothing { NothingBuilds }
+    ensures constructors { ConstructorsBuild }
+    ensures scalars { ScalarsBuild }
+    ensures exceptions { ExceptionsBuild }
+    ensures values { ValuesBuild }
+{}
