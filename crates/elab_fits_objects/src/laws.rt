@@ -1,7 +1,7 @@
 //! Laws of what initialises objects of class type. A function here does nothing: its clauses are the laws.
 
 ghost use Rattle.elab_fits_objects.specs.Making.{ObjectsPlaced, ClassesBuild, ExactsBuild, WordsPass, AllWordsFit, WordsKeep, ChosenViable};
-ghost use Rattle.elab_fits_objects.specs.Making.{NothingBuilds, ConstructorsBuild, ScalarsBuild, ExceptionsBuild, ValuesBuild};
+ghost use Rattle.elab_fits_objects.specs.Making.{NothingBuilds, ConstructorsBuild, ScalarsBuild, ExceptionsBuild, ValuesBuild, CastsStand, FunctionalsStand};
 
 /// An object of class type, by an expression.
 pub fn objects()
@@ -25,4 +25,10 @@ pub fn values()
     ensures scalars { ScalarsBuild }
     ensures exceptions { ExceptionsBuild }
     ensures values { ValuesBuild }
+{}
+
+/// An object that a cast makes.
+pub fn casts()
+    ensures casts { CastsStand }
+    ensures functionals { FunctionalsStand }
 {}
