@@ -95,7 +95,7 @@ module _ (s : Setting) (c : Ctx) (lambda : ℕ → Bool) where
     copied = ap copies_itself (unretyped s f d u kind at kids g) ∙ k;
   }
 
-  plain_source : (f : Form) (e : Tree) → is_object_form f ≡ true → is_exception_form f ≡ false → is_sorted lambda f ≡ true
+  pub plain_source : (f : Form) (e : Tree) → is_object_form f ≡ true → is_exception_form f ≡ false → is_sorted lambda f ≡ true
       → is_whole c.classes (plain f) ≡ true → Makes s (plain f) e → IsSourceTree s c lambda e
   plain_source f (node kind (typ g d u) Lvalue at kids) i n sorted z h = let b = h.one.builds in absurd cc
   plain_source f (node kind (typ g d u) Prvalue at kids) i n sorted z h =

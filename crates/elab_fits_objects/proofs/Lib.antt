@@ -11,6 +11,7 @@ pub mod Exceptions
 pub mod Fits
 pub mod Forms
 pub mod Keeping
+pub mod Lambdas
 pub mod Nothing
 pub mod Passing
 pub mod Placing

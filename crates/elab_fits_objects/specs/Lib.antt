@@ -1,2 +1,3 @@
+pub mod Capturing
 pub mod Contexts
 pub mod Making

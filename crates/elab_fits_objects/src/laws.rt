@@ -1,5 +1,6 @@
 //! Laws of what initialises objects of class type. A function here does nothing: its clauses are the laws.
 
+ghost use Rattle.elab_fits_objects.specs.Capturing.{CapturesBuild, LambdasStand};
 ghost use Rattle.elab_fits_objects.specs.Making.{ObjectsPlaced, ClassesBuild, ExactsBuild, WordsPass, AllWordsFit, WordsKeep, ChosenViable};
 ghost use Rattle.elab_fits_objects.specs.Making.{NothingBuilds, ConstructorsBuild, ScalarsBuild, ExceptionsBuild, ValuesBuild, CastsStand, FunctionalsStand};
 
@@ -31,4 +32,10 @@ pub fn values()
 pub fn casts()
     ensures casts { CastsStand }
     ensures functionals { FunctionalsStand }
+{}
+
+/// What a lambda captures, and its object.
+pub fn lambdas()
+    ensures captures { CapturesBuild }
+    ensures lambdas { LambdasStand }
 {}
