@@ -10,6 +10,7 @@ pub mod Excepting
 pub mod Exceptions
 pub mod Fits
 pub mod Forms
+pub mod Items
 pub mod Keeping
 pub mod Lambdas
 pub mod Nothing
