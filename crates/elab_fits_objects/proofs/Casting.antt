@@ -1,8 +1,7 @@
 -- Objects that casts make.
-use Rattle.std.proofs.Common.{◌≡◌, refl, sym, ap, ◌∙◌, subst, ℕ, Bool, true, false, not, ◌&&◌, ◌||◌, List, [], ◌∷◌, Option, Some, None, is_some, Result, Ok, Err}
+use Rattle.std.proofs.Common.{◌≡◌, refl, sym, ap, ◌∙◌, subst, ℕ, Bool, true, false, not, ◌&&◌, ◌||◌, List, [], ◌∷◌, Some, is_some, Result, Ok, Err}
 use Rattle.std.proofs.lemmas.Bool.{and_parts}
 use Rattle.std.specs.Prelude.{if◌then◌else◌}
-use Rattle.elab_rules.specs.cpp_overload.Choosing.{chosen}
 use Rattle.elab_rules.specs.cpp_types.Typ.{Typ, typ, Form, void, int, enum, null, ptr, ref, array, func, class, closure, tx_ex}
 use Rattle.elab_rules.specs.cpp_types.Class.{Class, completion_of}
 use Rattle.elab_rules.specs.cpp_types.Equal.{typ_eq, form_eq}
@@ -13,30 +12,29 @@ use Rattle.elab_rules.specs.cpp_types.declared.ranks.Cat.TheVariants.{Lvalue, Pr
 use Rattle.elab_rules.specs.cpp_tree.declared.faults.ElabFault.{ElabFault}
 use Rattle.elab_rules.specs.cpp_tree.declared.kinds.TKind.{TKind}
 use Rattle.elab_rules.specs.cpp_tree.declared.kinds.TKind.TheVariants.{Retype, Store}
-use Rattle.elab_rules.specs.cpp_tree.declared.roles.Role.TheVariants.{Value, Initialiser}
+use Rattle.elab_rules.specs.cpp_tree.declared.roles.Role.TheVariants.{Initialiser}
 use Rattle.elab_rules.specs.cpp_tree.Notation.{plain}
-use Rattle.elab_rules.specs.cpp_tree.Trees.{Tree, node, Trees, one, typ_in, cat_of}
-use Rattle.elab_rules.specs.cpp_tree.Typing.{Head, head_of, form_in, unqualified, is_class_typ, is_class_prvalue, is_prvalue, builds, same_shape, goes_both_ways}
-use Rattle.elab_rules.specs.cpp_tree.Typing.{without_exception}
+use Rattle.elab_rules.specs.cpp_tree.Trees.{Tree, node, Trees, one, typ_in}
+use Rattle.elab_rules.specs.cpp_tree.Typing.{Head, head_of, form_in, builds, goes_both_ways}
 use Rattle.elab_rules.specs.cpp_tree.Parts.{holds_complete}
 use Rattle.elab_rules.specs.cpp_tree.Rows.{Setting}
 use Rattle.elab_rules.specs.elab_ctx.Ctx.{Ctx, Work}
 use Rattle.elab_rules.specs.elab_ctx.Steps.{and_then, Operand, Made}
 use Rattle.elab_rules.specs.Values.{builder, is_exception_form}
 use Rattle.elab_rules.specs.Objects.{traits_at}
-use Rattle.elab_rules.specs.Initialising.{with_tree, from_values, from_nothing, constructed, makeable, default_by}
-use Rattle.elab_rules.specs.Casts.{as_expression, stored_at, cast_in, cast, functional}
-use Rattle.elab_fits.specs.Standing.{FitsAs, IsExpressionType, Stands, BuildsOne, IsSetting, Reaches, On}
+use Rattle.elab_rules.specs.Initialising.{with_tree, from_values, from_nothing, makeable, default_by}
+use Rattle.elab_rules.specs.Casts.{as_expression, stored_at}
+use Rattle.elab_fits.specs.Standing.{FitsAs, IsExpressionType, Stands, IsSetting, Reaches, On}
 use Rattle.elab_fits.specs.Objects.{is_single}
-use Rattle.elab_fits.proofs.Equal.{typ_refl, typ_same, form_same, form_refl}
-use Rattle.elab_fits.proofs.Nodes.{both, or_left, or_right, clash}
+use Rattle.elab_fits.proofs.Equal.{typ_refl, typ_same, form_same}
+use Rattle.elab_fits.proofs.Nodes.{or_left, clash}
 use Rattle.elab_fits.proofs.Steps.{bind, known}
-use Rattle.elab_fits_objects.specs.Contexts.{is_sorted, is_whole, refers, copies_itself, IsObjectTyp, IsParameter, IsInitialised, HasMakers, IsSource, AreSources}
+use Rattle.elab_fits_objects.specs.Contexts.{is_sorted, is_whole, copies_itself, IsObjectTyp, IsInitialised, HasMakers, AreSources}
 use Rattle.elab_fits_objects.specs.Making.{Makes, IsSourceTree, CastsStand, FunctionalsStand}
 use Rattle.elab_fits_objects.proofs.Classes.{Built}
 use Rattle.elab_fits_objects.proofs.Exceptions.{value_single}
 use Rattle.elab_fits_objects.proofs.Fits.{fit_as}
-use Rattle.elab_fits_objects.proofs.Forms.{builder_is, copies_other, single_plain}
+use Rattle.elab_fits_objects.proofs.Forms.{copies_other, single_plain}
 use Rattle.elab_fits_objects.proofs.Types.{requalified, makeable_complete}
 use Rattle.elab_fits_objects.proofs.Valued.{values_build}
 

@@ -1,17 +1,16 @@
 -- Items of lists in braces.
-use Rattle.std.proofs.Common.{◌≡◌, refl, ℕ, Bool, true, false, not, ◌&&◌}
-use Rattle.std.specs.Prelude.{if◌then◌else◌}
-use Rattle.elab_rules.specs.cpp_types.Typ.{Typ, typ, Form, void, int, enum, null, ptr, ref, array, func, class, closure, tx_ex}
+use Rattle.std.proofs.Common.{◌≡◌, refl, ℕ, Bool, false, not, ◌&&◌}
+use Rattle.elab_rules.specs.cpp_types.Typ.{Typ, typ, void, int, enum, null, ptr, ref, array, func, class, closure, tx_ex}
 use Rattle.elab_rules.specs.cpp_tree.declared.faults.IllRule.TheVariants.{Narrowing}
 use Rattle.elab_rules.specs.cpp_tree.Typing.{form_in, is_class_typ}
 use Rattle.elab_rules.specs.cpp_tree.Rows.{Setting}
 use Rattle.elab_rules.specs.elab_ctx.Ctx.{Ctx, Work}
-use Rattle.elab_rules.specs.elab_ctx.Steps.{and_then, Operand, Made}
-use Rattle.elab_rules.specs.Initialising.{class_from, scalar_from}
+use Rattle.elab_rules.specs.elab_ctx.Steps.{and_then, Operand}
+use Rattle.elab_rules.specs.Initialising.{scalar_from}
 use Rattle.elab_rules.specs.Braces.{item_in, is_aggregate_class, is_object_of, not_narrowed, is_not_narrowed}
-use Rattle.elab_fits.specs.Standing.{IsSetting, Reaches, On}
+use Rattle.elab_fits.specs.Standing.{IsSetting, On}
 use Rattle.elab_fits.proofs.Steps.{bind, checked, either}
-use Rattle.elab_fits_objects.specs.Contexts.{IsObjectTyp, IsParameter, IsInitialised, HasMakers, IsSource}
+use Rattle.elab_fits_objects.specs.Contexts.{IsParameter, IsInitialised, HasMakers, IsSource}
 use Rattle.elab_fits_objects.specs.Items.{ItemsBuild}
 use Rattle.elab_fits_objects.proofs.Classes.{Built, class_builds}
 use Rattle.elab_fits_objects.proofs.Exact.{Exact}

@@ -1,47 +1,47 @@
 -- What makes lambdas' objects.
-use Rattle.std.proofs.Common.{◌≡◌, refl, sym, ap, ◌∙◌, subst, ℕ, zero, suc, ◌+◌, Bool, true, false, not, ◌&&◌, ◌||◌, List, [], ◌∷◌, length, slice_get}
-use Rattle.std.proofs.Common.{Option, Some, None, is_some, arith, Result, Ok, Err}
+use Rattle.std.proofs.Common.{◌≡◌, refl, sym, ap, ◌∙◌, subst, ℕ, zero, suc, ◌+◌, Bool, true, false, List, [], ◌∷◌, length, slice_get}
+use Rattle.std.proofs.Common.{Some, is_some, arith, Result, Ok, Err}
 use Rattle.std.proofs.lemmas.Option.{slice_get_within}
 use Rattle.std.specs.List.{list_all}
 use Rattle.elab_rules.specs.cpp_types.Typ.{Typ, typ, Form, void, int, enum, null, ptr, ref, array, func, class, closure, tx_ex}
-use Rattle.elab_rules.specs.cpp_types.Conversion.{decayed, is_lvalue}
+use Rattle.elab_rules.specs.cpp_types.Conversion.{is_lvalue}
 use Rattle.elab_rules.specs.cpp_types.Equal.{typ_eq}
 use Rattle.elab_rules.specs.cpp_types.declared.classes.At.{At}
 use Rattle.elab_rules.specs.cpp_types.declared.ranks.Cat.{Cat}
-use Rattle.elab_rules.specs.cpp_types.declared.ranks.Cat.TheVariants.{Lvalue, Prvalue}
+use Rattle.elab_rules.specs.cpp_types.declared.ranks.Cat.TheVariants.{Prvalue}
 use Rattle.elab_rules.specs.cpp_tree.declared.faults.ElabFault.{ElabFault}
 use Rattle.elab_rules.specs.cpp_tree.declared.faults.IllRule.TheVariants.{OutOfProfile}
 use Rattle.elab_rules.specs.cpp_tree.declared.kinds.TKind.TheVariants.{CopyFrom, Pieces, Piece}
 use Rattle.elab_rules.specs.cpp_tree.declared.roles.Position.{Position}
-use Rattle.elab_rules.specs.cpp_tree.declared.roles.Role.TheVariants.{Value, Initialiser, Part as PartRole, Destruction}
+use Rattle.elab_rules.specs.cpp_tree.declared.roles.Role.TheVariants.{Initialiser, Part as PartRole, Destruction}
 use Rattle.elab_rules.specs.cpp_tree.Notation.{plain}
-use Rattle.elab_rules.specs.cpp_tree.Trees.{Tree, node, Trees, none, more, typ_in, cat_of}
+use Rattle.elab_rules.specs.cpp_tree.Trees.{Tree, node, Trees, none, more, typ_in}
 use Rattle.elab_rules.specs.cpp_tree.Typing.{Head, head_of, form_in, is_class_prvalue, same_shape, qualified}
-use Rattle.elab_rules.specs.cpp_tree.Parts.{are_part_pieces, sized_class, part_of, size_in}
+use Rattle.elab_rules.specs.cpp_tree.Parts.{are_part_pieces, sized_class, part_of}
 use Rattle.elab_rules.specs.cpp_tree.Roles.{and_any}
 use Rattle.elab_rules.specs.cpp_tree.Rows.{Setting, row_fits}
 use Rattle.elab_rules.specs.cpp_tree.WellFormed.{kids_fit, heads_of}
 use Rattle.elab_rules.specs.elab_ctx.Ctx.{Ctx, Work, Capture, Closure}
-use Rattle.elab_rules.specs.elab_ctx.Steps.{and_then, expect, Operand, Made, MadeAll}
+use Rattle.elab_rules.specs.elab_ctx.Steps.{and_then, Operand, Made, MadeAll}
 use Rattle.elab_rules.specs.Values.{stored, valued}
 use Rattle.elab_rules.specs.Objects.{Part, parts_in, parts_of, pieces, destroys, is_array}
 use Rattle.elab_rules.specs.Initialising.{class_from, closure_part}
-use Rattle.elab_rules.specs.Expressions.{captured_value, capture_source, captured, captured_pieces, closure_at, closure_object}
+use Rattle.elab_rules.specs.Expressions.{captured_value, capture_source, captured, captured_pieces, closure_at}
 use Rattle.elab_fits.specs.Standing.{FitsAs, BuildsOne, IsSetting, Reaches, On}
 use Rattle.elab_fits.specs.Scalars.{is_scalar, Gives}
-use Rattle.elab_fits.specs.Objects.{part_ready, class_ready, is_closure, DestroysOne}
+use Rattle.elab_fits.specs.Objects.{part_ready, class_ready, DestroysOne}
 use Rattle.elab_fits.proofs.Destructions.{destructions_law}
 use Rattle.elab_fits.proofs.Equal.{typ_refl}
 use Rattle.elab_fits.proofs.Initials.{value_form_is}
-use Rattle.elab_fits.proofs.Nodes.{both, or_left, node_fits, head_typ, head_cat, clash}
+use Rattle.elab_fits.proofs.Nodes.{both, or_left, node_fits, head_typ, head_cat}
 use Rattle.elab_fits.proofs.Objects.{Sized, sized_from, laid_from, sized_class_is, few_members, IsPart, part_is, count_is, shown}
 use Rattle.elab_fits.proofs.Pieces.{pieces_agree}
 use Rattle.elab_fits.proofs.Steps.{bind, skip, expected}
 use Rattle.elab_fits.proofs.Values.{value_gives, stored_builds}
 use Rattle.elab_fits.proofs.Wholes.{qualified_none}
 use Rattle.elab_fits_objects.specs.Capturing.{IsCaptureTyp, IsCaptured, CapturesBuild, IsCapturedPart, AreCaptured, IsLambda, LambdasStand}
-use Rattle.elab_fits_objects.specs.Contexts.{is_whole, IsObjectTyp, HasMakers, IsSource}
-use Rattle.elab_fits_objects.specs.Making.{Makes, IsSourceTree}
+use Rattle.elab_fits_objects.specs.Contexts.{is_whole, IsObjectTyp, HasMakers}
+use Rattle.elab_fits_objects.specs.Making.{IsSourceTree}
 use Rattle.elab_fits_objects.proofs.Captures.{part_copied}
 use Rattle.elab_fits_objects.proofs.Casting.{plain_source}
 use Rattle.elab_fits_objects.proofs.Classes.{Built, class_builds}

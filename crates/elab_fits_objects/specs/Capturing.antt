@@ -1,6 +1,6 @@
 -- What makes a lambda's object fits where it comes to stand (C++14 5.1.2).
 use Rattle.std.specs.Prelude.{◌≡◌, ℕ, Bool, true, false, ◌||◌, List, [], ◌∷◌, Some, is_some}
-use Rattle.elab_rules.specs.cpp_types.Typ.{Typ, typ, Form, ref, closure}
+use Rattle.elab_rules.specs.cpp_types.Typ.{Typ, ref, closure}
 use Rattle.elab_rules.specs.cpp_types.Conversion.{is_object_form, decayed}
 use Rattle.elab_rules.specs.cpp_types.declared.classes.At.{At}
 use Rattle.elab_rules.specs.cpp_types.declared.ranks.Cat.TheVariants.{Lvalue}
@@ -10,12 +10,12 @@ use Rattle.elab_rules.specs.cpp_tree.Typing.{form_in, same_shape}
 use Rattle.elab_rules.specs.cpp_tree.Parts.{size_in}
 use Rattle.elab_rules.specs.cpp_tree.Rows.{Setting}
 use Rattle.elab_rules.specs.elab_ctx.Ctx.{Ctx, Work, Capture, Closure}
-use Rattle.elab_rules.specs.elab_ctx.Steps.{Operand, Made}
+use Rattle.elab_rules.specs.elab_ctx.Steps.{Made}
 use Rattle.elab_rules.specs.Objects.{Part, parts_of, is_array}
 use Rattle.elab_rules.specs.Expressions.{captured_value, capture_source, closure_at, closure_object}
 use Rattle.elab_fits.specs.Standing.{BuildsOne, IsSetting, Reaches, On}
 use Rattle.elab_fits.specs.Scalars.{is_scalar}
-use Rattle.elab_fits_objects.specs.Contexts.{refers, is_whole, IsObjectTyp, IsCapture, HasMakers, IsSource}
+use Rattle.elab_fits_objects.specs.Contexts.{refers, IsObjectTyp, IsCapture, HasMakers}
 use Rattle.elab_fits_objects.specs.Making.{IsSourceTree}
 
 -- the type of a capture: a scalar, a reference, a class or an array, which has a size

@@ -1,5 +1,5 @@
 -- An item of a list in braces, which is an expression (C++14 8.5.4).
-use Rattle.std.specs.Prelude.{◌≡◌, ℕ, Bool}
+use Rattle.std.specs.Prelude.{ℕ, Bool}
 use Rattle.elab_rules.specs.cpp_types.Typ.{Typ}
 use Rattle.elab_rules.specs.cpp_tree.Typing.{form_in}
 use Rattle.elab_rules.specs.cpp_tree.Rows.{Setting}
