@@ -1,0 +1,3 @@
+pub use Rattle.elab_rules.proofs as elab_rules
+pub mod Holding
+pub mod Shown
