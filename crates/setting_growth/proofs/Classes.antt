@@ -5,17 +5,16 @@ use Rattle.std.proofs.lemmas.List.{take-map}
 use Rattle.std.proofs.lemmas.Option.{same_Some}
 use Rattle.std.specs.List.{list_any}
 use Rattle.cpp_types.specs.Typ.{Typ, typ}
-use Rattle.cpp_types.specs.Class.{Class, Member, InOrder, CompleteBelow, HoldsEarlier, completion_of, base_of, held, held_form}
+use Rattle.cpp_types.specs.Class.{Class, Member, CompleteBelow, HoldsEarlier, completion_of, base_of, held, held_form}
 use Rattle.cpp_types.specs.Conversion.{first_and, chain, bases, form_of}
 use Rattle.cpp_types.specs.Order.{each_passes}
 use Rattle.cpp_layout.specs.Layout.{Extent, form_extent, member_extent, base_items, pointer_items, has_virtual, has_class_pointer, functions_of}
 use Rattle.cpp_layout.specs.Layout.{is_virtual_function, head_items, items_of, whole, record_extent, extent_within, class_extent, extent_of, offset_after}
 use Rattle.cpp_layout.specs.Measured.{member_offset, member_extents}
 use Rattle.cpp_layout.proofs.Forms.{form_agrees}
-use Rattle.cpp_types.proofs.Bases.{base_is_earlier}
 use Rattle.cpp_tree.specs.Typing.{form_in}
 use Rattle.cpp_tree.specs.Parts.{holds_complete}
-use Rattle.setting_growth.specs.Growth.{ClassesGrow}
+use Rattle.setting_growth.specs.Growth.{HeldEarlier, ClassesGrow}
 use Rattle.setting_growth.proofs.Still.{is_there}
 
 -- Complete classes
@@ -121,7 +120,7 @@ module _ (old new : List Class) (g : ClassesGrow old new) where
   pub holds_still : (t : Typ) → holds_complete old (form_in t) ≡ true → holds_complete new (form_in t) ≡ true
   holds_still t h = holds_known new t (λ e q. known_still e (all_known old t h e q))
 
-  module _ (o : InOrder old) where
+  module _ (o : HeldEarlier old) where
     pub earlier : (n : ℕ) (k : Known old n) → HoldsEarlier old k.number k.owner
     earlier n k = o.earlier n k.owner k.number k.found k.complete
 
@@ -131,8 +130,12 @@ module _ (old new : List Class) (g : ClassesGrow old new) where
     pub member_known : (n : ℕ) (k : Known old n) (i : ℕ) (m : Member) → slice_get k.owner.members i ≡ Some m → AllKnown old m.typ
     member_known n k i m h = λ e q. known_below old k.number e ((earlier n k).members i m h e q)
 
+    base_is : (n : ℕ) (k : Known old n) → base_of old n ≡ k.owner.base
+    base_is n k = ap (option_and_then (λ (c : Class). cond (is_some c.complete) c.base None)) k.found
+        ∙ ap (λ (z : Option ℕ). cond (is_some z) k.owner.base None) k.complete
+
     next_known : (n b : ℕ) → Known old n → base_of old n ≡ Some b → Known old b
-    next_known n b k h = known_below old k.number b (base_is_earlier old n b k.number o h (completion_is old n k))
+    next_known n b k h = base_known n k b (sym (base_is n k) ∙ h)
 
     -- Bases
 

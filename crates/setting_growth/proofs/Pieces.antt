@@ -3,19 +3,19 @@ use Rattle.std.proofs.Common.{◌≡◌, refl, sym, ap, ◌∙◌, ℕ, zero, su
 use Rattle.std.proofs.Common.{Option, Some, None, is_some, unwrap_or, option_map}
 use Rattle.std.specs.List.{list_any}
 use Rattle.cpp_types.specs.Typ.{Typ, typ, array, class, closure}
-use Rattle.cpp_types.specs.Class.{Class, InOrder, completion_of}
+use Rattle.cpp_types.specs.Class.{Class, completion_of}
 use Rattle.cpp_types.specs.Conversion.{bases}
 use Rattle.cpp_layout.specs.Layout.{has_class_pointer, next_multiple}
 use Rattle.cpp_tree.specs.Typing.{Head, passes, form_in, is_class, builds}
 use Rattle.cpp_tree.specs.Parts.{Part, sized_class, part_of, parts_in, count_of_parts, pointer_behind, adds_pointer_at, has_pointer_at}
 use Rattle.cpp_tree.specs.Parts.{is_piece_of, are_part_pieces, are_class_pieces, are_element_pieces, are_pieces, are_elements, are_objects, Objects, are_whole}
 use Rattle.cpp_tree.specs.Parts.{closure_in, are_captured, any_captured, captured_within, depth_of, are_destroyed}
-use Rattle.setting_growth.specs.Growth.{ClassesGrow}
+use Rattle.setting_growth.specs.Growth.{HeldEarlier, ClassesGrow}
 use Rattle.setting_growth.proofs.Still.{Still, same, never, equal, both, both_if, one_of, each, kept}
 use Rattle.setting_growth.proofs.Classes.{Known, class_same, completion_same, base_known, bases_any, pointer_same}
 use Rattle.setting_growth.proofs.Sizes.{one_known, sized_known, size_same, sizes_still, has_size_still, sized_still, part_same, count_same, part_still}
 
-module _ (old new : List Class) (g : ClassesGrow old new) (o : InOrder old) where
+module _ (old new : List Class) (g : ClassesGrow old new) (o : HeldEarlier old) where
   -- Pieces
 
   pieces_same : (c v : Bool) (n : ℕ) → Known old n → (i : ℕ) (hs : List Head) → are_part_pieces new c v n i hs ≡ are_part_pieces old c v n i hs

@@ -3,7 +3,6 @@ use Rattle.std.proofs.Common.{◌≡◌, refl, sym, ap, ◌∙◌, ℕ, ◌==◌
 use Rattle.std.proofs.Common.{Option, Some, None, option_and_then, arith, lt-ltb, ltb-true}
 use Rattle.std.specs.List.{list_all}
 use Rattle.cpp_types.specs.Typ.{Typ, typ, int, func, Signature}
-use Rattle.cpp_types.specs.Class.{InOrder}
 use Rattle.cpp_types.specs.Conversion.{is_lvalue}
 use Rattle.cpp_types.specs.Equal.{name_eq, form_eq, typ_eq}
 use Rattle.cpp_types.specs.Trivial.{takes_itself}
@@ -19,7 +18,7 @@ use Rattle.cpp_tree.specs.Parts.{are_destroyed, Objects}
 use Rattle.cpp_tree.specs.Rows.{Setting, is_constructor, is_destructor, is_special, result_in, result_of, words_of, signature_words, is_member_of, is_slot_of}
 use Rattle.cpp_tree.specs.Rows.{is_virtual_call, at_place, is_load, is_destruction, offsets_fall, are_destructions, is_constructor_of, is_thrown, is_loaded}
 use Rattle.cpp_tree.specs.Rows.{referred, is_handler_of, is_return, kid, two_kids, row_fits}
-use Rattle.setting_growth.specs.Growth.{Grows, SameFunc, slot_at, SlotsGrow}
+use Rattle.setting_growth.specs.Growth.{HeldEarlier, Grows, SameFunc, slot_at, SlotsGrow}
 use Rattle.setting_growth.proofs.Still.{Still, same, equal, both, one_of, each, kept}
 use Rattle.setting_growth.proofs.Pieces.{are_pieces_still, are_elements_still, has_pointer_still, are_destroyed_still}
 use Rattle.setting_growth.proofs.Scalars.{are_scalars_still}
@@ -71,7 +70,7 @@ slots_still old new g p q s n i = record {
   up = λ h. passes_slot q new n i ∙ (kept (slot_at old n i) (slot_at new n i) p q (g.kept n i) (λ x e. s x)).up (sym (passes_slot p old n i) ∙ h);
 }
 
-module _ (old new : Setting) (o : InOrder old.classes) (g : Grows old new) where
+module _ (old new : Setting) (o : HeldEarlier old.classes) (g : Grows old new) where
   -- Functions
 
   funcs_by : (p q : Func → Bool) → ((f h : Func) → SameFunc f h → Still (p f) (q h)) → (i : ℕ) (x : Option Func) → slice_get old.funcs i ≡ x

@@ -4,11 +4,11 @@ use Rattle.std.proofs.Common.{length, Option, Some, None, cond, arith}
 use Rattle.std.proofs.lemmas.Bool.{and_parts}
 use Rattle.std.proofs.lemmas.Option.{same_Some}
 use Rattle.cpp_types.specs.Typ.{Typ, typ, Form, void, int, enum, null, ptr, ref, array, func, class, closure, tx_ex}
-use Rattle.cpp_types.specs.Class.{Class, InOrder, CompleteBelow, held, held_form}
+use Rattle.cpp_types.specs.Class.{Class, CompleteBelow, held, held_form}
 use Rattle.cpp_tree.specs.Typing.{Head, passes, form_in}
 use Rattle.cpp_tree.specs.Parts.{Scalar, Part, where_counted, stride_of, element_of, one_element, element_scalars, object_scalars, part_scalars, scalars_from}
 use Rattle.cpp_tree.specs.Parts.{scalars_within, scalars_of, part_of, count_of_parts, size_in, are_fields, is_value_form, are_scalars}
-use Rattle.setting_growth.specs.Growth.{ClassesGrow}
+use Rattle.setting_growth.specs.Growth.{HeldEarlier, ClassesGrow}
 use Rattle.setting_growth.proofs.Still.{Still, same, equal, both, both_if}
 use Rattle.setting_growth.proofs.Classes.{Known, known_below, completion_is, AllKnown}
 use Rattle.setting_growth.proofs.Sizes.{size_known, sizes_still, stride_same, part_same, count_same, PartBelow, part_below}
@@ -55,7 +55,7 @@ elements_same f h s stride (suc many) at =
     ap (λ (xs : List Scalar). where_counted at (xs ++ element_scalars f stride many (at + stride))) (s at)
     ∙ ap (λ (xs : List Scalar). where_counted at (h at ++ xs)) (elements_same f h s stride many (at + stride))
 
-module _ (old new : List Class) (g : ClassesGrow old new) (o : InOrder old) where
+module _ (old new : List Class) (g : ClassesGrow old new) (o : HeldEarlier old) where
   object_same : (f h : ℕ → ℕ → List Scalar) (t : Typ) → AllKnown old t → SameOf f h (held t) → (at : ℕ)
       → object_scalars new f t at ≡ object_scalars old h t at
   object_same f h t k s at =

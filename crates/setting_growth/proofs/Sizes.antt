@@ -3,13 +3,13 @@ use Rattle.std.proofs.lemmas.Option.{same_Some}
 use Rattle.std.proofs.Common.{◌≡◌, refl, sym, ap, ◌∙◌, subst, ℕ, zero, suc, ◌==◌, Bool, true, false, nat_lt, List, slice_get}
 use Rattle.std.proofs.Common.{Option, Some, None, is_some, option_and_then, option_map, unwrap_or, cond}
 use Rattle.cpp_types.specs.Typ.{Typ, typ, class}
-use Rattle.cpp_types.specs.Class.{Class, Member, InOrder, CompleteBelow, held}
+use Rattle.cpp_types.specs.Class.{Class, Member, CompleteBelow, held}
 use Rattle.cpp_layout.specs.Layout.{Extent, extent_of}
 use Rattle.cpp_layout.specs.Measured.{member_offset}
 use Rattle.cpp_tree.specs.Typing.{form_in, passes}
 use Rattle.cpp_tree.specs.Parts.{holds_complete, within_limit, size_in, has_size, sized_class, Part, member_part, part_behind, part_in, part_of, parts_in}
 use Rattle.cpp_tree.specs.Parts.{count_of_parts, stride_of}
-use Rattle.setting_growth.specs.Growth.{ClassesGrow}
+use Rattle.setting_growth.specs.Growth.{HeldEarlier, ClassesGrow}
 use Rattle.setting_growth.proofs.Still.{Still, kept, same, map_same, then_same, is_there, cond_first, mapped}
 use Rattle.setting_growth.proofs.Classes.{Known, known_as, known_if, AllKnown, all_known, holds_known, known_still, class_same, typ_same}
 use Rattle.setting_growth.proofs.Classes.{earlier, offset_same}
@@ -49,7 +49,7 @@ placed classes n c i m = record { offset = member_offset classes n c i m; typ = 
 abbrev base_part : ℕ → Part
 base_part b = record { offset = 0; typ = typ (class b) false false }
 
-module _ (old new : List Class) (g : ClassesGrow old new) (o : InOrder old) where
+module _ (old new : List Class) (g : ClassesGrow old new) (o : HeldEarlier old) where
   -- Sizes
 
   pub size_same : (t : Typ) → AllKnown old t → size_in new t ≡ size_in old t

@@ -2,7 +2,6 @@
 use Rattle.std.proofs.Common.{ap, ◌∙◌, ℕ, suc, true, false, not, ◌&&◌, ◌||◌, List, length}
 use Rattle.std.proofs.Common.{is_some, unwrap_or}
 use Rattle.cpp_types.specs.Typ.{Typ}
-use Rattle.cpp_types.specs.Class.{InOrder}
 use Rattle.cpp_types.specs.declared.ranks.Cat.{Cat}
 use Rattle.cpp_tree.specs.declared.kinds.TKind.{TKind}
 use Rattle.cpp_tree.specs.declared.program.FuncKind.{FuncKind}
@@ -15,13 +14,13 @@ use Rattle.cpp_tree.specs.Roles.{Kids, role_at, serves, way_fits}
 use Rattle.cpp_tree.specs.Rows.{Setting, result_of}
 use Rattle.cpp_tree.specs.WellFormed.{fits, kids_fit, stands, may_stand, branches_fit, heads_of, kids_in, enough, is_switch, labels_fit, inside, is_kid}
 use Rattle.cpp_tree.specs.WellFormed.{is_zero_role, zeroes}
-use Rattle.setting_growth.specs.Growth.{Grows, FitsStill, ZeroesStill, DestructionsStill, ItemsStill}
+use Rattle.setting_growth.specs.Growth.{HeldEarlier, Grows, OrderHolds, FitsStill, ZeroesStill, DestructionsStill, ItemsStill}
 use Rattle.setting_growth.proofs.Still.{Still, same, equal, both, choice}
 use Rattle.setting_growth.proofs.Classes.{holds_still}
 use Rattle.setting_growth.proofs.Zeroes.{zeroes_still}
 use Rattle.setting_growth.proofs.Rows.{row_still, hand_result, are_destructions_still}
 
-module _ (old new : Setting) (o : InOrder old.classes) (g : Grows old new) where
+module _ (old new : Setting) (o : HeldEarlier old.classes) (g : Grows old new) where
   stands_still : (p : Position) (role : Role) (kind : TKind) (t : Typ) (cat : Cat) (hs : List Head)
       → Still (stands old p role kind t cat hs) (stands new p role kind t cat hs)
   stands_still p role kind t cat hs = both (both (both (same (serves role kind && way_fits role kind t cat))
@@ -45,6 +44,9 @@ module _ (old new : Setting) (o : InOrder old.classes) (g : Grows old new) where
     kids_still p k i (more t ts) = both (both (same (is_some (role_at k i) && is_kid (kind_of t)))
         (choice (is_zero_role (unwrap_or (role_at k i) Value)) (result_still t) (fits_still p (unwrap_or (role_at k i) Value) t)))
         (kids_still p k (suc i) ts)
+
+pub order_law : OrderHolds
+order_law classes o = record { earlier = o.earlier }
 
 pub fits_law : FitsStill
 fits_law old new o g p role e h = (fits_still old new o g p role e).up h

@@ -2,19 +2,19 @@
 use Rattle.std.proofs.Common.{◌≡◌, ap, ◌∙◌, ℕ, suc, ◌==◌, Bool, true, false, ◌&&◌, nat_lt, List, Option, Some, None, is_some, unwrap_or}
 use Rattle.std.proofs.lemmas.Bool.{and_parts}
 use Rattle.cpp_types.specs.Typ.{Typ, Form, array}
-use Rattle.cpp_types.specs.Class.{Class, InOrder}
+use Rattle.cpp_types.specs.Class.{Class}
 use Rattle.cpp_tree.specs.declared.kinds.TKind.TheVariants.{Store, Pieces, Piece, Elements}
 use Rattle.cpp_tree.specs.Trees.{Tree, node, Trees, none, more}
 use Rattle.cpp_tree.specs.Typing.{is_statement_typ}
 use Rattle.cpp_tree.specs.Parts.{Part, sized_class, part_of}
 use Rattle.cpp_tree.specs.WellFormed.{zeroes, zero_parts, zero_part, is_sized_class, has_elements, class_in, form_to_zero, volatile_to_zero, element_in}
 use Rattle.cpp_tree.specs.WellFormed.{starts_at, part_typ}
-use Rattle.setting_growth.specs.Growth.{ClassesGrow}
+use Rattle.setting_growth.specs.Growth.{HeldEarlier, ClassesGrow}
 use Rattle.setting_growth.proofs.Still.{Still, same, equal, both, both_if, each}
 use Rattle.setting_growth.proofs.Classes.{Known}
 use Rattle.setting_growth.proofs.Sizes.{sized_known, sized_still, has_size_still, part_same, count_same}
 
-module _ (old new : List Class) (g : ClassesGrow old new) (o : InOrder old) where
+module _ (old new : List Class) (g : ClassesGrow old new) (o : HeldEarlier old) where
   class_still : (x : Option ℕ) → Still (is_sized_class old x) (is_sized_class new x)
   class_still x = each x (λ (n : ℕ). is_some (sized_class old n)) (λ (n : ℕ). is_some (sized_class new n)) (λ n. sized_still old new g o n)
 

@@ -1,7 +1,7 @@
 -- A setting that has grown: what stood in it stands there still, in its place.
 use Rattle.std.specs.Prelude.{◌≡◌, ◌≤◌, ℕ, Bool, true, List, length, slice_get, Option, Some, option_and_then}
 use Rattle.cpp_types.specs.Typ.{Typ}
-use Rattle.cpp_types.specs.Class.{Class, InOrder}
+use Rattle.cpp_types.specs.Class.{Class, InOrder, HoldsEarlier}
 use Rattle.cpp_tree.specs.declared.roles.Position.{Position}
 use Rattle.cpp_tree.specs.declared.roles.Role.{Role}
 use Rattle.cpp_tree.specs.Trees.{Tree}
@@ -16,6 +16,10 @@ use Rattle.cpp_tree.specs.WellFormed.{fits, zeroes, is_item, WellFormedBody}
 pub record ClassesGrow (old new : List Class) : Type 0 where
   pub complete : (n k : ℕ) (c : Class) → slice_get old n ≡ Some c → c.complete ≡ Some k → slice_get new n ≡ Some c
   pub many : length old ≤ length new
+
+-- what a complete class holds by value is complete, and was so before it: the one half of `InOrder` that is asked for
+pub record HeldEarlier (classes : List Class) : Type 0 where
+  pub earlier : (n : ℕ) (c : Class) (k : ℕ) → slice_get classes n ≡ Some c → c.complete ≡ Some k → HoldsEarlier classes k c
 
 -- the slot of a class
 abbrev pub slot_at : List (List SlotFunc) → ℕ → ℕ → Option SlotFunc
@@ -78,19 +82,23 @@ GrowthStays = (s : Setting) → Grows s s
 abbrev pub GrowthGoesOn : Type 0
 GrowthGoesOn = (a b c : Setting) → Grows a b → Grows b c → Grows a c
 
+-- lists of classes that are in order are such
+abbrev pub OrderHolds : Type 0
+OrderHolds = (classes : List Class) → InOrder classes → HeldEarlier classes
+
 -- what fits, fits still: in each role, wherever it stands
 abbrev pub FitsStill : Type 0
-FitsStill = (old new : Setting) → InOrder old.classes → Grows old new → (p : Position) (role : Role) (e : Tree) → fits old p role e ≡ true
+FitsStill = (old new : Setting) → HeldEarlier old.classes → Grows old new → (p : Position) (role : Role) (e : Tree) → fits old p role e ≡ true
     → fits new p role e ≡ true
 
 -- the same of zeros in a result
 abbrev pub ZeroesStill : Type 0
-ZeroesStill = (old new : List Class) → InOrder old → ClassesGrow old new → (volatile : Bool) (t : Typ) (e : Tree) → zeroes old volatile t e ≡ true
+ZeroesStill = (old new : List Class) → HeldEarlier old → ClassesGrow old new → (volatile : Bool) (t : Typ) (e : Tree) → zeroes old volatile t e ≡ true
     → zeroes new volatile t e ≡ true
 
 -- of the destructions of an object
 abbrev pub DestructionsStill : Type 0
-DestructionsStill = (old new : Setting) → InOrder old.classes → Grows old new → (t : Typ) (hs : List Head) → are_destructions old t hs ≡ true
+DestructionsStill = (old new : Setting) → HeldEarlier old.classes → Grows old new → (t : Typ) (hs : List Head) → are_destructions old t hs ≡ true
     → are_destructions new t hs ≡ true
 
 -- and of an item of a frame
@@ -99,5 +107,5 @@ ItemsStill = (old new : List Class) → ClassesGrow old new → (t : Typ) → is
 
 -- a well-formed body is well-formed still
 abbrev pub BodyStill : Type 0
-BodyStill = (old new : Setting) (body : Tree) → InOrder old.classes → Grows old new → SameBody old.function new.function → WellFormedBody old body
+BodyStill = (old new : Setting) (body : Tree) → HeldEarlier old.classes → Grows old new → SameBody old.function new.function → WellFormedBody old body
     → WellFormedBody new body

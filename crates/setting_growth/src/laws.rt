@@ -1,11 +1,12 @@
 //! Laws of settings that grow. A function here does nothing: its clauses are the laws.
 
-ghost use Rattle.setting_growth.specs.Growth.{GrowthStays, GrowthGoesOn, FitsStill, ZeroesStill, DestructionsStill, ItemsStill, BodyStill};
+ghost use Rattle.setting_growth.specs.Growth.{GrowthStays, GrowthGoesOn, OrderHolds, FitsStill, ZeroesStill, DestructionsStill, ItemsStill, BodyStill};
 
-/// A setting has grown where nothing was added, and where it has grown twice.
+/// A setting has grown where nothing was added, and where it has grown twice; and what classes in order hold was complete before.
 pub fn growth()
     ensures stays { GrowthStays }
     ensures goes_on { GrowthGoesOn }
+    ensures order { OrderHolds }
 {}
 
 /// Trees fit still, and so do zeros, destructions and items of frames.

@@ -1,5 +1,5 @@
 -- Bodies of functions and lambdas: behind them stands what stood before, and the frame is what it was.
-use Rattle.std.proofs.Common.{◌≡◌, refl, sym, ap, ◌∙◌, ℕ, zero, suc, ◌+◌, ◌≤◌, Bool, true, false, List, [], ◌∷◌, ◌++◌, length, slice_get, Option, Some, None, option_and_then, arith}
+use Rattle.std.proofs.Common.{◌≡◌, refl, sym, ap, ◌∙◌, subst, ℕ, zero, suc, ◌+◌, ◌≤◌, Bool, true, false, List, [], ◌∷◌, ◌++◌, length, slice_get, Option, Some, None, option_and_then, arith}
 use Rattle.std.proofs.lemmas.List.{length-append}
 use Rattle.elab_rules.specs.cpp_types.Typ.{Typ, void, Signature}
 use Rattle.elab_rules.specs.cpp_types.Class.{held, Class, completion_of}
@@ -28,6 +28,10 @@ use Rattle.setting_growth.specs.Growth.{ClassesGrow, SlotsGrow, slot_at}
 use Rattle.setting_growth.proofs.Settings.{classes_stay, classes_go_on, slots_stay, slots_go_on, globals_stay, globals_go_on}
 use Rattle.state_growth.specs.Settings.{DeclaredGrow}
 use Rattle.state_growth.proofs.Lists.{added}
+use Rattle.state_growth.proofs.Numbers.{numbers_stay, numbers_go_on, numbers_added, numbered_added}
+use Rattle.elab_rules.specs.Classes.{is_completed}
+use Rattle.std.specs.Prelude.{count_by, ◌<◌}
+use Rattle.std.proofs.lemmas.Option.{same_Some}
 use Rattle.state_growth.proofs.Steps.{Seen, seen, Tidy, Kept, Steps, Leaves, stays, after, funcs_stay, funcs_go_on, bind, skip, follow, of_state, of_done, Ends, weaken}
 use Rattle.state_growth.proofs.Items.{Lawful}
 use Rattle.state_growth.proofs.Statements.{statements_kept, parameters_kept}
@@ -75,11 +79,14 @@ incomplete_before [] c (suc n) h = refl
 incomplete_before (d ∷ cs) c zero h = h
 incomplete_before (d ∷ cs) c (suc n) h = incomplete_before cs c n h
 
-pub tidy_added : (a : Seen) (c : Class) (b : Seen) → b.classes ≡ a.classes ++ c ∷ [] → b.slots ≡ a.slots ++ [] ∷ [] → Tidy a → Tidy b
-tidy_added a c b e f t = record {
+pub tidy_added : (a : Seen) (c : Class) (b : Seen) → b.classes ≡ a.classes ++ c ∷ [] → b.slots ≡ a.slots ++ [] ∷ []
+    → ((k : ℕ) → c.complete ≡ Some k → k ≡ count_by is_completed a.classes) → Tidy a → Tidy b
+tidy_added a c b e f q t = record {
   many = ap length f ∙ length-append a.slots ([] ∷ []) ∙ ap (λ (n : ℕ). n + 1) t.many ∙ sym (length-append a.classes (c ∷ [])) ∙ sym (ap length e);
   empty = λ n i h. ap (λ (xs : List (List SlotFunc)). slot_at xs n i) f
       ∙ no_slots_more a.slots n i (t.empty n i (incomplete_before a.classes c n (ap (λ (cs : List Class). completion_of cs n) (sym e) ∙ h)));
+  numbered = λ n k h. subst (λ (cs : List Class). k < count_by is_completed cs) (sym e)
+      (numbered_added a.classes c q t.numbered n k (ap (λ (cs : List Class). completion_of cs n) (sym e) ∙ h));
 }
 
 -- The body
@@ -90,12 +97,13 @@ pub made_kept : (st before y : State) (at : At) (place : ℕ) (tree : Tree) → 
 made_kept st before y at place tree e h = skip (Leaves st) (within_frame y.ctx at y.work.frame) _ (λ z. record {
   kept = record {
     classes = h.kept.classes;
+    numbers = h.kept.numbers;
     slots = h.kept.slots;
     funcs = h.kept.funcs;
     globals = h.kept.globals;
     frame = λ i t q. ap (λ (ts : List Typ). slice_get ts i) e ∙ q;
   };
-  tidy = λ t. let u = h.tidy t in record { many = u.many; empty = u.empty };
+  tidy = λ t. let u = h.tidy t in record { many = u.many; empty = u.empty; numbered = u.numbered };
 })
 
 -- what stands in a body that was entered with this frame
@@ -104,28 +112,30 @@ pub left_kept : (st e y : State) → Steps (record (seen st) { frame = [] }) (re
 left_kept st e y a b = record {
   kept = record {
     classes = classes_go_on st.ctx.classes e.ctx.classes y.ctx.classes a.kept.classes b.kept.classes;
+    numbers = numbers_go_on st.ctx.classes e.ctx.classes y.ctx.classes a.kept.numbers b.kept.classes b.kept.numbers;
     slots = slots_go_on st.ctx.slots e.ctx.slots y.ctx.slots a.kept.slots b.kept.slots;
     funcs = funcs_go_on st.ctx.funcs e.ctx.funcs y.ctx.funcs a.kept.funcs b.kept.funcs;
     globals = globals_go_on st.work.globals e.work.globals y.work.globals a.kept.globals b.kept.globals;
     frame = λ i t q. q;
   };
   tidy = λ t.
-      let u = a.tidy (record { many = t.many; empty = t.empty }) in
-      let v = b.tidy (record { many = u.many; empty = u.empty }) in record { many = v.many; empty = v.empty };
+      let u = a.tidy (record { many = t.many; empty = t.empty; numbered = t.numbered }) in
+      let v = b.tidy (record { many = u.many; empty = u.empty; numbered = u.numbered }) in record { many = v.many; empty = v.empty; numbered = v.numbered };
 }
 
 -- into a function nothing is changed but the frame
-entered_kept : (st : State) (r : Typ) (this : Option Typ) (cls : Option ℕ)
+pub entered_kept : (st : State) (r : Typ) (this : Option Typ) (cls : Option ℕ)
     → Steps (record (seen st) { frame = [] }) (record (seen (entered st r this cls)) { frame = [] })
 entered_kept st r this cls = record {
   kept = record {
     classes = classes_stay st.ctx.classes;
+    numbers = numbers_stay st.ctx.classes;
     slots = slots_stay st.ctx.slots;
     funcs = funcs_stay st.ctx.funcs;
     globals = globals_stay st.work.globals;
     frame = λ i t h. h;
   };
-  tidy = λ t. record { many = t.many; empty = t.empty };
+  tidy = λ t. record { many = t.many; empty = t.empty; numbered = t.numbered };
 }
 
 -- parameters and statements in a function
@@ -160,17 +170,24 @@ body_kept s e x = follow of_state of_done e (with_parameters s e x.params) _ (pa
 abbrev lambda_inside : State → Written → Returns → Typ → Signature → State
 lambda_inside st x rs r sig = inside st (lambda_entered st x rs r) (declared_closure st x sig)
 
+-- the class of a lambda is numbered as it is made
+closure_number : (st : State) (x : Written) (sig : Signature) (k : ℕ) → Some (count_by is_completed st.ctx.classes) ≡ Some k
+    → k ≡ count_by is_completed st.ctx.classes
+closure_number st x sig k h = sym (same_Some (count_by is_completed st.ctx.classes) k h)
+
 closure_kept : (st : State) (x : Written) (rs : Returns) (r : Typ) (sig : Signature)
     → Steps (record (seen st) { frame = [] }) (record (seen (lambda_inside st x rs r sig)) { frame = [] })
 closure_kept st x rs r sig = record {
   kept = record {
     classes = classes_added st.ctx.classes _;
+    numbers = numbers_added st.ctx.classes _ (closure_number st x sig);
     slots = slots_added st.ctx.slots [];
     funcs = funcs_added st.ctx.funcs _;
     globals = globals_stay st.work.globals;
     frame = λ i t h. h;
   };
-  tidy = tidy_added (record (seen st) { frame = [] }) _ (record (seen (lambda_inside st x rs r sig)) { frame = [] }) refl refl;
+  tidy = tidy_added (record (seen st) { frame = [] }) _ (record (seen (lambda_inside st x rs r sig)) { frame = [] }) refl refl
+      (closure_number st x sig);
 }
 
 with_kept : (s : List Lexeme) (st : State) (x : Written) (r : Typ) (sig : Signature) → On (Leaves st) (lambda_with s st x r sig)

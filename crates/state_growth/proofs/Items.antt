@@ -8,6 +8,7 @@ use Rattle.elab_rules.specs.Statements.{State, Lambdas, with_work, placed_variab
 use Rattle.elab_fits.specs.Standing.{On}
 use Rattle.setting_growth.proofs.Settings.{classes_stay, slots_stay}
 use Rattle.state_growth.proofs.Lists.{behind}
+use Rattle.state_growth.proofs.Numbers.{numbers_stay}
 use Rattle.state_growth.proofs.Steps.{Leaves, funcs_stay}
 use Rattle.state_growth.proofs.Works.{Grows, one_item}
 
@@ -19,6 +20,7 @@ pub work_kept : (st : State) (w : Work) → Grows st.work w → Leaves st (with_
 work_kept st w h = record {
   kept = record {
     classes = classes_stay st.ctx.classes;
+    numbers = numbers_stay st.ctx.classes;
     slots = slots_stay st.ctx.slots;
     funcs = funcs_stay st.ctx.funcs;
     globals = record {
@@ -26,7 +28,7 @@ work_kept st w h = record {
     };
     frame = behind st.work.frame w.frame h.items h.frame;
   };
-  tidy = λ t. record { many = t.many; empty = t.empty };
+  tidy = λ t. record { many = t.many; empty = t.empty; numbered = t.numbered };
 }
 
 pub item_kept : (st : State) (t : Typ) → Leaves st (record st { work = with_item st.work t })

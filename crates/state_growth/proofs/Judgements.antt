@@ -1,6 +1,5 @@
 -- What elab_fits says of trees holds still.
 use Rattle.std.proofs.Common.{◌≡◌}
-use Rattle.elab_rules.specs.cpp_types.Class.{InOrder}
 use Rattle.elab_rules.specs.cpp_types.Typ.{Typ, Form}
 use Rattle.elab_rules.specs.cpp_tree.declared.roles.Role.{Role}
 use Rattle.elab_rules.specs.cpp_tree.declared.roles.Role.TheVariants.{Value, Initialiser, CopyInit, Destruction}
@@ -10,14 +9,14 @@ use Rattle.elab_rules.specs.cpp_tree.WellFormed.{heads_of}
 use Rattle.elab_rules.specs.Values.{builder}
 use Rattle.elab_fits.specs.Standing.{Stands}
 use Rattle.elab_fits.specs.Objects.{AllFit}
-use Rattle.setting_growth.specs.Growth.{Grows}
+use Rattle.setting_growth.specs.Growth.{HeldEarlier, Grows}
 use Rattle.setting_growth.proofs.Trees.{fits_law, destructions_law}
 use Rattle.state_growth.specs.Judgements.{TreesFit, ExpressionsStand, OperandsStand, ScalarsGive, InitialsStand, ObjectsBuilt, ObjectsCopied, ObjectsDestroyed}
 
 pub trees_law : TreesFit
 trees_law role e old new o g h = λ p full. fits_law old new o g p role e (h p full)
 
-stands : (e : Tree) (old new : Setting) → InOrder old.classes → Grows old new → Stands old e → Stands new e
+stands : (e : Tree) (old new : Setting) → HeldEarlier old.classes → Grows old new → Stands old e → Stands new e
 stands e old new o g h = record {
   typed = h.typed;
   value = λ q. trees_law Value e old new o g (h.value q);
@@ -43,7 +42,7 @@ built_law t e old new o g h = record { fits = trees_law Initialiser e old new o 
 pub copied_law : ObjectsCopied
 copied_law t e old new o g h = record { fits = trees_law CopyInit e old new o g h.fits; builds = h.builds }
 
-all_fit : (role : Role) (ts : Trees) (old new : Setting) → InOrder old.classes → Grows old new → AllFit old role ts → AllFit new role ts
+all_fit : (role : Role) (ts : Trees) (old new : Setting) → HeldEarlier old.classes → Grows old new → AllFit old role ts → AllFit new role ts
 all_fit role none old new o g h = tt
 all_fit role (more t ts) old new o g h = (trees_law role t old new o g h.0, all_fit role ts old new o g h.1)
 

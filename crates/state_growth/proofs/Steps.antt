@@ -12,7 +12,10 @@ use Rattle.elab_fits.specs.Standing.{On}
 use Rattle.setting_growth.specs.Growth.{ClassesGrow, SlotsGrow, GlobalsGrow, slot_at}
 use Rattle.setting_growth.proofs.Settings.{classes_stay, classes_go_on, slots_stay, slots_go_on, globals_stay, globals_go_on}
 use Rattle.state_growth.specs.Settings.{SameDeclared, HasDeclared, DeclaredGrow, UnitGrows, StateGrows}
-use Rattle.state_growth.specs.States.{IsTidy, Goes}
+use Rattle.state_growth.specs.States.{NumbersGrow, IsTidy, Goes}
+use Rattle.state_growth.proofs.Numbers.{numbers_stay, numbers_go_on}
+use Rattle.elab_rules.specs.Classes.{is_completed}
+use Rattle.std.specs.Prelude.{count_by, ◌<◌}
 
 -- What settings show of a state
 
@@ -35,10 +38,12 @@ seen st = record {
 pub record Tidy (a : Seen) : Type 0 where
   pub many : length a.slots ≡ length a.classes
   pub empty : (n i : ℕ) → completion_of a.classes n ≡ None → slot_at a.slots n i ≡ None
+  pub numbered : (n k : ℕ) → completion_of a.classes n ≡ Some k → k < count_by is_completed a.classes
 
 -- what stands in the one stands in the other
 pub record Kept (a b : Seen) : Type 0 where
   pub classes : ClassesGrow a.classes b.classes
+  pub numbers : NumbersGrow a.classes b.classes
   pub slots : SlotsGrow a.slots b.slots
   pub funcs : DeclaredGrow a.funcs b.funcs
   pub globals : GlobalsGrow a.globals b.globals
@@ -69,6 +74,7 @@ funcs_go_on a b c g h = record {
 pub kept_refl : (a : Seen) → Kept a a
 kept_refl a = record {
   classes = classes_stay a.classes;
+  numbers = numbers_stay a.classes;
   slots = slots_stay a.slots;
   funcs = funcs_stay a.funcs;
   globals = globals_stay a.globals;
@@ -78,6 +84,7 @@ kept_refl a = record {
 pub kept_trans : (a b c : Seen) → Kept a b → Kept b c → Kept a c
 kept_trans a b c g h = record {
   classes = classes_go_on a.classes b.classes c.classes g.classes h.classes;
+  numbers = numbers_go_on a.classes b.classes c.classes g.numbers h.classes h.numbers;
   slots = slots_go_on a.slots b.slots c.slots g.slots h.slots;
   funcs = funcs_go_on a.funcs b.funcs c.funcs g.funcs h.funcs;
   globals = globals_go_on a.globals b.globals c.globals g.globals h.globals;
@@ -103,13 +110,13 @@ pub state_grows : (a b : State) → Kept (seen a) (seen b) → StateGrows a b
 state_grows a b k = record { unit = unit_grows a b k; frame = k.frame }
 
 pub is_tidy : (st : State) → Tidy (seen st) → IsTidy st.ctx
-is_tidy st t = record { many = t.many; empty = t.empty }
+is_tidy st t = record { many = t.many; empty = t.empty; numbered = t.numbered }
 
 pub to_tidy : (st : State) → IsTidy st.ctx → Tidy (seen st)
-to_tidy st t = record { many = t.many; empty = t.empty }
+to_tidy st t = record { many = t.many; empty = t.empty; numbered = t.numbered }
 
 pub goes : (a b : State) → Leaves a b → Goes a b
-goes a b h = record { grows = state_grows a b h.kept; tidy = λ t. is_tidy b (h.tidy (to_tidy a t)) }
+goes a b h = record { grows = state_grows a b h.kept; numbers = h.kept.numbers; tidy = λ t. is_tidy b (h.tidy (to_tidy a t)) }
 
 -- Answers
 

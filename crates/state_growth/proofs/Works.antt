@@ -99,7 +99,7 @@ if_made : (w : Work) (b : Bool) (x y : Made) → Mades w x → Mades w y → Mad
 if_made w true x y g h = g
 if_made w false x y g h = h
 
-made_after : (w v : Work) (r : Result Made ElabFault) → Grows w v → On (Mades v) r → On (Mades w) r
+pub made_after : (w v : Work) (r : Result Made ElabFault) → Grows w v → On (Mades v) r → On (Mades w) r
 made_after w v r g h = further w v (λ (m : Made). m.work) r g h
 
 -- Initialisers

@@ -1,7 +1,6 @@
 -- What elab_fits says of trees holds still where the setting has grown.
 use Rattle.std.specs.Prelude.{◌≡◌}
 use Rattle.elab_rules.specs.cpp_types.Typ.{Typ, Form}
-use Rattle.elab_rules.specs.cpp_types.Class.{InOrder}
 use Rattle.elab_rules.specs.cpp_tree.declared.roles.Role.{Role}
 use Rattle.elab_rules.specs.cpp_tree.Trees.{Tree, Trees}
 use Rattle.elab_rules.specs.cpp_tree.Rows.{Setting}
@@ -9,11 +8,11 @@ use Rattle.elab_rules.specs.elab_ctx.Steps.{Operand}
 use Rattle.elab_fits.specs.Objects.{CopiesOne, DestroysOne}
 use Rattle.elab_fits.specs.Scalars.{Gives, Initialises, IsOperand}
 use Rattle.elab_fits.specs.Standing.{FitsAs, Stands, BuildsOne}
-use Rattle.setting_growth.specs.Growth.{Grows}
+use Rattle.setting_growth.specs.Growth.{HeldEarlier, Grows}
 
 -- a property of a setting that it keeps where it has grown
 abbrev pub Keeps : (Setting → Type 0) → Type 0
-Keeps P = (old new : Setting) → InOrder old.classes → Grows old new → P old → P new
+Keeps P = (old new : Setting) → HeldEarlier old.classes → Grows old new → P old → P new
 
 abbrev pub TreesFit : Type 0
 TreesFit = (role : Role) (e : Tree) → Keeps (λ s. FitsAs s role e)

@@ -2,8 +2,9 @@
 
 ghost use Rattle.state_growth.specs.Judgements.{TreesFit, ExpressionsStand, OperandsStand, ScalarsGive, InitialsStand, ObjectsBuilt, ObjectsCopied};
 ghost use Rattle.state_growth.specs.Judgements.{ObjectsDestroyed};
+ghost use Rattle.state_growth.specs.Programs.{ProgramsGo, ProgramsShow};
 ghost use Rattle.state_growth.specs.Settings.{SettingsStand, WorksReached, WorksGrow, SettingsGrow, LeftGrow, ShownGrow, BegunGrow};
-ghost use Rattle.state_growth.specs.States.{LambdasGo, StatementsGo, BodiesGo};
+ghost use Rattle.state_growth.specs.States.{LambdasGo, StatementsGo, BodiesGo, DeclarationsGo, UnitsGo, UnitsBegin, HeldBefore};
 
 /// The setting of a body while it is made, and how it grows.
 pub fn settings()
@@ -33,4 +34,18 @@ pub fn steps()
     ensures lambdas { LambdasGo }
     ensures statements { StatementsGo }
     ensures bodies { BodiesGo }
+{}
+
+/// Behind declarations, and behind a whole unit, stands what stood before them.
+pub fn units()
+    ensures declarations { DeclarationsGo }
+    ensures units { UnitsGo }
+    ensures begin { UnitsBegin }
+    ensures held { HeldBefore }
+{}
+
+/// Behind each further unit of a program stands what stood before it.
+pub fn programs()
+    ensures go { ProgramsGo }
+    ensures show { ProgramsShow }
 {}
