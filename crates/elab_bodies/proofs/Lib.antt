@@ -1,3 +1,6 @@
 pub use Rattle.elab_rules.proofs as elab_rules
+pub mod Closures
+pub mod Frames
 pub mod Holding
+pub mod Making
 pub mod Shown
