@@ -91,7 +91,7 @@ record Said (E : List Func → Type 0) (place : ℕ) (g : Func) (words : List Ty
   has : HasCall E place g d.state.ctx.funcs d.state.bodies
   first : Begin words d.state.work.frame
 
-both : {A : Type 0} (P Q R : A → Type 0) (r : Result A ElabFault) → ((a : A) → P a → Q a → R a) → On P r → On Q r → On R r
+pub both : {A : Type 0} (P Q R : A → Type 0) (r : Result A ElabFault) → ((a : A) → P a → Q a → R a) → On P r → On Q r → On R r
 both P Q R (Ok a) f h g = f a h g
 both P Q R (Err e) f h g = tt
 
@@ -222,7 +222,7 @@ module _ (E : List Func → Type 0) (more : (fs : List Func) (f : Func) → E fs
 abbrev nothing : List Func → Type 0
 nothing fs = Unit {0}
 
-bodies_fit : (st : State) (t : syntax.Tree) (s : List Lexeme) → BodiesFit st → On BodiesFit (lambdas_of s st t)
+pub bodies_fit : (st : State) (t : syntax.Tree) (s : List Lexeme) → BodiesFit st → On BodiesFit (lambdas_of s st t)
 bodies_fit st t s h = weaken (Fine nothing) BodiesFit (lambdas_of s st t) (λ x i. i.fit) (each_fit nothing (λ fs f e. tt) s st t (record { fit = h; extra = tt }))
 
 pub lambdas_law : LambdasFit

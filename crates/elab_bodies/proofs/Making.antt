@@ -172,7 +172,7 @@ constructor_implied_made st at func n no_typs f k c g = bind (Ends (in_object st
     (parts_kept (in_object st n) at n [])
     (λ d h. constructor_block f st at func n [] (in_object st n).work.frame d.trees d.state k c g refl h.kept.frame)
 
-implied_made : (st : State) (at : At) (func n : ℕ) (kind : FuncKind) (ps : Typs) (f : Func) → f.kind ≡ kind → is_special kind ≡ true → f.class ≡ Some n
+pub implied_made : (st : State) (at : At) (func n : ℕ) (kind : FuncKind) (ps : Typs) (f : Func) → f.kind ≡ kind → is_special kind ≡ true → f.class ≡ Some n
     → param_items f.params ≡ source_items kind ps → On (MakesBody f func) (body_implied st at func n kind ps)
 implied_made st at func n Destructor ps f k i c g = body_is_made f st at func (destructor_tree st.ctx at at n none) (in_object st n)
     (special_block f func (destructor_tree st.ctx at at n none) (in_object st n).work.frame (ap is_special k) (destructor_block f.kind k)
