@@ -38,13 +38,13 @@ use Rattle.elab_bodies.proofs.Holding as holding
 
 -- One function more, one body more
 
-at_end : (fs : List Func) (f : Func) → slice_get (fs ++ f ∷ []) (length fs) ≡ Some f
+pub at_end : (fs : List Func) (f : Func) → slice_get (fs ++ f ∷ []) (length fs) ≡ Some f
 at_end [] f = refl
 at_end (g ∷ fs) f = at_end fs f
 
 pub function_more : (fs : List Func) (f : Func) (bs : List Body) → AllFit fs bs → AllFit (fs ++ f ∷ []) bs
 function_more fs f bs h = record {
-  each = λ i b e. let x = h.each i b e in record { func = x.func; at = added fs (f ∷ []) b.func x.func x.at; signed = x.signed; fits = x.fits };
+  each = λ i b e. let x = h.each i b e in record { func = x.func; at = added fs (f ∷ []) b.func x.func x.at; defined = x.defined; signed = x.signed; fits = x.fits };
 }
 
 each_more : (P : Body → Type 0) (bs : List Body) (b : Body) → ((i : ℕ) (c : Body) → slice_get bs i ≡ Some c → P c) → P b
@@ -143,6 +143,7 @@ module _ (E : List Func → Type 0) (more : (fs : List Func) (f : Func) → E fs
       (λ z. record { fit = body_more d.state.ctx.funcs d.state.bodies _ i.has.fit (record {
         func = g;
         at = i.has.at;
+        defined = refl;
         signed = record { params = as_many x.params; result = refl };
         fits = plain_block g place d.state.ctx r x.body_at d.trees d.state.work.frame refl refl
             (words_by g (Some own) r items (e.work.frame ++ items) d.state.work.frame (eq-eqb n n refl) refl refl

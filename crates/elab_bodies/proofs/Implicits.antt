@@ -33,20 +33,20 @@ if_stand false x y h k = k
 destructor_stands : (c : Ctx) (home : Home) (at : At) (ms : List Member) (o : Option ℕ) → ImplicitsStand c.funcs → Stand (with_destructor c home at ms o)
 destructor_stands c home at ms (Some i) h = h
 destructor_stands c home at ms None h = if_stand (all_held (λ n. is_trivial (traits_at c n).destructor) home.base ms) _ _ h
-    (with_more c _ (record { signed = record { params = refl; result = refl }; special = refl; items = refl }) h)
+    (with_more c _ (record { defined = refl; signed = record { params = refl; result = refl }; special = refl; items = refl }) h)
 
 copy_stands : (c : Ctx) (home : Home) (at : At) (ms : List Member) (o : Option ℕ) → ImplicitsStand c.funcs → Stand (with_copy c home at ms o)
 copy_stands c home at ms (Some i) h = h
 copy_stands c home at ms None h = if_stand (not (may_copy c home.base ms)) _ _ h
     (if_stand (has_no_pointer c home && all_held (λ n. is_trivial (traits_at c n).copy) home.base ms) _ _ h
-    (with_more c _ (record { signed = record { params = refl; result = refl }; special = refl; items = refl }) h))
+    (with_more c _ (record { defined = refl; signed = record { params = refl; result = refl }; special = refl; items = refl }) h))
 
 default_stands : (c : Ctx) (home : Home) (at : At) (ms : List Member) (initialised : List ℕ) (b : Bool) → ImplicitsStand c.funcs
     → Stand (with_default c home at ms initialised b)
 default_stands c home at ms initialised false h = h
 default_stands c home at ms initialised true h = if_stand (not (base_default c home.base && members_default c initialised 0 ms)) _ _ h
     (if_stand (is_trivial_default c home ms initialised) _ _ h
-    (with_more c _ (record { signed = record { params = refl; result = refl }; special = refl; items = refl }) h))
+    (with_more c _ (record { defined = refl; signed = record { params = refl; result = refl }; special = refl; items = refl }) h))
 
 pub completed_law : CompletedStand
 completed_law c home at ms initialised h = default_stands k.ctx home at ms initialised none_written

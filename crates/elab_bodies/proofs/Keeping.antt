@@ -48,23 +48,24 @@ record Also (E : List Func → Type 0) (func : ℕ) (f : Func) (funcs : List Fun
 abbrev Nearly : (List Func → Type 0) → ℕ → Func → List Func → List Body → Type 0
 Nearly E func f funcs bodies = FitsWith (Also E func f) funcs bodies
 
-joined : (E : List Func → Type 0) (func : ℕ) (f : Func) → WellSigned f → (x : State) → MakesBody f func x → EndsWith (Nearly E func f) x
+joined : (E : List Func → Type 0) (func : ℕ) (f : Func) → f.is_defined ≡ true → WellSigned f → (x : State) → MakesBody f func x → EndsWith (Nearly E func f) x
     → FitsWith E x.ctx.funcs x.bodies
-joined E func f w x m e = record {
+joined E func f q w x m e = record {
   fit = subst (λ (bs : List Body). AllFit x.ctx.funcs bs) (sym e.bodies) (body_more x.ctx.funcs e.others e.body e.held.fit
       (subst (λ (b : Body). BodyFits x.ctx.funcs b) (last_same m.others e.others m.body e.body (sym m.bodies ∙ e.bodies)) (record {
         func = f;
         at = ap (λ (n : ℕ). slice_get x.ctx.funcs n) m.is ∙ e.held.extra.at;
+        defined = q;
         signed = w;
         fits = m.fits;
       })));
   extra = e.held.extra.extra;
 }
 
-keeps_all : (E : List Func → Type 0) (func : ℕ) (f : Func) → WellSigned f → (r : Result State ElabFault) → On (MakesBody f func) r
+keeps_all : (E : List Func → Type 0) (func : ℕ) (f : Func) → f.is_defined ≡ true → WellSigned f → (r : Result State ElabFault) → On (MakesBody f func) r
     → On (EndsWith (Nearly E func f)) r → On (λ (x : State). FitsWith E x.ctx.funcs x.bodies) r
-keeps_all E func f w r h k = both (MakesBody f func) (EndsWith (Nearly E func f)) (λ (x : State). FitsWith E x.ctx.funcs x.bodies) r
-    (λ x m e. joined E func f w x m e) h k
+keeps_all E func f q w r h k = both (MakesBody f func) (EndsWith (Nearly E func f)) (λ (x : State). FitsWith E x.ctx.funcs x.bodies) r
+    (λ x m e. joined E func f q w x m e) h k
 
 -- Bodies that are written
 
@@ -79,24 +80,31 @@ lambdas_keep : (func : ℕ) (f : Func) (s : List Lexeme) (st : State) (t : synta
     → On (λ (x : State). Nearly nothing func f x.ctx.funcs x.bodies) (lambdas_of s st t)
 lambdas_keep func f s st t h = each_fit (Also nothing func f) (λ fs g e. record { extra = tt; at = added fs (g ∷ []) func f e.at }) s st t h
 
-kept_by : (func : ℕ) (f : Func) → WellSigned f → (r : Result State ElabFault) (x : State) → On (MakesBody f func) r
-    → On (EndsWith (Nearly nothing func f)) r → r ≡ Ok x → BodiesFit x
-kept_by func f w r x h k e = (holds (λ (y : State). FitsWith nothing y.ctx.funcs y.bodies) r x (keeps_all nothing func f w r h k) e).fit
+kept_by : (st : State) (func : ℕ) (f : Func) → HasFunction st func f → (r : Result State ElabFault) → On (MakesBody f func) r
+    → On (EndsWith (Nearly nothing func f)) r → On BodiesFit r
+kept_by st func f g r h k = weaken (λ (y : State). FitsWith nothing y.ctx.funcs y.bodies) BodiesFit r (λ y i. i.fit)
+    (keeps_all nothing func f g.defined g.signed r h k)
+
+pub function_fits : (s : List Lexeme) (st : State) (h : Header) (this : Option Typ) (func : ℕ) (t : syntax.Tree) (f : Func) → BodiesFit st
+    → HasFunction st func f → Defines h this f → On BodiesFit (function_body lambdas_of s st h this func t)
+function_fits s st h this func t f b g d = kept_by st func f g (function_body lambdas_of s st h this func t)
+    (function_made lambdas_of lambdas_lawful s st h this func t f d)
+    (ending.function_ends (Nearly nothing func f) lambdas_of s (λ y u i. lambdas_keep func f s y u i) st h this func t (nearly st func f b g.at))
 
 pub functions_law : FunctionsKeep
-functions_law s st h this func t x f b g d e = kept_by func f g.signed (function_body lambdas_of s st h this func t) x
-    (function_made lambdas_of lambdas_lawful s st h this func t f d)
-    (ending.function_ends (Nearly nothing func f) lambdas_of s (λ y u i. lambdas_keep func f s y u i) st h this func t (nearly st func f b g.at)) e
+functions_law s st h this func t x f b g d e = holds BodiesFit (function_body lambdas_of s st h this func t) x (function_fits s st h this func t f b g d) e
 
 pub constructors_law : ConstructorsKeep
-constructors_law s st h n func inits t x f b g k c ps e = kept_by func f g.signed (constructor_body lambdas_of s st h n func inits t) x
+constructors_law s st h n func inits t x f b g k c ps e = holds BodiesFit (constructor_body lambdas_of s st h n func inits t) x
+    (kept_by st func f g (constructor_body lambdas_of s st h n func inits t)
     (constructor_made lambdas_of lambdas_lawful s st h n func inits t f k c ps)
-    (ending.written_ends (Nearly nothing func f) lambdas_of s (λ y u i. lambdas_keep func f s y u i) st h n func inits t (nearly st func f b g.at)) e
+    (ending.written_ends (Nearly nothing func f) lambdas_of s (λ y u i. lambdas_keep func f s y u i) st h n func inits t (nearly st func f b g.at))) e
 
 pub destructors_law : DestructorsKeep
-destructors_law s st h n func t x f b g k c ps e = kept_by func f g.signed (destructor_body lambdas_of s st h n func t) x
+destructors_law s st h n func t x f b g k c ps e = holds BodiesFit (destructor_body lambdas_of s st h n func t) x
+    (kept_by st func f g (destructor_body lambdas_of s st h n func t)
     (destructor_made lambdas_of lambdas_lawful s st h n func t f k c ps)
-    (ending.destructor_ends (Nearly nothing func f) lambdas_of s (λ y u i. lambdas_keep func f s y u i) st h n func t (nearly st func f b g.at)) e
+    (ending.destructor_ends (Nearly nothing func f) lambdas_of s (λ y u i. lambdas_keep func f s y u i) st h n func t (nearly st func f b g.at))) e
 
 pub defaults_law : DefaultsKeep
 defaults_law s n st ts x h e = holds BodiesFit (all_defaults lambdas_of s n st ts) x
@@ -110,7 +118,7 @@ Fine st = FitsWith ImplicitsStand st.ctx.funcs st.bodies
 of_fine : (st : State) (k : ℕ) (f : Func) → Fine st → slice_get st.ctx.funcs k ≡ Some f → StandsImplicit f → (o : Option ℕ) → f.class ≡ o
     → On Fine (implied_of st k f o)
 of_fine st k f h e i None c = h
-of_fine st k f h e i (Some n) c = keeps_all ImplicitsStand k f i.signed (body_implied st f.declared.at k n f.kind ps)
+of_fine st k f h e i (Some n) c = keeps_all ImplicitsStand k f i.defined i.signed (body_implied st f.declared.at k n f.kind ps)
     (implied_made st f.declared.at k n f.kind ps f refl i.special c i.items)
     (ending.implied_ends (Nearly ImplicitsStand k f) st f.declared.at k n f.kind ps (record { fit = h.fit; extra = record { extra = h.extra; at = e } }))
   where

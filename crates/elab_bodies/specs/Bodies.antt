@@ -61,10 +61,11 @@ pub record IsBodyOf (f : Func) (b : Body) : Type 0 where
   pub end : ends_well (result_of f) b.tree ≡ true
   pub words : BeginsWithCall f b.frame
 
--- the function of that number is there, and the body is one of it
+-- the function of that number is there and defined, and the body is one of it
 pub record BodyFits (funcs : List Func) (b : Body) : Type 0 where
   pub func : Func
   pub at : slice_get funcs b.func ≡ Some func
+  pub defined : func.is_defined ≡ true
   pub signed : WellSigned func
   pub fits : IsBodyOf func b
 

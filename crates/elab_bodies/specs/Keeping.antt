@@ -20,9 +20,10 @@ use Rattle.elab_bodies.specs.Making.{Defines, source_items}
 
 -- Bodies that are written
 
--- the function of that number, whose callers know what to pass
+-- the function of that number is defined, and its callers know what to pass
 pub record HasFunction (st : State) (func : ℕ) (f : Func) : Type 0 where
   pub at : slice_get st.ctx.funcs func ≡ Some f
+  pub defined : f.is_defined ≡ true
   pub signed : WellSigned f
 
 abbrev pub FunctionsKeep : Type 0
@@ -46,6 +47,7 @@ DefaultsKeep = (s : List Lexeme) (n : ℕ) (st : State) (ts : syntax.Trees) (x :
 
 -- a constructor that takes what its copy is made from or nothing, or a destructor
 pub record StandsImplicit (f : Func) : Type 0 where
+  pub defined : f.is_defined ≡ true
   pub signed : WellSigned f
   pub special : is_special f.kind ≡ true
   pub items : param_items f.params ≡ source_items f.kind (signature_parameters f.declared.signature)
