@@ -1,26 +1,24 @@
 -- The bodies of lambdas' calls: with them all bodies fit still.
-use Rattle.std.proofs.Common.{◌≡◌, refl, sym, ap, ◌∙◌, subst, ℕ, zero, suc, Bool, true, false, not, List, [], ◌∷◌, ◌++◌, append_assoc, map, length, slice_get}
+use Rattle.std.proofs.Common.{◌≡◌, refl, sym, ap, ◌∙◌, subst, ℕ, zero, suc, Bool, false, not, List, [], ◌∷◌, ◌++◌, append_assoc, map, length, slice_get}
 use Rattle.std.proofs.Common.{Option, Some, None, Result, Ok, Err, eq-eqb}
 use Rattle.std.proofs.lemmas.Option.{same_Some}
-use Rattle.elab_rules.specs.cpp_types.Typ.{Typ, typ, Form, func, ptr, closure, Signature, signature}
+use Rattle.elab_rules.specs.cpp_types.Typ.{Typ, typ, func, ptr, closure, Signature, signature}
 use Rattle.elab_rules.specs.cpp_types.Class.{held as held_class}
 use Rattle.elab_rules.specs.cpp_types.declared.classes.At.{At}
 use Rattle.elab_rules.specs.cpp_lex.Tokens.{Lexeme}
 use Rattle.elab_rules.specs.cpp_ast.declared.kinds.NodeKind.TheVariants as k
 use Rattle.elab_rules.specs.cpp_ast.Trees as syntax
-use Rattle.elab_rules.specs.cpp_tree.declared.kinds.TKind.TheVariants as forms
 use Rattle.elab_rules.specs.cpp_tree.declared.faults.ElabFault.{ElabFault}
 use Rattle.elab_rules.specs.cpp_tree.declared.faults.IllRule.TheVariants.{AbstractObject, BadDeclaration, Incomplete, OutOfProfile}
 use Rattle.elab_rules.specs.cpp_tree.Notation.{plain}
 use Rattle.elab_rules.specs.cpp_tree.Typing.{form_in}
 use Rattle.elab_rules.specs.elab_ctx.Ctx.{Ctx, Func, known}
-use Rattle.elab_rules.specs.elab_ctx.Steps.{and_then, check, at_of}
-use Rattle.elab_rules.specs.Objects.{followed_by}
+use Rattle.elab_rules.specs.elab_ctx.Steps.{check, at_of}
 use Rattle.elab_rules.specs.Operators.{is_complete}
 use Rattle.elab_rules.specs.Types.{Parameter, no_qualifiers, qualifiers_from, is_declared_safe, function_of, types_of, is_result, has_auto, is_abstract_type, within_parameters}
 use Rattle.elab_rules.specs.Sizes.{typ_sized}
-use Rattle.elab_rules.specs.Statements.{State, Done, Body, statement, statements_of}
-use Rattle.elab_rules.specs.Functions.{param_of, result_items, with_parameters, end_of, within_frame, body_made}
+use Rattle.elab_rules.specs.Statements.{State, Done, Body, statements_of}
+use Rattle.elab_rules.specs.Functions.{param_of, result_items, with_parameters, within_frame}
 use Rattle.elab_rules.specs.Lambdas.{Written, lambdas_of, lambdas_among, lambda_of, lambda_written, lambda_made, lambda_with, lambda_known, lambda_type, refused_at}
 use Rattle.elab_rules.specs.Lambdas.{no_lambda, first_lambda, lambda_entered, declared_closure, inside, body_statements, signature_in, result_of, kids_of, has_mutable}
 use Rattle.elab_rules.specs.Lambdas.{explicit_captures, default_in, parameters_among, not_dynamic, result_among, default_captures, used_in, place_of_tree, closing}
@@ -30,7 +28,7 @@ use Rattle.state_growth.proofs.Lists.{added}
 use Rattle.state_growth.proofs.Steps.{bind, skip, weaken, Ends}
 use Rattle.state_growth.proofs.Statements.{statements_kept}
 use Rattle.state_growth.proofs.Bodies.{no_lambda_lawful}
-use Rattle.elab_bodies.specs.Bodies.{number_of, WellSigned, param_items, Begin, BeginsWithCall, IsBodyOf, BodyFits, AllFit, BodiesFit}
+use Rattle.elab_bodies.specs.Bodies.{number_of, param_items, Begin, BodyFits, AllFit, BodiesFit}
 use Rattle.elab_bodies.specs.Making.{LambdasFit, StatementsFit}
 use Rattle.elab_bodies.proofs.Frames.{WithItems, parameters_added, words_by}
 use Rattle.elab_bodies.proofs.Making.{holds, plain_block}
@@ -110,7 +108,6 @@ typed c x r = bind P P (function_of c x.at r x.params (is_declared_safe x.qualif
     P : Typ → Type 0
     P t = t ≡ plain (func (signature (types_of x.params) r (is_declared_safe x.qualifiers)))
 
-
 module _ (E : List Func → Type 0) (more : (fs : List Func) (f : Func) → E fs → E (fs ++ f ∷ [])) where
   abbrev F : State → Type 0
   F st = Fine E st
@@ -140,15 +137,18 @@ module _ (E : List Func → Type 0) (more : (fs : List Func) (f : Func) → E fs
         at = at_end st.ctx.funcs g;
       })
       (λ d i. skip F (within_frame d.state.ctx x.at d.state.work.frame) _
-      (λ z. record { fit = body_more d.state.ctx.funcs d.state.bodies _ i.has.fit (record {
-        func = g;
-        at = i.has.at;
-        defined = refl;
-        signed = record { params = as_many x.params; result = refl };
-        fits = plain_block g place d.state.ctx r x.body_at d.trees d.state.work.frame refl refl
-            (words_by g (Some own) r items (e.work.frame ++ items) d.state.work.frame (eq-eqb n n refl) refl refl
-            (append_assoc (result_items r) (plain (ptr own) ∷ []) items) i.first);
-      }); extra = i.has.extra })))
+      (λ z. record {
+        fit = body_more d.state.ctx.funcs d.state.bodies _ i.has.fit (record {
+          func = g;
+          at = i.has.at;
+          defined = refl;
+          signed = record { params = as_many x.params; result = refl };
+          fits = plain_block g place d.state.ctx r x.body_at d.trees d.state.work.frame refl refl
+              (words_by g (Some own) r items (e.work.frame ++ items) d.state.work.frame (eq-eqb n n refl) refl refl
+              (append_assoc (result_items r) (plain (ptr own) ∷ []) items) i.first);
+        });
+        extra = i.has.extra;
+      })))
     where
       sig : Signature
       sig = signature (types_of x.params) r safe

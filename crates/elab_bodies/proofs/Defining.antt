@@ -1,12 +1,12 @@
 -- Declarations and definitions of functions at file scope.
-use Rattle.std.proofs.Common.{◌≡◌, refl, sym, ap, ◌∙◌, subst, ℕ, zero, suc, ◌+◌, Bool, true, false, not, ◌&&◌, ◌||◌, List, [], ◌∷◌, ◌++◌, map, length, slice_get, arith}
-use Rattle.std.proofs.Common.{Option, Some, None, is_some, unwrap_or, Result, Ok, Err}
+use Rattle.std.proofs.Common.{◌≡◌, refl, sym, ap, ◌∙◌, subst, ℕ, zero, suc, ◌+◌, Bool, true, false, not, ◌&&◌, ◌||◌, List, [], ◌∷◌, ◌++◌, length, slice_get, arith}
+use Rattle.std.proofs.Common.{Option, Some, None, is_some, unwrap_or, Result, Ok}
 use Rattle.std.specs.Prelude.{slice_set, if◌then◌else◌}
 use Rattle.std.specs.Str.{bytes_eq}
 use Rattle.std.proofs.lemmas.Bool.{and_parts}
 use Rattle.std.proofs.lemmas.List.{length-map}
 use Rattle.std.proofs.lemmas.Option.{same_Some}
-use Rattle.elab_rules.specs.cpp_types.Typ.{Typ, Signature, signature, Typs, none as no_typs, more as and_typ, func}
+use Rattle.elab_rules.specs.cpp_types.Typ.{Typs, none as no_typs, more as and_typ, func}
 use Rattle.elab_rules.specs.cpp_types.Equal.{typ_eq, typs_eq, flag_eq}
 use Rattle.elab_rules.specs.cpp_types.declared.classes.At.{At}
 use Rattle.elab_rules.specs.cpp_lex.Tokens.{Lexeme}
@@ -23,9 +23,8 @@ use Rattle.elab_rules.specs.elab_ctx.Ctx.{Ctx, Func}
 use Rattle.elab_rules.specs.elab_ctx.Steps.{and_then, check}
 use Rattle.elab_rules.specs.Initialising.{func_at, no_function, signature_parameters, signature_result}
 use Rattle.elab_rules.specs.Names.{same_variable}
-use Rattle.elab_rules.specs.Types.{Declared, Parameter}
 use Rattle.elab_rules.specs.Statements.{State, Body}
-use Rattle.elab_rules.specs.Functions.{Header, Storage, Placed, param_of, new_function, is_same_function, first_from, agrees, same_safety, safety_of, is_internal}
+use Rattle.elab_rules.specs.Functions.{Header, Placed, param_of, new_function, is_same_function, first_from, agrees, same_safety, safety_of, is_internal}
 use Rattle.elab_rules.specs.Functions.{is_function_entity, function_named, name_declared, declared_in, main_fits, may_be_c, dynamic_fits, header_sized, text_sized}
 use Rattle.elab_rules.specs.Functions.{function_declared, function_body, defined_function, with_definition}
 use Rattle.elab_rules.specs.Lambdas.{lambdas_of}
@@ -33,9 +32,8 @@ use Rattle.elab_rules.specs.Units.{header_of, definition_text, closing_offset, d
 use Rattle.elab_fits.specs.Standing.{On}
 use Rattle.elab_fits.proofs.Equal.{typ_same}
 use Rattle.state_growth.proofs.Steps.{bind, skip}
-use Rattle.elab_bodies.specs.Bodies.{result_of, number_of, is_object_of, WellSigned, BodyFits, AllFit, BodiesFit}
+use Rattle.elab_bodies.specs.Bodies.{number_of, is_object_of, WellSigned, AllFit, BodiesFit}
 use Rattle.elab_bodies.specs.Making.{Defines}
-use Rattle.elab_bodies.specs.Keeping.{HasFunction}
 use Rattle.elab_bodies.specs.Defining.{DeclarationsKeep, SpecialsInside, DefinitionsKeep}
 use Rattle.elab_bodies.proofs.Frames.{result_kept}
 use Rattle.elab_bodies.proofs.Making.{holds}
@@ -147,11 +145,11 @@ agreeing h f = checked (λ (x : Bool). Agrees h f) h.at TypeDiffers (typ_eq (sig
 same_open : (h : Header) (f : Func) → h.class ≡ None → (f.class ≡ None → is_special f.kind ≡ false) → is_same_function h f ≡ true → Agrees h f → Open h f
 same_open h f k s t a =
     let p = and_parts (bytes_eq f.declared.name h.name && same_variable f.class h.class
-        && typs_eq (signature_parameters f.declared.signature) (signature_parameters h.signature)) (flag_eq f.declared.is_const h.qualifiers.is_const) t in
+    && typs_eq (signature_parameters f.declared.signature) (signature_parameters h.signature)) (flag_eq f.declared.is_const h.qualifiers.is_const) t in
     let q = and_parts (bytes_eq f.declared.name h.name && same_variable f.class h.class)
-        (typs_eq (signature_parameters f.declared.signature) (signature_parameters h.signature)) p.0 in
+    (typs_eq (signature_parameters f.declared.signature) (signature_parameters h.signature)) p.0 in
     let c = no_class f.class (subst (λ (o : Option ℕ). same_variable f.class o ≡ true) k
-        (and_parts (bytes_eq f.declared.name h.name) (same_variable f.class h.class) q.0).1) in
+    (and_parts (bytes_eq f.declared.name h.name) (same_variable f.class h.class) q.0).1) in
     record {
       undefined = a.undefined;
       class = c;

@@ -1,5 +1,5 @@
 -- What holds of the functions and the bodies alone, and is kept by lambdas, holds of the bodies before the one that is made.
-use Rattle.std.proofs.Common.{◌≡◌, refl, ℕ, zero, suc, Bool, true, false, List, [], ◌∷◌, ◌++◌, slice_get, Option, Some, None, Result, Ok, Err}
+use Rattle.std.proofs.Common.{◌≡◌, refl, ℕ, suc, Bool, true, false, List, [], ◌∷◌, ◌++◌, slice_get, Option, Some, None}
 use Rattle.std.specs.Prelude.{is_none, not}
 use Rattle.elab_rules.specs.cpp_types.Typ.{Typ, class, Typs, none as no_typs, more as and_typ}
 use Rattle.elab_rules.specs.cpp_types.Class.{Member}
@@ -16,7 +16,7 @@ use Rattle.elab_rules.specs.cpp_tree.Notation.{plain}
 use Rattle.elab_rules.specs.cpp_tree.Trees.{Tree, none}
 use Rattle.elab_rules.specs.cpp_tree.Typing.{unqualified}
 use Rattle.elab_rules.specs.elab_ctx.Ctx.{Func}
-use Rattle.elab_rules.specs.elab_ctx.Steps.{and_then, check, expect, each_of, at_of, spelling}
+use Rattle.elab_rules.specs.elab_ctx.Steps.{check, expect, at_of, spelling}
 use Rattle.elab_rules.specs.Objects.{followed_by}
 use Rattle.elab_rules.specs.Initialising.{as_source, class_from, signature_result}
 use Rattle.elab_rules.specs.Operators.{is_complete}

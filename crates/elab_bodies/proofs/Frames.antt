@@ -1,6 +1,6 @@
 -- What comes first in the frame of a body: the words of the call, which stay there while more is added.
-use Rattle.std.proofs.Common.{◌≡◌, refl, sym, ap, ◌∙◌, subst, ℕ, zero, suc, Bool, true, false, List, [], ◌∷◌, ◌++◌, append_assoc, append-nil, map, slice_get, Option}
-use Rattle.std.proofs.Common.{Some, None, Result, Ok, Err}
+use Rattle.std.proofs.Common.{◌≡◌, refl, sym, ap, ◌∙◌, ℕ, suc, Bool, true, false, List, [], ◌∷◌, ◌++◌, append_assoc, append-nil, map, slice_get, Option}
+use Rattle.std.proofs.Common.{Some, None}
 use Rattle.std.specs.Prelude.{is_none, not, ◌||◌, cond, if◌then◌else◌}
 use Rattle.elab_rules.specs.cpp_types.Typ.{Typ, typ, void, class, Signature, signature}
 use Rattle.elab_rules.specs.cpp_types.Class.{Member}
@@ -11,7 +11,6 @@ use Rattle.elab_rules.specs.cpp_ast.declared.kinds.NodeKind.TheVariants as k
 use Rattle.elab_rules.specs.cpp_ast.Trees as syntax
 use Rattle.elab_rules.specs.cpp_tree.declared.kinds.TKind.TheVariants as forms
 use Rattle.elab_rules.specs.cpp_tree.declared.program.FuncKind.{FuncKind}
-use Rattle.elab_rules.specs.cpp_tree.declared.faults.ElabFault.{ElabFault}
 use Rattle.elab_rules.specs.cpp_tree.declared.faults.IllRule.TheVariants.{Incomplete, NoMember, OutOfProfile, Redeclared, UnknownName}
 use Rattle.elab_rules.specs.cpp_tree.Notation.{plain}
 use Rattle.elab_rules.specs.cpp_tree.Trees.{Tree, Trees, none, more, one, two, kind_of}
@@ -19,7 +18,7 @@ use Rattle.elab_rules.specs.cpp_tree.Typing.{unqualified, is_class_typ, is_void}
 use Rattle.elab_rules.specs.cpp_tree.Rows.{result_in, is_special, is_constructor, is_destructor}
 use Rattle.elab_rules.specs.cpp_tree.WellFormed.{is_return, last_is_return}
 use Rattle.elab_rules.specs.elab_ctx.Ctx.{Ctx, Func}
-use Rattle.elab_rules.specs.elab_ctx.Steps.{and_then, check, expect, at_of, spelling, Operand}
+use Rattle.elab_rules.specs.elab_ctx.Steps.{check, expect, at_of, spelling, Operand}
 use Rattle.elab_rules.specs.Objects.{followed_by, is_array}
 use Rattle.elab_rules.specs.Initialising.{as_source, class_from, signature_result}
 use Rattle.elab_rules.specs.Operators.{is_complete}
@@ -28,7 +27,7 @@ use Rattle.elab_rules.specs.Calls.{base_of_class}
 use Rattle.elab_rules.specs.Types.{Parameter, type_named}
 use Rattle.elab_rules.specs.Expressions.{operands_of}
 use Rattle.elab_rules.specs.Statements.{State, Lambdas, with_work, all_lambdas, directly_initialised, is_fresh}
-use Rattle.elab_rules.specs.Functions.{with_parameters, parameter_named, param_of, word_item, result_items, this_items, end_of, result_zeroed, void_at, zero_result}
+use Rattle.elab_rules.specs.Functions.{with_parameters, parameter_named, param_of, word_item, end_of, result_zeroed, void_at, zero_result}
 use Rattle.elab_rules.specs.Members.{Giving, given_part, given_base, given_by, all_given, given_for, for_part, is_named_class, is_base_type, member_index, member_type}
 use Rattle.elab_rules.specs.Members.{as_base_of}
 use Rattle.elab_rules.specs.Implicit.{own_operand, part_copied, part_of_source, members_copied, base_copied, parts_copied}

@@ -12,19 +12,19 @@ use Rattle.elab_rules.specs.cpp_tree.declared.faults.IllRule.TheVariants.{Redecl
 use Rattle.elab_rules.specs.cpp_tree.declared.faults.IllRule.TheVariants.{BadReturn, BadBreak, BadCase}
 use Rattle.elab_rules.specs.cpp_tree.Trees.{Tree, none, typ_in, one, three}
 use Rattle.elab_rules.specs.cpp_tree.Typing.{is_class_typ, form_in, is_void, kind_in, unqualified}
-use Rattle.elab_rules.specs.elab_ctx.Ctx.{next_place, Returns, known, deduced}
-use Rattle.elab_rules.specs.elab_ctx.Steps.{and_then, check, expect, at_of, spelling, Operand, Made, Typed, TypedAll}
+use Rattle.elab_rules.specs.elab_ctx.Ctx.{Returns, known, deduced}
+use Rattle.elab_rules.specs.elab_ctx.Steps.{and_then, check, expect, at_of, spelling, Operand, Made, TypedAll}
 use Rattle.elab_rules.specs.Initialising.{class_from, initial}
-use Rattle.elab_rules.specs.Operators.{value, truth, dropped, is_complete}
+use Rattle.elab_rules.specs.Operators.{value, truth, is_complete}
 use Rattle.elab_rules.specs.Types.{Parameter, has_auto, is_bounded}
 use Rattle.elab_rules.specs.Braces.{item_of, string_token, is_char_array, syntax_place, string_object}
 use Rattle.elab_rules.specs.Expressions.{expression_of, operands_of, chosen_operand, declared_by, type_of_specifiers}
-use Rattle.elab_rules.specs.Functions.{with_parameters, parameter_named, word_item}
-use Rattle.elab_rules.specs.Statements.{State, Done, done, Lambdas, Full, Deduction, Declaring, Switched, Caught, with_work, full_operand, full_made}
-use Rattle.elab_rules.specs.Statements.{expression_statement, condition, declared_variable, placed_variable, auto_placed, variable_tree, default_object, copy_initialised}
+use Rattle.elab_rules.specs.Functions.{with_parameters, parameter_named}
+use Rattle.elab_rules.specs.Statements.{State, Done, done, Lambdas, Full, Deduction, Declaring, Switched, Caught, with_work, full_operand}
+use Rattle.elab_rules.specs.Statements.{expression_statement, condition, declared_variable, placed_variable, variable_tree, default_object, copy_initialised}
 use Rattle.elab_rules.specs.Statements.{directly_initialised, initialised, string_initialised, values_initialised, all_lambdas, bound_by_initialiser}
 use Rattle.elab_rules.specs.Statements.{by_expression, with_initialiser, deduced_type, replaced, auto_initialised, auto_object, auto_variable, plain_variable}
-use Rattle.elab_rules.specs.Statements.{next_variable, variable_by, variable, name_of, block_declarator, block_declarators, block_declaration, return_value}
+use Rattle.elab_rules.specs.Statements.{variable_by, variable, name_of, block_declarator, block_declarators, block_declaration, return_value}
 use Rattle.elab_rules.specs.Statements.{return_by, return_nothing, returned, case_label, default_label, inner, in_loop, in_block, in_switch, outer}
 use Rattle.elab_rules.specs.Statements.{named_handler, handler_type, in_order, switched, jump, a_part, for_first, for_test, for_step, statement_of}
 use Rattle.elab_rules.specs.Statements.{statements_of, handlers_of, case_fits, caught_type, declarable, is_fresh, is_own_name, label_here}
@@ -36,7 +36,7 @@ use Rattle.elab_rules.specs.Constants.{constant}
 use Rattle.elab_rules.specs.Casts.{within_exception}
 use Rattle.elab_rules.specs.cpp_types.Class.{held}
 use Rattle.std.specs.List.{list_any}
-use Rattle.std.specs.Prelude.{not, ◌||◌, ◌==◌}
+use Rattle.std.specs.Prelude.{not, ◌==◌}
 use Rattle.elab_rules.specs.cpp_tree.Notation.{plain}
 use Rattle.elab_rules.specs.Strings.{string_bytes}
 use Rattle.elab_rules.specs.Sizes.{typ_sized}

@@ -1,5 +1,5 @@
 -- The implicit members that a class gets.
-use Rattle.std.proofs.Common.{◌≡◌, refl, sym, ap, ◌∙◌, subst, ℕ, zero, suc, Bool, true, false, ◌&&◌, not, List, [], ◌∷◌, ◌++◌, slice_get, Option, Some, None}
+use Rattle.std.proofs.Common.{◌≡◌, refl, subst, ℕ, zero, suc, Bool, true, false, ◌&&◌, not, List, [], ◌∷◌, ◌++◌, slice_get, Option, Some, None}
 use Rattle.std.specs.Prelude.{if◌then◌else◌}
 use Rattle.std.proofs.lemmas.Option.{same_Some}
 use Rattle.elab_rules.specs.cpp_types.Class.{Member}
@@ -10,7 +10,7 @@ use Rattle.elab_rules.specs.Initialising.{is_constructor, places_from}
 use Rattle.elab_rules.specs.Statements.{is_trivial}
 use Rattle.elab_rules.specs.Functions.{first_from}
 use Rattle.elab_rules.specs.Classes.{Home, Specials, with_destructor, with_copy, with_default, with_implicit, all_held, base_default, members_default, may_copy}
-use Rattle.elab_rules.specs.Classes.{has_no_pointer, is_trivial_default, is_destructor_of, written_copy, is_no_place, completed}
+use Rattle.elab_rules.specs.Classes.{has_no_pointer, is_trivial_default, is_destructor_of, written_copy, is_no_place}
 use Rattle.elab_bodies.specs.Keeping.{StandsImplicit, ImplicitsStand, CompletedStand}
 
 one_more : (fs : List Func) (f : Func) → StandsImplicit f → ((i : ℕ) (g : Func) → slice_get fs i ≡ Some g → g.implicit ≡ true → StandsImplicit g)

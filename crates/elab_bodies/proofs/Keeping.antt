@@ -1,24 +1,22 @@
 -- Behind the body of a function all bodies fit still.
-use Rattle.std.proofs.Common.{◌≡◌, refl, sym, ap, ◌∙◌, subst, ℕ, zero, suc, Bool, true, false, ◌&&◌, List, [], ◌∷◌, ◌++◌, map, length, slice_get, Option, Some, None}
-use Rattle.std.proofs.Common.{Result, Ok, Err, unwrap_or}
+use Rattle.std.proofs.Common.{◌≡◌, refl, sym, ap, ◌∙◌, subst, ℕ, zero, suc, Bool, true, false, ◌&&◌, List, [], ◌∷◌, ◌++◌, length, slice_get, Option, Some, None}
+use Rattle.std.proofs.Common.{Result, Ok, unwrap_or}
 use Rattle.std.specs.Prelude.{if◌then◌else◌}
 use Rattle.std.proofs.lemmas.Bool.{and_parts}
 use Rattle.elab_rules.specs.cpp_types.Typ.{Typ, Typs}
 use Rattle.elab_rules.specs.cpp_lex.Tokens.{Lexeme}
 use Rattle.elab_rules.specs.cpp_ast.Trees as syntax
-use Rattle.elab_rules.specs.cpp_tree.declared.program.FuncKind.TheVariants.{Constructor, Destructor}
 use Rattle.elab_rules.specs.cpp_tree.declared.faults.ElabFault.{ElabFault}
 use Rattle.elab_rules.specs.elab_ctx.Ctx.{Func}
-use Rattle.elab_rules.specs.elab_ctx.Steps.{and_then}
 use Rattle.elab_rules.specs.Initialising.{func_at, no_function, signature_parameters}
 use Rattle.elab_rules.specs.Statements.{State, Body}
-use Rattle.elab_rules.specs.Functions.{Header, param_of, function_body}
+use Rattle.elab_rules.specs.Functions.{Header, function_body}
 use Rattle.elab_rules.specs.Members.{constructor_body, destructor_body, all_defaults}
 use Rattle.elab_rules.specs.Implicit.{body_implied, implied_of, implied, implied_below, with_implied, is_referred}
 use Rattle.elab_rules.specs.Lambdas.{lambdas_of}
 use Rattle.elab_fits.specs.Standing.{On}
 use Rattle.state_growth.proofs.Lists.{added}
-use Rattle.state_growth.proofs.Steps.{bind, skip, weaken}
+use Rattle.state_growth.proofs.Steps.{bind, weaken}
 use Rattle.state_growth.proofs.Bodies.{lambdas_lawful}
 use Rattle.elab_bodies.specs.Bodies.{WellSigned, BodyFits, AllFit, BodiesFit}
 use Rattle.elab_bodies.specs.Making.{MakesBody, Defines}

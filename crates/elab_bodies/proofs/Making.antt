@@ -1,7 +1,7 @@
 -- Bodies of functions, constructors, destructors and implicit members.
-use Rattle.std.proofs.Common.{◌≡◌, refl, sym, ap, ◌∙◌, subst, ℕ, Bool, true, false, List, [], ◌∷◌, ◌++◌, append_assoc, map, slice_get, Option, Some, None, Result}
-use Rattle.std.proofs.Common.{Ok, Err, eq-eqb}
-use Rattle.elab_rules.specs.cpp_types.Typ.{Typ, typ, void, class, Typs, none as no_typs, more as and_typ}
+use Rattle.std.proofs.Common.{◌≡◌, refl, sym, ap, ◌∙◌, subst, ℕ, true, false, List, [], ◌∷◌, append_assoc, map, Option, Some, Result}
+use Rattle.std.proofs.Common.{Ok, eq-eqb}
+use Rattle.elab_rules.specs.cpp_types.Typ.{Typ, void, class, Typs, none as no_typs, more as and_typ}
 use Rattle.elab_rules.specs.cpp_types.Class.{held as held_class}
 use Rattle.elab_rules.specs.cpp_types.Equal.{flag_eq}
 use Rattle.elab_rules.specs.cpp_types.declared.classes.At.{At}
@@ -17,7 +17,7 @@ use Rattle.elab_rules.specs.cpp_tree.Trees.{Tree, Trees, none, kind_of}
 use Rattle.elab_rules.specs.cpp_tree.Rows.{is_special, is_constructor}
 use Rattle.elab_rules.specs.cpp_tree.WellFormed.{is_body_of, ends_well}
 use Rattle.elab_rules.specs.elab_ctx.Ctx.{Ctx, Func}
-use Rattle.elab_rules.specs.elab_ctx.Steps.{and_then, check, at_of}
+use Rattle.elab_rules.specs.elab_ctx.Steps.{check, at_of}
 use Rattle.elab_rules.specs.Objects.{followed_by}
 use Rattle.elab_rules.specs.Initialising.{signature_result}
 use Rattle.elab_rules.specs.Operators.{is_complete}

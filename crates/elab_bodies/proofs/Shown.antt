@@ -1,7 +1,7 @@
 -- What the unit shows of a function with its body.
-use Rattle.std.proofs.Common.{◌≡◌, refl, sym, ap, ◌∙◌, subst, ℕ, zero, suc, ◌+◌, Bool, true, false, ◌&&◌, List, [], ◌∷◌, ◌++◌, map, length, drop, slice_get}
+use Rattle.std.proofs.Common.{◌≡◌, refl, sym, ap, ◌∙◌, subst, ℕ, zero, suc, ◌+◌, Bool, true, false, List, [], ◌∷◌, ◌++◌, map, length, drop, slice_get}
 use Rattle.std.proofs.Common.{Option, Some, None, eqb-true, eq-eqb, arith, length-append}
-use Rattle.std.specs.Prelude.{◌==◌, find, is_some, cond, if◌then◌else◌}
+use Rattle.std.specs.Prelude.{is_some, cond, if◌then◌else◌}
 use Rattle.std.proofs.lemmas.Bool.{and_from}
 use Rattle.std.proofs.lemmas.Option.{same_Some}
 use Rattle.elab_rules.specs.cpp_types.Typ.{Typ, typ, ptr, Signature, signature, Typs, none as no_typs, more as and_typ}
@@ -21,7 +21,7 @@ use Rattle.elab_rules.specs.Statements.{State, Body}
 use Rattle.elab_rules.specs.Programs.{typed_func, typed_funcs, body_of, is_body_of, tree_in, one_if}
 use Rattle.elab_fits.proofs.Equal.{typ_refl}
 use Rattle.state_growth.proofs.Lists.{added}
-use Rattle.elab_bodies.specs.Bodies.{result_of, number_of, WellSigned, is_object_of, param_items, call_items, Begin, BeginsWithCall, IsBodyOf, BodyFits, AllFit}
+use Rattle.elab_bodies.specs.Bodies.{result_of, number_of, WellSigned, is_object_of, param_items, Begin, BeginsWithCall, IsBodyOf}
 use Rattle.elab_bodies.specs.Bodies.{BodiesFit, FitsFunction, ShownFit, UnitsFit}
 
 -- The first items

@@ -1,5 +1,5 @@
 -- Functions at file scope: behind a declaration, and behind a definition, all bodies fit still.
-use Rattle.std.specs.Prelude.{◌≡◌, ℕ, Bool, false, List, length, slice_get, None, Some, Option, Result, Ok}
+use Rattle.std.specs.Prelude.{◌≡◌, ℕ, Bool, false, List, length, slice_get, None, Some, Ok}
 use Rattle.elab_rules.specs.cpp_types.Typ.{Signature, func}
 use Rattle.elab_rules.specs.cpp_types.declared.classes.At.{At}
 use Rattle.elab_rules.specs.cpp_lex.Tokens.{Lexeme}

@@ -1,5 +1,5 @@
 -- Behind each step that makes bodies, all bodies fit still.
-use Rattle.std.specs.Prelude.{◌≡◌, ℕ, true, List, [], map, slice_get, Option, Some, Result, Ok}
+use Rattle.std.specs.Prelude.{◌≡◌, ℕ, true, List, [], map, slice_get, Option, Some, Ok}
 use Rattle.elab_rules.specs.cpp_types.Typ.{Typ}
 use Rattle.elab_rules.specs.cpp_types.Class.{Member}
 use Rattle.elab_rules.specs.cpp_types.declared.classes.At.{At}
