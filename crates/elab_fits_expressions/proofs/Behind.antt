@@ -185,6 +185,10 @@ pub exception_from : (c : Ctx) (w : Work) (t : Typ) (at : At) (os : List Operand
 exception_from c w t at os = behind (made w) (expect at NoViable (Initialising.only os)) _ (λ o. either (made w) (is_class_typ t) _ _
     (exact_object c w t at o) (scalar_from c w t o))
 
+nothing : (w : Work) (r : Result Tree ElabFault) → On (made w) (and_then r (λ (e : Tree). Ok (record { tree = e; work = w })))
+nothing w (Ok e) = same w
+nothing w (Err e) = tt
+
 pub one_value : (c : Ctx) (w : Work) (t : Typ) (at : At) (o : Operand) (os : List Operand)
     → On (made w) (if is_class_typ t then Initialising.class_from c w t at o else and_then (expect at BadInit (Initialising.only (o ∷ os)))
     (λ (p : Operand). Initialising.scalar_from c w t p))
@@ -196,7 +200,7 @@ from_values c w (typ (tx_ex t) q v) at [] = tt
 from_values c w (typ (tx_ex t) q v) at (o ∷ os) = either (made w) (Initialising.is_exception_itself t (o ∷ os)) _ _ (class_from c w (typ (tx_ex t) q v) at o)
     (exception_from c w (without_exception (typ (tx_ex t) q v)) at (o ∷ os))
 from_values c w (typ (array e n) q v) at (o ∷ os) = tt
-from_values c w t at [] = search (behind, same)
+from_values c w t at [] = nothing w (Initialising.from_nothing c t at)
 from_values c w t at (o ∷ os) = one_value c w t at o os
 
 -- Operators

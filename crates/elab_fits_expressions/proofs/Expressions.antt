@@ -37,10 +37,12 @@ use Rattle.elab_fits_forms.proofs.ClassCasts.{casts_stand, functionals_stand}
 use Rattle.elab_fits_forms.proofs.Forms.{made_typed, tree_typed}
 use Rattle.elab_fits_forms.proofs.Leaves.{tree_means, leaves_mean}
 use Rattle.elab_fits_forms.proofs.Names.{entities_mean, resolved_stand}
-use Rattle.elab_fits_expressions.specs.Expressions.{ClosuresStand, Typed_stands}
+use Rattle.elab_fits_expressions.specs.Closures.{ClosuresHold}
+use Rattle.elab_fits_expressions.specs.Expressions.{Typed_stands}
 use Rattle.elab_fits_expressions.specs.Growing.{Behind}
 use Rattle.elab_fits_expressions.specs.Written.{IsSound}
 use Rattle.elab_fits_expressions.proofs.Behind.{after}
+use Rattle.elab_fits_expressions.proofs.Closures.{closures_stand}
 use Rattle.elab_fits_expressions.proofs.Growing as growing
 use Rattle.elab_fits_expressions.proofs.Holding.{held, reached}
 use Rattle.elab_fits_expressions.proofs.Rows.{all_rows}
@@ -173,7 +175,7 @@ module _ (lexemes : List Lexeme) (s : Setting) (c : Ctx) where
       (growing.row_of lexemes c xs.work kind at t xs.operands) (λ r. all_rows lexemes s c xs.work kind at t xs.operands h n (p r))
 
   mutual
-    pub of_expression : (l : List Closure) (w : Work) (e : syntax.Tree) → Holds s c w → ClosuresStand s c l → is_spelled lexemes e ≡ true
+    pub of_expression : (l : List Closure) (w : Work) (e : syntax.Tree) → Holds s c w → ClosuresHold c l → is_spelled lexemes e ≡ true
         → On (Typed_means s c) (rules.expression_with lexemes c l w e)
     of_expression l w (syntax.node k.ParenthesizedExpression p token (syntax.more e syntax.none)) h g i =
         bind (Typed_means s c) (Typed_means s c) (rules.expression_with lexemes c l w e) _
@@ -220,7 +222,7 @@ module _ (lexemes : List Lexeme) (s : Setting) (c : Ctx) where
     of_expression l w (syntax.node k.SizeofType p token (syntax.more t syntax.none)) h g i =
         skip (Typed_means s c) (and_then (rules.type_id_with lexemes c [] w t) (rules.written_type (at_of p))) _
         (λ u. tree_typed s c (at_of p) w (size_literal c (at_of p) (at_of p) u) (sizes_stand s c (at_of p) (at_of p) u))
-    of_expression l w (syntax.node k.Lambda p token kids) h g i = made_typed s c (at_of p) (rules.closure_object c l w (at_of p)) (g w (at_of p) h)
+    of_expression l w (syntax.node k.Lambda p token kids) h g i = made_typed s c (at_of p) (rules.closure_object c l w (at_of p)) (closures_stand s c l w (at_of p) h g)
     of_expression l w (syntax.node k.QualifiedId p (Some m) (syntax.more (syntax.node kind q (Some t) kids) syntax.none)) h g i =
         tree_means s c (at_of p) w (rules.qualified_name c w (at_of p) (spelling lexemes t) (spelling lexemes m))
         (λ r. qualified_means s c w (at_of p) (spelling lexemes t) (spelling lexemes m) h r)
@@ -233,7 +235,7 @@ module _ (lexemes : List Lexeme) (s : Setting) (c : Ctx) where
         (λ xs m. row_means kind (at_of p) t xs (held s c w xs.work m.behind h) (not_true (is_empty (spelling lexemes t)) j.0) m.proper)
     of_expression l w (syntax.node kind p None kids) h g i = tt
 
-    pub of_operands : (l : List Closure) (w : Work) (es : syntax.Trees) → Holds s c w → ClosuresStand s c l → are_spelled lexemes es ≡ true
+    pub of_operands : (l : List Closure) (w : Work) (es : syntax.Trees) → Holds s c w → ClosuresHold c l → are_spelled lexemes es ≡ true
         → On (λ (x : TypedAll). Reaches s x.work → ProperOperands s c x.operands) (rules.operands_with lexemes c l w es)
     of_operands l w syntax.none h g i = λ r. ProperOperands.none
     of_operands l w (syntax.more t ts) h g i =
@@ -247,7 +249,7 @@ module _ (lexemes : List Lexeme) (s : Setting) (c : Ctx) where
         (of_operands l x.work ts (held s c w x.work y.behind h) g j.1))
         (λ xs z. (λ r. ProperOperands.more (y.proper (reached s x.work xs.work z.behind r)) (z.proper r))))
 
-pub chosen_law : (lexemes : List Lexeme) (s : Setting) (c : Ctx) (l : List Closure) (w : Work) (e : syntax.Tree) → Holds s c w → ClosuresStand s c l
+pub chosen_law : (lexemes : List Lexeme) (s : Setting) (c : Ctx) (l : List Closure) (w : Work) (e : syntax.Tree) → Holds s c w → ClosuresHold c l
     → is_spelled lexemes e ≡ true → On (Typed_stands s c) (and_then (rules.expression_with lexemes c l w e) (rules.chosen_operand c))
 chosen_law lexemes s c l w e h g i = chosen_stands s c w (and_then (rules.expression_with lexemes c l w e) (rules.chosen_operand c))
     (chosen s c w (rules.expression_with lexemes c l w e) h (typed_is s c w (rules.expression_with lexemes c l w e) (growing.expression lexemes c l w e)

@@ -1,4 +1,6 @@
 pub mod Behind
+pub mod Captured
+pub mod Closures
 pub mod Expressions
 pub mod Fields
 pub mod Growing

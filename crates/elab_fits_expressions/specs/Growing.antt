@@ -2,12 +2,15 @@
 use Rattle.std.specs.Prelude.{◌≡◌, ℕ, true, List, Some, slice_get}
 use Rattle.elab_rules.specs.cpp_types.Typ.{Typ}
 use Rattle.elab_rules.specs.cpp_types.Class.{Class}
+use Rattle.elab_rules.specs.cpp_types.declared.classes.At.{At}
 use Rattle.elab_rules.specs.cpp_lex.Tokens.{Lexeme}
 use Rattle.elab_rules.specs.cpp_ast.Trees as syntax
 use Rattle.elab_rules.specs.cpp_tree.Units.{Global}
 use Rattle.elab_rules.specs.cpp_tree.Rows.{Setting}
 use Rattle.elab_rules.specs.elab_ctx.Ctx.{Ctx, Work, Closure}
-use Rattle.elab_rules.specs.elab_ctx.Steps.{Typed, TypedAll}
+use Rattle.elab_rules.specs.elab_ctx.Steps.{Operand, Made, Typed, TypedAll}
+use Rattle.elab_rules.specs.Initialising.{initial, class_from, from_values}
+use Rattle.elab_rules.specs.Operators.{dropped}
 use Rattle.elab_rules.specs.Expressions.{expression_with, operands_with}
 use Rattle.elab_fits.specs.Standing.{Reaches, On}
 use Rattle.elab_fits_forms.specs.Types.{is_target}
@@ -29,6 +32,19 @@ ExpressionsGrow = (lexemes : List Lexeme) (c : Ctx) (l : List Closure) (w : Work
 abbrev pub OperandsGrow : Type 0
 OperandsGrow = (lexemes : List Lexeme) (c : Ctx) (l : List Closure) (w : Work) (es : syntax.Trees)
     → On (λ (x : TypedAll). Behind w x.work) (operands_with lexemes c l w es)
+
+-- so does what initialises, and what is dropped
+abbrev pub InitialsGrow : Type 0
+InitialsGrow = (c : Ctx) (w : Work) (t : Typ) (o : Operand) → On (λ (m : Made). Behind w m.work) (initial c w t o)
+
+abbrev pub ClassesGrow : Type 0
+ClassesGrow = (c : Ctx) (w : Work) (t : Typ) (at : At) (o : Operand) → On (λ (m : Made). Behind w m.work) (class_from c w t at o)
+
+abbrev pub ValuesGrow : Type 0
+ValuesGrow = (c : Ctx) (w : Work) (t : Typ) (at : At) (os : List Operand) → On (λ (m : Made). Behind w m.work) (from_values c w t at os)
+
+abbrev pub DroppedGrow : Type 0
+DroppedGrow = (c : Ctx) (w : Work) (o : Operand) → Behind w (dropped c w o).work
 
 -- what a context holds, it holds behind an expression
 abbrev pub HoldsKept : Type 0
