@@ -1,39 +1,38 @@
 -- Copies of lambdas' objects: each part in place.
-use Rattle.std.proofs.Common.{◌≡◌, refl, sym, ap, ◌∙◌, subst, ℕ, zero, suc, ◌+◌, ◌<◌, ◌==◌, Bool, true, false, not, ◌&&◌, ◌||◌, nat_lt, arith}
-use Rattle.std.proofs.Common.{List, [], ◌∷◌, length, slice_get, Option, Some, None, is_some, ltb-true, lt-ltb, eq-eqb}
+use Rattle.std.proofs.Common.{◌≡◌, refl, sym, ap, ◌∙◌, subst, ℕ, zero, suc, ◌+◌, Bool, true, false, not, ◌&&◌, ◌||◌, nat_lt, arith}
+use Rattle.std.proofs.Common.{List, [], ◌∷◌, length, slice_get, Option, Some, None, is_some, lt-ltb, eq-eqb}
 use Rattle.std.proofs.lemmas.Bool.{and_parts, and_from}
 use Rattle.std.proofs.lemmas.Option.{slice_get_within}
 use Rattle.std.specs.List.{list_all}
 use Rattle.std.specs.Prelude.{if◌then◌else◌}
 use Rattle.elab_rules.specs.cpp_types.Typ.{Typ, typ, Form, void, int, enum, null, ptr, ref, array, func, class, closure, tx_ex}
-use Rattle.elab_rules.specs.cpp_types.Class.{Class, InOrder}
-use Rattle.elab_rules.specs.cpp_types.Trivial.{takes_itself}
+use Rattle.elab_rules.specs.cpp_types.Class.{Class}
 use Rattle.elab_rules.specs.cpp_types.declared.classes.At.{At}
 use Rattle.elab_rules.specs.cpp_types.declared.ranks.Cat.TheVariants.{Prvalue}
 use Rattle.elab_rules.specs.cpp_tree.declared.kinds.TKind.TheVariants.{CopyConstruct, Pieces, Piece, Elements}
 use Rattle.elab_rules.specs.cpp_tree.declared.roles.Position.{Position}
-use Rattle.elab_rules.specs.cpp_tree.declared.roles.Role.TheVariants.{CopyInit, CopiedPart, Initialiser, Destruction}
-use Rattle.elab_rules.specs.cpp_tree.Trees.{Tree, node, Trees, none, more, kind_of}
-use Rattle.elab_rules.specs.cpp_tree.Typing.{Head, head_of, form_in, is_class, is_prvalue, qualified, builds}
-use Rattle.elab_rules.specs.cpp_tree.Parts.{are_part_pieces, sized_class, part_of, count_of_parts, size_in, are_elements}
+use Rattle.elab_rules.specs.cpp_tree.declared.roles.Role.TheVariants.{CopyInit, CopiedPart, Destruction}
+use Rattle.elab_rules.specs.cpp_tree.Trees.{node, Trees, none, more}
+use Rattle.elab_rules.specs.cpp_tree.Typing.{Head, head_of, form_in, is_class, is_prvalue, qualified}
+use Rattle.elab_rules.specs.cpp_tree.Parts.{are_part_pieces, sized_class, part_of, size_in, are_elements}
 use Rattle.elab_rules.specs.cpp_tree.Roles.{and_any, only}
 use Rattle.elab_rules.specs.cpp_tree.Rows.{Setting, row_fits, is_constructor, are_destructions}
-use Rattle.elab_rules.specs.cpp_tree.WellFormed.{fits, kids_fit, heads_of, is_kid}
+use Rattle.elab_rules.specs.cpp_tree.WellFormed.{kids_fit, heads_of}
 use Rattle.elab_rules.specs.elab_ctx.Ctx.{Ctx, Special, absent, trivial, function}
-use Rattle.elab_rules.specs.Objects.{Part, size_of, count_in, element_of, is_array, parts_in, parts_of, pieces, traits_at, copies, destroys, class_in}
+use Rattle.elab_rules.specs.Objects.{Part, size_of, count_in, element_of, is_array, parts_in, parts_of, pieces, traits_at, destroys, class_in}
 use Rattle.elab_rules.specs.Initialising.{class_number, copied_part, copy_of_held, closure_part, closure_piece, qualified_part, closure_pieces}
-use Rattle.elab_fits.specs.Standing.{FitsAs, BuildsOne, IsSetting}
-use Rattle.elab_fits.specs.Objects.{typ_ready, form_ready, part_ready, class_ready, is_ready, is_single, is_closure, has_lambdas, CopiesOne, DestroysOne}
+use Rattle.elab_fits.specs.Standing.{FitsAs, IsSetting}
+use Rattle.elab_fits.specs.Objects.{typ_ready, part_ready, class_ready, is_ready, is_closure, has_lambdas, CopiesOne, DestroysOne}
 use Rattle.elab_fits.proofs.Copies.{copies_law}
 use Rattle.elab_fits.proofs.Destructions.{destructions_law}
 use Rattle.elab_fits.proofs.ElementTypes.{elements_law}
 use Rattle.elab_fits.proofs.Equal.{typ_refl}
 use Rattle.elab_fits.proofs.Nodes.{both, or_left, node_fits}
-use Rattle.elab_fits.proofs.Objects.{Sized, sized_from, size_is, qualified_sized, laid_from, sized_class_is, few_members, IsPart, part_is, count_is, shown, all_at}
+use Rattle.elab_fits.proofs.Objects.{Sized, sized_from, size_is, qualified_sized, laid_from, sized_class_is, few_members, IsPart, part_is, count_is, shown}
 use Rattle.elab_fits.proofs.Pieces.{pieces_agree}
 use Rattle.elab_fits_objects.specs.Contexts.{HasMakers, is_whole}
 use Rattle.elab_fits_objects.proofs.Elements.{count_low, exact_builds, array_are, own_element}
-use Rattle.elab_fits_objects.proofs.Fits.{copied_kids, object_kids, at_least_one, any_many}
+use Rattle.elab_fits_objects.proofs.Fits.{copied_kids, at_least_one, any_many}
 use Rattle.elab_fits_objects.proofs.Types.{whole_sized, whole_ready}
 
 -- Qualifiers

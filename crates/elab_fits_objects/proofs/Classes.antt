@@ -1,27 +1,25 @@
 -- What initialises an object of class type.
-use Rattle.std.proofs.Common.{◌≡◌, refl, sym, ap, ◌∙◌, subst, ℕ, Bool, true, false, not, ◌&&◌, ◌||◌, List, [], ◌∷◌, Option, Some, None, is_some, Result, Ok}
+use Rattle.std.proofs.Common.{◌≡◌, refl, sym, ap, ◌∙◌, subst, ℕ, Bool, true, false, not, Some, is_some}
 use Rattle.std.proofs.lemmas.Bool.{and_parts}
 use Rattle.std.specs.Prelude.{if◌then◌else◌}
 use Rattle.elab_rules.specs.cpp_types.Typ.{Typ, typ, Form, void, int, enum, null, ptr, ref, array, func, class, closure, tx_ex}
-use Rattle.elab_rules.specs.cpp_types.Class.{Class, completion_of}
+use Rattle.elab_rules.specs.cpp_types.Class.{completion_of}
 use Rattle.elab_rules.specs.cpp_types.Equal.{typ_eq, form_eq}
 use Rattle.elab_rules.specs.cpp_types.Conversion.{is_lvalue}
 use Rattle.elab_rules.specs.cpp_types.declared.classes.At.{At}
-use Rattle.elab_rules.specs.cpp_types.declared.ranks.Cat.{Cat}
 use Rattle.elab_rules.specs.cpp_types.declared.ranks.Cat.TheVariants.{Lvalue, Prvalue}
-use Rattle.elab_rules.specs.cpp_tree.declared.faults.ElabFault.{ElabFault}
-use Rattle.elab_rules.specs.cpp_tree.declared.faults.IllRule.TheVariants.{NoConversion, NoCopy, Incomplete, AbstractObject}
+use Rattle.elab_rules.specs.cpp_tree.declared.faults.IllRule.TheVariants.{NoConversion, NoCopy}
 use Rattle.elab_rules.specs.cpp_tree.declared.kinds.TKind.TheVariants.{Pieces}
-use Rattle.elab_rules.specs.cpp_tree.declared.roles.Role.TheVariants.{Value, Initialiser}
-use Rattle.elab_rules.specs.cpp_tree.Trees.{Tree, node, Trees, typ_in, cat_of}
+use Rattle.elab_rules.specs.cpp_tree.declared.roles.Role.TheVariants.{Initialiser}
+use Rattle.elab_rules.specs.cpp_tree.Trees.{Tree, node, typ_in, cat_of}
 use Rattle.elab_rules.specs.cpp_tree.Typing.{head_of, form_in, is_volatile_typ, is_class_typ, is_class_prvalue, same_shape, builds}
-use Rattle.elab_rules.specs.cpp_tree.Rows.{Setting, is_copied_from}
+use Rattle.elab_rules.specs.cpp_tree.Rows.{Setting}
 use Rattle.elab_rules.specs.elab_ctx.Ctx.{Ctx, Work}
-use Rattle.elab_rules.specs.elab_ctx.Steps.{and_then, expect, check, Operand, Made}
+use Rattle.elab_rules.specs.elab_ctx.Steps.{Operand, Made}
 use Rattle.elab_rules.specs.Values.{builder, is_exception_form}
-use Rattle.elab_rules.specs.Objects.{traits_at, parts_of}
+use Rattle.elab_rules.specs.Objects.{parts_of}
 use Rattle.elab_rules.specs.Initialising.{object_of, with_tree, building, makeable, is_prvalue_of_class, same_number, class_number, is_same_or_base}
-use Rattle.elab_rules.specs.Initialising.{copied_object, closure_copied, closure_pieces, is_closure_itself, exception_built, exception_copied, exception_made}
+use Rattle.elab_rules.specs.Initialising.{closure_copied, closure_pieces, is_closure_itself, exception_built, exception_copied}
 use Rattle.elab_rules.specs.Initialising.{is_given_value, class_from}
 use Rattle.elab_fits.specs.Standing.{FitsAs, Stands, BuildsOne, IsSetting, Reaches, On}
 use Rattle.elab_fits.proofs.Equal.{typ_same, form_same, form_refl}
@@ -37,7 +35,7 @@ use Rattle.elab_fits_objects.proofs.Fits.{copy_builds}
 use Rattle.elab_fits_objects.proofs.Forms.{plain_makes, own_fits, own_builds, building_form}
 use Rattle.elab_fits_objects.proofs.Placing.{object_placed, object_typ, object_lvalue, placed_fits}
 use Rattle.elab_fits_objects.proofs.Rebuilt.{building_builds}
-use Rattle.elab_fits_objects.proofs.Types.{whole_sized, whole_plain, prvalue_class, other_lvalue, makeable_complete}
+use Rattle.elab_fits_objects.proofs.Types.{whole_sized, whole_plain, other_lvalue, makeable_complete}
 
 abbrev pub Built : Setting → Typ → Made → Type 0
 Built s t m = Reaches s m.work → Makes s t m.tree

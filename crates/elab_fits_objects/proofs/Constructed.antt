@@ -1,24 +1,22 @@
 -- Objects of named classes from values in parentheses.
-use Rattle.std.proofs.Common.{◌≡◌, refl, sym, ap, ◌∙◌, subst, ℕ, Bool, true, false, not, ◌&&◌, List, [], ◌∷◌, length, slice_get, Option, Some, None, Result, Ok, Err}
+use Rattle.std.proofs.Common.{◌≡◌, refl, ap, ℕ, Bool, true, not, List, [], ◌∷◌, Option, Some, None, Result, Ok, Err}
 use Rattle.std.proofs.Common.{eq-eqb, is_some}
-use Rattle.std.specs.Prelude.{if◌then◌else◌}
-use Rattle.elab_rules.specs.cpp_overload.Overload.{count_of}
 use Rattle.elab_rules.specs.cpp_overload.Choosing.{Choice, best, none_viable, none_best, chosen}
-use Rattle.elab_rules.specs.cpp_types.Typ.{Typ, typ, class, Typs}
+use Rattle.elab_rules.specs.cpp_types.Typ.{Typ, typ, class}
 use Rattle.elab_rules.specs.cpp_types.Class.{completion_of}
 use Rattle.elab_rules.specs.cpp_types.declared.classes.At.{At}
 use Rattle.elab_rules.specs.cpp_tree.declared.faults.IllRule.TheVariants.{NoCopy}
 use Rattle.elab_rules.specs.cpp_tree.declared.faults.ElabFault.{ElabFault}
 use Rattle.elab_rules.specs.cpp_tree.Trees.{Tree, typ_in}
-use Rattle.elab_rules.specs.cpp_tree.Typing.{is_volatile_typ, is_class_typ}
+use Rattle.elab_rules.specs.cpp_tree.Typing.{is_volatile_typ}
 use Rattle.elab_rules.specs.cpp_tree.Rows.{Setting}
 use Rattle.elab_rules.specs.elab_ctx.Ctx.{Ctx, Work}
-use Rattle.elab_rules.specs.elab_ctx.Steps.{and_then, check, Operand, Made, MadeAll}
+use Rattle.elab_rules.specs.elab_ctx.Steps.{and_then, Operand, MadeAll}
 use Rattle.elab_rules.specs.Initialising.{constructed_by, constructed, constructor_at, parameters_at, words, makeable, meant, makers, arguments, from_nothing}
 use Rattle.elab_rules.specs.Initialising.{is_prvalue_itself, building}
 use Rattle.elab_fits.specs.Standing.{IsSetting, Reaches, On}
-use Rattle.elab_fits.proofs.Steps.{bind, skip, checked, either}
-use Rattle.elab_fits_objects.specs.Contexts.{is_whole, IsObjectTyp, HasMakers, IsSource, AreSources}
+use Rattle.elab_fits.proofs.Steps.{bind, checked, either}
+use Rattle.elab_fits_objects.specs.Contexts.{is_whole, IsObjectTyp, HasMakers, AreSources}
 use Rattle.elab_fits_objects.specs.Making.{Makes, WordsFit, IsViableOne, ConstructorsBuild}
 use Rattle.elab_fits_objects.proofs.Classes.{Built, own_class}
 use Rattle.elab_fits_objects.proofs.Constructing.{constructor_is, constructor_parameters, construct_builds}

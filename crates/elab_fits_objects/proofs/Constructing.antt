@@ -1,9 +1,9 @@
 -- Objects that a constructor makes.
-use Rattle.std.proofs.Common.{◌≡◌, refl, sym, ap, ◌∙◌, subst, ℕ, zero, suc, ◌+◌, ◌==◌, Bool, true, false, ◌&&◌, List, [], ◌∷◌, ◌++◌, length, slice_get, Option, Some, None}
-use Rattle.std.proofs.Common.{eqb-true, eq-eqb, arith}
+use Rattle.std.proofs.Common.{◌≡◌, refl, sym, ap, ◌∙◌, subst, ℕ, zero, suc, ◌+◌, Bool, true, false, List, [], ◌∷◌, length, slice_get, Option, Some, None}
+use Rattle.std.proofs.Common.{eqb-true, arith}
 use Rattle.std.proofs.lemmas.Bool.{and_parts}
 use Rattle.std.specs.Prelude.{unwrap_or}
-use Rattle.elab_rules.specs.cpp_types.Typ.{Typ, typ, Form, class, Signature, signature, Typs, none as no_typs, more as and_typ}
+use Rattle.elab_rules.specs.cpp_types.Typ.{typ, Form, Signature, signature}
 use Rattle.elab_rules.specs.cpp_types.Class.{Function}
 use Rattle.elab_rules.specs.cpp_types.declared.classes.At.{At}
 use Rattle.elab_rules.specs.cpp_types.declared.ranks.Cat.TheVariants.{Prvalue}
@@ -11,18 +11,17 @@ use Rattle.elab_rules.specs.cpp_tree.declared.kinds.TKind.TheVariants.{Construct
 use Rattle.elab_rules.specs.cpp_tree.declared.program.FuncKind.{FuncKind}
 use Rattle.elab_rules.specs.cpp_tree.declared.program.FuncKind.TheVariants.{Plain, Constructor, Destructor, ClosureCall}
 use Rattle.elab_rules.specs.cpp_tree.declared.roles.Role.TheVariants.{Word, Initialiser}
-use Rattle.elab_rules.specs.cpp_tree.Trees.{Tree, node, Trees}
+use Rattle.elab_rules.specs.cpp_tree.Trees.{node, Trees}
 use Rattle.elab_rules.specs.cpp_tree.Typing.{Word as WordOf, is_class, are_words}
 use Rattle.elab_rules.specs.cpp_tree.Roles.{and_any}
-use Rattle.elab_rules.specs.cpp_tree.Units.{Func as UnitFunc}
-use Rattle.elab_rules.specs.cpp_tree.Rows.{Setting, is_constructor as makes_objects, is_constructor_of, param_words, signature_words, row_fits}
+use Rattle.elab_rules.specs.cpp_tree.Rows.{Setting, is_constructor as makes_objects, param_words, signature_words, row_fits}
 use Rattle.elab_rules.specs.cpp_tree.WellFormed.{heads_of}
 use Rattle.elab_rules.specs.elab_ctx.Ctx.{Ctx, Func}
-use Rattle.elab_rules.specs.Initialising.{same_number, makes, is_constructor, kept_if, places_from, places_of, constructors, constructor_at, func_at, no_function}
+use Rattle.elab_rules.specs.Initialising.{same_number, makes, is_constructor, kept_if, places_from, constructor_at, func_at, no_function}
 use Rattle.elab_rules.specs.Initialising.{parameters_at, signature_parameters}
-use Rattle.elab_fits.specs.Standing.{FitsAs, BuildsOne, IsSetting}
+use Rattle.elab_fits.specs.Standing.{BuildsOne, IsSetting}
 use Rattle.elab_fits.proofs.Equal.{typ_refl}
-use Rattle.elab_fits.proofs.Nodes.{both, or_left, node_fits}
+use Rattle.elab_fits.proofs.Nodes.{or_left, node_fits}
 use Rattle.elab_fits_objects.specs.Contexts.{IsConstructorOf, AreParameters, HasMakers}
 use Rattle.elab_fits_objects.specs.Making.{WordsFit}
 use Rattle.elab_fits_objects.proofs.Fits.{words_kids, any_many}

@@ -1,28 +1,27 @@
 -- Objects of named classes that are copied.
-use Rattle.std.proofs.Common.{◌≡◌, refl, sym, ap, ◌∙◌, subst, ℕ, Bool, true, false, not, ◌&&◌, ◌||◌, ◌==◌, List, [], ◌∷◌, Option, Some, None, Result, Ok, eqb-true}
+use Rattle.std.proofs.Common.{◌≡◌, refl, sym, ap, ◌∙◌, ℕ, Bool, true, false, not, ◌&&◌, List, [], ◌∷◌, Option, Some, None, eqb-true}
 use Rattle.std.proofs.Common.{eq-eqb}
 use Rattle.std.specs.Prelude.{if◌then◌else◌}
-use Rattle.elab_rules.specs.tx_ints.declared.kinds.IntKind.TheVariants.{ULong}
 use Rattle.elab_rules.specs.cpp_overload.Choosing.{chosen}
-use Rattle.elab_rules.specs.cpp_types.Typ.{Typ, typ, Form, void, int, enum, null, ptr, ref, array, func, class, closure, tx_ex, Typs, none as no_typs}
+use Rattle.elab_rules.specs.cpp_types.Typ.{Typ, typ, void, int, enum, null, ptr, ref, array, func, class, closure, tx_ex, Typs, none as no_typs}
 use Rattle.elab_rules.specs.cpp_types.Typ.{more as and_typ}
 use Rattle.elab_rules.specs.cpp_types.Class.{Class}
 use Rattle.elab_rules.specs.cpp_types.Conversion.{is_lvalue}
 use Rattle.elab_rules.specs.cpp_types.Equal.{form_eq}
 use Rattle.elab_rules.specs.cpp_types.declared.classes.At.{At}
 use Rattle.elab_rules.specs.cpp_types.declared.ranks.Cat.{Cat}
-use Rattle.elab_rules.specs.cpp_types.declared.ranks.Cat.TheVariants.{Lvalue, Prvalue}
+use Rattle.elab_rules.specs.cpp_types.declared.ranks.Cat.TheVariants.{Lvalue}
 use Rattle.elab_rules.specs.cpp_tree.declared.faults.IllRule.TheVariants.{NoCopy, OutOfProfile}
 use Rattle.elab_rules.specs.cpp_tree.declared.roles.Role.TheVariants.{Value}
 use Rattle.elab_rules.specs.cpp_tree.Trees.{Tree, typ_in, cat_of}
 use Rattle.elab_rules.specs.cpp_tree.Typing.{head_of, form_in, is_volatile_typ, is_class_typ, same_shape, word_kind}
 use Rattle.elab_rules.specs.cpp_tree.Rows.{Setting, is_copied_from}
 use Rattle.elab_rules.specs.elab_ctx.Ctx.{Ctx, Work}
-use Rattle.elab_rules.specs.elab_ctx.Steps.{and_then, check, Operand, Made, MadeAll}
+use Rattle.elab_rules.specs.elab_ctx.Steps.{check, Operand, Made, MadeAll}
 use Rattle.elab_rules.specs.Objects.{copies, traits_at}
 use Rattle.elab_rules.specs.Initialising.{initial, object_of, as_source, as_base, copied_in_place, same_number, class_number, is_same_or_base, reference_word}
 use Rattle.elab_rules.specs.Initialising.{constructed_copy, constructor_at, parameters_at, copied_object, has_copy, meant, makers, argument}
-use Rattle.elab_fits.specs.Standing.{FitsAs, BuildsOne, IsSetting, Reaches, On}
+use Rattle.elab_fits.specs.Standing.{FitsAs, IsSetting, Reaches, On}
 use Rattle.elab_fits.proofs.Copies.{copies_law}
 use Rattle.elab_fits.proofs.Equal.{form_refl}
 use Rattle.elab_fits.proofs.Nodes.{both, or_left, head_typ, head_cat}

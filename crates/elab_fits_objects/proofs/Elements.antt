@@ -1,16 +1,16 @@
 -- Elements of arrays that are built alike.
-use Rattle.std.proofs.Common.{◌≡◌, refl, sym, ap, ◌∙◌, subst, ℕ, suc, ◌+◌, ◌*◌, ◌<◌, ◌≤◌, ◌==◌, Bool, true, false, not, ◌&&◌, ◌||◌, nat_le, nat_lt, arith}
-use Rattle.std.proofs.Common.{ltb-true, lt-ltb, le-leb, eq-eqb, mul_assoc, List, Option, Some}
+use Rattle.std.proofs.Common.{◌≡◌, refl, sym, ap, ◌∙◌, subst, ℕ, ◌*◌, ◌<◌, ◌≤◌, ◌==◌, Bool, true, false, not, ◌&&◌, ◌||◌, nat_le, nat_lt, arith}
+use Rattle.std.proofs.Common.{ltb-true, le-leb, eq-eqb, mul_assoc, List}
 use Rattle.std.proofs.lemmas.Bool.{and_parts, and_from, or_left, or_right}
 use Rattle.std.proofs.lemmas.Nat.{mul-le}
-use Rattle.elab_rules.specs.cpp_types.Typ.{Typ, typ, Form, void, int, enum, null, ptr, ref, array, func, class, closure, tx_ex}
+use Rattle.elab_rules.specs.cpp_types.Typ.{Typ, typ, void, int, enum, null, ptr, ref, array, func, class, closure, tx_ex}
 use Rattle.elab_rules.specs.cpp_types.Class.{Class}
 use Rattle.elab_rules.specs.cpp_types.Equal.{typ_eq}
-use Rattle.elab_rules.specs.cpp_tree.Typing.{Head, qualified, passes, builds, is_prvalue, is_class_typ, without_exception, same_shape, goes_both_ways, form_in}
-use Rattle.elab_rules.specs.cpp_tree.Parts.{are_elements, has_size, size_in}
+use Rattle.elab_rules.specs.cpp_tree.Typing.{Head, passes, builds, is_prvalue, is_class_typ, without_exception, same_shape, goes_both_ways}
+use Rattle.elab_rules.specs.cpp_tree.Parts.{are_elements, has_size}
 use Rattle.elab_rules.specs.Objects.{size_of, count_in, element_of, is_array}
 use Rattle.elab_fits.specs.Objects.{typ_ready}
-use Rattle.elab_fits.proofs.Objects.{Sized, size_is, qualified_size, element_sized}
+use Rattle.elab_fits.proofs.Objects.{Sized, size_is, element_sized}
 use Rattle.elab_fits.proofs.Wholes.{qualified_none}
 use Rattle.elab_fits.proofs.Equal.{typ_refl}
 

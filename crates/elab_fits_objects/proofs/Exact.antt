@@ -4,7 +4,6 @@ use Rattle.std.proofs.lemmas.Bool.{and_parts}
 use Rattle.std.specs.Prelude.{if◌then◌else◌}
 use Rattle.elab_rules.specs.cpp_overload.Choosing.{chosen}
 use Rattle.elab_rules.specs.cpp_types.Typ.{Typ, typ, Form, void, int, enum, null, ptr, ref, array, func, class, closure, tx_ex}
-use Rattle.elab_rules.specs.cpp_types.Class.{completion_of}
 use Rattle.elab_rules.specs.cpp_types.Equal.{typ_eq, form_eq}
 use Rattle.elab_rules.specs.cpp_types.declared.classes.At.{At}
 use Rattle.elab_rules.specs.cpp_types.declared.ranks.Cat.TheVariants.{Lvalue, Prvalue}
@@ -16,19 +15,19 @@ use Rattle.elab_rules.specs.cpp_tree.Trees.{Tree, node, Trees, kind_of, typ_in, 
 use Rattle.elab_rules.specs.cpp_tree.Typing.{form_in, is_volatile_typ, is_class_prvalue, goes_both_ways}
 use Rattle.elab_rules.specs.cpp_tree.Rows.{Setting}
 use Rattle.elab_rules.specs.elab_ctx.Ctx.{Ctx, Work}
-use Rattle.elab_rules.specs.elab_ctx.Steps.{and_then, check, Operand, Made}
+use Rattle.elab_rules.specs.elab_ctx.Steps.{check, Operand, Made}
 use Rattle.elab_rules.specs.Values.{builder, temporary, is_exception_form}
 use Rattle.elab_rules.specs.Objects.{destroys, traits_at}
 use Rattle.elab_rules.specs.Initialising.{object_of, with_tree, building, makeable, is_prvalue_of_class, same_number, class_number, is_same_or_base, meant}
 use Rattle.elab_rules.specs.Initialising.{makers, argument, has_copy, reference_word, parameters_at, constructed_copy, constructor_at, copied_object, class_from}
 use Rattle.elab_rules.specs.Initialising.{is_closure_itself, exception_built, exception_copied, is_given_value, is_written_exception, has_own_type}
-use Rattle.elab_rules.specs.Initialising.{is_other_prvalue, object_operand, exact_object}
+use Rattle.elab_rules.specs.Initialising.{is_other_prvalue, object_operand}
 use Rattle.elab_fits.specs.Standing.{FitsAs, Stands, IsSetting, Reaches, On}
 use Rattle.elab_fits.proofs.Equal.{typ_same, form_same}
 use Rattle.elab_fits.proofs.Nodes.{clash}
-use Rattle.elab_fits.proofs.Steps.{bind, skip, checked, either}
+use Rattle.elab_fits.proofs.Steps.{skip, checked, either}
 use Rattle.elab_fits_objects.specs.Contexts.{is_sorted, copies_itself, IsObjectTyp, HasMakers, IsSource}
-use Rattle.elab_fits_objects.specs.Making.{IsPlaced, Makes, MakesExactly, ExactsBuild}
+use Rattle.elab_fits_objects.specs.Making.{IsPlaced, MakesExactly, ExactsBuild}
 use Rattle.elab_fits_objects.proofs.Classes.{Built, class_builds}
 use Rattle.elab_fits_objects.proofs.Copying.{named_form}
 use Rattle.elab_fits_objects.proofs.Forms.{own_fits, building_typed}

@@ -1,41 +1,39 @@
 -- A prvalue of a `std::tx_exception` as the initialiser of one.
-use Rattle.std.proofs.Common.{◌≡◌, refl, sym, ap, ◌∙◌, subst, ℕ, Bool, true, false, not, ◌&&◌, ◌||◌, [], ◌∷◌, is_some}
+use Rattle.std.proofs.Common.{◌≡◌, refl, sym, ap, ◌∙◌, subst, Bool, true, false, not, ◌&&◌, ◌||◌, [], ◌∷◌, is_some}
 use Rattle.std.proofs.lemmas.Bool.{and_parts}
 use Rattle.std.specs.Prelude.{if◌then◌else◌}
 use Rattle.elab_rules.specs.cpp_types.Typ.{Typ, typ, Form, tx_ex}
 use Rattle.elab_rules.specs.cpp_types.Equal.{typ_eq, form_eq}
-use Rattle.elab_rules.specs.cpp_types.Conversion.{is_lvalue, is_object_form}
+use Rattle.elab_rules.specs.cpp_types.Conversion.{is_lvalue}
 use Rattle.elab_rules.specs.cpp_types.declared.classes.At.{At}
 use Rattle.elab_rules.specs.cpp_types.declared.ranks.Cat.{Cat}
 use Rattle.elab_rules.specs.cpp_types.declared.ranks.Cat.TheVariants.{Lvalue, Prvalue}
 use Rattle.elab_rules.specs.cpp_tree.declared.kinds.TKind.{TKind}
 use Rattle.elab_rules.specs.cpp_tree.declared.kinds.TKind.TheVariants.{Store, Construct, CopyFrom, Pieces, Elements}
 use Rattle.elab_rules.specs.cpp_tree.declared.roles.Role.TheVariants.{Value, Initialiser, CopyInit}
-use Rattle.elab_rules.specs.cpp_tree.Trees.{Tree, node, Trees, none, more, kind_of, typ_in, cat_of}
-use Rattle.elab_rules.specs.cpp_tree.Typing.{Head, head_of, form_in, is_class_typ, is_class_prvalue, is_prvalue, without_exception, same_shape}
+use Rattle.elab_rules.specs.cpp_tree.Trees.{Tree, node, Trees, none, more, kind_of, typ_in}
+use Rattle.elab_rules.specs.cpp_tree.Typing.{head_of, form_in, is_prvalue}
 use Rattle.elab_rules.specs.cpp_tree.Typing.{goes_both_ways, builds}
 use Rattle.elab_rules.specs.cpp_tree.Parts.{size_in}
 use Rattle.elab_rules.specs.cpp_tree.Roles.{only}
 use Rattle.elab_rules.specs.cpp_tree.Rows.{Setting, is_copied_from, kid}
 use Rattle.elab_rules.specs.cpp_tree.WellFormed.{fits, kids_fit, heads_of, is_kid}
-use Rattle.elab_rules.specs.elab_ctx.Ctx.{Ctx, Work}
-use Rattle.elab_rules.specs.elab_ctx.Steps.{Operand, Made}
-use Rattle.elab_rules.specs.Values.{builder, is_exception_form}
+use Rattle.elab_rules.specs.elab_ctx.Ctx.{Ctx}
+use Rattle.elab_rules.specs.Values.{is_exception_form}
 use Rattle.elab_rules.specs.Objects.{copies}
-use Rattle.elab_rules.specs.Initialising.{object_of, with_tree, building, rebuilt, copied_anew, exception_built, exception_copied, exception_made, is_given_value}
-use Rattle.elab_fits.specs.Standing.{FitsAs, BuildsOne, IsSetting, Reaches}
+use Rattle.elab_rules.specs.Initialising.{building, rebuilt, copied_anew, is_given_value}
+use Rattle.elab_fits.specs.Standing.{FitsAs, BuildsOne, IsSetting}
 use Rattle.elab_fits.specs.Objects.{is_single}
 use Rattle.elab_fits.proofs.Copies.{copies_law}
 use Rattle.elab_fits.proofs.Equal.{typ_refl, typ_same, form_refl, form_same}
 use Rattle.elab_fits.proofs.Nodes.{both, or_left, or_right, clash}
-use Rattle.elab_fits_objects.specs.Contexts.{is_whole, copies_itself, HasMakers, IsSource}
+use Rattle.elab_fits_objects.specs.Contexts.{is_whole, copies_itself}
 use Rattle.elab_fits_objects.specs.Making.{Makes}
-use Rattle.elab_fits_objects.proofs.Exceptions.{value_single, value_sized, value_ready, exception_shape, copied_makes, no_construct, no_elements, value_source}
+use Rattle.elab_fits_objects.proofs.Exceptions.{value_single, value_sized, value_ready, no_construct, no_elements, value_source}
 use Rattle.elab_fits_objects.proofs.Fits.{fit_of, fit_as, copy_builds}
 use Rattle.elab_fits_objects.proofs.Forms.{single_plain, copies_other, building_form, building_typed}
-use Rattle.elab_fits_objects.proofs.Placing.{object_placed, object_typ, object_lvalue, placed_fits}
 use Rattle.elab_fits_objects.proofs.Rebuilt.{building_builds}
-use Rattle.elab_fits_objects.proofs.Types.{ready_more, prvalue_class}
+use Rattle.elab_fits_objects.proofs.Types.{ready_more}
 
 -- what has exactly the type of the value builds the exception
 pub value_builds : (s : Setting) (f : Form) (d w q v : Bool) (e : Tree) → BuildsOne s (typ f q v) e → typ_in e ≡ typ f q v

@@ -1,7 +1,7 @@
 -- Nodes that fit: what their tests say, and kids of nodes that build objects.
-use Rattle.std.proofs.Common.{◌≡◌, refl, sym, ap, ◌∙◌, ℕ, suc, ◌+◌, ◌≤◌, ◌==◌, Bool, true, false, not, ◌&&◌, ◌||◌, nat_le, List, [], ◌∷◌, length, arith, le-leb}
+use Rattle.std.proofs.Common.{◌≡◌, refl, ℕ, suc, true, false, not, ◌&&◌, ◌||◌, List, [], ◌∷◌, length, arith, le-leb}
 use Rattle.std.proofs.lemmas.Bool.{and_parts}
-use Rattle.elab_rules.specs.cpp_types.Typ.{Typ, typ}
+use Rattle.elab_rules.specs.cpp_types.Typ.{Typ}
 use Rattle.elab_rules.specs.cpp_types.declared.classes.At.{At}
 use Rattle.elab_rules.specs.cpp_types.declared.ranks.Cat.{Cat}
 use Rattle.elab_rules.specs.cpp_types.declared.ranks.Cat.TheVariants.{Prvalue}
@@ -9,10 +9,10 @@ use Rattle.elab_rules.specs.cpp_tree.declared.kinds.TKind.{TKind}
 use Rattle.elab_rules.specs.cpp_tree.declared.kinds.TKind.TheVariants.{Block, CopyFrom, Conditional, Materialize}
 use Rattle.elab_rules.specs.cpp_tree.declared.roles.Position.{Position}
 use Rattle.elab_rules.specs.cpp_tree.declared.roles.Role.{Role}
-use Rattle.elab_rules.specs.cpp_tree.declared.roles.Role.TheVariants.{Value, Word, Initialiser, CopyInit, CopiedPart, Destruction}
-use Rattle.elab_rules.specs.cpp_tree.Trees.{Tree, node, Trees, none, more, one, two, kind_of, typ_in}
+use Rattle.elab_rules.specs.cpp_tree.declared.roles.Role.TheVariants.{Value, Word, Initialiser, CopyInit, Destruction}
+use Rattle.elab_rules.specs.cpp_tree.Trees.{Tree, node, Trees, none, more, two, kind_of, typ_in}
 use Rattle.elab_rules.specs.cpp_tree.Typing.{Head, head_of, is_void, is_argument}
-use Rattle.elab_rules.specs.cpp_tree.Roles.{Kids, only, and_any, serves, way_fits}
+use Rattle.elab_rules.specs.cpp_tree.Roles.{only, and_any, serves, way_fits}
 use Rattle.elab_rules.specs.cpp_tree.Rows.{Setting, row_fits, is_copied_from}
 use Rattle.elab_rules.specs.cpp_tree.WellFormed.{fits, kids_fit, enough, kids_in, heads_of, inside, is_kid, is_switch, labels_fit, may_stand}
 use Rattle.elab_rules.specs.cpp_tree.WellFormed.{branches_fit, stands}

@@ -10,7 +10,9 @@ pub mod Excepting
 pub mod Exceptions
 pub mod Fits
 pub mod Forms
+pub mod Items
 pub mod Keeping
+pub mod Lambdas
 pub mod Nothing
 pub mod Passing
 pub mod Placing

@@ -1,5 +1,5 @@
 -- Objects of which nothing is written.
-use Rattle.std.proofs.Common.{◌≡◌, refl, sym, ap, ◌∙◌, subst, ℕ, Bool, true, false, not, ◌&&◌, ◌||◌, List, [], ◌∷◌, length, Option, Some, is_some}
+use Rattle.std.proofs.Common.{◌≡◌, refl, sym, ap, ◌∙◌, subst, ℕ, Bool, true, false, List, [], ◌∷◌, length, Some, is_some}
 use Rattle.std.specs.Prelude.{if◌then◌else◌}
 use Rattle.elab_rules.specs.cpp_types.Typ.{Typ, typ, Form, void, int, enum, null, ptr, ref, array, func, class, closure, tx_ex, none as no_typs}
 use Rattle.elab_rules.specs.cpp_types.Class.{Class, completion_of, held, held_form}
@@ -8,9 +8,8 @@ use Rattle.elab_rules.specs.cpp_types.declared.classes.At.{At}
 use Rattle.elab_rules.specs.cpp_types.declared.ranks.Cat.TheVariants.{Prvalue}
 use Rattle.elab_rules.specs.cpp_tree.declared.kinds.TKind.TheVariants.{CopyFrom, Construct, Elements}
 use Rattle.elab_rules.specs.cpp_tree.declared.roles.Role.TheVariants.{Initialiser, Destruction}
-use Rattle.elab_rules.specs.cpp_tree.Notation.{plain}
-use Rattle.elab_rules.specs.cpp_tree.Trees.{Tree, node, Trees, none, more}
-use Rattle.elab_rules.specs.cpp_tree.Typing.{head_of, form_in, qualified, is_class}
+use Rattle.elab_rules.specs.cpp_tree.Trees.{Tree, node, none, more}
+use Rattle.elab_rules.specs.cpp_tree.Typing.{form_in, is_class}
 use Rattle.elab_rules.specs.cpp_tree.Parts.{size_in, holds_complete}
 use Rattle.elab_rules.specs.cpp_tree.Roles.{and_any}
 use Rattle.elab_rules.specs.cpp_tree.Rows.{Setting}
@@ -18,11 +17,10 @@ use Rattle.elab_rules.specs.cpp_tree.WellFormed.{heads_of, is_zero}
 use Rattle.elab_rules.specs.elab_ctx.Ctx.{Ctx, Special, absent, trivial, function}
 use Rattle.elab_rules.specs.elab_ctx.Steps.{and_then}
 use Rattle.elab_rules.specs.Objects.{size_of, zeros, destroys, count_in, element_of, is_array, traits_at, class_in}
-use Rattle.elab_rules.specs.Initialising.{makeable, each_constructed, default_by, default_in, from_nothing, parameters_at, signature_parameters}
-use Rattle.elab_rules.specs.Initialising.{func_at}
+use Rattle.elab_rules.specs.Initialising.{makeable, default_by, default_in, parameters_at, signature_parameters}
 use Rattle.elab_rules.specs.elab_ctx.Ctx.{Func}
 use Rattle.elab_rules.specs.cpp_types.Typ.{Typs}
-use Rattle.elab_fits.specs.Standing.{FitsAs, BuildsOne, IsSetting, On}
+use Rattle.elab_fits.specs.Standing.{BuildsOne, IsSetting, On}
 use Rattle.elab_fits.specs.Objects.{is_closure, is_ready, class_ready, DestroysOne}
 use Rattle.elab_fits.proofs.AreZeros.{are_zero_law}
 use Rattle.elab_fits.proofs.Destructions.{destructions_law}

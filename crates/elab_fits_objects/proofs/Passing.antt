@@ -1,30 +1,29 @@
 -- Words of calls.
-use Rattle.std.proofs.Common.{◌≡◌, refl, sym, ap, ◌∙◌, ℕ, zero, suc, ◌+◌, ◌==◌, Bool, true, false, not, ◌&&◌, ◌||◌, List, [], ◌∷◌, length, slice_get, Option, Some, None, is_some, Result, Ok, Err, subst}
+use Rattle.std.proofs.Common.{◌≡◌, refl, sym, ap, ◌∙◌, ℕ, suc, ◌+◌, Bool, true, false, ◌&&◌, List, [], ◌∷◌, slice_get, Option, Some, None, is_some, Result, Ok, Err, subst}
 use Rattle.std.proofs.Common.{arith}
 use Rattle.std.proofs.lemmas.Bool.{and_parts}
 use Rattle.std.specs.Prelude.{if◌then◌else◌}
-use Rattle.elab_rules.specs.cpp_overload.Overload.{Candidate, Argument, count_of}
-use Rattle.elab_rules.specs.cpp_overload.Choosing.{Choice, best, none_viable, none_best, chosen, choice_by, best_from, any_viable, is_viable, beats_from}
-use Rattle.elab_rules.specs.cpp_types.Typ.{Typ, typ, Form, void, int, enum, null, ptr, ref, array, func, class, closure, tx_ex, Typs, none as no_typs}
+use Rattle.elab_rules.specs.cpp_overload.Overload.{Candidate, Argument}
+use Rattle.elab_rules.specs.cpp_overload.Choosing.{best, choice_by, best_from, any_viable, is_viable, beats_from}
+use Rattle.elab_rules.specs.cpp_types.Typ.{typ, Form, void, int, enum, null, ptr, ref, array, func, class, closure, tx_ex, Typs, none as no_typs}
 use Rattle.elab_rules.specs.cpp_types.Typ.{more as and_typ}
 use Rattle.elab_rules.specs.cpp_types.Class.{Class, completion_of}
 use Rattle.elab_rules.specs.cpp_types.Conversion.{is_object_form}
 use Rattle.elab_rules.specs.cpp_types.declared.classes.At.{At}
 use Rattle.elab_rules.specs.cpp_tree.declared.faults.ElabFault.{ElabFault}
-use Rattle.elab_rules.specs.cpp_tree.Trees.{Tree, Trees, none, more}
 use Rattle.elab_rules.specs.cpp_tree.Notation.{plain}
-use Rattle.elab_rules.specs.cpp_tree.Typing.{is_class_typ, unqualified, form_in}
+use Rattle.elab_rules.specs.cpp_tree.Typing.{is_class_typ}
 use Rattle.elab_rules.specs.cpp_tree.Parts.{holds_complete}
 use Rattle.elab_rules.specs.cpp_tree.Rows.{Setting}
 use Rattle.elab_rules.specs.elab_ctx.Ctx.{Ctx, Work, with_item}
 use Rattle.elab_rules.specs.elab_ctx.Steps.{and_then, Operand, Made, MadeAll}
 use Rattle.elab_rules.specs.Objects.{destroys}
-use Rattle.elab_rules.specs.Initialising.{initial, class_from, argument_object, passed, words, makeable}
+use Rattle.elab_rules.specs.Initialising.{class_from, argument_object, passed, words, makeable}
 use Rattle.elab_fits.specs.Standing.{IsSetting, Reaches, On}
 use Rattle.elab_fits.proofs.Nodes.{both}
 use Rattle.elab_fits.proofs.Steps.{bind, either, known}
-use Rattle.elab_fits_objects.specs.Contexts.{IsObjectTyp, IsParameter, AreParameters, HasMakers, IsSource, AreSources}
-use Rattle.elab_fits_objects.specs.Making.{Makes, IsWord, WordsFit, WordsPass, AllWordsFit, WordsKeep, IsViableOne, ChosenViable}
+use Rattle.elab_fits_objects.specs.Contexts.{IsObjectTyp, IsParameter, HasMakers, IsSource}
+use Rattle.elab_fits_objects.specs.Making.{Makes, WordsFit, WordsPass, AllWordsFit, WordsKeep, ChosenViable}
 use Rattle.elab_fits_objects.proofs.Classes.{Built, class_builds}
 use Rattle.elab_fits_objects.proofs.Keeping as keeping
 use Rattle.elab_fits_objects.proofs.Placing.{class_destroyed}

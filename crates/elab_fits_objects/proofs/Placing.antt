@@ -1,27 +1,25 @@
 -- The object of an operand: itself, or a temporary.
-use Rattle.std.proofs.Common.{◌≡◌, refl, sym, ap, ◌∙◌, subst, ℕ, zero, suc, Bool, true, false, not, ◌&&◌, ◌||◌, List, [], ◌∷◌, ◌++◌, length, slice_get}
+use Rattle.std.proofs.Common.{◌≡◌, refl, ap, ◌∙◌, ℕ, Bool, true, false, List, [], ◌∷◌, ◌++◌, length, slice_get}
 use Rattle.std.proofs.Common.{Option, Some}
 use Rattle.std.specs.Prelude.{if◌then◌else◌}
-use Rattle.elab_rules.specs.cpp_types.Typ.{Typ, typ, Form, class, closure, tx_ex, array}
+use Rattle.elab_rules.specs.cpp_types.Typ.{Typ, typ, class, closure, tx_ex}
 use Rattle.elab_rules.specs.cpp_types.Equal.{typ_eq}
-use Rattle.elab_rules.specs.cpp_types.Conversion.{is_object_form}
 use Rattle.elab_rules.specs.cpp_types.declared.classes.At.{At}
-use Rattle.elab_rules.specs.cpp_types.declared.ranks.Cat.{Cat}
-use Rattle.elab_rules.specs.cpp_types.declared.ranks.Cat.TheVariants.{Lvalue, Prvalue}
+use Rattle.elab_rules.specs.cpp_types.declared.ranks.Cat.TheVariants.{Lvalue}
 use Rattle.elab_rules.specs.cpp_tree.declared.kinds.TKind.TheVariants.{Materialize}
 use Rattle.elab_rules.specs.cpp_tree.declared.roles.Role.TheVariants.{Value, Initialiser, Destruction}
-use Rattle.elab_rules.specs.cpp_tree.Trees.{Tree, node, Trees, more, typ_in, cat_of}
+use Rattle.elab_rules.specs.cpp_tree.Trees.{Tree, Trees, more, typ_in, cat_of}
 use Rattle.elab_rules.specs.cpp_tree.Typing.{head_of, passes, is_class_typ, is_class_prvalue}
 use Rattle.elab_rules.specs.cpp_tree.Roles.{and_any}
 use Rattle.elab_rules.specs.cpp_tree.Rows.{Setting, at_place}
 use Rattle.elab_rules.specs.cpp_tree.WellFormed.{heads_of}
 use Rattle.elab_rules.specs.elab_ctx.Ctx.{Ctx, Work, with_item, next_place}
-use Rattle.elab_rules.specs.elab_ctx.Steps.{Operand, Made}
+use Rattle.elab_rules.specs.elab_ctx.Steps.{Operand}
 use Rattle.elab_rules.specs.Values.{builder, temporary}
-use Rattle.elab_rules.specs.Objects.{destroys, is_array}
+use Rattle.elab_rules.specs.Objects.{destroys}
 use Rattle.elab_rules.specs.Initialising.{object_of}
-use Rattle.elab_fits.specs.Standing.{FitsAs, IsExpressionType, Stands, BuildsOne, IsSetting, Reaches}
-use Rattle.elab_fits.specs.Objects.{DestroysOne, HasSpecials, has_lambdas}
+use Rattle.elab_fits.specs.Standing.{FitsAs, BuildsOne, IsSetting, Reaches}
+use Rattle.elab_fits.specs.Objects.{DestroysOne, has_lambdas}
 use Rattle.elab_fits.proofs.Destructions.{destructions_law}
 use Rattle.elab_fits.proofs.Equal.{typ_refl}
 use Rattle.elab_fits.proofs.Nodes.{both, or_right, node_fits, of_value}

@@ -1,35 +1,32 @@
 -- An initialiser of an object with other qualifiers.
-use Rattle.std.proofs.Common.{◌≡◌, refl, sym, ap, ◌∙◌, subst, ℕ, Bool, true, false, not, ◌&&◌, ◌||◌, List, [], ◌∷◌, nat_lt, Option, Some, is_some}
+use Rattle.std.proofs.Common.{◌≡◌, refl, ℕ, Bool, true, false, ◌&&◌, List, [], ◌∷◌, nat_lt, is_some}
 use Rattle.std.proofs.lemmas.Bool.{and_parts}
 use Rattle.std.specs.Prelude.{if◌then◌else◌}
 use Rattle.elab_rules.specs.tx_ints.declared.kinds.IntKind.{IntKind}
 use Rattle.elab_rules.specs.cpp_types.Typ.{Typ, typ, Form, void, int, enum, null, ptr, ref, array, func, class, closure, tx_ex}
-use Rattle.elab_rules.specs.cpp_types.Class.{Class}
-use Rattle.elab_rules.specs.cpp_types.Equal.{typ_eq, form_eq, flag_eq}
+use Rattle.elab_rules.specs.cpp_types.Equal.{typ_eq, flag_eq}
 use Rattle.elab_rules.specs.cpp_types.Conversion.{is_object_form}
 use Rattle.elab_rules.specs.cpp_types.declared.classes.At.{At}
-use Rattle.elab_rules.specs.cpp_types.declared.ranks.Cat.{Cat}
 use Rattle.elab_rules.specs.cpp_types.declared.ranks.Cat.TheVariants.{Prvalue}
 use Rattle.elab_rules.specs.cpp_tree.declared.kinds.TKind.{TKind}
 use Rattle.elab_rules.specs.cpp_tree.declared.kinds.TKind.TheVariants.{Store, Construct, CopyFrom, Pieces, Elements}
-use Rattle.elab_rules.specs.cpp_tree.declared.roles.Position.{Position}
 use Rattle.elab_rules.specs.cpp_tree.declared.roles.Role.TheVariants.{Value, Word, Initialiser, CopyInit}
-use Rattle.elab_rules.specs.cpp_tree.Trees.{Tree, node, Trees, none, more, two, kind_of, typ_in}
-use Rattle.elab_rules.specs.cpp_tree.Typing.{Head, head_of, form_in, kind_in, is_kind, same_shape, goes_both_ways, builds, without_exception, initialises}
+use Rattle.elab_rules.specs.cpp_tree.Trees.{node, Trees, none, more, kind_of}
+use Rattle.elab_rules.specs.cpp_tree.Typing.{Head, head_of, kind_in, is_kind, same_shape, goes_both_ways, builds, without_exception, initialises}
 use Rattle.elab_rules.specs.cpp_tree.Parts.{size_in}
 use Rattle.elab_rules.specs.cpp_tree.Roles.{only, and_any}
 use Rattle.elab_rules.specs.cpp_tree.Rows.{Setting, row_fits, is_copied_from, kid}
 use Rattle.elab_rules.specs.cpp_tree.WellFormed.{fits, kids_fit, heads_of, is_kid}
 use Rattle.elab_rules.specs.elab_ctx.Ctx.{Ctx}
 use Rattle.elab_rules.specs.Initialising.{building, rebuilt, copied_anew}
-use Rattle.elab_rules.specs.Objects.{copies, zeros}
+use Rattle.elab_rules.specs.Objects.{copies}
 use Rattle.elab_fits.specs.Standing.{FitsAs, BuildsOne, IsSetting}
 use Rattle.elab_fits.specs.Objects.{is_single, is_ready}
 use Rattle.elab_fits.proofs.Copies.{copies_law}
-use Rattle.elab_fits.proofs.Equal.{typ_refl, typ_same, form_refl, flag_refl}
+use Rattle.elab_fits.proofs.Equal.{typ_refl, form_refl, flag_refl}
 use Rattle.elab_fits.proofs.Nodes.{both, or_left, or_right, node_fits}
 use Rattle.elab_fits.proofs.Zeros.{zeros_law}
-use Rattle.elab_fits_objects.proofs.Fits.{Fit, fit_of, fit_as, within, within_full, copy_builds}
+use Rattle.elab_fits_objects.proofs.Fits.{fit_of, fit_as, copy_builds}
 use Rattle.elab_fits_objects.proofs.Types.{ready_more}
 
 -- Qualifiers make no difference to the form

@@ -1,17 +1,15 @@
 -- What a reference is bound to, by an object of a class too.
-use Rattle.std.proofs.Common.{◌≡◌, refl, sym, ap, ◌∙◌, subst, ℕ, Bool, true, false, not, ◌&&◌, ◌||◌, cond, List, [], ◌∷◌, Option, Some, None, Result, Ok}
+use Rattle.std.proofs.Common.{◌≡◌, refl, ap, ◌∙◌, ℕ, Bool, true, false, ◌&&◌, ◌||◌, cond, List, Option, Some, None, Result, Ok}
 use Rattle.std.specs.Prelude.{if◌then◌else◌}
-use Rattle.elab_rules.specs.tx_ints.declared.kinds.IntKind.TheVariants.{ULong}
 use Rattle.elab_rules.specs.cpp_types.Typ.{Typ, typ, Form, void, int, enum, null, ptr, ref, array, func, class, closure, tx_ex}
 use Rattle.elab_rules.specs.cpp_types.Class.{Class}
-use Rattle.elab_rules.specs.cpp_types.Equal.{typ_eq, form_eq}
-use Rattle.elab_rules.specs.cpp_types.Conversion.{step_of, related_step, reference_conversion, object_binding, temporary as to_temporary, bound, only_const}
-use Rattle.elab_rules.specs.cpp_types.Conversion.{keeps, const_of, volatile_of, is_object, has_value, decayed, is_lvalue, is_object_form, to_base}
+use Rattle.elab_rules.specs.cpp_types.Equal.{typ_eq}
+use Rattle.elab_rules.specs.cpp_types.Conversion.{step_of, related_step, object_binding, bound, only_const}
+use Rattle.elab_rules.specs.cpp_types.Conversion.{keeps, const_of, volatile_of, is_object, has_value, decayed, is_lvalue, is_object_form}
 use Rattle.elab_rules.specs.cpp_types.declared.classes.At.{At}
 use Rattle.elab_rules.specs.cpp_types.declared.ranks.Cat.{Cat}
 use Rattle.elab_rules.specs.cpp_types.declared.ranks.Cat.TheVariants.{Lvalue, Prvalue}
 use Rattle.elab_rules.specs.cpp_types.declared.ranks.Step.{Step}
-use Rattle.elab_rules.specs.cpp_types.declared.ranks.Step.TheVariants.{Identity}
 use Rattle.elab_rules.specs.cpp_types.declared.ranks.Conversion.{Conversion}
 use Rattle.elab_rules.specs.cpp_types.declared.ranks.Binding.TheVariants.{Direct, Temporary}
 use Rattle.elab_rules.specs.cpp_tree.declared.faults.ElabFault.{ElabFault}
@@ -31,8 +29,7 @@ use Rattle.elab_fits.proofs.Equal.{typ_refl}
 use Rattle.elab_fits.proofs.Nodes.{both, or_left, head_typ, head_cat}
 use Rattle.elab_fits.proofs.Values.{lvalue_stands}
 use Rattle.elab_fits_objects.specs.Contexts.{HasMakers, IsSource}
-use Rattle.elab_fits_objects.specs.Making.{IsPlaced}
-use Rattle.elab_fits_objects.proofs.Placing.{object_placed, object_typ, object_lvalue, placed_fits}
+use Rattle.elab_fits_objects.proofs.Placing.{object_placed, object_lvalue, placed_fits}
 use Rattle.elab_fits_objects.proofs.Types.{prvalue_class}
 
 -- A placed object as one of the type that a reference refers to

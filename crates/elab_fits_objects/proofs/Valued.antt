@@ -1,6 +1,5 @@
 -- Scalars, references and exceptions from values in parentheses, and objects of any type.
-use Rattle.std.proofs.Common.{◌≡◌, refl, sym, ap, ◌∙◌, subst, ℕ, Bool, true, false, not, ◌&&◌, ◌||◌, List, [], ◌∷◌, Option, Some, None, Result, Ok, Err}
-use Rattle.std.specs.Prelude.{if◌then◌else◌}
+use Rattle.std.proofs.Common.{◌≡◌, refl, subst, ℕ, Bool, true, false, ◌||◌, List, [], ◌∷◌, Some, Result, Ok, Err}
 use Rattle.elab_rules.specs.tx_ints.declared.kinds.IntKind.TheVariants.{ULong}
 use Rattle.elab_rules.specs.cpp_types.Typ.{Typ, typ, Form, void, int, enum, null, ptr, ref, array, func, class, closure, tx_ex}
 use Rattle.elab_rules.specs.cpp_types.Class.{Class}
@@ -11,15 +10,15 @@ use Rattle.elab_rules.specs.cpp_tree.declared.faults.ElabFault.{ElabFault}
 use Rattle.elab_rules.specs.cpp_tree.declared.faults.IllRule.TheVariants.{NoViable, BadInit}
 use Rattle.elab_rules.specs.cpp_tree.declared.kinds.TKind.TheVariants.{Store}
 use Rattle.elab_rules.specs.cpp_tree.declared.roles.Role.TheVariants.{Value, Initialiser}
-use Rattle.elab_rules.specs.cpp_tree.Trees.{Tree, node, one, typ_in}
-use Rattle.elab_rules.specs.cpp_tree.Typing.{form_in, is_class_typ, without_exception}
+use Rattle.elab_rules.specs.cpp_tree.Trees.{Tree, one}
+use Rattle.elab_rules.specs.cpp_tree.Typing.{is_class_typ}
 use Rattle.elab_rules.specs.cpp_tree.Roles.{only as only_kids}
 use Rattle.elab_rules.specs.cpp_tree.Rows.{Setting}
 use Rattle.elab_rules.specs.elab_ctx.Ctx.{Ctx, Work}
 use Rattle.elab_rules.specs.elab_ctx.Steps.{and_then, expect, Operand, Made}
 use Rattle.elab_rules.specs.Values.{stored}
-use Rattle.elab_rules.specs.Initialising.{initial, only, scalar_from, exact_object, exception_from, is_exception_itself, class_from, from_nothing, from_values}
-use Rattle.elab_fits.specs.Standing.{FitsAs, BuildsOne, IsSetting, Reaches, On}
+use Rattle.elab_rules.specs.Initialising.{initial, only, scalar_from, exception_from, is_exception_itself, from_nothing, from_values}
+use Rattle.elab_fits.specs.Standing.{IsSetting, Reaches, On}
 use Rattle.elab_fits.specs.Scalars.{is_scalar, Gives, Initialises}
 use Rattle.elab_fits.specs.Objects.{is_single, is_ready, is_closure}
 use Rattle.elab_fits.proofs.Equal.{flag_refl, typ_refl}
@@ -28,7 +27,7 @@ use Rattle.elab_fits.proofs.Nodes.{both, or_left, node_fits, one_value}
 use Rattle.elab_fits.proofs.Steps.{bind, expected, either}
 use Rattle.elab_fits.proofs.Values.{stored_builds}
 use Rattle.elab_fits_objects.specs.Contexts.{is_whole, refers, IsObjectTyp, IsParameter, IsInitialised, HasMakers, IsSource, AreSources}
-use Rattle.elab_fits_objects.specs.Making.{Makes, MakesExactly, ScalarsBuild, ExceptionsBuild, ValuesBuild}
+use Rattle.elab_fits_objects.specs.Making.{MakesExactly, ScalarsBuild, ExceptionsBuild, ValuesBuild}
 use Rattle.elab_fits_objects.proofs.Classes.{Built, class_builds}
 use Rattle.elab_fits_objects.proofs.Constructed.{nothing_made, constructed_builds}
 use Rattle.elab_fits_objects.proofs.Exact.{Exact, exact_builds}

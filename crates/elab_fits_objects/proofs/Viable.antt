@@ -1,10 +1,10 @@
 -- The candidates among which a constructor is chosen.
-use Rattle.std.proofs.Common.{◌≡◌, refl, sym, ap, ◌∙◌, subst, ℕ, zero, suc, ◌+◌, ◌==◌, Bool, true, false, not, ◌&&◌, ◌||◌, List, [], ◌∷◌, ◌++◌, map, length}
-use Rattle.std.proofs.Common.{slice_get, Option, Some, None, is_some, eqb-true}
+use Rattle.std.proofs.Common.{◌≡◌, refl, sym, ap, ◌∙◌, subst, ℕ, zero, suc, ◌==◌, Bool, true, false, List, [], ◌∷◌, ◌++◌, map, length}
+use Rattle.std.proofs.Common.{slice_get, Some, None, is_some, eqb-true}
 use Rattle.std.proofs.lemmas.Bool.{and_parts}
-use Rattle.elab_rules.specs.cpp_overload.Overload.{Candidate, Argument, count_of, parameters, parameters_of}
+use Rattle.elab_rules.specs.cpp_overload.Overload.{Candidate, count_of, parameters, parameters_of}
 use Rattle.elab_rules.specs.cpp_overload.Choosing.{is_viable}
-use Rattle.elab_rules.specs.cpp_types.Typ.{Typ, typ, Form, void, int, enum, null, ptr, ref, array, func, class, closure, tx_ex, Signature, signature}
+use Rattle.elab_rules.specs.cpp_types.Typ.{Typ, typ, void, int, enum, null, ptr, ref, array, func, class, closure, tx_ex, Signature, signature}
 use Rattle.elab_rules.specs.cpp_types.Class.{Class}
 use Rattle.elab_rules.specs.cpp_types.Conversion.{conversion_of}
 use Rattle.elab_rules.specs.cpp_types.declared.ranks.Cat.{Cat}
@@ -12,10 +12,10 @@ use Rattle.elab_rules.specs.cpp_types.declared.ranks.Cat.TheVariants.{Lvalue, Pr
 use Rattle.elab_rules.specs.cpp_tree.Notation.{plain}
 use Rattle.elab_rules.specs.cpp_tree.Trees.{typ_in}
 use Rattle.elab_rules.specs.cpp_tree.Typing.{is_class_typ}
-use Rattle.elab_rules.specs.elab_ctx.Ctx.{Ctx, Func, Special, absent, trivial, function}
+use Rattle.elab_rules.specs.elab_ctx.Ctx.{Ctx, Special, absent, trivial, function}
 use Rattle.elab_rules.specs.elab_ctx.Steps.{Operand}
 use Rattle.elab_rules.specs.Objects.{traits_at}
-use Rattle.elab_rules.specs.Initialising.{argument, arguments, maker, makers, func_at, candidates_at, constructors, constructor_at, trivial_copy, copy_candidates}
+use Rattle.elab_rules.specs.Initialising.{argument, arguments, maker, makers, func_at, constructors, constructor_at, trivial_copy, copy_candidates}
 use Rattle.elab_rules.specs.Initialising.{signature_parameters, parameters_at}
 
 -- What stands in front, and behind

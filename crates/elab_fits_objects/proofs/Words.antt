@@ -1,42 +1,34 @@
 -- Words that are passed: values, what references are bound to, and objects of classes.
-use Rattle.std.proofs.Common.{◌≡◌, refl, sym, ap, ◌∙◌, subst, ℕ, suc, Bool, true, false, not, ◌&&◌, ◌||◌, cond, List, [], ◌∷◌, length, Result, Ok, Err}
+use Rattle.std.proofs.Common.{◌≡◌, refl, sym, ap, ◌∙◌, subst, ℕ, Bool, true, false, not, ◌&&◌, ◌||◌, cond, [], ◌∷◌, Result, Ok, Err}
 use Rattle.std.proofs.lemmas.Bool.{and_parts}
-use Rattle.std.specs.Prelude.{if◌then◌else◌}
-use Rattle.elab_rules.specs.cpp_overload.Overload.{count_of}
-use Rattle.elab_rules.specs.cpp_types.Typ.{Typ, typ, Form, void, int, enum, null, ptr, ref, array, func, class, closure, tx_ex, Typs, none as no_typs}
-use Rattle.elab_rules.specs.cpp_types.Typ.{more as and_typ}
+use Rattle.elab_rules.specs.cpp_types.Typ.{Typ, typ, Form, void, int, enum, null, ptr, ref, array, func, class, closure, tx_ex}
 use Rattle.elab_rules.specs.cpp_types.Equal.{typ_eq}
 use Rattle.elab_rules.specs.cpp_types.Conversion.{is_object_form, is_lvalue}
 use Rattle.elab_rules.specs.cpp_types.declared.classes.At.{At}
 use Rattle.elab_rules.specs.cpp_types.declared.ranks.Cat.TheVariants.{Lvalue}
 use Rattle.elab_rules.specs.cpp_tree.declared.faults.ElabFault.{ElabFault}
-use Rattle.elab_rules.specs.cpp_tree.declared.kinds.TKind.{TKind}
 use Rattle.elab_rules.specs.cpp_tree.declared.kinds.TKind.TheVariants.{Materialize}
 use Rattle.elab_rules.specs.cpp_tree.declared.roles.Role.TheVariants.{Word, Initialiser, Destruction}
-use Rattle.elab_rules.specs.cpp_tree.Trees.{Tree, node, Trees, none, more, kind_of, typ_in}
+use Rattle.elab_rules.specs.cpp_tree.Trees.{Tree, Trees, more}
 use Rattle.elab_rules.specs.cpp_tree.Notation.{plain}
-use Rattle.elab_rules.specs.cpp_tree.Typing.{Head, head_of, is_void, is_class_typ, is_argument, is_bound, is_temporary, is_word, passed as passed_word, unqualified}
-use Rattle.elab_rules.specs.cpp_tree.Typing.{initialises}
+use Rattle.elab_rules.specs.cpp_tree.Typing.{Head, head_of, is_void, is_class_typ, is_argument, is_bound, is_temporary, unqualified}
 use Rattle.elab_rules.specs.cpp_tree.Roles.{and_any}
 use Rattle.elab_rules.specs.cpp_tree.Rows.{Setting}
 use Rattle.elab_rules.specs.cpp_tree.WellFormed.{heads_of}
 use Rattle.elab_rules.specs.elab_ctx.Ctx.{Ctx, Work, with_item, next_place}
-use Rattle.elab_rules.specs.elab_ctx.Steps.{and_then, Operand, Made, MadeAll}
-use Rattle.elab_rules.specs.Objects.{destroys}
-use Rattle.elab_rules.specs.Initialising.{initial, class_from, argument_object, passed, words}
-use Rattle.elab_fits.specs.Standing.{FitsAs, IsExpressionType, BuildsOne, IsSetting, Reaches, On}
+use Rattle.elab_rules.specs.elab_ctx.Steps.{Operand, Made}
+use Rattle.elab_rules.specs.Initialising.{initial, argument_object}
+use Rattle.elab_fits.specs.Standing.{BuildsOne, IsSetting, Reaches, On}
 use Rattle.elab_fits.specs.Scalars.{is_scalar, Gives, Initialises}
 use Rattle.elab_fits.specs.Objects.{DestroysOne}
 use Rattle.elab_fits.proofs.Equal.{typ_refl, typ_same}
 use Rattle.elab_fits.proofs.Initials.{initial_gives}
-use Rattle.elab_fits.proofs.Nodes.{both, or_left, head_kind, head_typ, node_fits}
-use Rattle.elab_fits.proofs.Steps.{bind, either}
+use Rattle.elab_fits.proofs.Nodes.{both, head_kind, head_typ, node_fits}
 use Rattle.elab_fits.proofs.Values.{no_class, value_initialises, given_typ, given_cat}
-use Rattle.elab_fits_objects.specs.Contexts.{refers, IsObjectTyp, IsParameter, AreParameters, HasMakers, IsSource, AreSources, is_whole}
-use Rattle.elab_fits_objects.specs.Making.{IsWord, WordsFit, Makes}
+use Rattle.elab_fits_objects.specs.Contexts.{refers, IsParameter, HasMakers, IsSource}
+use Rattle.elab_fits_objects.specs.Making.{IsWord}
 use Rattle.elab_fits_objects.proofs.Fits.{value_word, no_argument, within, within_full, object_kids, at_least_one}
-use Rattle.elab_fits_objects.proofs.Keeping as keeps
-use Rattle.elab_fits_objects.proofs.Placing.{place_row, class_destroyed}
+use Rattle.elab_fits_objects.proofs.Placing.{place_row}
 use Rattle.elab_fits_objects.proofs.Referring.{binds}
 
 pub on_map : {A : Type 0} (P Q : A → Type 0) (r : Result A ElabFault) → On P r → ((a : A) → P a → Q a) → On Q r

@@ -8,7 +8,7 @@ use Rattle.elab_rules.specs.cpp_types.Trivial.{takes_itself}
 use Rattle.elab_rules.specs.cpp_types.declared.ranks.Cat.TheVariants.{Lvalue}
 use Rattle.elab_rules.specs.cpp_tree.declared.kinds.TKind.TheVariants.{CopyFrom}
 use Rattle.elab_rules.specs.cpp_tree.declared.program.FuncKind.TheVariants.{Constructor}
-use Rattle.elab_rules.specs.cpp_tree.Trees.{Tree, node, Trees, none, more, typ_in, cat_of}
+use Rattle.elab_rules.specs.cpp_tree.Trees.{Tree, node, more, typ_in, cat_of}
 use Rattle.elab_rules.specs.cpp_tree.Typing.{form_in, is_void, is_class_prvalue}
 use Rattle.elab_rules.specs.cpp_tree.Parts.{size_in, holds_complete}
 use Rattle.elab_rules.specs.cpp_tree.Rows.{Setting}

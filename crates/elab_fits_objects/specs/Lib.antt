@@ -1,2 +1,4 @@
+pub mod Capturing
 pub mod Contexts
+pub mod Items
 pub mod Making

@@ -1,11 +1,10 @@
 -- What initialises objects of class type fits where it comes to stand.
-use Rattle.std.specs.Prelude.{◌≡◌, ℕ, Bool, true, false, List, length, Some, is_some, slice_get}
+use Rattle.std.specs.Prelude.{◌≡◌, ℕ, Bool, true, false, List, length, Some, slice_get}
 use Rattle.elab_rules.specs.cpp_overload.Overload.{Candidate, Argument, count_of}
 use Rattle.elab_rules.specs.cpp_overload.Choosing.{chosen, best, is_viable}
 use Rattle.elab_rules.specs.cpp_types.Typ.{Typ, typ, class, Typs}
 use Rattle.elab_rules.specs.cpp_types.Class.{Class}
 use Rattle.elab_rules.specs.cpp_types.declared.classes.At.{At}
-use Rattle.elab_rules.specs.cpp_types.declared.ranks.Cat.TheVariants.{Lvalue}
 use Rattle.elab_rules.specs.cpp_tree.declared.roles.Role.TheVariants.{Word}
 use Rattle.elab_rules.specs.cpp_tree.Trees.{Tree, Trees, typ_in, cat_of}
 use Rattle.elab_rules.specs.cpp_tree.Typing.{head_of, is_class_typ, is_class_prvalue, is_word, are_words, passed as passed_word}

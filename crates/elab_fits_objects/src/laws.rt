@@ -1,7 +1,9 @@
 //! Laws of what initialises objects of class type. A function here does nothing: its clauses are the laws.
 
+ghost use Rattle.elab_fits_objects.specs.Items.{ItemsBuild};
+ghost use Rattle.elab_fits_objects.specs.Capturing.{CapturesBuild, LambdasStand};
 ghost use Rattle.elab_fits_objects.specs.Making.{ObjectsPlaced, ClassesBuild, ExactsBuild, WordsPass, AllWordsFit, WordsKeep, ChosenViable};
-ghost use Rattle.elab_fits_objects.specs.Making.{NothingBuilds, ConstructorsBuild, ScalarsBuild, ExceptionsBuild, ValuesBuild};
+ghost use Rattle.elab_fits_objects.specs.Making.{NothingBuilds, ConstructorsBuild, ScalarsBuild, ExceptionsBuild, ValuesBuild, CastsStand, FunctionalsStand};
 
 /// An object of class type, by an expression.
 pub fn objects()
@@ -18,11 +20,24 @@ pub fn words()
     ensures chosen { ChosenViable }
 {}
 
-/// An object from nothing, or from values in parentheses.
+/// An object from nothing, from values in parentheses, or from an item in braces that is an expression.
 pub fn values()
     ensures nothing { NothingBuilds }
     ensures constructors { ConstructorsBuild }
     ensures scalars { ScalarsBuild }
     ensures exceptions { ExceptionsBuild }
     ensures values { ValuesBuild }
+    ensures items { ItemsBuild }
+{}
+
+/// An object that a cast makes.
+pub fn casts()
+    ensures casts { CastsStand }
+    ensures functionals { FunctionalsStand }
+{}
+
+/// What a lambda captures, and its object.
+pub fn lambdas()
+    ensures captures { CapturesBuild }
+    ensures lambdas { LambdasStand }
 {}

@@ -1,10 +1,8 @@
 -- The body of a function keeps the types of the context around it sound.
-use Rattle.std.proofs.Common.{◌≡◌, refl, ap, ◌∙◌, ℕ, ◌≤◌, Bool, true, false, not, ◌&&◌, List, [], ◌∷◌, length, Option, Some, None, Result, Ok, Err}
+use Rattle.std.proofs.Common.{◌≡◌, refl, ℕ, ◌≤◌, true, false, List, length, Option, Some, None}
 use Rattle.elab_rules.specs.cpp_types.Typ.{Typ}
-use Rattle.elab_rules.specs.cpp_types.declared.classes.At.{At}
 use Rattle.elab_rules.specs.cpp_lex.Tokens.{Lexeme}
 use Rattle.elab_rules.specs.cpp_ast.Trees as syntax
-use Rattle.elab_rules.specs.cpp_tree.Typing.{form_in}
 use Rattle.elab_rules.specs.elab_ctx.Steps.{check}
 use Rattle.elab_rules.specs.Operators.{is_complete}
 use Rattle.elab_rules.specs.cpp_types.Class.{held}
@@ -16,7 +14,7 @@ use Rattle.elab_rules.specs.Functions as functions
 use Rattle.elab_rules.specs.Functions.{Header, entered, leaving, function_body}
 use Rattle.elab_fits.specs.Standing.{On}
 use Rattle.elab_fits.proofs.Steps.{bind, skip}
-use Rattle.elab_sound_types.specs.Contexts.{is_sound_this, is_sound_parameter, is_spelled}
+use Rattle.elab_sound_types.specs.Contexts.{is_sound_this, is_spelled}
 use Rattle.elab_sound_types.specs.States.{IsSoundState, IsSoundAfter, KeepsSound, is_sound_object, FunctionsKeep}
 use Rattle.elab_sound_types.proofs.Growth.{grown_joined}
 use Rattle.elab_sound_types.proofs.Written.{AreParameters}

@@ -96,7 +96,7 @@ pub record HasSoundTypes (c : Ctx) (w : Work) : Type 0 where
   pub this : is_sound_this (length c.classes) c.this ≡ true
   -- what the lambda around captures is an object or a reference
   pub captures : are_sound_captures (length c.classes) c.lambda ≡ true
-  -- a global is an object
+  -- a global is what an lvalue can refer to
   pub globals : are_sound_globals (length c.classes) w ≡ true
 
 -- each token of a syntax tree has a spelling, as each that was read has
@@ -109,7 +109,7 @@ abbrev mutual
   are_spelled s syntax.none = true
   are_spelled s (syntax.more t ts) = is_spelled s t && are_spelled s ts
 
--- Types that are being written
+-- Parameters
 
 -- a parameter as its function knows it
 abbrev pub is_sound_parameter : (classes : ℕ) → Parameter → Bool

@@ -1,4 +1,5 @@
 use Rattle.elab_fits_objects.proofs.Constructed.{constructed_builds}
+use Rattle.elab_fits_objects.proofs.Items.{items_build}
 use Rattle.elab_fits_objects.proofs.Nothing.{nothing_builds}
 use Rattle.elab_fits_objects.proofs.Valued.{scalar_builds, exception_builds, values_build}
 use Rattle.elab_fits_objects.proofs.laws.values.Goals as goal
@@ -17,3 +18,6 @@ returns-clause-exceptions c = exception_builds
 
 pub returns-clause-values : goal.returns-clause-values
 returns-clause-values c = values_build
+
+pub returns-clause-items : goal.returns-clause-items
+returns-clause-items c = items_build

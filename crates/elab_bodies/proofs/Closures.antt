@@ -1,0 +1,234 @@
+-- The bodies of lambdas' calls: with them all bodies fit still.
+use Rattle.std.proofs.Common.{◌≡◌, refl, sym, ap, ◌∙◌, subst, ℕ, zero, suc, Bool, false, not, List, [], ◌∷◌, ◌++◌, append_assoc, map, length, slice_get}
+use Rattle.std.proofs.Common.{Option, Some, None, Result, Ok, Err, eq-eqb}
+use Rattle.std.proofs.lemmas.Option.{same_Some}
+use Rattle.elab_rules.specs.cpp_types.Typ.{Typ, typ, func, ptr, closure, Signature, signature}
+use Rattle.elab_rules.specs.cpp_types.Class.{held as held_class}
+use Rattle.elab_rules.specs.cpp_types.declared.classes.At.{At}
+use Rattle.elab_rules.specs.cpp_lex.Tokens.{Lexeme}
+use Rattle.elab_rules.specs.cpp_ast.declared.kinds.NodeKind.TheVariants as k
+use Rattle.elab_rules.specs.cpp_ast.Trees as syntax
+use Rattle.elab_rules.specs.cpp_tree.declared.faults.ElabFault.{ElabFault}
+use Rattle.elab_rules.specs.cpp_tree.declared.faults.IllRule.TheVariants.{AbstractObject, BadDeclaration, Incomplete, OutOfProfile}
+use Rattle.elab_rules.specs.cpp_tree.Notation.{plain}
+use Rattle.elab_rules.specs.cpp_tree.Typing.{form_in}
+use Rattle.elab_rules.specs.elab_ctx.Ctx.{Ctx, Func, known}
+use Rattle.elab_rules.specs.elab_ctx.Steps.{check, at_of}
+use Rattle.elab_rules.specs.Operators.{is_complete}
+use Rattle.elab_rules.specs.Types.{Parameter, no_qualifiers, qualifiers_from, is_declared_safe, function_of, types_of, is_result, has_auto, is_abstract_type, within_parameters}
+use Rattle.elab_rules.specs.Sizes.{typ_sized}
+use Rattle.elab_rules.specs.Statements.{State, Done, Body, statements_of}
+use Rattle.elab_rules.specs.Functions.{param_of, result_items, with_parameters, within_frame}
+use Rattle.elab_rules.specs.Lambdas.{Written, lambdas_of, lambdas_among, lambda_of, lambda_written, lambda_made, lambda_with, lambda_known, lambda_type, refused_at}
+use Rattle.elab_rules.specs.Lambdas.{no_lambda, first_lambda, lambda_entered, declared_closure, inside, body_statements, signature_in, result_of, kids_of, has_mutable}
+use Rattle.elab_rules.specs.Lambdas.{explicit_captures, default_in, parameters_among, not_dynamic, result_among, default_captures, used_in, place_of_tree, closing}
+use Rattle.elab_rules.specs.Lambdas.{call_func, call_record}
+use Rattle.elab_fits.specs.Standing.{On}
+use Rattle.state_growth.proofs.Lists.{added}
+use Rattle.state_growth.proofs.Steps.{bind, skip, weaken, Ends}
+use Rattle.state_growth.proofs.Statements.{statements_kept}
+use Rattle.state_growth.proofs.Bodies.{no_lambda_lawful}
+use Rattle.elab_bodies.specs.Bodies.{number_of, param_items, Begin, BodyFits, AllFit, BodiesFit}
+use Rattle.elab_bodies.specs.Making.{LambdasFit, StatementsFit}
+use Rattle.elab_bodies.proofs.Frames.{WithItems, parameters_added, words_by}
+use Rattle.elab_bodies.proofs.Making.{holds, plain_block}
+use Rattle.elab_bodies.proofs.Holding as holding
+
+-- One function more, one body more
+
+pub at_end : (fs : List Func) (f : Func) → slice_get (fs ++ f ∷ []) (length fs) ≡ Some f
+at_end [] f = refl
+at_end (g ∷ fs) f = at_end fs f
+
+pub function_more : (fs : List Func) (f : Func) (bs : List Body) → AllFit fs bs → AllFit (fs ++ f ∷ []) bs
+function_more fs f bs h = record {
+  each = λ i b e. let x = h.each i b e in record { func = x.func; at = added fs (f ∷ []) b.func x.func x.at; defined = x.defined; signed = x.signed; fits = x.fits };
+}
+
+each_more : (P : Body → Type 0) (bs : List Body) (b : Body) → ((i : ℕ) (c : Body) → slice_get bs i ≡ Some c → P c) → P b
+    → (i : ℕ) (c : Body) → slice_get (bs ++ b ∷ []) i ≡ Some c → P c
+each_more P [] b h p zero c e = subst P (same_Some b c e) p
+each_more P [] b h p (suc i) c e = absurd cc
+each_more P (d ∷ bs) b h p zero c e = h 0 c e
+each_more P (d ∷ bs) b h p (suc i) c e = each_more P bs b (λ j x q. h (suc j) x q) p i c e
+
+pub body_more : (fs : List Func) (bs : List Body) (b : Body) → AllFit fs bs → BodyFits fs b → AllFit fs (bs ++ b ∷ [])
+body_more fs bs b h p = record { each = each_more (BodyFits fs) bs b h.each p }
+
+-- The call of a lambda
+
+-- what a function of this type is declared with
+as_many : (ps : List Parameter) → number_of (types_of ps) ≡ length (map param_of ps)
+as_many [] = refl
+as_many (p ∷ ps) = ap suc (as_many ps)
+
+abbrev call_of : State → Written → Signature → Func
+call_of st x sig = record (call_func (length st.ctx.classes) (call_record x.at sig x.qualifiers x.is_mutable) x.params) { closed_at = x.closed }
+
+-- the bodies fit, and something else holds of the functions
+pub record FitsWith (E : List Func → Type 0) (funcs : List Func) (bodies : List Body) : Type 0 where
+  pub fit : AllFit funcs bodies
+  pub extra : E funcs
+
+abbrev pub Fine : (List Func → Type 0) → State → Type 0
+Fine E st = FitsWith E st.ctx.funcs st.bodies
+
+-- they do, and the call is there
+record HasCall (E : List Func → Type 0) (place : ℕ) (g : Func) (funcs : List Func) (bodies : List Body) : Type 0 where
+  fit : AllFit funcs bodies
+  extra : E funcs
+  at : slice_get funcs place ≡ Some g
+
+refused_holds : (P : List Func → List Body → Type 0) (st : State) (o : Option At) → P st.ctx.funcs st.bodies
+    → On (λ (x : State). P x.ctx.funcs x.bodies) (refused_at st o)
+refused_holds P st (Some at) h = tt
+refused_holds P st None h = h
+
+-- behind the statements of its body
+record Said (E : List Func → Type 0) (place : ℕ) (g : Func) (words : List Typ) (d : Done) : Type 0 where
+  has : HasCall E place g d.state.ctx.funcs d.state.bodies
+  first : Begin words d.state.work.frame
+
+pub both : {A : Type 0} (P Q R : A → Type 0) (r : Result A ElabFault) → ((a : A) → P a → Q a → R a) → On P r → On Q r → On R r
+both P Q R (Ok a) f h g = f a h g
+both P Q R (Err e) f h g = tt
+
+record Entered (E : List Func → Type 0) (place : ℕ) (g : Func) (words : List Typ) (y : State) : Type 0 where
+  has : HasCall E place g y.ctx.funcs y.bodies
+  first : y.work.frame ≡ words
+
+-- its type is that of its parameters and its result
+typed : (c : Ctx) (x : Written) (r : Typ)
+    → On (λ (t : Typ). t ≡ plain (func (signature (types_of x.params) r (is_declared_safe x.qualifiers)))) (lambda_type c x r)
+typed c x r = bind P P (function_of c x.at r x.params (is_declared_safe x.qualifiers)) _
+    (skip P (check x.at BadDeclaration (is_result r)) _ (λ a. skip P (check x.at OutOfProfile (not (has_auto r))) _
+    (λ b. skip P (check x.at AbstractObject (not (is_abstract_type c r))) _ (λ y. skip P (within_parameters x.at x.params) _ (λ z. refl)))))
+    (λ t e. skip P (typ_sized c.classes x.at t) _ (λ y. e))
+  where
+    P : Typ → Type 0
+    P t = t ≡ plain (func (signature (types_of x.params) r (is_declared_safe x.qualifiers)))
+
+module _ (E : List Func → Type 0) (more : (fs : List Func) (f : Func) → E fs → E (fs ++ f ∷ [])) where
+  abbrev F : State → Type 0
+  F st = Fine E st
+
+  said : (s : List Lexeme) (e : State) (x : Written) (place : ℕ) (g : Func) → HasCall E place g e.ctx.funcs e.bodies
+      → On (Said E place g (e.work.frame ++ param_items (map param_of x.params))) (body_statements s e x)
+  said s e x place g h = bind (Entered E place g words) (Said E place g words) (with_parameters s e x.params) _
+      (both (holding.Held (HasCall E place g)) (WithItems e items) (Entered E place g words) (with_parameters s e x.params)
+      (λ y i j. record { has = i; first = j }) (holding.parameters_held (HasCall E place g) s e x.params h) (parameters_added s e x.params))
+      (λ y i. both (holding.Ends (HasCall E place g)) (Ends y) (Said E place g words) (statements_of no_lambda s y x.body)
+      (λ d j l. record { has = j; first = λ n t q. l.kept.frame n t (ap (λ (z : List Typ). slice_get z n) i.first ∙ q) })
+      (holding.statements_held (HasCall E place g) no_lambda s (λ st t u. refused_holds (HasCall E place g) st (first_lambda t) u) y x.body i.has)
+      (statements_kept no_lambda no_lambda_lawful s y x.body))
+    where
+      items : List Typ
+      items = param_items (map param_of x.params)
+
+      words : List Typ
+      words = e.work.frame ++ items
+
+  with_fit : (s : List Lexeme) (st : State) (x : Written) (r : Typ) (safe : Bool) → F st
+      → On F (lambda_with s st x r (signature (types_of x.params) r safe))
+  with_fit s st x r safe h = skip F (check x.at Incomplete (is_complete st.ctx (held_class r))) _
+      (λ y. bind (Said E place g (e.work.frame ++ items)) F (body_statements s e x) _ (said s e x place g record {
+        fit = function_more st.ctx.funcs g st.bodies h.fit;
+        extra = more st.ctx.funcs g h.extra;
+        at = at_end st.ctx.funcs g;
+      })
+      (λ d i. skip F (within_frame d.state.ctx x.at d.state.work.frame) _
+      (λ z. record {
+        fit = body_more d.state.ctx.funcs d.state.bodies _ i.has.fit (record {
+          func = g;
+          at = i.has.at;
+          defined = refl;
+          signed = record { params = as_many x.params; result = refl };
+          fits = plain_block g place d.state.ctx r x.body_at d.trees d.state.work.frame refl refl
+              (words_by g (Some own) r items (e.work.frame ++ items) d.state.work.frame (eq-eqb n n refl) refl refl
+              (append_assoc (result_items r) (plain (ptr own) ∷ []) items) i.first);
+        });
+        extra = i.has.extra;
+      })))
+    where
+      sig : Signature
+      sig = signature (types_of x.params) r safe
+
+      place : ℕ
+      place = length st.ctx.funcs
+
+      n : ℕ
+      n = length st.ctx.classes
+
+      own : Typ
+      own = typ (closure n) (not x.is_mutable) false
+
+      g : Func
+      g = call_of st x sig
+
+      e : State
+      e = inside st (lambda_entered st x (known r) r) (declared_closure st x sig)
+
+      items : List Typ
+      items = param_items (map param_of x.params)
+
+  known_fit : (s : List Lexeme) (st : State) (x : Written) (r : Typ) → F st → On F (lambda_known s st x r)
+  known_fit s st x r h =
+      bind (λ (t : Typ). t ≡ plain (func (signature (types_of x.params) r (is_declared_safe x.qualifiers)))) F (lambda_type st.ctx x r) _
+      (typed st.ctx x r)
+      (λ t e. subst (λ (z : Typ). On F (lambda_with s st x r (signature_in (form_in z)))) (sym e) (with_fit s st x r (is_declared_safe x.qualifiers) h))
+
+  made_fit : (s : List Lexeme) (st : State) (x : Written) → F st → On F (lambda_made s st x)
+  made_fit s st x h = skip F (result_of s st x x.result) _
+      (λ r. bind F F (lambda_known s st x r) _ (known_fit s st x r h) (λ y i. i))
+
+  -- All lambdas
+
+  written_fit : (s : List Lexeme) (st : State) (at : At) (intro parts : syntax.Trees) (body : syntax.Tree) → F st
+      → On F (lambda_written s st at intro parts body)
+  written_fit s st at intro parts body h =
+      skip F (explicit_captures s st.ctx (default_in s intro) intro) _
+      (λ xs. skip F (parameters_among s st.ctx st.work parts) _
+      (λ ps. skip F (not_dynamic at (qualifiers_from s no_qualifiers parts)) _ (λ y.
+      skip F (result_among s st.ctx st.work parts) _
+      (λ r. skip F (default_captures st.ctx (default_in s intro) xs (used_in s st.ctx ps body)) _ (λ ys. made_fit s st (record {
+        at = at;
+        captures = ys;
+        params = ps;
+        qualifiers = qualifiers_from s no_qualifiers parts;
+        is_mutable = has_mutable parts;
+        result = r;
+        body = kids_of body;
+        body_at = place_of_tree body;
+        closed = closing s body;
+      }) h)))))
+
+  one_fit : (s : List Lexeme) (st : State) (at : At) (kids : syntax.Trees) → F st → On F (lambda_of s st at kids)
+  one_fit s st at (syntax.more intro (syntax.more parts (syntax.more body syntax.none))) h = written_fit s st at (kids_of intro) (kids_of parts) body h
+  one_fit s st at (syntax.more intro (syntax.more body syntax.none)) h = written_fit s st at (kids_of intro) syntax.none body h
+  one_fit s st at kids h = tt
+
+  mutual
+    pub each_fit : (s : List Lexeme) (st : State) (t : syntax.Tree) → F st → On F (lambdas_of s st t)
+    each_fit s st (syntax.node k.Lambda p token kids) h = one_fit s st (at_of p) kids h
+    each_fit s st (syntax.node k.SizeofExpression p token kids) h = h
+    each_fit s st (syntax.node k.SizeofType p token kids) h = h
+    each_fit s st (syntax.node kind p token kids) h = among_fit s st kids h
+
+    among_fit : (s : List Lexeme) (st : State) (ts : syntax.Trees) → F st → On F (lambdas_among s st ts)
+    among_fit s st syntax.none h = h
+    among_fit s st (syntax.more t ts) h = bind F F (lambdas_of s st t) _ (each_fit s st t h) (λ x i. among_fit s x ts i)
+
+-- Nothing else
+
+abbrev nothing : List Func → Type 0
+nothing fs = Unit {0}
+
+pub bodies_fit : (st : State) (t : syntax.Tree) (s : List Lexeme) → BodiesFit st → On BodiesFit (lambdas_of s st t)
+bodies_fit st t s h = weaken (Fine nothing) BodiesFit (lambdas_of s st t) (λ x i. i.fit) (each_fit nothing (λ fs f e. tt) s st t (record { fit = h; extra = tt }))
+
+pub lambdas_law : LambdasFit
+lambdas_law s st t x h e = holds BodiesFit (lambdas_of s st t) x (bodies_fit st t s h) e
+
+pub statements_law : StatementsFit
+statements_law s st ts d h e = holds (λ (z : Done). BodiesFit z.state) (statements_of lambdas_of s st ts) d
+    (holding.statements_held AllFit lambdas_of s (λ x t i. bodies_fit x t s i) st ts h) e

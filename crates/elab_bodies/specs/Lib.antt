@@ -1,0 +1,4 @@
+pub mod Bodies
+pub mod Defining
+pub mod Keeping
+pub mod Making

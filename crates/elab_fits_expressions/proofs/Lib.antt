@@ -1,0 +1,9 @@
+pub mod Behind
+pub mod Captured
+pub mod Closures
+pub mod Expressions
+pub mod Fields
+pub mod Growing
+pub mod Holding
+pub mod Rows
+pub mod Written

@@ -1,0 +1,4 @@
+pub mod Closures
+pub mod Expressions
+pub mod Growing
+pub mod Written

@@ -1,0 +1,4 @@
+//! All expressions that elaborate mean something.
+#![tactic(auto)]
+
+pub mod laws;
