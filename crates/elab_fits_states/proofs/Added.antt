@@ -10,14 +10,14 @@ use Rattle.elab_rules.specs.Initialising.{conversion, class_from, scalar_from}
 use Rattle.elab_rules.specs.Statements.{is_lasting, bound_reference, copy_initialised, directly_initialised}
 use Rattle.elab_fits.specs.Standing.{On}
 use Rattle.elab_fits.proofs.Steps.{skip, either}
-use Rattle.elab_fits_states.proofs.Globals
-use Rattle.elab_fits_states.proofs.Globals.{made}
+use Rattle.elab_fits_expressions.proofs.Behind as made_behind
+use Rattle.elab_fits_expressions.proofs.Behind.{made}
 
 bound : (c : Ctx) (w : Work) (t : Typ) (o : Operand) → On (made w) (bound_reference c w t o)
-bound c w t o = skip (made w) (check o.at OutOfProfile (is_lasting (conversion c t o) o)) _ (λ y. Globals.scalar_from c w t o)
+bound c w t o = skip (made w) (check o.at OutOfProfile (is_lasting (conversion c t o) o)) _ (λ y. made_behind.scalar_from c w t o)
 
 by_class : (c : Ctx) (w : Work) (t : Typ) (at : At) (o : Operand) → On (made w) (if is_class_typ t then class_from c w t at o else scalar_from c w t o)
-by_class c w t at o = either (made w) (is_class_typ t) _ _ (λ y. Globals.class_from c w t at o) (λ y. Globals.scalar_from c w t o)
+by_class c w t at o = either (made w) (is_class_typ t) _ _ (λ y. made_behind.class_from c w t at o) (λ y. made_behind.scalar_from c w t o)
 
 pub copied : (c : Ctx) (w : Work) (t : Typ) (o : Operand) → On (made w) (copy_initialised c w t o)
 copied c w (typ (ref t) d v) o = bound c w (typ (ref t) d v) o
@@ -26,4 +26,4 @@ copied c w t o = by_class c w t o.at o
 
 pub direct : (c : Ctx) (w : Work) (t : Typ) (at : At) (os : List Operand) → On (made w) (directly_initialised c w t at os)
 direct c w (typ (ref t) d v) at (o ∷ []) = bound c w (typ (ref t) d v) o
-direct c w t at os = Globals.from_values c w t at os
+direct c w t at os = made_behind.from_values c w t at os

@@ -25,9 +25,8 @@ use Rattle.elab_fits_forms.proofs.Types.{target_sound}
 use Rattle.elab_fits_forms.proofs.Wholes.{exception_whole}
 use Rattle.elab_fits_statements.specs.Discipline.{CanBeCaught}
 use Rattle.setting_growth.proofs.Classes.{completion_same, known_if}
-use Rattle.state_growth.specs.States.{Goes}
 use Rattle.state_growth.proofs.Steps.{goes, stays}
-use Rattle.elab_fits_states.specs.States.{setting, IsGood, IsSettled, IsWritten, IsVariableType, words}
+use Rattle.elab_fits_states.specs.States.{setting, Comes, IsGood, IsSettled, IsWritten, IsVariableType, words}
 
 variable_of : (f : UnitFunc) (b : State) (t : Typ) → IsGood f b → is_declared b.ctx.classes t ≡ true → is_parameter b.ctx.classes t ≡ true
     → IsObjectTyp b.ctx (is_lambda b.ctx.classes) t → IsWhole b.ctx.classes t → has_lambdas t ≡ false → IsVariableType b t
@@ -43,7 +42,7 @@ checked_true : (at : At) (rule : IllRule) (c x : Bool) → check at rule c ≡ O
 checked_true at rule true x h = refl
 checked_true at rule false x h = absurd cc
 
-caught_by : (f : UnitFunc) (a b : State) (at : At) (g : Form) (q v x : Bool) → IsGood f a → IsGood f b → Goes a b → caught_form a.ctx at g ≡ Ok x
+caught_by : (f : UnitFunc) (a b : State) (at : At) (g : Form) (q v x : Bool) → IsGood f a → IsGood f b → Comes a b → caught_form a.ctx at g ≡ Ok x
     → is_sound_form b.ctx.classes g ≡ true → IsVariableType b (typ g q v)
 caught_by f a b at (int j) q v x h k l e i = variable_of f b (typ (int j) q v) k refl refl
     (record { sorted = refl; whole = λ n. by; complete = λ n. refl })
@@ -55,7 +54,7 @@ caught_by f a b at (enum n s) q v x h k l e i = variable_of f b (typ (enum n s) 
     (record { sorted = refl; whole = λ n. refl; complete = λ n. refl }) (record { sized = refl; ready = refl }) refl
 caught_by f a b at (class n) q v x h k l e i =
     let d = h.holds.copyable n (checked_true at BadCatch (traits_at a.ctx n).is_trivially_copyable x e) in
-    let c = ap is_some (completion_same a.ctx.classes b.ctx.classes l.grows.unit.classes n (known_if a.ctx.classes n d)) ∙ d in
+    let c = ap is_some (completion_same a.ctx.classes b.ctx.classes l.goes.grows.unit.classes n (known_if a.ctx.classes n d)) ∙ d in
     variable_of f b (typ (class n) q v) k i i (object_typ_is (setting f b) b.ctx b.work (typ (class n) q v) k.holds i refl)
     ((k.holds.complete n c).whole (class n) q v refl i) refl
 caught_by f a b at (tx_ex t) q v x h k l e i = variable_of f b (typ (tx_ex t) q v) k i i
@@ -73,11 +72,11 @@ behind_step : {A : Type 0} (r : Result A ElabFault) (x : Result Typ ElabFault) (
 behind_step (Ok a) x u h = h
 behind_step (Err f) x u h = absurd cc
 
-caught_typ : (f : UnitFunc) (a b : State) (at : At) (t u : Typ) (x : Bool) → IsGood f a → IsGood f b → Goes a b → caught_form a.ctx at (form_in t) ≡ Ok x → t ≡ u
+caught_typ : (f : UnitFunc) (a b : State) (at : At) (t u : Typ) (x : Bool) → IsGood f a → IsGood f b → Comes a b → caught_form a.ctx at (form_in t) ≡ Ok x → t ≡ u
     → is_sound b.ctx.classes t ≡ true → IsVariableType b u
 caught_typ f a b at (typ g q v) u x h k l e r i = subst (λ (z : Typ). IsVariableType b z) r (caught_by f a b at g q v x h k l e i)
 
-caught_in : (f : UnitFunc) (a b : State) (at : At) (t u : Typ) → IsGood f a → IsGood f b → Goes a b → caught_type a.ctx at t ≡ Ok u
+caught_in : (f : UnitFunc) (a b : State) (at : At) (t u : Typ) → IsGood f a → IsGood f b → Comes a b → caught_type a.ctx at t ≡ Ok u
     → is_sound b.ctx.classes t ≡ true → IsVariableType b u
 caught_in f a b at (typ (ref t) q v) u h k l e i = ok_told (IsVariableType b u) (caught_form a.ctx at (form_in t)) t u
     (behind_step (check at OutOfProfile (is_const_typ t)) (and_then (caught_form a.ctx at (form_in t)) (λ z. Ok t)) u e)
@@ -87,8 +86,8 @@ caught_in f a b at (typ g q v) u h k l e i = ok_told (IsVariableType b u) (caugh
 
 pub can_be_caught : (f : UnitFunc) (s : List Lexeme) (a : State) (at : At) (t u : Typ) → IsSettled f a → IsWritten f a t → caught_type a.ctx at t ≡ Ok u
     → CanBeCaught (words f s) a u
-can_be_caught f s a at t u g w e = let x = caught_in f a a at t u g.good g.good (goes a a (stays a)) e (w a (goes a a (stays a)) g.good) in record {
-  object = λ b l k. caught_in f a b at t u g.good k l e (w b l k);
+can_be_caught f s a at t u g w e = let x = caught_in f a a at t u g.good g.good (record { goes = goes a a (stays a); names = λ n k e. refl }) e (w a (record { goes = goes a a (stays a); names = λ n k e. refl }) g.good).sound in record {
+  object = λ b l k. caught_in f a b at t u g.good k l e (w b l k).sound;
   sized = x.sized;
   ready = x.ready;
 }

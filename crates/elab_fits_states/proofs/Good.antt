@@ -20,29 +20,18 @@ use Rattle.elab_fits.proofs.Equal.{typ_refl}
 use Rattle.elab_growth.proofs.Growth.{Behind}
 use Rattle.elab_fits_forms.specs.Types.{is_target, is_declared}
 use Rattle.elab_fits_forms.specs.Context.{Holds, IsVariable}
-use Rattle.elab_fits_forms.specs.Expressions.{ClosuresHold}
+use Rattle.elab_fits_expressions.specs.Closures.{ClosuresHold}
 use Rattle.elab_fits_statements.specs.Variables.{HasItem}
 use Rattle.elab_fits_statements.specs.Discipline.{within}
-use Rattle.state_growth.specs.States.{Goes}
 use Rattle.state_growth.proofs.Lists.{behind, added}
 use Rattle.state_growth.proofs.Works.{one_item}
 use Rattle.state_growth.proofs.Steps.{Seen, seen, Steps, kept_refl, goes, stays}
-use Rattle.elab_fits_states.specs.States.{setting, IsGood, IsSettled}
-use Rattle.elab_fits_states.proofs.Globals.{are_objects, is_object_global}
-use Rattle.elab_fits_states.proofs.Globals
+use Rattle.elab_fits_states.specs.States.{setting, Comes, IsGood, IsSettled}
+use Rattle.elab_fits_expressions.specs.Growing as growing
 use Rattle.elab_fits_states.proofs.Lists.{in_longer, in_changed, last_item}
 use Rattle.elab_fits_states.proofs.Moved.{other, moved}
 
 -- Lists
-
-all_from : {A : Type 0} (p : A → Bool) (xs : List A) → ((i : ℕ) (x : A) → slice_get xs i ≡ Some x → p x ≡ true) → list_all p xs ≡ true
-all_from p [] h = refl
-all_from p (x ∷ xs) h = and_from (p x) (list_all p xs) (h 0 x refl) (all_from p xs (λ i y e. h (suc i) y e))
-
-one_of : {A : Type 0} (p : A → Bool) (xs : List A) (i : ℕ) (x : A) → list_all p xs ≡ true → slice_get xs i ≡ Some x → p x ≡ true
-one_of p [] i x h e = absurd cc
-one_of p (y ∷ ys) zero x h e = ap p (sym (same_Some y x e)) ∙ (and_parts (p y) (list_all p ys) h).0
-one_of p (y ∷ ys) (suc i) x h e = one_of p ys i x (and_parts (p y) (list_all p ys) h).1 e
 
 abbrev Items : List Typ → List Typ → Type 0
 Items a b = (i : ℕ) (t : Typ) → slice_get a i ≡ Some t → slice_get b i ≡ Some t
@@ -94,12 +83,11 @@ module _ (f : UnitFunc) (st : State) (h : IsGood f st) where
   elsewhere names breaks continues label labels closures bodies none = good_other names st.ctx.variables breaks continues label labels closures st.work bodies
       none (λ i t e. e) h.holds.globals (known_still st.work (λ i t e. e))
 
-  objects_still : (v : Work) → Globals.Behind st.work v → Objects st.ctx v
-  objects_still v g i x e = one_of (is_object_global st.ctx.classes) v.globals i x
-      (g.kept st.ctx.classes (all_from (is_object_global st.ctx.classes) st.work.globals h.holds.globals)) e
+  objects_still : (v : Work) → growing.Behind st.work v → Objects st.ctx v
+  objects_still v g = g.objects st.ctx.classes h.holds.globals
 
   -- behind an expression
-  pub good_worked : (v : Work) → Behind st.work v → Globals.Behind st.work v → IsSettled f (with_work st v)
+  pub good_worked : (v : Work) → Behind st.work v → growing.Behind st.work v → IsSettled f (with_work st v)
   good_worked v b g = good_other st.ctx.scopes st.ctx.variables st.ctx.breaks st.ctx.continues st.ctx.label st.ctx.labels [] v st.bodies refl
       (behind st.work.frame v.frame b.items b.frame) (objects_still v g)
       (known_still v (behind st.work.frame v.frame b.items b.frame))
@@ -169,11 +157,11 @@ kept_work a v b = let r = kept_refl (seen a) in record {
   tidy = λ t. record { many = t.many; empty = t.empty; numbered = t.numbered };
 }
 
-pub leads_worked : (a : State) (v : Work) → Behind a.work v → Goes a (with_work a v)
-leads_worked a v b = goes a (with_work a v) (kept_work a v b)
+pub leads_worked : (a : State) (v : Work) → Behind a.work v → Comes a (with_work a v)
+leads_worked a v b = record { goes = goes a (with_work a v) (kept_work a v b); names = λ n k e. refl }
 
-pub leads_placed : (a : State) (name : List ℕ) (t : Typ) → Goes a (placed_variable a name t)
-leads_placed a name t = goes a (placed_variable a name t) (kept_work a (with_item a.work t) (one_item a.work t))
+pub leads_placed : (a : State) (name : List ℕ) (t : Typ) → Comes a (placed_variable a name t)
+leads_placed a name t = record { goes = goes a (placed_variable a name t) (kept_work a (with_item a.work t) (one_item a.work t)); names = λ n k e. refl }
 
-pub leads_auto : (a : State) (i : ℕ) (t : Typ) → Goes a (auto_placed a i t)
-leads_auto a i t = goes a (auto_placed a i t) (kept_work a (with_item a.work t) (one_item a.work t))
+pub leads_auto : (a : State) (i : ℕ) (t : Typ) → Comes a (auto_placed a i t)
+leads_auto a i t = record { goes = goes a (auto_placed a i t) (kept_work a (with_item a.work t) (one_item a.work t)); names = λ n k e. refl }

@@ -22,13 +22,11 @@ use Rattle.elab_fits.specs.Standing.{On}
 use Rattle.elab_fits.proofs.Steps.{bind, skip}
 use Rattle.elab_fits_statements.specs.Discipline.{StandsAs}
 use Rattle.elab_fits_statements.proofs.States.{mapped, stands_then, stands_still}
-use Rattle.state_growth.proofs.Going.{lambdas_law}
 use Rattle.state_growth.proofs.Steps.{goes, stays}
 use Rattle.elab_fits_states.specs.Lambdas.{NoLambdasKeep, LambdasKeep}
 use Rattle.elab_fits_states.specs.Premises.{GoesWell}
 use Rattle.elab_fits_states.specs.States.{IsGood}
 use Rattle.elab_fits_states.proofs.Reading.{answered}
-use Rattle.state_growth.specs.States.{Goes}
 
 refused_same : (st : State) (o : Option At) → On (λ (x : State). st ≡ x) (refused_at st o)
 refused_same st (Some at) = tt
@@ -36,7 +34,7 @@ refused_same st None = refl
 
 pub no_lambdas_keep : NoLambdasKeep
 no_lambdas_keep f s a b e g t h = subst (λ (x : State). GoesWell f a x) (answered (λ (x : State). a ≡ x) (refused_at a (first_lambda e)) b
-    (refused_same a (first_lambda e)) h) (record { good = g; leads = goes a a (stays a); stands = stands_still a })
+    (refused_same a (first_lambda e)) h) (record { good = g; leads = record { goes = goes a a (stays a); names = λ n k e. refl }; stands = stands_still a })
 
 with_stands : (s : List Lexeme) (st : State) (x : Written) (r : Typ) (sig : Signature) → On (StandsAs st) (lambda_with s st x r sig)
 with_stands s st x r sig = skip (StandsAs st) (check x.at Incomplete (is_complete st.ctx (held r))) _
@@ -88,7 +86,7 @@ mutual
 
 pub lambdas_keep : LambdasKeep
 lambdas_keep f s h a b e g t i = record {
-  good = h a b e g t i;
-  leads = answered (Goes a) (lambdas_of s a e) b (lambdas_law s a e) i;
+  good = (h a b e g t i).0;
+  leads = (h a b e g t i).1;
   stands = answered (StandsAs a) (lambdas_of s a e) b (each_stands s a e) i;
 }

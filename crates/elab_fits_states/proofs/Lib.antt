@@ -4,7 +4,6 @@ pub mod Apart
 pub mod Bodies
 pub mod Caught
 pub mod Discipline
-pub mod Globals
 pub mod Good
 pub mod Lambdas
 pub mod Lists

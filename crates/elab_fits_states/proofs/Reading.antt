@@ -1,5 +1,5 @@
 -- Operands that are read, and what holds of them where more is made.
-use Rattle.std.proofs.Common.{◌≡◌, refl, sym, ap, ◌∙◌, subst, ℕ, true, List, [], Result, Ok, Err}
+use Rattle.std.proofs.Common.{◌≡◌, refl, sym, ap, ◌∙◌, subst, ℕ, zero, suc, ◌≤◌, true, List, [], ◌∷◌, length, slice_get, Some, Result, Ok, Err, arith}
 use Rattle.elab_rules.specs.cpp_types.declared.classes.At.{At}
 use Rattle.elab_rules.specs.tx_ints.declared.kinds.IntKind.{IntKind}
 use Rattle.elab_rules.specs.cpp_lex.Tokens.{Lexeme}
@@ -22,6 +22,7 @@ use Rattle.elab_fits_forms.specs.Context.{Holds}
 use Rattle.elab_fits_forms.specs.Names.{Typed_means}
 use Rattle.elab_fits_forms.specs.Expressions.{is_spelled}
 use Rattle.elab_fits_forms.proofs.Names.{resolved_stand}
+use Rattle.elab_fits_expressions.proofs.Expressions.{of_expression}
 use Rattle.elab_fits_statements.specs.Discipline.{StandsAs, HasRead, StandsSomewhere}
 use Rattle.elab_fits_statements.specs.Discipline as discipline
 use Rattle.elab_fits_statements.proofs.States.{told, stands_then}
@@ -34,14 +35,28 @@ use Rattle.state_growth.proofs.Judgements.{expressions_law}
 use Rattle.state_growth.proofs.Works.{operand_grows}
 use Rattle.state_growth.proofs.Going.{goes_on_law}
 use Rattle.elab_growth.proofs.Kept.{follows}
-use Rattle.elab_fits_states.specs.States.{IsText, setting, IsGood, IsSettled, IsRead, words}
+use Rattle.elab_fits_states.specs.States.{IsText, setting, Comes, IsGood, IsSettled, IsRead, words}
 use Rattle.elab_fits_states.specs.Premises.{Premises, GoesWell}
-use Rattle.elab_fits_states.proofs.Globals
+use Rattle.elab_fits_expressions.specs.Growing as growing
+use Rattle.elab_fits_expressions.proofs.Growing as made_growing
 use Rattle.elab_fits_states.proofs.Good.{good_worked, leads_worked}
 
 -- what is said of an answer, of the answer that is given
 pub answered : {A : Type 0} (P : A → Type 0) (r : Result A ElabFault) (x : A) → On P r → r ≡ Ok x → P x
 answered P r x h e = subst (λ (z : Result _ ElabFault). On P z) e h
+
+-- a class that stands in an earlier state stands in a later one
+in_range : {A : Type 0} (xs ys : List A) (n : ℕ) (x : A) → slice_get xs n ≡ Some x → length xs ≤ length ys → (y : A) × (slice_get ys n ≡ Some y)
+in_range [] ys n x h l = absurd cc
+in_range (z ∷ xs) [] n x h l = absurd (omega (arith, l))
+in_range (z ∷ xs) (y ∷ ys) zero x h l = (y, refl)
+in_range (z ∷ xs) (y ∷ ys) (suc n) x h l = in_range xs ys n x h (omega (arith, l))
+
+pub comes_on : (a b c : State) → Comes a b → Comes b c → Comes a c
+comes_on a b c h k = record {
+  goes = goes_on_law a b c h.goes k.goes;
+  names = λ n x e. let y = in_range a.ctx.classes b.ctx.classes n x e h.goes.grows.unit.classes.many in k.names n y.0 y.1 ∙ h.names n x e;
+}
 
 -- the same context holds in a setting of its own
 pub holds_as : (s x : Setting) (c : Ctx) (w : Work) → IsSetting x c → Holds s c w → Holds x c w
@@ -110,7 +125,7 @@ module _ (f : UnitFunc) (lams : Lambdas) (s : List Lexeme) (p : Premises f lams 
 
       means : (y : Typed) → expression_of s x.ctx x.work e ≡ Ok y → y.work ≡ o.work → MeansOperand S x.ctx y.operand
       means y h q = answered (Typed_means S x.ctx) (expression_of s x.ctx x.work e) y
-          (p.expressions s S x.ctx x.ctx.closures x.work e (later f x.ctx x.work o.work g.holds) g.closures t.spelled) h
+          (of_expression s S x.ctx x.ctx.closures x.work e (later f x.ctx x.work o.work g.holds) g.closures t.spelled) h
           (subst (λ (v : Work). Reaches S v) (sym q) (reached_law f x.ctx o.work))
 
       of_chosen : (y : Typed) → expression_of s x.ctx x.work e ≡ Ok y
@@ -126,11 +141,11 @@ module _ (f : UnitFunc) (lams : Lambdas) (s : List Lexeme) (p : Premises f lams 
       → HasRead (words f s) a (record { operand = o.operand; state = with_work x o.work })
   read_behind a x e o l t k = let r = and_then (expression_of s x.ctx x.work e) (chosen_operand x.ctx) in
       let b = answered (λ (y : Typed). Behind x.work y.work) r o (operand_grows s x.ctx x.work e) k in
-      let g = answered (λ (y : Typed). Globals.Behind x.work y.work) r o
-      (Globals.chosen x.ctx x.work (expression_of s x.ctx x.work e) (Globals.expression s x.ctx x.ctx.closures x.work e)) k in record {
+      let g = answered (λ (y : Typed). growing.Behind x.work y.work) r o
+      (made_growing.chosen x.ctx x.work (expression_of s x.ctx x.work e) (made_growing.expression s x.ctx x.ctx.closures x.work e)) k in record {
         goes = record {
           good = good_worked f x l.good o.work b g;
-          leads = goes_on_law a x (with_work x o.work) l.leads (leads_worked x o.work b);
+          leads = comes_on a x (with_work x o.work) l.leads (leads_worked x o.work b);
           stands = stands_then a x (with_work x o.work) l.stands (record { label = refl; breaks = refl; continues = refl; typ = refl; past = λ i. i });
         };
         operand = record {

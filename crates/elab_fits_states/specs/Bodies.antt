@@ -7,14 +7,13 @@ use Rattle.elab_rules.specs.cpp_tree.Units.{Func as UnitFunc}
 use Rattle.elab_rules.specs.Statements.{State, Done, Lambdas, statements_of, is_direct_label}
 use Rattle.elab_fits.specs.Standing.{On}
 use Rattle.elab_fits_statements.specs.Anywhere.{AllServe}
-use Rattle.elab_fits_states.specs.States.{AreTexts, setting, IsSettled}
-use Rattle.state_growth.specs.States.{Goes}
+use Rattle.elab_fits_states.specs.States.{AreTexts, setting, Comes, IsSettled}
 use Rattle.elab_fits_states.specs.Premises.{Premises}
 
 -- the state behind them is good and came of the one before, and they fit in its setting
 pub record BodyFits (f : UnitFunc) (st : State) (d : Done) : Type 0 where
   pub settled : IsSettled f d.state
-  pub leads : Goes st d.state
+  pub leads : Comes st d.state
   pub serve : AllServe (setting f d.state) false false BlockItem d.trees
 
 -- no label and no jump out of the body may stand in it

@@ -18,17 +18,15 @@ use Rattle.elab_rules.specs.Expressions.{expression_of, operands_of, chosen_oper
 use Rattle.elab_rules.specs.Sizes.{typ_sized}
 use Rattle.elab_rules.specs.Types.{Declared, has_auto, is_bounded}
 use Rattle.elab_rules.specs.Statements.{State, Lambdas, with_work, declarable, bound_by_initialiser, deduced_type, replaced}
-use Rattle.elab_fits_forms.specs.Expressions.{ExpressionsMean, OperandsStand}
 use Rattle.elab_fits_statements.specs.Anywhere.{FitsAnywhere}
 use Rattle.elab_fits_statements.specs.Variables.{BuildsWhole}
 use Rattle.elab_fits_statements.specs.Discipline.{StandsAs, Gains}
-use Rattle.state_growth.specs.States.{Goes}
-use Rattle.elab_fits_states.specs.States.{IsText, AreTexts, setting, IsGood, IsSettled, IsNoThrow, IsRead, IsWritten, IsObjectType, words}
+use Rattle.elab_fits_states.specs.States.{IsText, AreTexts, setting, Comes, IsGood, IsSettled, IsNoThrow, IsRead, IsWritten, IsObjectType, words}
 
 -- a good state that came of another, in the same place
 pub record GoesWell (f : UnitFunc) (a b : State) : Type 0 where
   pub good : IsGood f b
-  pub leads : Goes a b
+  pub leads : Comes a b
   pub stands : StandsAs a b
 
 -- the lambdas of an expression lead from good states to good ones
@@ -45,9 +43,6 @@ pub record ThrowsApart (s : List Lexeme) : Type 0 where
   pub read_all : (c : Ctx) (w : Work) (es : syntax.Trees) (x : TypedAll) → operands_of s c w es ≡ Ok x → AreNoThrows x.operands
 
 pub record Premises (f : UnitFunc) (lams : Lambdas) (s : List Lexeme) : Type 0 where
-  -- whatever elaborates means something, and operands stand: the laws of elab_fits_forms
-  pub expressions : ExpressionsMean
-  pub operands : OperandsStand
   pub throws : ThrowsApart s
   -- the lambdas of an expression lead to a good state
   pub lambdas : KeepsGood f lams s

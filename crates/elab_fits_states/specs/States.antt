@@ -1,6 +1,7 @@
 -- The states of elaboration inside of the body of a function.
-use Rattle.std.specs.Prelude.{◌≡◌, Bool, true, false, ◌&&◌, List, [], is_some}
-use Rattle.elab_rules.specs.cpp_types.Typ.{Typ, ptr}
+use Rattle.std.specs.Prelude.{◌≡◌, ℕ, nat_lt, Bool, true, false, not, ◌&&◌, ◌||◌, List, [], Some, is_some, slice_get}
+use Rattle.elab_rules.specs.cpp_types.Typ.{Typ, typ, ptr, ref, array, closure}
+use Rattle.elab_rules.specs.cpp_types.Class.{Class}
 use Rattle.elab_rules.specs.cpp_lex.Tokens.{Lexeme}
 use Rattle.elab_rules.specs.cpp_ast.declared.kinds.NodeKind.{NodeKind}
 use Rattle.elab_rules.specs.cpp_ast.declared.kinds.NodeKind.TheVariants as k
@@ -19,7 +20,8 @@ use Rattle.elab_fits_objects.specs.Contexts.{IsInitialised}
 use Rattle.elab_fits_forms.specs.Types.{is_lambda, is_sound, is_declared, is_result}
 use Rattle.elab_fits_forms.specs.Meaning.{ProperOperand}
 use Rattle.elab_fits_forms.specs.Context.{Holds}
-use Rattle.elab_fits_forms.specs.Expressions.{is_spelled, are_spelled, ClosuresHold}
+use Rattle.elab_fits_forms.specs.Expressions.{is_spelled, are_spelled}
+use Rattle.elab_fits_expressions.specs.Closures.{ClosuresHold}
 use Rattle.elab_fits_statements.specs.Variables.{HasItem}
 use Rattle.elab_fits_statements.specs.Discipline.{Words}
 use Rattle.state_growth.specs.Settings.{setting_at}
@@ -81,11 +83,33 @@ pub record IsRead (f : UnitFunc) (st : State) (o : Operand) : Type 0 where
   pub proper : ProperOperand (setting f st) st.ctx o
   pub no_throw : IsNoThrow o
 
+-- States that come of others: what stood in the one stands in the other, and a class has a name or none as before
+pub record Comes (a b : State) : Type 0 where
+  pub goes : Goes a b
+  pub names : (n : ℕ) (k : Class) → slice_get a.ctx.classes n ≡ Some k → is_lambda b.ctx.classes n ≡ is_lambda a.ctx.classes n
+
 -- Types
 
--- a type that is written is sound, whatever is elaborated behind it
+-- an element of an array is no reference and no object of a lambda, and an array that is one has elements itself
+abbrev pub is_element : Typ → Bool
+is_element (typ (array t n) c v) = not (c || v) && (nat_lt 0 n && is_element t)
+is_element (typ (ref t) c v) = false
+is_element (typ (closure n) c v) = false
+is_element t = true
+
+-- nor has an array or a reference qualifiers of its own
+abbrev pub is_formed : Typ → Bool
+is_formed (typ (array t n) c v) = not (c || v) && is_element t
+is_formed (typ (ref t) c v) = not (c || v)
+is_formed t = true
+
+pub record IsWrittenType (st : State) (t : Typ) : Type 0 where
+  pub sound : is_sound st.ctx.classes t ≡ true
+  pub formed : is_formed t ≡ true
+
+-- a type that is written is such, whatever is elaborated behind it
 abbrev pub IsWritten : UnitFunc → State → Typ → Type 0
-IsWritten f a t = (b : State) → Goes a b → IsGood f b → is_sound b.ctx.classes t ≡ true
+IsWritten f a t = (b : State) → Comes a b → IsGood f b → IsWrittenType b t
 
 -- objects of the type can be variables
 pub record IsVariableType (st : State) (t : Typ) : Type 0 where
@@ -97,14 +121,14 @@ pub record IsVariableType (st : State) (t : Typ) : Type 0 where
 
 -- the same, whatever is elaborated behind it
 abbrev pub IsObjectType : UnitFunc → State → Typ → Type 0
-IsObjectType f a t = (b : State) → Goes a b → IsGood f b → IsVariableType b t
+IsObjectType f a t = (b : State) → Comes a b → IsGood f b → IsVariableType b t
 
 -- What the theorem of elab_fits_statements asks for
 
 abbrev pub words : UnitFunc → List Lexeme → Words
 words f s = record {
   Good = IsSettled f;
-  Leads = Goes;
+  Leads = Comes;
   Reads = IsRead f;
   Written = IsWritten f;
   Object = IsObjectType f;
