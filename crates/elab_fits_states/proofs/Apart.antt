@@ -1,5 +1,5 @@
 -- What builds an object is no `throw` of one.
-use Rattle.std.proofs.Common.{◌≡◌, refl, sym, ap, ◌∙◌, subst, ℕ, zero, suc, not, length, Bool, true, false, ◌&&◌, ◌||◌, List, [], ◌∷◌, Option, Some, None, Result, Ok, if◌then◌else◌}
+use Rattle.std.proofs.Common.{◌≡◌, refl, ap, subst, ℕ, zero, suc, not, length, Bool, true, false, ◌&&◌, List, [], ◌∷◌, Option, Some, None, Ok, if◌then◌else◌}
 use Rattle.elab_rules.specs.tx_ints.declared.kinds.IntKind.{IntKind}
 use Rattle.elab_rules.specs.cpp_overload.Choosing.{chosen}
 use Rattle.elab_rules.specs.cpp_types.Typ.{Typ, typ, Form, void, int, enum, null, ptr, ref, array, func, class, closure, tx_ex}
@@ -13,7 +13,7 @@ use Rattle.elab_rules.specs.cpp_tree.Trees.{Tree, Trees, none, more, kind_of, ty
 use Rattle.elab_rules.specs.cpp_tree.Typing.{form_in, is_class_typ, is_class_prvalue, is_volatile_typ, without_exception}
 use Rattle.elab_rules.specs.elab_ctx.Ctx.{Ctx, Work, Special, absent, trivial, function}
 use Rattle.elab_rules.specs.elab_ctx.Steps.{and_then, check, expect, Operand, Made}
-use Rattle.elab_rules.specs.Values.{builder, stored_as, stored}
+use Rattle.elab_rules.specs.Values.{builder, stored_as}
 use Rattle.elab_rules.specs.Operators.{is_throw}
 use Rattle.elab_rules.specs.Objects.{class_whole, whole_form, zero_leaf, zeros, is_array, element_of, traits_at}
 use Rattle.elab_rules.specs.Initialising

@@ -1,5 +1,5 @@
 -- Statements of the body of a function fit.
-use Rattle.std.proofs.Common.{◌≡◌, false, List}
+use Rattle.std.proofs.Common.{false}
 use Rattle.elab_rules.specs.cpp_tree.declared.roles.Role.TheVariants.{BlockItem}
 use Rattle.elab_rules.specs.Statements.{Done, statements_of}
 use Rattle.elab_fits_statements.specs.Anywhere.{AllServe}

@@ -1,7 +1,7 @@
 -- The states of elaboration in the body of a function are a discipline.
-use Rattle.std.proofs.Common.{◌≡◌, refl, sym, ap, ◌∙◌, subst, ℕ, Bool, true, false, not, ◌&&◌, List, [], ◌∷◌, Option, None, Result, Ok}
+use Rattle.std.proofs.Common.{◌≡◌, refl, sym, subst, ℕ, Bool, true, false, not, List, Option, None, Ok}
 use Rattle.std.proofs.lemmas.Bool.{and_parts}
-use Rattle.elab_rules.specs.cpp_types.Typ.{Typ, typ, ref, ptr}
+use Rattle.elab_rules.specs.cpp_types.Typ.{Typ, ptr}
 use Rattle.elab_rules.specs.cpp_types.declared.classes.At.{At}
 use Rattle.elab_rules.specs.cpp_types.declared.ranks.Cat.TheVariants.{Lvalue}
 use Rattle.elab_rules.specs.cpp_lex.Tokens.{Lexeme}
@@ -17,11 +17,11 @@ use Rattle.elab_rules.specs.cpp_tree.Typing.{is_void, is_class_typ}
 use Rattle.elab_rules.specs.cpp_tree.Units.{Func as UnitFunc}
 use Rattle.elab_rules.specs.cpp_tree.Rows.{Setting, result_of, has_value}
 use Rattle.elab_rules.specs.cpp_tree.WellFormed.{fits}
-use Rattle.elab_rules.specs.elab_ctx.Ctx.{Ctx, Work, next_place, with_item}
-use Rattle.elab_rules.specs.elab_ctx.Steps.{and_then, Operand, Made, TypedAll}
+use Rattle.elab_rules.specs.elab_ctx.Ctx.{Ctx, Work, next_place}
+use Rattle.elab_rules.specs.elab_ctx.Steps.{Operand, Made, TypedAll}
 use Rattle.elab_rules.specs.Braces.{item_of}
 use Rattle.elab_rules.specs.Expressions.{operands_of}
-use Rattle.elab_rules.specs.Initialising.{initial, class_from, from_nothing}
+use Rattle.elab_rules.specs.Initialising.{initial, class_from}
 use Rattle.elab_rules.specs.Objects.{destroys}
 use Rattle.elab_rules.specs.Operators.{dropped}
 use Rattle.elab_rules.specs.Statements
@@ -36,7 +36,6 @@ use Rattle.elab_fits_objects.specs.Making.{Makes}
 use Rattle.elab_fits_objects.proofs.Classes.{class_builds}
 use Rattle.elab_fits_forms.specs.Types
 use Rattle.elab_fits_forms.specs.Types.{is_lambda}
-use Rattle.elab_fits_forms.specs.Context.{Holds}
 use Rattle.elab_fits_forms.specs.Forms.{ProperOperands}
 use Rattle.elab_fits_expressions.proofs.Expressions.{of_operands}
 use Rattle.elab_fits_forms.proofs.Dropped.{dropped_value, operand_is}
@@ -53,8 +52,8 @@ use Rattle.state_growth.proofs.Judgements.{destroyed_law}
 use Rattle.state_growth.proofs.Works.{initial_grows, class_grows, copy_grows, directly_grows, dropped_grows, operands_grow}
 use Rattle.state_growth.proofs.Lists.{behind}
 use Rattle.state_growth.proofs.Steps.{goes, stays}
-use Rattle.elab_fits_states.specs.States.{IsText, AreTexts, setting, Comes, IsGood, IsSettled, IsRead, IsWritten, IsObjectType, IsVariableType, words}
-use Rattle.elab_fits_states.specs.Premises.{Premises, GoesWell, AreNoThrows}
+use Rattle.elab_fits_states.specs.States.{AreTexts, setting, Comes, IsGood, IsSettled, IsRead, IsObjectType, IsVariableType, words}
+use Rattle.elab_fits_states.specs.Premises.{Premises, GoesWell}
 use Rattle.elab_fits_states.proofs.Caught.{can_be_caught}
 use Rattle.elab_fits_expressions.specs.Growing as growing
 use Rattle.elab_fits_expressions.proofs.Behind as made_behind
@@ -63,7 +62,7 @@ use Rattle.elab_fits_states.proofs.Added
 use Rattle.elab_fits_states.proofs.Apart.{Apart, class_apart, variable_apart, direct_apart, nothing_apart}
 use Rattle.elab_fits_states.proofs.Good.{good_worked, leads_worked, good_settled, good_within, good_outer, good_labels, good_named, good_placed, good_auto}
 use Rattle.elab_fits_states.proofs.Good.{item_there, leads_placed, leads_auto}
-use Rattle.elab_fits_states.proofs.Making.{result_parameter, result_sound, class_no_reference, initial_made, copy_made, direct_made, default_made}
+use Rattle.elab_fits_states.proofs.Making.{result_parameter, result_sound, initial_made, copy_made, direct_made, default_made}
 use Rattle.elab_fits_states.proofs.Reading.{answered, comes_on, later, operand_later, has_read, is_constant}
 use Rattle.elab_fits_states.proofs.Texts
 

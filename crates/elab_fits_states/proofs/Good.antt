@@ -1,8 +1,6 @@
 -- Good states stay good where scopes, names and labels change, where variables are declared, and where more is made.
-use Rattle.std.proofs.Common.{◌≡◌, refl, sym, ap, ◌∙◌, subst, ℕ, zero, suc, Bool, true, false, ◌&&◌, List, [], ◌∷◌, ◌++◌, drop, length, slice_get, slice_set, Option, Some, None}
-use Rattle.std.proofs.lemmas.Bool.{and_parts, and_from}
+use Rattle.std.proofs.Common.{◌≡◌, refl, sym, ap, ◌∙◌, subst, ℕ, Bool, true, List, [], ◌∷◌, ◌++◌, drop, length, slice_get, slice_set, Option, Some, None}
 use Rattle.std.proofs.lemmas.Option.{same_Some}
-use Rattle.std.specs.List.{list_all}
 use Rattle.elab_rules.specs.cpp_types.Typ.{Typ, ptr}
 use Rattle.elab_rules.specs.cpp_types.Equal.{typ_eq}
 use Rattle.elab_rules.specs.cpp_types.Class.{Class}
@@ -19,14 +17,13 @@ use Rattle.elab_fits.proofs.Nodes.{clash, or_left}
 use Rattle.elab_fits.proofs.Equal.{typ_refl}
 use Rattle.elab_growth.proofs.Growth.{Behind}
 use Rattle.elab_fits_forms.specs.Types.{is_target, is_declared}
-use Rattle.elab_fits_forms.specs.Context.{Holds, IsVariable}
+use Rattle.elab_fits_forms.specs.Context.{IsVariable}
 use Rattle.elab_fits_expressions.specs.Closures.{ClosuresHold}
-use Rattle.elab_fits_statements.specs.Variables.{HasItem}
 use Rattle.elab_fits_statements.specs.Discipline.{within}
 use Rattle.state_growth.proofs.Lists.{behind, added}
 use Rattle.state_growth.proofs.Works.{one_item}
-use Rattle.state_growth.proofs.Steps.{Seen, seen, Steps, kept_refl, goes, stays}
-use Rattle.elab_fits_states.specs.States.{setting, Comes, IsGood, IsSettled}
+use Rattle.state_growth.proofs.Steps.{seen, Steps, kept_refl, goes}
+use Rattle.elab_fits_states.specs.States.{Comes, IsGood, IsSettled}
 use Rattle.elab_fits_expressions.specs.Growing as growing
 use Rattle.elab_fits_states.proofs.Lists.{in_longer, in_changed, last_item}
 use Rattle.elab_fits_states.proofs.Moved.{other, moved}

@@ -1,5 +1,5 @@
 -- Lambdas leave a state where it stands.
-use Rattle.std.proofs.Common.{◌≡◌, refl, subst, List, Option, Some, None, Ok}
+use Rattle.std.proofs.Common.{◌≡◌, refl, subst, List, Option, Some, None}
 use Rattle.elab_rules.specs.cpp_types.Typ.{Typ, Signature}
 use Rattle.elab_rules.specs.cpp_types.Class.{held}
 use Rattle.elab_rules.specs.cpp_types.declared.classes.At.{At}
@@ -14,10 +14,10 @@ use Rattle.elab_rules.specs.Operators.{is_complete}
 use Rattle.elab_rules.specs.Functions.{within_frame}
 use Rattle.elab_rules.specs.Types.{qualifiers_from, no_qualifiers}
 use Rattle.elab_rules.specs.Lambdas.{Written, lambdas_of, lambdas_among, lambda_of, lambda_written, lambda_made, lambda_known, lambda_with, lambda_type, result_of}
-use Rattle.elab_rules.specs.Lambdas.{refused_at, first_lambda, no_lambda, inside, lambda_entered, declared_closure, body_statements, signature_in}
+use Rattle.elab_rules.specs.Lambdas.{refused_at, first_lambda, inside, lambda_entered, declared_closure, body_statements, signature_in}
 use Rattle.elab_rules.specs.Lambdas.{explicit_captures, default_in, parameters_among, not_dynamic, result_among, default_captures, used_in, has_mutable}
 use Rattle.elab_rules.specs.Lambdas.{kids_of, place_of_tree, closing}
-use Rattle.elab_rules.specs.Statements.{State, Done}
+use Rattle.elab_rules.specs.Statements.{State}
 use Rattle.elab_fits.specs.Standing.{On}
 use Rattle.elab_fits.proofs.Steps.{bind, skip}
 use Rattle.elab_fits_statements.specs.Discipline.{StandsAs}
@@ -25,7 +25,6 @@ use Rattle.elab_fits_statements.proofs.States.{mapped, stands_then, stands_still
 use Rattle.state_growth.proofs.Steps.{goes, stays}
 use Rattle.elab_fits_states.specs.Lambdas.{NoLambdasKeep, LambdasKeep}
 use Rattle.elab_fits_states.specs.Premises.{GoesWell}
-use Rattle.elab_fits_states.specs.States.{IsGood}
 use Rattle.elab_fits_states.proofs.Reading.{answered}
 
 refused_same : (st : State) (o : Option At) → On (λ (x : State). st ≡ x) (refused_at st o)

@@ -1,18 +1,15 @@
 -- What is made of operands, in the setting behind it.
-use Rattle.std.proofs.Common.{◌≡◌, refl, sym, ap, ◌∙◌, ℕ, Bool, true, false, not, ◌&&◌, List, [], ◌∷◌, Result, Ok, Err, slice_get, if◌then◌else◌}
-use Rattle.std.proofs.lemmas.Bool.{and_parts}
+use Rattle.std.proofs.Common.{◌≡◌, refl, ◌∙◌, ℕ, Bool, true, false, List, [], ◌∷◌, Ok, if◌then◌else◌}
 use Rattle.elab_rules.specs.cpp_types.Typ.{Typ, typ, Form, void, int, enum, null, ptr, ref, array, func, class, closure, tx_ex}
 use Rattle.elab_rules.specs.cpp_types.Class.{Class}
 use Rattle.elab_rules.specs.cpp_types.declared.classes.At.{At}
-use Rattle.elab_rules.specs.cpp_tree.declared.faults.ElabFault.{ElabFault}
 use Rattle.elab_rules.specs.cpp_tree.declared.faults.IllRule.TheVariants.{OutOfProfile}
-use Rattle.elab_rules.specs.cpp_tree.Trees.{Tree}
 use Rattle.elab_rules.specs.cpp_tree.Typing.{form_in, is_void, is_class_typ, head_of}
-use Rattle.elab_rules.specs.cpp_tree.Rows.{Setting, has_value}
+use Rattle.elab_rules.specs.cpp_tree.Rows.{Setting}
 use Rattle.elab_rules.specs.elab_ctx.Ctx.{Ctx, Work}
-use Rattle.elab_rules.specs.elab_ctx.Steps.{and_then, check, Operand, Made}
+use Rattle.elab_rules.specs.elab_ctx.Steps.{check, Operand, Made}
 use Rattle.elab_rules.specs.Objects.{is_array, element_of}
-use Rattle.elab_rules.specs.Initialising.{conversion, initial, class_from, scalar_from, from_values, from_nothing}
+use Rattle.elab_rules.specs.Initialising.{conversion, initial, class_from, scalar_from, from_nothing}
 use Rattle.elab_rules.specs.Statements.{is_lasting, bound_reference, copy_initialised, directly_initialised, default_object, is_const_element, const_initialised}
 use Rattle.elab_fits.specs.Standing.{IsSetting, Reaches, On}
 use Rattle.elab_fits.specs.Scalars.{Gives, Initialises, is_scalar}
@@ -20,7 +17,7 @@ use Rattle.elab_fits.proofs.Nodes.{head_typ, head_cat}
 use Rattle.elab_fits.proofs.Steps.{skip, either}
 use Rattle.elab_fits.proofs.Initials.{initial_gives}
 use Rattle.elab_fits.proofs.Values.{value_initialises}
-use Rattle.elab_fits_objects.specs.Contexts.{IsParameter, IsObjectTyp, IsInitialised, HasMakers, IsSource, AreSources, refers}
+use Rattle.elab_fits_objects.specs.Contexts.{IsParameter, IsInitialised, HasMakers, IsSource, AreSources, refers}
 use Rattle.elab_fits_objects.specs.Making.{Makes, MakesExactly}
 use Rattle.elab_fits_objects.proofs.Classes.{class_builds}
 use Rattle.elab_fits_objects.proofs.Nothing.{nothing_builds}

@@ -1,15 +1,14 @@
 -- A context holds still where names, variables and labels are others.
-use Rattle.std.proofs.Common.{◌≡◌, refl, ℕ, Bool, true, List, [], Option, Some, None, slice_get}
+use Rattle.std.proofs.Common.{◌≡◌, ℕ, Bool, true, List, Some, None, slice_get}
 use Rattle.elab_rules.specs.cpp_types.Typ.{Typ, Typs, none as no_typs, more as and_typ}
 use Rattle.elab_rules.specs.cpp_names.Names.{Names}
-use Rattle.elab_rules.specs.cpp_tree.Typing.{is_class_typ}
 use Rattle.elab_rules.specs.cpp_tree.Units.{Func as UnitFunc, Global}
 use Rattle.elab_rules.specs.elab_ctx.declared.env.Label.{Label}
 use Rattle.elab_rules.specs.elab_ctx.Ctx.{Ctx, Work, Variable, Returns, Labels, Closure, Func}
 use Rattle.elab_rules.specs.Names.{is_outer}
 use Rattle.elab_fits_objects.specs.Contexts.{IsObjectTyp, IsParameter, AreParameters, HasMakers}
 use Rattle.elab_fits_forms.specs.Types.{is_lambda, is_target}
-use Rattle.elab_fits_forms.specs.Context.{Holds, IsVariable, IsThis, IsFunction}
+use Rattle.elab_fits_forms.specs.Context.{Holds, IsVariable, IsFunction}
 use Rattle.state_growth.specs.Settings.{setting_at}
 use Rattle.state_growth.proofs.Settings.{stand_law}
 

@@ -1,7 +1,5 @@
 -- Operands that are read, and what holds of them where more is made.
-use Rattle.std.proofs.Common.{◌≡◌, refl, sym, ap, ◌∙◌, subst, ℕ, zero, suc, ◌≤◌, true, List, [], ◌∷◌, length, slice_get, Some, Result, Ok, Err, arith}
-use Rattle.elab_rules.specs.cpp_types.declared.classes.At.{At}
-use Rattle.elab_rules.specs.tx_ints.declared.kinds.IntKind.{IntKind}
+use Rattle.std.proofs.Common.{◌≡◌, refl, sym, ap, ◌∙◌, subst, ℕ, zero, suc, ◌≤◌, List, [], ◌∷◌, length, slice_get, Some, Result, Ok, arith}
 use Rattle.elab_rules.specs.cpp_lex.Tokens.{Lexeme}
 use Rattle.elab_rules.specs.cpp_ast.Trees as syntax
 use Rattle.elab_rules.specs.cpp_tree.declared.faults.ElabFault.{ElabFault}
@@ -12,22 +10,19 @@ use Rattle.elab_rules.specs.elab_ctx.Ctx.{Ctx, Work, Closure}
 use Rattle.elab_rules.specs.elab_ctx.Steps.{and_then, Operand, Typed}
 use Rattle.elab_rules.specs.Values.{number}
 use Rattle.elab_rules.specs.Names.{resolved}
-use Rattle.elab_rules.specs.Expressions.{expression_of, expression_with, chosen_operand}
+use Rattle.elab_rules.specs.Expressions.{expression_of, chosen_operand}
 use Rattle.elab_rules.specs.Statements.{State, Lambdas, Full, full_operand, with_work}
 use Rattle.elab_fits.specs.Standing.{Reaches, On, IsSetting}
 use Rattle.elab_fits.specs.Scalars.{IsZero}
 use Rattle.elab_growth.proofs.Growth.{Behind}
-use Rattle.elab_fits_forms.specs.Meaning.{Proper, Means, ProperOperand, MeansOperand}
+use Rattle.elab_fits_forms.specs.Meaning.{Proper, ProperOperand, MeansOperand}
 use Rattle.elab_fits_forms.specs.Context.{Holds}
 use Rattle.elab_fits_forms.specs.Names.{Typed_means}
-use Rattle.elab_fits_forms.specs.Expressions.{is_spelled}
 use Rattle.elab_fits_forms.proofs.Names.{resolved_stand}
 use Rattle.elab_fits_expressions.proofs.Expressions.{of_expression}
-use Rattle.elab_fits_statements.specs.Discipline.{StandsAs, HasRead, StandsSomewhere}
-use Rattle.elab_fits_statements.specs.Discipline as discipline
+use Rattle.elab_fits_statements.specs.Discipline.{HasRead, StandsSomewhere}
 use Rattle.elab_fits_statements.proofs.States.{told, stands_then}
 use Rattle.elab_fits_forms.proofs.Dropped.{operand_is}
-use Rattle.setting_growth.specs.Growth.{HeldEarlier}
 use Rattle.setting_growth.proofs.Trees.{order_law}
 use Rattle.state_growth.specs.Settings.{setting_at}
 use Rattle.state_growth.proofs.Settings.{stand_law, reached_law, works_law}
@@ -35,7 +30,7 @@ use Rattle.state_growth.proofs.Judgements.{expressions_law}
 use Rattle.state_growth.proofs.Works.{operand_grows}
 use Rattle.state_growth.proofs.Going.{goes_on_law}
 use Rattle.elab_growth.proofs.Kept.{follows}
-use Rattle.elab_fits_states.specs.States.{IsText, setting, Comes, IsGood, IsSettled, IsRead, words}
+use Rattle.elab_fits_states.specs.States.{IsText, Comes, IsGood, IsSettled, words}
 use Rattle.elab_fits_states.specs.Premises.{Premises, GoesWell}
 use Rattle.elab_fits_expressions.specs.Growing as growing
 use Rattle.elab_fits_expressions.proofs.Growing as made_growing
