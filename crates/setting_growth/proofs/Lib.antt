@@ -1,0 +1,11 @@
+pub mod Bodies
+pub mod Classes
+pub mod Pieces
+pub mod Ranks
+pub mod Rows
+pub mod Scalars
+pub mod Settings
+pub mod Sizes
+pub mod Still
+pub mod Trees
+pub mod Zeroes

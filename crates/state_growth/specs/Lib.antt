@@ -1,0 +1,4 @@
+pub mod Judgements
+pub mod Programs
+pub mod Settings
+pub mod States

@@ -1,0 +1,4 @@
+//! What stands in a state of elaboration stands in each later one.
+#![tactic(auto)]
+
+pub mod laws;
