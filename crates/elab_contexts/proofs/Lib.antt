@@ -1,0 +1,17 @@
+pub mod Bodies
+pub mod Classes
+pub mod Declared
+pub mod Found
+pub mod Going
+pub mod Holding
+pub mod Implied
+pub mod Items
+pub mod Kept
+pub mod Lists
+pub mod Makers
+pub mod Members
+pub mod Outside
+pub mod Statements
+pub mod Units
+pub mod Walking
+pub mod Works
