@@ -25,6 +25,7 @@ use Rattle.elab_contexts.proofs.Items.{Lawful}
 use Rattle.elab_contexts.proofs.Statements.{statements_kept, parameters_kept}
 use Rattle.elab_contexts.specs.Steps.{view, ClosureAdded, closure_added, none_yet}
 use Rattle.elab_rules.specs.Lambdas.{call_record}
+use Rattle.elab_contexts.proofs.Captures.{AllWhole, explicit_all, default_all}
 
 -- The body
 
@@ -72,41 +73,45 @@ body_kept s e x = follow of_state of_done e (with_parameters s e x.params) _ (pa
 abbrev lambda_inside : State → Written → Returns → Typ → Signature → State
 lambda_inside st x rs r sig = inside st (lambda_entered st x rs r) (declared_closure st x sig)
 
-closure_step : (st : State) (x : Written) (sig : Signature) → ClosureAdded (view st.ctx) (view (declared_closure st x sig))
-closure_step st x sig = record {
+closure_step : (st : State) (x : Written) (sig : Signature) → AllWhole st.ctx x.captures
+    → ClosureAdded (view st.ctx) (view (declared_closure st x sig))
+closure_step st x sig w = record {
   ctx = st.ctx;
   captures = x.captures;
   declared = call_record x.at sig x.qualifiers x.is_mutable;
   params = x.params;
   closed = x.closed;
   before = refl;
+  whole = w;
   is = refl;
 }
 
-closure_kept : (st : State) (x : Written) (rs : Returns) (r : Typ) (sig : Signature) → Leaves st (lambda_inside st x rs r sig)
-closure_kept st x rs r sig = record { walk = one_step (closure_added (closure_step st x sig)); same = refl }
+closure_kept : (st : State) (x : Written) (rs : Returns) (r : Typ) (sig : Signature) → AllWhole st.ctx x.captures → Leaves st (lambda_inside st x rs r sig)
+closure_kept st x rs r sig w = record { walk = one_step (closure_added (closure_step st x sig w)); same = refl }
 
-with_kept : (s : List Lexeme) (st : State) (x : Written) (r : Typ) (sig : Signature) → On (Leaves st) (lambda_with s st x r sig)
-with_kept s st x r sig =
+with_kept : (s : List Lexeme) (st : State) (x : Written) (r : Typ) (sig : Signature) → AllWhole st.ctx x.captures → On (Leaves st) (lambda_with s st x r sig)
+with_kept s st x r sig w =
     skip (Leaves st) (check x.at Incomplete (is_complete st.ctx (held r))) _
     (λ y. bind (Ends (lambda_inside st x (known r) r sig)) (Leaves st) (body_statements s (lambda_inside st x (known r) r sig) x) _
     (body_kept s (lambda_inside st x (known r) r sig) x)
     (λ d h. made_kept st (record st { ctx = declared_closure st x sig }) d.state x.at (length st.ctx.funcs) _ refl
-    (left_kept st (lambda_inside st x (known r) r sig) d.state (closure_kept st x (known r) r sig) h)))
+    (left_kept st (lambda_inside st x (known r) r sig) d.state (closure_kept st x (known r) r sig w) h)))
 
-lambda_kept : (s : List Lexeme) (st : State) (x : Written) → On (Leaves st) (lambda_made s st x)
-lambda_kept s st x = skip (Leaves st) (result_of s st x x.result) _
+lambda_kept : (s : List Lexeme) (st : State) (x : Written) → AllWhole st.ctx x.captures → On (Leaves st) (lambda_made s st x)
+lambda_kept s st x w = skip (Leaves st) (result_of s st x x.result) _
     (λ r. bind (Leaves st) (Leaves st) (lambda_known s st x r) _
-    (skip (Leaves st) (lambda_type st.ctx x r) _ (λ t. with_kept s st x r (signature_in (form_in t)))) (λ y h. h))
+    (skip (Leaves st) (lambda_type st.ctx x r) _ (λ t. with_kept s st x r (signature_in (form_in t)) w)) (λ y h. h))
 
 written_kept : (s : List Lexeme) (st : State) (at : At) (intro parts : syntax.Trees) (body : syntax.Tree)
     → On (Leaves st) (lambda_written s st at intro parts body)
-written_kept s st at intro parts body =
-    skip (Leaves st) (explicit_captures s st.ctx (default_in s intro) intro) _
-    (λ xs. skip (Leaves st) (parameters_among s st.ctx st.work parts) _
+written_kept s st at intro parts body = bind (AllWhole st.ctx) (Leaves st) (explicit_captures s st.ctx (default_in s intro) intro) _
+    (explicit_all s st.ctx (default_in s intro) intro)
+    (λ xs w. skip (Leaves st) (parameters_among s st.ctx st.work parts) _
     (λ ps. skip (Leaves st) (not_dynamic at (qualifiers_from s no_qualifiers parts)) _ (λ y.
     skip (Leaves st) (result_among s st.ctx st.work parts) _
-    (λ r. skip (Leaves st) (default_captures st.ctx (default_in s intro) xs (used_in s st.ctx ps body)) _ (λ ys. lambda_kept s st (record {
+    (λ r. bind (AllWhole st.ctx) (Leaves st) (default_captures st.ctx (default_in s intro) xs (used_in s st.ctx ps body)) _
+    (default_all st.ctx (default_in s intro) xs (used_in s st.ctx ps body) w)
+    (λ ys v. lambda_kept s st (record {
       at = at;
       captures = ys;
       params = ps;
@@ -116,7 +121,7 @@ written_kept s st at intro parts body =
       body = kids_of body;
       body_at = place_of_tree body;
       closed = closing s body;
-    }))))))
+    }) v)))))
 
 one_kept : (s : List Lexeme) (st : State) (at : At) (kids : syntax.Trees) → On (Leaves st) (lambda_of s st at kids)
 one_kept s st at (syntax.more intro (syntax.more parts (syntax.more body syntax.none))) = written_kept s st at (kids_of intro) (kids_of parts) body

@@ -1,5 +1,5 @@
 -- A class goes on by steps: it is named, its functions are declared, and at its brace it becomes complete.
-use Rattle.std.proofs.Common.{◌≡◌, ℕ, Bool, true, false, List, [], ◌∷◌, ◌++◌, length, refl, sym, ap, ◌∙◌, Option, Some, None, Result, Ok, Err}
+use Rattle.std.proofs.Common.{◌≡◌, ℕ, Bool, true, false, List, [], ◌∷◌, ◌++◌, length, refl, sym, ap, ◌∙◌, subst, Option, Some, None, Result, Ok, Err}
 use Rattle.std.specs.Prelude.{if◌then◌else◌, ◌&&◌, not, is_none, is_some, nat_le, ◌||◌}
 use Rattle.elab_rules.specs.cpp_types.Typ.{Typ, typ, Form, class, func}
 use Rattle.elab_rules.specs.cpp_types.Class.{Class, Member, completion_of, held}
@@ -43,20 +43,21 @@ use Rattle.elab_contexts.proofs.Members.{each_holds, defaults_kept, all_late_kep
 use Rattle.elab_rules.specs.cpp_tree.Typing.{is_reference}
 use Rattle.elab_rules.specs.cpp_types.Typ.{void, int, enum, null, ptr, ref, array, closure, tx_ex}
 use Rattle.elab_rules.specs.Classes.{plain_method, special_method, method_started, special_header, special_name, takes_own_value}
-use Rattle.elab_contexts.specs.Steps.{class_begun as begun_step, class_completed, SameFunction}
+use Rattle.elab_contexts.specs.Steps.{class_begun as begun_step, class_completed, SameFunction, IsWhole, IsMember}
 use Rattle.elab_contexts.proofs.Walking.{Leaves, stays, after, bind, skip, behind, follow, of_state, one_step}
 use Rattle.elab_contexts.proofs.Outside.{no_further, added_further}
 use Rattle.elab_contexts.proofs.Lists.{one_more}
 use Rattle.std.specs.Str.{bytes_eq}
 use Rattle.elab_rules.specs.Initialising.{makes, signature_parameters}
 use Rattle.elab_rules.specs.cpp_types.Class.{Function}
+use Rattle.std.proofs.lemmas.Option.{same_Some}
+use Rattle.elab_rules.specs.elab_ctx.Steps.{expect, spelling, token_place}
+use Rattle.elab_rules.specs.Classes.{based_on, base_class, keeps, is_final_class}
+use Rattle.elab_rules.specs.cpp_tree.declared.faults.IllRule.TheVariants.{UnknownName}
+use Rattle.elab_rules.specs.cpp_tree.declared.faults.OverrideRule.TheVariants.{BaseFinal}
+use Rattle.elab_contexts.proofs.Captures.{is_whole, checked}
 
 -- Up to the name
-
-pub checked : {B : Type 0} (Q : B → Type 0) (at : At) (rule : IllRule) (b : Bool) (f : Bool → Result B ElabFault) → (b ≡ true → On Q (f true))
-    → On Q (and_then (check at rule b) f)
-checked Q at rule true f h = h refl
-checked Q at rule false f h = tt
 
 is_nothing : (o : Option ℕ) → is_none o ≡ true → o ≡ None
 is_nothing None h = refl
@@ -148,16 +149,13 @@ method_owned s st n class_name at kind kids = started_owned s st n class_name at
 
 -- Members
 
-abbrev Objects : List Member → Type 0
-Objects ms = (i : ℕ) (m : Member) → slice_get ms i ≡ Some m → is_reference m.typ ≡ false
-
-one_object : (ms : List Member) (m : Member) → Objects ms → is_reference m.typ ≡ false → Objects (ms ++ m ∷ [])
-one_object ms m h e i x q = one_more (λ (y : Member). is_reference y.typ ≡ false) ms m (λ j y. h j y) e i x q
+abbrev AreMembers : List Class → List Member → Type 0
+AreMembers cs ms = (i : ℕ) (m : Member) → slice_get ms i ≡ Some m → IsMember cs m
 
 record ReadTo (st : State) (r : Members) : Type 0 where
   classes : r.state.ctx.classes ≡ st.ctx.classes
   leaves : Leaves st r.state
-  objects : Objects r.members
+  are : AreMembers st.ctx.classes r.members
 
 abbrev Read : State → Members → Type 0
 Read st r = ReadTo st r
@@ -183,7 +181,7 @@ with_read : (st : State) (r : Members) (h : Header) (m : Marks) (o : Option Func
 with_read st r h m o d w e = record {
   classes = e.classes;
   leaves = after st r.state (with_function r (as_defined d (member_func h m o))).state e.leaves (function_added r.state h m o d w);
-  objects = e.objects;
+  are = e.are;
 }
 
 form_object : (at : At) (t : Typ) → On (λ (b : Bool). is_reference t ≡ false) (member_form at (form_in t))
@@ -202,12 +200,20 @@ form_object at (typ (tx_ex t) c v) = refl
 data_read : (st : State) (n : ℕ) (r : Members) (at : At) (name : List ℕ) (t : Typ) (b : Bool) → Read st r → On (Read st) (data_member n r at name t b)
 data_read st n r at name t b e = bind (λ (x : Bool). is_reference t ≡ false) (Read st) (member_form at (form_in t)) _ (form_object at t)
     (λ a q. skip (Read st) (check at OutOfProfile (not (has_auto t))) _
-    (λ b2. skip (Read st) (check at BadDeclaration (is_bounded t)) _
-    (λ d. skip (Read st) (check at Incomplete (is_complete r.state.ctx (held t))) _
+    (λ b2. checked (Read st) at BadDeclaration (is_bounded t) _
+    (λ d. checked (Read st) at Incomplete (is_complete r.state.ctx (held t)) _
     (λ e2. skip (Read st) (check at AbstractObject (not (is_abstract_type r.state.ctx (element_of t)))) _
     (λ f. skip (Read st) (typ_sized r.state.ctx.classes at t) _
     (λ h. skip (Read st) (check at Redeclared (not (has_member name r.members) && not (has_function n name r.state.ctx.funcs))) _
-    (λ g. record { classes = e.classes; leaves = e.leaves; objects = one_object r.members (record { name = name; typ = t }) e.objects q })))))))
+    (λ g. record {
+      classes = e.classes;
+      leaves = e.leaves;
+      are = one_more (IsMember st.ctx.classes) r.members (record { name = name; typ = t }) e.are (record {
+        object = q;
+        bounded = d;
+        whole = subst (λ (cs : List Class). IsWhole cs (held t)) e.classes (is_whole r.state.ctx (held t) e2);
+      });
+    })))))))
 
 function_member_read : (st : State) (home : Home) (r : Members) (h : Header) (m : Marks) (d : Option Definition) → Owned h → Read st r
     → On (Read st) (member_function home r h m d)
@@ -305,9 +311,9 @@ if_closed P c e true h = h refl
 if_closed P c e false h = tt
 
 completed_leaves : (st : State) (home : Home) (at : At) (ms : List Member) (initialised : List ℕ) → completion_of st.ctx.classes home.number ≡ None
-    → Objects ms → nat_le (class_extent (completed st.ctx home at ms initialised).classes home.number).size 1048576 ≡ true
+    → IsWhole st.ctx.classes home.base → AreMembers st.ctx.classes ms → nat_le (class_extent (completed st.ctx home at ms initialised).classes home.number).size 1048576 ≡ true
     → Leaves st (record st { ctx = completed st.ctx home at ms initialised })
-completed_leaves st home at ms initialised e o z = record {
+completed_leaves st home at ms initialised e b o z = record {
   walk = one_step (class_completed (record {
     ctx = st.ctx;
     home = home;
@@ -317,16 +323,18 @@ completed_leaves st home at ms initialised e o z = record {
     before = refl;
     is = refl;
     incomplete = e;
-    objects = o;
+    based = b;
+    are = o;
     sized = z;
   }));
   same = completed_same st.ctx home at ms initialised;
 }
 
 closed_leaves : (st : State) (home : Home) (at : At) (ms : List Member) (initialised : List ℕ) → completion_of st.ctx.classes home.number ≡ None
-    → Objects ms → On (λ (d : Ctx). Leaves st (record st { ctx = d })) (closed_class at home.number (completed st.ctx home at ms initialised))
-closed_leaves st home at ms initialised e o = if_closed (λ (d : Ctx). Leaves st (record st { ctx = d })) (completed st.ctx home at ms initialised) _
-    (nat_le (class_extent (completed st.ctx home at ms initialised).classes home.number).size 1048576) (completed_leaves st home at ms initialised e o)
+    → IsWhole st.ctx.classes home.base → AreMembers st.ctx.classes ms
+    → On (λ (d : Ctx). Leaves st (record st { ctx = d })) (closed_class at home.number (completed st.ctx home at ms initialised))
+closed_leaves st home at ms initialised e b o = if_closed (λ (d : Ctx). Leaves st (record st { ctx = d })) (completed st.ctx home at ms initialised) _
+    (nat_le (class_extent (completed st.ctx home at ms initialised).classes home.number).size 1048576) (completed_leaves st home at ms initialised e b o)
 
 -- behind the brace
 late_leaves : (lams : Lambdas) → Lawful lams → (s : List Lexeme) (home : Home) (y : State) (members : syntax.Trees)
@@ -335,26 +343,43 @@ late_leaves lams q s home y members = follow of_state of_state y (all_defaults l
     (λ x. all_late_kept lams q s home.number home.name x members)
 
 closed_kept : (lams : Lambdas) → Lawful lams → (s : List Lexeme) (st : State) (home : Home) (at : At) (r : Members) (members : syntax.Trees)
-    → Read st r → completion_of st.ctx.classes home.number ≡ None → On (Leaves st) (class_closed lams s home at r members)
-closed_kept lams q s st home at r members i e = bind (λ (d : Ctx). Leaves r.state (record r.state { ctx = d })) (Leaves st)
+    → Read st r → IsWhole st.ctx.classes home.base → completion_of st.ctx.classes home.number ≡ None → On (Leaves st) (class_closed lams s home at r members)
+closed_kept lams q s st home at r members i b e = bind (λ (d : Ctx). Leaves r.state (record r.state { ctx = d })) (Leaves st)
     (closed_class at home.number (completed r.state.ctx home at r.members r.initialised)) _
-    (closed_leaves r.state home at r.members r.initialised (ap (λ (cs : List Class). completion_of cs home.number) i.classes ∙ e) i.objects)
+    (closed_leaves r.state home at r.members r.initialised (ap (λ (cs : List Class). completion_of cs home.number) i.classes ∙ e)
+    (subst (λ (cs : List Class). IsWhole cs home.base) (sym i.classes) b) (subst (λ (cs : List Class). AreMembers cs r.members) (sym i.classes) i.are))
     (λ c j. behind st (record r.state { ctx = c }) of_state _ (after st r.state (record r.state { ctx = c }) i.leaves j)
     (late_leaves lams q s home (record r.state { ctx = c }) members))
 
 with_kept : (lams : Lambdas) → Lawful lams → (s : List Lexeme) (st : State) (at : At) (home : Home) (members : syntax.Trees)
-    → completion_of st.ctx.classes home.number ≡ None → On (Leaves st) (class_with lams s st at home members)
-with_kept lams q s st at home members e =
+    → IsWhole st.ctx.classes home.base → completion_of st.ctx.classes home.number ≡ None → On (Leaves st) (class_with lams s st at home members)
+with_kept lams q s st at home members b e =
     bind (Read st) (Leaves st) (members_of s home (record { state = st; members = []; initialised = [] }) members) _
     (each_holds (Read st) (member_of s home) (record { state = st; members = []; initialised = [] }) members
-    (record { classes = refl; leaves = stays st; objects = λ i m h. absurd cc }) (λ r t i. member_read st s home r t i))
-    (λ r i. closed_kept lams q s st home at r members i e)
+    (record { classes = refl; leaves = stays st; are = λ i m h. absurd cc }) (λ r t i. member_read st s home r t i))
+    (λ r i. closed_kept lams q s st home at r members i b e)
+
+-- The base
+
+based_whole : (c : Ctx) (at : At) (name : List ℕ) → On (λ n. is_some (completion_of c.classes n) ≡ true) (based_on c at name)
+based_whole c at name = skip (λ n. is_some (completion_of c.classes n) ≡ true) (expect at UnknownName (type_named name c.types)) _
+    (λ t. skip (λ n. is_some (completion_of c.classes n) ≡ true) (base_class at t) _
+    (λ n. checked (λ m. is_some (completion_of c.classes m) ≡ true) at Incomplete (is_some (completion_of c.classes n)) _
+    (λ h. skip (λ m. is_some (completion_of c.classes m) ≡ true) (keeps at BaseFinal (not (is_final_class (slice_get c.classes n)))) _ (λ z. h))))
+
+base_whole : (s : List Lexeme) (c : Ctx) (ts : syntax.Trees) → On (IsWhole c.classes) (base_named s c ts)
+base_whole s c syntax.none = λ n e. absurd cc
+base_whole s c (syntax.more (syntax.node k.BaseSpecifier p (Some t) kids) ts) =
+    bind (λ n. is_some (completion_of c.classes n) ≡ true) (IsWhole c.classes) (based_on c (token_place s p.source t) (spelling s t)) _
+    (based_whole c (token_place s p.source t) (spelling s t))
+    (λ b h n e. subst (λ m. is_some (completion_of c.classes m) ≡ true) (same_Some b n e) h)
+base_whole s c (syntax.more t ts) = base_whole s c ts
 
 pub class_kept : (lams : Lambdas) → Lawful lams → (s : List Lexeme) (st : State) (at : At) (name : List ℕ) (kids : syntax.Trees)
     → On (Leaves st) (class_defined lams s st at name kids)
 class_kept lams q s st at name kids = skip (Leaves st) (text_sized at (class_text s kids)) _
     (λ z. bind (IsBegun st true) (Leaves st) (begun st.ctx at name true) _ (begun_name st at name true (type_named name st.ctx.types))
-    (λ b i. skip (Leaves st) (base_named s b.ctx kids) _
-    (λ base. behind st (record st { ctx = b.ctx }) of_state _ i.leaves
+    (λ b i. bind (IsWhole b.ctx.classes) (Leaves st) (base_named s b.ctx kids) _ (base_whole s b.ctx kids)
+    (λ base w. behind st (record st { ctx = b.ctx }) of_state _ i.leaves
     (with_kept lams q s (record st { ctx = b.ctx }) at
-    (record { number = b.number; name = name; base = base; is_final = has_final kids }) (members_among kids) (i.incomplete refl)))))
+    (record { number = b.number; name = name; base = base; is_final = has_final kids }) (members_among kids) w (i.incomplete refl)))))

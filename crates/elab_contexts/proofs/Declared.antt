@@ -59,7 +59,7 @@ use Rattle.elab_contexts.specs.Steps.{none_yet}
 use Rattle.elab_contexts.specs.Holding.{HasEnumerators, is_enumerator, is_enumerator_type}
 use Rattle.elab_contexts.proofs.Lists.{one_more, with_first}
 use Rattle.elab_contexts.proofs.Going.{From}
-use Rattle.elab_contexts.proofs.Classes.{checked}
+use Rattle.elab_contexts.proofs.Captures.{checked}
 
 -- Variables
 

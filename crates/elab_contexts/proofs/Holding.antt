@@ -45,6 +45,8 @@ shown from c h e = record {
   builtins = λ k f b q. (h.proper k f q).known b;
   free = λ k f q. (h.proper k f q).free;
   objects = λ n i k m q. h.objects n k q i m;
+  numbered = h.ordered.numbered;
+  earlier = h.ordered.earlier;
   enumerators = e;
 }
 
@@ -73,6 +75,7 @@ taken from c h = record {
   bare = h.bare;
   proper = λ k f q. record { known = λ b. h.builtins k f b q; free = h.free k f q };
   objects = λ n k q i m. h.objects n i k m q;
+  ordered = record { numbered = h.numbered; earlier = h.earlier };
 }
 
 -- The start
@@ -97,6 +100,7 @@ start_holds source = record {
   bare = λ n e. refl;
   proper = builtins_proper;
   objects = λ n k q i m e. absurd cc;
+  ordered = record { numbered = λ n k e. absurd cc; earlier = λ n k i q e. absurd cc };
 }
 
 pub starts_law : StartsHold
@@ -122,6 +126,7 @@ later_law from source p x st h = shown (length st.ctx.classes) (start_behind sou
       bare = h.bare;
       proper = builtins_proper;
       objects = λ n k q i m. h.objects n i k m q;
+      ordered = record { numbered = h.numbered; earlier = h.earlier };
     }) (λ i e q. absurd cc)
 
 -- Declarations and statements

@@ -3,7 +3,7 @@ use Rattle.std.proofs.Common.{◌≡◌, refl, sym, ap, ◌∙◌, subst, ℕ, z
 use Rattle.std.proofs.Common.{is_some, arith}
 use Rattle.std.specs.Prelude.{slice_set, unwrap_or, if◌then◌else◌, not, ◌||◌}
 use Rattle.std.proofs.lemmas.List.{length-append, length-set}
-use Rattle.elab_rules.specs.cpp_types.Class.{Class, Member, Function, completion_of}
+use Rattle.elab_rules.specs.cpp_types.Class.{Class, Member, Function, completion_of, held}
 use Rattle.elab_rules.specs.cpp_tree.Typing.{is_reference}
 use Rattle.elab_rules.specs.elab_ctx.Ctx.{Ctx, Func, absent, trivial, function, Traits, Capture}
 use Rattle.elab_rules.specs.Objects.{no_traits}
@@ -22,6 +22,9 @@ use Rattle.elab_contexts.specs.Holding.{is_object_member, is_no_name}
 use Rattle.elab_contexts.proofs.Lists.{one_more, one_set}
 use Rattle.elab_contexts.proofs.Found.{At, Stay, stay_added, stay_set, at_still}
 use Rattle.elab_contexts.proofs.Makers.{IsDestructor, IsCopy, IsDefault, destructor_respects, copy_respects, default_respects, Proper, AllProper, Closing, closing}
+use Rattle.elab_contexts.specs.Steps.{IsWhole, IsMember}
+use Rattle.elab_contexts.proofs.Captures.{AllWhole}
+use Rattle.elab_contexts.proofs.Order.{Ordered, IsNext, ordered_next, ordered_named, ordered_set}
 
 -- Traits, class by class
 
@@ -118,6 +121,12 @@ nameless [] i m h = absurd cc
 nameless (x ∷ xs) zero m h = subst (λ (y : Member). is_object_member y ≡ true) (same_Some _ m h) refl
 nameless (x ∷ xs) (suc i) m h = nameless xs i m h
 
+captures_whole : (cs : List Class) (xs : List Capture) → ((i : ℕ) (x : Capture) → slice_get xs i ≡ Some x → IsWhole cs (held x.typ)) → (i : ℕ) (m : Member)
+    → slice_get (capture_members xs) i ≡ Some m → IsWhole cs (held m.typ)
+captures_whole cs [] w i m e = absurd cc
+captures_whole cs (x ∷ xs) w zero m e = subst (λ (y : Member). IsWhole cs (held y.typ)) (same_Some _ m e) (w zero x refl)
+captures_whole cs (x ∷ xs) w (suc i) m e = captures_whole cs xs (λ j y f. w (suc j) y f) i m e
+
 -- Units
 
 pub record Holds (from : ℕ) (v : View) : Type 0 where
@@ -126,6 +135,7 @@ pub record Holds (from : ℕ) (v : View) : Type 0 where
   pub bare : Bare v.classes v.traits
   pub proper : AllProper v.funcs
   pub objects : AllObjects v.classes
+  pub ordered : Ordered v.classes
 
 no_builtin : (o : Option Builtin) (b : Builtin) (A : Type 0) → o ≡ None → o ≡ Some b → A
 no_builtin None b A e f = absurd cc
@@ -148,6 +158,7 @@ added_kept from a b s h = subst (Holds from) (sym s.is) (record {
   bare = h.bare;
   proper = one_more Proper a.funcs s.func h.proper (record { known = λ b e. no_builtin s.func.builtin b _ s.unknown e; free = s.free });
   objects = h.objects;
+  ordered = h.ordered;
 })
 
 defined_kept : (from : ℕ) (a b : View) → FunctionDefined a b → Holds from a → Holds from b
@@ -157,6 +168,7 @@ defined_kept from a b s h = subst (Holds from) (sym s.is) (record {
   bare = h.bare;
   proper = one_set Proper a.funcs s.place s.func h.proper (λ f e. proper_same f s.func (s.same f e) (h.proper s.place f e));
   objects = h.objects;
+  ordered = h.ordered;
 })
 
 named_kept : (from : ℕ) (a b : View) → ClassNamed a b → Holds from a → Holds from b
@@ -166,11 +178,12 @@ named_kept from a b s h = subst (Holds from) (sym s.is) (record {
   bare = bare_named a.classes a.traits (class_named s.name None false [] [] None) h.bare h.many;
   proper = h.proper;
   objects = one_more ObjectMembers a.classes (class_named s.name None false [] [] None) h.objects (λ i m e. absurd cc);
+  ordered = ordered_named a.classes (class_named s.name None false [] [] None) refl h.ordered;
 })
 
-closed_kept : (from : ℕ) (c : Ctx) (n : ℕ) (ms : List Member) (d : Ctx) → Closing c n ms d
-    → ((i : ℕ) (m : Member) → slice_get ms i ≡ Some m → is_reference m.typ ≡ false) → Holds from (view c) → Holds from (view d)
-closed_kept from c n ms d x o h = record {
+closed_kept : (from : ℕ) (c : Ctx) (n : ℕ) (base : Option ℕ) (ms : List Member) (d : Ctx) → Closing c n base ms d → completion_of c.classes n ≡ None
+    → IsWhole c.classes base → ((i : ℕ) (m : Member) → slice_get ms i ≡ Some m → IsMember c.classes m) → Holds from (view c) → Holds from (view d)
+closed_kept from c n base ms d x z b o h = record {
   many = ap length x.traits ∙ length-set c.traits n x.own ∙ h.many ∙ sym (length-set c.classes n x.class) ∙ sym (ap length x.classes);
   makes = subst (λ (ts : List Traits). (m : ℕ) → Makes from d.funcs m (traits_in ts m)) (sym x.traits)
       (traits_set (λ (m : ℕ) (t : Traits). Makes from d.funcs m t) c.traits n x.own
@@ -178,25 +191,37 @@ closed_kept from c n ms d x o h = record {
       (record { destructor = λ k l e. x.destructor k e; copy = λ k l e. x.copy k e; default = λ k l e. x.default k e }));
   bare = subst (λ (ts : List Traits). Bare d.classes ts) (sym x.traits)
       (subst (λ (cs : List Class). Bare cs (slice_set c.traits n x.own)) (sym x.classes)
-      (bare_set c.classes c.traits n x.class x.own x.closed.complete h.bare h.many));
+      (bare_set c.classes c.traits n x.class x.own (ap is_some x.closed.complete) h.bare h.many));
   proper = x.proper h.proper;
   objects = subst AllObjects (sym x.classes) (one_set ObjectMembers c.classes n x.class h.objects
-      (λ k e i m q. object_anyway (is_no_name m.name) (is_reference m.typ)
-      (o i m (ap (λ (ys : List Member). slice_get ys i) (sym x.closed.members) ∙ q))));
+      (λ k e i m q. object_anyway (is_no_name m.name) (is_reference m.typ) (are i m q).object));
+  ordered = subst Ordered (sym x.classes) (ordered_set c.classes n x.class z (record {
+    number = x.closed.complete;
+    base = subst (λ (y : Option ℕ). IsWhole c.classes y) (sym x.closed.base) b;
+    members = λ i m q. (are i m q).whole;
+  }) h.ordered);
 }
+  where
+    are : (i : ℕ) (m : Member) → slice_get x.class.members i ≡ Some m → IsMember c.classes m
+    are i m q = o i m (ap (λ (ys : List Member). slice_get ys i) (sym x.closed.members) ∙ q)
+
+abbrev MembersOf : List Member → View → Type 0
+MembersOf ms v = (i : ℕ) (m : Member) → slice_get ms i ≡ Some m → IsMember v.classes m
 
 completed_kept : (from : ℕ) (a b : View) → ClassCompleted a b → Holds from a → Holds from b
 completed_kept from a b s h = subst (Holds from) (sym s.is)
-    (closed_kept from s.ctx s.home.number s.members (completed s.ctx s.home s.at s.members s.initialised)
-    (closing s.ctx s.home s.at s.members s.initialised) s.objects (subst (Holds from) (sym s.before) h))
+    (closed_kept from s.ctx s.home.number s.home.base s.members (completed s.ctx s.home s.at s.members s.initialised)
+    (closing s.ctx s.home s.at s.members s.initialised) (ap (λ (v : View). completion_of v.classes s.home.number) s.before ∙ s.incomplete)
+    (subst (λ (v : View). IsWhole v.classes s.home.base) (sym s.before) s.based) (subst (MembersOf s.members) (sym s.before) s.are)
+    (subst (Holds from) (sym s.before) h))
 
 trivial_or_not : (b : Bool) (k : ℕ) (A : Type 0) → (if b then trivial else absent) ≡ function k → A
 trivial_or_not true k A e = absurd cc
 trivial_or_not false k A e = absurd cc
 
-closure_from : (from : ℕ) (c : Ctx) (xs : List Capture) (g : Function) (ps : List Parameter) (closed : ℕ) → Holds from (view c)
+closure_from : (from : ℕ) (c : Ctx) (xs : List Capture) (g : Function) (ps : List Parameter) (closed : ℕ) → AllWhole c xs → Holds from (view c)
     → Holds from (view (with_closure c xs g ps closed))
-closure_from from c xs g ps closed h =
+closure_from from c xs g ps closed w h =
     let f : Func = record (call_func (length c.classes) g ps) { closed_at = closed } in
     let t : Traits = closure_traits c xs in
     record {
@@ -211,11 +236,18 @@ closure_from from c xs g ps closed h =
       bare = bare_more c.classes c.traits _ t refl h.bare h.many;
       proper = one_more Proper c.funcs f h.proper (record { known = λ b e. absurd cc; free = λ e. absurd cc });
       objects = one_more ObjectMembers c.classes _ h.objects (nameless xs);
+      ordered = ordered_next c.classes _ (record {
+        number = refl;
+        base = λ n e. absurd cc;
+        members = captures_whole c.classes xs w;
+      }) h.ordered;
     }
 
 closure_kept : (from : ℕ) (a b : View) → ClosureAdded a b → Holds from a → Holds from b
 closure_kept from a b s h = subst (Holds from) (sym s.is)
-    (closure_from from s.ctx s.captures s.declared s.params s.closed (subst (Holds from) (sym s.before) h))
+    (closure_from from s.ctx s.captures s.declared s.params s.closed
+    (subst (λ (v : View). (i : ℕ) (x : Capture) → slice_get s.captures i ≡ Some x → IsWhole v.classes (held x.typ)) (sym s.before) s.whole)
+    (subst (Holds from) (sym s.before) h))
 
 pub each_kept : (from : ℕ) (a b : View) → Step a b → Holds from a → Holds from b
 each_kept from a b (function_added s) h = added_kept from a b s h

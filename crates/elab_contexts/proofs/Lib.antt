@@ -1,4 +1,5 @@
 pub mod Bodies
+pub mod Captures
 pub mod Classes
 pub mod Declared
 pub mod Found
@@ -10,6 +11,7 @@ pub mod Kept
 pub mod Lists
 pub mod Makers
 pub mod Members
+pub mod Order
 pub mod Outside
 pub mod Statements
 pub mod Units

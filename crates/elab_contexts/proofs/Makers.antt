@@ -212,14 +212,15 @@ default_made c home at ms initialised true =
 
 -- All of them, at the brace
 
--- a class of these members that is complete
-pub record IsClosed (ms : List Member) (k : Class) : Type 0 where
-  pub complete : is_some k.complete ≡ true
+-- a class with this base and these members that gets the next number
+pub record IsClosed (cs : List Class) (b : Option ℕ) (ms : List Member) (k : Class) : Type 0 where
+  pub complete : k.complete ≡ Some (count_by is_completed cs)
+  pub base : k.base ≡ b
   pub members : k.members ≡ ms
 
-pub record Closing (c : Ctx) (n : ℕ) (ms : List Member) (d : Ctx) : Type 0 where
+pub record Closing (c : Ctx) (n : ℕ) (base : Option ℕ) (ms : List Member) (d : Ctx) : Type 0 where
   pub class : Class
-  pub closed : IsClosed ms class
+  pub closed : IsClosed c.classes base ms class
   pub classes : d.classes ≡ slice_set c.classes n class
   pub own : Traits
   pub traits : d.traits ≡ slice_set c.traits n own
@@ -230,7 +231,7 @@ pub record Closing (c : Ctx) (n : ℕ) (ms : List Member) (d : Ctx) : Type 0 whe
   pub default : (k : ℕ) → own.default ≡ function k → At (IsDefault n) d.funcs k
 
 pub closing : (c : Ctx) (home : Home) (at : Place) (ms : List Member) (initialised : List ℕ)
-    → Closing c home.number ms (completed c home at ms initialised)
+    → Closing c home.number home.base ms (completed c home at ms initialised)
 closing c home at ms initialised =
     let n : ℕ = home.number in
     let d : Specials = with_destructor c home at ms (first_from (is_destructor_of n) 0 c.funcs) in
@@ -241,7 +242,11 @@ closing c home at ms initialised =
     let xm = default_made k.ctx home at ms initialised (is_no_place (places_from (is_constructor n) 0 c.funcs)) in
     record {
       class = class_named home.name home.base home.is_final ms (own_functions n x.ctx.funcs) (Some (count_by is_completed x.ctx.classes));
-      closed = record { complete = refl; members = refl };
+      closed = record {
+        complete = ap (λ (cs : List Class). Some (count_by is_completed cs)) (xm.classes ∙ km.classes ∙ dm.classes);
+        base = refl;
+        members = refl;
+      };
       classes = ap (λ (cs : List Class). slice_set cs n
           (class_named home.name home.base home.is_final ms (own_functions n x.ctx.funcs) (Some (count_by is_completed x.ctx.classes))))
           (xm.classes ∙ km.classes ∙ dm.classes);

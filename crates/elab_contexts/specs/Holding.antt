@@ -1,8 +1,8 @@
 -- What the laws of expressions ask of the context of a unit, whatever function is at hand.
-use Rattle.std.specs.Prelude.{◌≡◌, ◌≤◌, ℕ, Bool, true, false, not, ◌&&◌, ◌||◌, List, [], ◌∷◌, length, Some, None, slice_get}
+use Rattle.std.specs.Prelude.{◌≡◌, ◌≤◌, ◌<◌, ℕ, Bool, true, false, not, ◌&&◌, ◌||◌, List, [], ◌∷◌, length, count_by, Some, None, slice_get}
 use Rattle.elab_rules.specs.tx_ints.declared.kinds.IntKind.TheVariants.{Int}
 use Rattle.elab_rules.specs.cpp_types.Typ.{Typ, typ, int, enum}
-use Rattle.elab_rules.specs.cpp_types.Class.{Class, Member, completion_of}
+use Rattle.elab_rules.specs.cpp_types.Class.{Class, Member, completion_of, HoldsEarlier}
 use Rattle.elab_rules.specs.cpp_types.Trivial.{is_destructor_name}
 use Rattle.elab_rules.specs.cpp_lex.Tokens.{Lexeme}
 use Rattle.elab_rules.specs.cpp_ast.Trees as syntax
@@ -15,6 +15,7 @@ use Rattle.elab_rules.specs.cpp_tree.Units.{TypedProgram}
 use Rattle.elab_rules.specs.elab_ctx.Ctx.{Ctx, Func, Enumerator, function}
 use Rattle.elab_rules.specs.Objects.{traits_at, no_traits}
 use Rattle.elab_rules.specs.Initialising.{signature_result}
+use Rattle.elab_rules.specs.Classes.{is_completed}
 use Rattle.elab_rules.specs.Functions.{Storage}
 use Rattle.elab_rules.specs.Lambdas.{lambdas_of}
 use Rattle.elab_rules.specs.Programs.{Source, start_behind, with_unit}
@@ -76,6 +77,9 @@ pub record UnitHolds (from : ℕ) (c : Ctx) : Type 0 where
   pub free : (k : ℕ) (f : Func) → slice_get c.funcs k ≡ Some f → f.class ≡ None → f.kind ≡ Plain
   -- a data member that has a name is an object; those of lambdas have none
   pub objects : (n i : ℕ) (k : Class) (m : Member) → slice_get c.classes n ≡ Some k → slice_get k.members i ≡ Some m → is_object_member m ≡ true
+  -- what a complete class holds by value was complete before it
+  pub numbered : (n k : ℕ) → completion_of c.classes n ≡ Some k → k < count_by is_completed c.classes
+  pub earlier : (n : ℕ) (k : Class) (i : ℕ) → slice_get c.classes n ≡ Some k → k.complete ≡ Some i → HoldsEarlier c.classes i k
   pub enumerators : HasEnumerators c.enumerators
 
 -- Laws

@@ -1,6 +1,6 @@
 -- What the declarations of a unit make, step by step, of its classes and functions.
-use Rattle.std.specs.Prelude.{◌≡◌, ℕ, true, false, nat_le, List, [], ◌∷◌, ◌++◌, Some, None, slice_get, slice_set}
-use Rattle.elab_rules.specs.cpp_types.Class.{Class, Member, Function, completion_of}
+use Rattle.std.specs.Prelude.{◌≡◌, ℕ, true, false, nat_le, List, [], ◌∷◌, ◌++◌, Option, Some, None, is_some, slice_get, slice_set}
+use Rattle.elab_rules.specs.cpp_types.Class.{Class, Member, Function, completion_of, held}
 use Rattle.elab_rules.specs.cpp_types.declared.classes.At.{At}
 use Rattle.elab_rules.specs.cpp_layout.Layout.{class_extent}
 use Rattle.elab_rules.specs.cpp_layout.declared.extents.TheConstants.{GREATEST_SIZE}
@@ -9,7 +9,7 @@ use Rattle.elab_rules.specs.cpp_tree.Typing.{is_reference}
 use Rattle.elab_rules.specs.cpp_tree.Units.{SlotFunc}
 use Rattle.elab_rules.specs.elab_ctx.Ctx.{Ctx, Func, Traits, Capture}
 use Rattle.elab_rules.specs.Objects.{no_traits}
-use Rattle.elab_rules.specs.Types.{Parameter}
+use Rattle.elab_rules.specs.Types.{Parameter, is_bounded}
 use Rattle.elab_rules.specs.Classes.{Home, class_named, completed}
 use Rattle.elab_rules.specs.Lambdas.{with_closure}
 
@@ -58,7 +58,17 @@ pub record ClassNamed (a b : View) : Type 0 where
     slots = a.slots ++ [] ∷ [];
   }
 
--- a class that was not complete gets its brace; its members are objects
+-- what objects hold by value is complete
+abbrev pub IsWhole : List Class → Option ℕ → Type 0
+IsWhole classes o = (n : ℕ) → o ≡ Some n → is_some (completion_of classes n) ≡ true
+
+-- a data member is an object
+pub record IsMember (classes : List Class) (m : Member) : Type 0 where
+  pub object : is_reference m.typ ≡ false
+  pub bounded : is_bounded m.typ ≡ true
+  pub whole : IsWhole classes (held m.typ)
+
+-- a class that was not complete gets its brace
 pub record ClassCompleted (a b : View) : Type 0 where
   pub ctx : Ctx
   pub home : Home
@@ -68,7 +78,8 @@ pub record ClassCompleted (a b : View) : Type 0 where
   pub before : view ctx ≡ a
   pub is : b ≡ view (completed ctx home at members initialised)
   pub incomplete : completion_of a.classes home.number ≡ None
-  pub objects : (i : ℕ) (m : Member) → slice_get members i ≡ Some m → is_reference m.typ ≡ false
+  pub based : IsWhole a.classes home.base
+  pub are : (i : ℕ) (m : Member) → slice_get members i ≡ Some m → IsMember a.classes m
   pub sized : nat_le (class_extent b.classes home.number).size GREATEST_SIZE ≡ true
 
 -- a lambda has its class and its call
@@ -79,6 +90,7 @@ pub record ClosureAdded (a b : View) : Type 0 where
   pub params : List Parameter
   pub closed : ℕ
   pub before : view ctx ≡ a
+  pub whole : (i : ℕ) (x : Capture) → slice_get captures i ≡ Some x → IsWhole a.classes (held x.typ)
   pub is : b ≡ view (with_closure ctx captures declared params closed)
 
 pub data Step (a b : View) : Type 0 where
