@@ -23,6 +23,14 @@ use Rattle.elab_contexts.proofs.Going.{From}
 use Rattle.elab_contexts.proofs.Statements.{statements_kept}
 use Rattle.elab_contexts.proofs.Bodies.{lambdas_lawful}
 use Rattle.elab_contexts.proofs.Units.{declarations_go, units_go}
+use Rattle.std.proofs.Common.{ap, Bool, true, false, Option, None, slice_get, nat_le, is_some, cond, option_and_then}
+use Rattle.elab_rules.specs.cpp_types.Typ.{class}
+use Rattle.elab_rules.specs.cpp_types.Class.{Class}
+use Rattle.elab_rules.specs.cpp_layout.Layout.{class_extent}
+use Rattle.elab_rules.specs.cpp_layout.declared.extents.TheConstants.{GREATEST_SIZE}
+use Rattle.elab_rules.specs.cpp_tree.Notation.{plain}
+use Rattle.elab_rules.specs.cpp_tree.Parts.{size_in, holds_complete}
+use Rattle.elab_contexts.proofs.Sized.{Sized}
 
 -- One way and the other
 
@@ -34,6 +42,24 @@ copy_of c n k x = record { maker = record { func = x.func; at = x.at; kind = x.i
 
 default_of : (c : Ctx) (n k : ℕ) → At (IsDefault n) c.funcs k → IsDefaultOf c n k
 default_of c n k x = record { maker = record { func = x.func; at = x.at; kind = x.is.kind; class = x.is.class }; takes = x.is.takes }
+
+within : (b c : Bool) (n : ℕ) → b ≡ true → c ≡ true → is_some (cond b (cond c (Some n) None) None) ≡ true
+within true true n h e = refl
+within true false n h e = absurd cc
+within false c n h e = absurd cc
+
+within_is : (b c : Bool) (n : ℕ) → is_some (cond b (cond c (Some n) None) None) ≡ true → c ≡ true
+within_is true true n h = refl
+within_is true false n h = absurd cc
+within_is false c n h = absurd cc
+
+has_size : (cs : List Class) (n : ℕ) (k : Class) → slice_get cs n ≡ Some k → is_some k.complete ≡ true → Sized cs n
+    → is_some (size_in cs (plain (class n))) ≡ true
+has_size cs n k e q z = within (holds_complete cs (class n)) (nat_le (class_extent cs n).size GREATEST_SIZE) (class_extent cs n).size
+    (ap (λ (y : Option Class). is_some (option_and_then (λ (c : Class). c.complete) y)) e ∙ q) z
+
+is_sized : (cs : List Class) (n : ℕ) → is_some (size_in cs (plain (class n))) ≡ true → Sized cs n
+is_sized cs n h = within_is (holds_complete cs (class n)) (nat_le (class_extent cs n).size GREATEST_SIZE) (class_extent cs n).size h
 
 shown : (from : ℕ) (c : Ctx) → Holds from (view c) → HasEnumerators c.enumerators → UnitHolds from c
 shown from c h e = record {
@@ -47,6 +73,7 @@ shown from c h e = record {
   objects = λ n i k m q. h.objects n k q i m;
   numbered = h.ordered.numbered;
   earlier = h.ordered.earlier;
+  sized = λ n k e q r. has_size c.classes n k e q (h.sized n k e q r);
   enumerators = e;
 }
 
@@ -76,6 +103,7 @@ taken from c h = record {
   proper = λ k f q. record { known = λ b. h.builtins k f b q; free = h.free k f q };
   objects = λ n k q i m. h.objects n i k m q;
   ordered = record { numbered = h.numbered; earlier = h.earlier };
+  sized = λ n k e q r. is_sized c.classes n (h.sized n k e q r);
 }
 
 -- The start
@@ -101,6 +129,7 @@ start_holds source = record {
   proper = builtins_proper;
   objects = λ n k q i m e. absurd cc;
   ordered = record { numbered = λ n k e. absurd cc; earlier = λ n k i q e. absurd cc };
+  sized = λ n k e q r. absurd cc;
 }
 
 pub starts_law : StartsHold
@@ -127,6 +156,7 @@ later_law from source p x st h = shown (length st.ctx.classes) (start_behind sou
       proper = builtins_proper;
       objects = λ n k q i m. h.objects n i k m q;
       ordered = record { numbered = h.numbered; earlier = h.earlier };
+      sized = λ n k e q r. is_sized st.ctx.classes n (h.sized n k e q r);
     }) (λ i e q. absurd cc)
 
 -- Declarations and statements

@@ -24,7 +24,8 @@ use Rattle.elab_contexts.proofs.Found.{At, Stay, stay_added, stay_set, at_still}
 use Rattle.elab_contexts.proofs.Makers.{IsDestructor, IsCopy, IsDefault, destructor_respects, copy_respects, default_respects, Proper, AllProper, Closing, closing}
 use Rattle.elab_contexts.specs.Steps.{IsWhole, IsMember}
 use Rattle.elab_contexts.proofs.Captures.{AllWhole}
-use Rattle.elab_contexts.proofs.Order.{Ordered, IsNext, ordered_next, ordered_named, ordered_set}
+use Rattle.elab_contexts.proofs.Order.{Ordered, ordered_next, ordered_named, ordered_set}
+use Rattle.elab_contexts.proofs.Sized.{Sized, AllSized, sized_added, sized_set}
 
 -- Traits, class by class
 
@@ -136,6 +137,7 @@ pub record Holds (from : ℕ) (v : View) : Type 0 where
   pub proper : AllProper v.funcs
   pub objects : AllObjects v.classes
   pub ordered : Ordered v.classes
+  pub sized : AllSized v.classes
 
 no_builtin : (o : Option Builtin) (b : Builtin) (A : Type 0) → o ≡ None → o ≡ Some b → A
 no_builtin None b A e f = absurd cc
@@ -159,6 +161,7 @@ added_kept from a b s h = subst (Holds from) (sym s.is) (record {
   proper = one_more Proper a.funcs s.func h.proper (record { known = λ b e. no_builtin s.func.builtin b _ s.unknown e; free = s.free });
   objects = h.objects;
   ordered = h.ordered;
+  sized = h.sized;
 })
 
 defined_kept : (from : ℕ) (a b : View) → FunctionDefined a b → Holds from a → Holds from b
@@ -169,6 +172,7 @@ defined_kept from a b s h = subst (Holds from) (sym s.is) (record {
   proper = one_set Proper a.funcs s.place s.func h.proper (λ f e. proper_same f s.func (s.same f e) (h.proper s.place f e));
   objects = h.objects;
   ordered = h.ordered;
+  sized = h.sized;
 })
 
 named_kept : (from : ℕ) (a b : View) → ClassNamed a b → Holds from a → Holds from b
@@ -179,11 +183,12 @@ named_kept from a b s h = subst (Holds from) (sym s.is) (record {
   proper = h.proper;
   objects = one_more ObjectMembers a.classes (class_named s.name None false [] [] None) h.objects (λ i m e. absurd cc);
   ordered = ordered_named a.classes (class_named s.name None false [] [] None) refl h.ordered;
+  sized = sized_added a.classes (class_named s.name None false [] [] None) h.ordered (λ n e q. absurd cc) h.sized;
 })
 
 closed_kept : (from : ℕ) (c : Ctx) (n : ℕ) (base : Option ℕ) (ms : List Member) (d : Ctx) → Closing c n base ms d → completion_of c.classes n ≡ None
-    → IsWhole c.classes base → ((i : ℕ) (m : Member) → slice_get ms i ≡ Some m → IsMember c.classes m) → Holds from (view c) → Holds from (view d)
-closed_kept from c n base ms d x z b o h = record {
+    → Sized d.classes n → IsWhole c.classes base → ((i : ℕ) (m : Member) → slice_get ms i ≡ Some m → IsMember c.classes m) → Holds from (view c) → Holds from (view d)
+closed_kept from c n base ms d x z large b o h = record {
   many = ap length x.traits ∙ length-set c.traits n x.own ∙ h.many ∙ sym (length-set c.classes n x.class) ∙ sym (ap length x.classes);
   makes = subst (λ (ts : List Traits). (m : ℕ) → Makes from d.funcs m (traits_in ts m)) (sym x.traits)
       (traits_set (λ (m : ℕ) (t : Traits). Makes from d.funcs m t) c.traits n x.own
@@ -200,6 +205,8 @@ closed_kept from c n base ms d x z b o h = record {
     base = subst (λ (y : Option ℕ). IsWhole c.classes y) (sym x.closed.base) b;
     members = λ i m q. (are i m q).whole;
   }) h.ordered);
+  sized = subst AllSized (sym x.classes)
+      (sized_set c.classes n x.class h.ordered z (subst (λ (cs : List Class). Sized cs n) x.classes large) h.sized);
 }
   where
     are : (i : ℕ) (m : Member) → slice_get x.class.members i ≡ Some m → IsMember c.classes m
@@ -212,6 +219,7 @@ completed_kept : (from : ℕ) (a b : View) → ClassCompleted a b → Holds from
 completed_kept from a b s h = subst (Holds from) (sym s.is)
     (closed_kept from s.ctx s.home.number s.home.base s.members (completed s.ctx s.home s.at s.members s.initialised)
     (closing s.ctx s.home s.at s.members s.initialised) (ap (λ (v : View). completion_of v.classes s.home.number) s.before ∙ s.incomplete)
+    (subst (λ (v : View). Sized v.classes s.home.number) s.is s.sized)
     (subst (λ (v : View). IsWhole v.classes s.home.base) (sym s.before) s.based) (subst (MembersOf s.members) (sym s.before) s.are)
     (subst (Holds from) (sym s.before) h))
 
@@ -241,6 +249,7 @@ closure_from from c xs g ps closed w h =
         base = λ n e. absurd cc;
         members = captures_whole c.classes xs w;
       }) h.ordered;
+      sized = sized_added c.classes _ h.ordered (λ n e q. absurd cc) h.sized;
     }
 
 closure_kept : (from : ℕ) (a b : View) → ClosureAdded a b → Holds from a → Holds from b

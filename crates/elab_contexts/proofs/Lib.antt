@@ -13,6 +13,7 @@ pub mod Makers
 pub mod Members
 pub mod Order
 pub mod Outside
+pub mod Sized
 pub mod Statements
 pub mod Units
 pub mod Walking

@@ -1,5 +1,5 @@
 -- The special members of a class, as its brace is closed: functions of the unit.
-use Rattle.std.proofs.Common.{◌≡◌, refl, ap, ◌∙◌, subst, ℕ, Bool, true, false, List, [], ◌∷◌, ◌++◌, slice_get, Option, Some, None, eqb-true, eq-eqb, is_some}
+use Rattle.std.proofs.Common.{◌≡◌, refl, ap, ◌∙◌, subst, ℕ, Bool, true, false, List, [], ◌∷◌, ◌++◌, slice_get, Option, Some, None, eqb-true, eq-eqb}
 use Rattle.std.specs.Prelude.{slice_set, if◌then◌else◌, ◌&&◌, not}
 use Rattle.std.proofs.lemmas.Bool.{and_parts}
 use Rattle.elab_rules.specs.cpp_types.Typ.{Typs, none as no_typs, more as and_typ, Typ, signature}

@@ -1,7 +1,7 @@
 -- What the laws of expressions ask of the context of a unit, whatever function is at hand.
-use Rattle.std.specs.Prelude.{◌≡◌, ◌≤◌, ◌<◌, ℕ, Bool, true, false, not, ◌&&◌, ◌||◌, List, [], ◌∷◌, length, count_by, Some, None, slice_get}
+use Rattle.std.specs.Prelude.{◌≡◌, ◌≤◌, ◌<◌, ℕ, Bool, true, false, not, ◌&&◌, ◌||◌, List, [], ◌∷◌, length, count_by, Some, None, is_some, slice_get}
 use Rattle.elab_rules.specs.tx_ints.declared.kinds.IntKind.TheVariants.{Int}
-use Rattle.elab_rules.specs.cpp_types.Typ.{Typ, typ, int, enum}
+use Rattle.elab_rules.specs.cpp_types.Typ.{Typ, typ, int, enum, class}
 use Rattle.elab_rules.specs.cpp_types.Class.{Class, Member, completion_of, HoldsEarlier}
 use Rattle.elab_rules.specs.cpp_types.Trivial.{is_destructor_name}
 use Rattle.elab_rules.specs.cpp_lex.Tokens.{Lexeme}
@@ -9,6 +9,7 @@ use Rattle.elab_rules.specs.cpp_ast.Trees as syntax
 use Rattle.elab_rules.specs.cpp_tree.declared.kinds.Builtin.{Builtin}
 use Rattle.elab_rules.specs.cpp_tree.declared.program.FuncKind.TheVariants.{Plain, Destructor}
 use Rattle.elab_rules.specs.cpp_tree.Notation.{plain}
+use Rattle.elab_rules.specs.cpp_tree.Parts.{size_in}
 use Rattle.elab_rules.specs.cpp_tree.Rows.{signature_words, builtin_words, builtin_result}
 use Rattle.elab_rules.specs.cpp_tree.Typing.{is_word_of, is_reference}
 use Rattle.elab_rules.specs.cpp_tree.Units.{TypedProgram}
@@ -80,6 +81,9 @@ pub record UnitHolds (from : ℕ) (c : Ctx) : Type 0 where
   -- what a complete class holds by value was complete before it
   pub numbered : (n k : ℕ) → completion_of c.classes n ≡ Some k → k < count_by is_completed c.classes
   pub earlier : (n : ℕ) (k : Class) (i : ℕ) → slice_get c.classes n ≡ Some k → k.complete ≡ Some i → HoldsEarlier c.classes i k
+  -- once a class that has a name is complete, its objects have a size
+  pub sized : (n : ℕ) (k : Class) → slice_get c.classes n ≡ Some k → is_some k.complete ≡ true → is_no_name k.name ≡ false
+      → is_some (size_in c.classes (plain (class n))) ≡ true
   pub enumerators : HasEnumerators c.enumerators
 
 -- Laws
