@@ -44,7 +44,7 @@ use Rattle.elab_rules.specs.cpp_types.Typ.{void, int, enum, null, ptr, ref, arra
 use Rattle.elab_rules.specs.Classes.{plain_method, special_method, method_started, special_header, special_name, takes_own_value}
 use Rattle.elab_contexts.specs.Steps.{class_begun as begun_step, class_completed, SameFunction, IsWhole, IsMember}
 use Rattle.elab_contexts.proofs.Walking.{Leaves, stays, after, bind, skip, behind, follow, of_state, one_step}
-use Rattle.elab_contexts.proofs.Outside.{no_further, added_further}
+use Rattle.elab_contexts.proofs.Outside.{added_further}
 use Rattle.elab_contexts.proofs.Lists.{one_more}
 use Rattle.std.specs.Str.{bytes_eq}
 use Rattle.elab_rules.specs.Initialising.{makes, signature_parameters}
@@ -55,6 +55,7 @@ use Rattle.elab_rules.specs.Classes.{based_on, base_class, keeps, is_final_class
 use Rattle.elab_rules.specs.cpp_tree.declared.faults.IllRule.TheVariants.{UnknownName}
 use Rattle.elab_rules.specs.cpp_tree.declared.faults.OverrideRule.TheVariants.{BaseFinal}
 use Rattle.elab_contexts.proofs.Captures.{is_whole, checked}
+use Rattle.elab_contexts.specs.Steps.{is_same_declared}
 
 -- Up to the name
 
@@ -94,13 +95,13 @@ declared_kept st at name = bind (IsBegun st false) (Leaves st) (begun st.ctx at 
 
 -- The header of a member
 
-abbrev Owned : Header → Type 0
-Owned h = is_some h.class ≡ true
+abbrev Owned : ℕ → Header → Type 0
+Owned n h = h.class ≡ Some n
 
-abbrev OwnedMethod : Method → Type 0
-OwnedMethod m = Owned m.header
+abbrev OwnedMethod : ℕ → Method → Type 0
+OwnedMethod n m = Owned n m.header
 
-header_owned : (n : ℕ) (x : Storage) (kind : FuncKind) (at : At) (name : List ℕ) (r : Declared) (f : Form) → On Owned (header_in n x kind at name r f)
+header_owned : (n : ℕ) (x : Storage) (kind : FuncKind) (at : At) (name : List ℕ) (r : Declared) (f : Form) → On (Owned n) (header_in n x kind at name r f)
 header_owned n x kind at name r (func sig) = refl
 header_owned n x kind at name r void = tt
 header_owned n x kind at name r (int k) = tt
@@ -113,37 +114,37 @@ header_owned n x kind at name r (class m) = tt
 header_owned n x kind at name r (closure m) = tt
 header_owned n x kind at name r (tx_ex t) = tt
 
-plain_owned : (s : List Lexeme) (st : State) (n : ℕ) (at : At) (x : Storage) (ts : syntax.Trees) → On OwnedMethod (plain_method s st n at x ts)
+plain_owned : (s : List Lexeme) (st : State) (n : ℕ) (at : At) (x : Storage) (ts : syntax.Trees) → On (OwnedMethod n) (plain_method s st n at x ts)
 plain_owned s st n at x syntax.none = tt
 plain_owned s st n at x (syntax.more base syntax.none) = tt
-plain_owned s st n at x (syntax.more base (syntax.more d rest)) = skip OwnedMethod (type_of_specifiers s st.ctx st.work base) _
-    (λ t. skip OwnedMethod (declared_by s st.ctx st.work at t d) _
-    (λ r. bind Owned OwnedMethod (header_in n x Plain at (name_of s r.name) r (form_in r.typ)) _
+plain_owned s st n at x (syntax.more base (syntax.more d rest)) = skip (OwnedMethod n) (type_of_specifiers s st.ctx st.work base) _
+    (λ t. skip (OwnedMethod n) (declared_by s st.ctx st.work at t d) _
+    (λ r. bind (Owned n) (OwnedMethod n) (header_in n x Plain at (name_of s r.name) r (form_in r.typ)) _
     (header_owned n x Plain at (name_of s r.name) r (form_in r.typ)) (λ h i. i)))
 
 special_owned : (n : ℕ) (class_name : List ℕ) (at : At) (x : Storage) (kind : FuncKind) (r : Declared) (name : List ℕ)
-    → On Owned (special_header n class_name at x kind r name)
-special_owned n class_name at x kind r name = skip Owned (check at BadDeclaration (bytes_eq name class_name && not r.qualifiers.is_const)) _
-    (λ y. bind Owned Owned (header_in n x kind at (special_name kind class_name) r (form_in r.typ)) _
+    → On (Owned n) (special_header n class_name at x kind r name)
+special_owned n class_name at x kind r name = skip (Owned n) (check at BadDeclaration (bytes_eq name class_name && not r.qualifiers.is_const)) _
+    (λ y. bind (Owned n) (Owned n) (header_in n x kind at (special_name kind class_name) r (form_in r.typ)) _
     (header_owned n x kind at (special_name kind class_name) r (form_in r.typ))
-    (λ h i. skip Owned (check at BadDeclaration (not (makes kind && takes_own_value n (signature_parameters h.signature)))) _ (λ z. i)))
+    (λ h i. skip (Owned n) (check at BadDeclaration (not (makes kind && takes_own_value n (signature_parameters h.signature)))) _ (λ z. i)))
 
 method_special_owned : (s : List Lexeme) (st : State) (n : ℕ) (class_name : List ℕ) (at : At) (x : Storage) (kind : FuncKind) (ts : syntax.Trees)
-    → On OwnedMethod (special_method s st n class_name at x kind ts)
+    → On (OwnedMethod n) (special_method s st n class_name at x kind ts)
 method_special_owned s st n class_name at x kind syntax.none = tt
-method_special_owned s st n class_name at x kind (syntax.more d rest) = skip OwnedMethod (declared_by s st.ctx st.work at (plain void) d) _
-    (λ r. bind Owned OwnedMethod (special_header n class_name at x kind r (name_of s r.name)) _
+method_special_owned s st n class_name at x kind (syntax.more d rest) = skip (OwnedMethod n) (declared_by s st.ctx st.work at (plain void) d) _
+    (λ r. bind (Owned n) (OwnedMethod n) (special_header n class_name at x kind r (name_of s r.name)) _
     (special_owned n class_name at x kind r (name_of s r.name)) (λ h i. i))
 
 started_owned : (s : List Lexeme) (st : State) (n : ℕ) (class_name : List ℕ) (at : At) (kind : FuncKind) (x : Started)
-    → On OwnedMethod (method_started s st n class_name at kind x)
+    → On (OwnedMethod n) (method_started s st n class_name at kind x)
 started_owned s st n class_name at Plain x = plain_owned s st n at x.storage x.rest
 started_owned s st n class_name at Constructor x = method_special_owned s st n class_name at x.storage Constructor x.rest
 started_owned s st n class_name at Destructor x = method_special_owned s st n class_name at x.storage Destructor x.rest
 started_owned s st n class_name at ClosureCall x = method_special_owned s st n class_name at x.storage ClosureCall x.rest
 
 method_owned : (s : List Lexeme) (st : State) (n : ℕ) (class_name : List ℕ) (at : At) (kind : FuncKind) (kids : syntax.Trees)
-    → On OwnedMethod (method_of s st n class_name at kind kids)
+    → On (OwnedMethod n) (method_of s st n class_name at kind kids)
 method_owned s st n class_name at kind kids = started_owned s st n class_name at kind (started_from s no_storage kids)
 
 -- Members
@@ -151,37 +152,51 @@ method_owned s st n class_name at kind kids = started_owned s st n class_name at
 abbrev AreMembers : List Class → List Member → Type 0
 AreMembers cs ms = (i : ℕ) (m : Member) → slice_get ms i ≡ Some m → IsMember cs m
 
-record ReadTo (st : State) (r : Members) : Type 0 where
+record ReadTo (n : ℕ) (st : State) (r : Members) : Type 0 where
   classes : r.state.ctx.classes ≡ st.ctx.classes
   leaves : Leaves st r.state
+  unclosed : completion_of r.state.ctx.classes n ≡ None
   are : AreMembers st.ctx.classes r.members
 
-abbrev Read : State → Members → Type 0
-Read st r = ReadTo st r
+abbrev Read : ℕ → State → Members → Type 0
+Read n st r = ReadTo n st r
 
-no_function_here : (c : Option ℕ) (A : Type 0) → is_some c ≡ true → c ≡ None → A
-no_function_here None A h e = absurd cc
-no_function_here (Some n) A h e = absurd cc
+no_function_here : (c : Option ℕ) (n : ℕ) (A : Type 0) → c ≡ Some n → c ≡ None → A
+no_function_here None n A h e = absurd cc
+no_function_here (Some m) n A h e = absurd cc
 
 defined_same : (d : Option Definition) (f : Func) → SameFunction f (as_defined d f)
 defined_same (Some d) f = record { declared = refl; kind = refl; class = refl; builtin = refl; implicit = refl }
 defined_same None f = record { declared = refl; kind = refl; class = refl; builtin = refl; implicit = refl }
 
-function_added : (st : State) (h : Header) (m : Marks) (o : Option Function) (d : Option Definition) → Owned h
+same_declared : (d : Option Definition) (f : Func) (fs : List Func) → first_from (is_same_declared f) 0 fs ≡ None
+    → first_from (is_same_declared (as_defined d f)) 0 fs ≡ None
+same_declared (Some d) f fs h = h
+same_declared None f fs h = h
+
+function_added : (n : ℕ) (st : State) (h : Header) (m : Marks) (o : Option Function) (d : Option Definition) → Owned n h
+    → completion_of st.ctx.classes n ≡ None → first_from (is_same_function h) 0 st.ctx.funcs ≡ None
     → Leaves st (record st { ctx = record st.ctx { funcs = st.ctx.funcs ++ as_defined d (member_func h m o) ∷ [] } })
-function_added st h m o d w =
+function_added n st h m o d w z q =
     let f : Func = as_defined d (member_func h m o) in
     let s = defined_same d (member_func h m o) in
-    let x = added_further st.ctx st.ctx f s.builtin (λ e. no_function_here h.class (f.kind ≡ Plain) w (sym s.class ∙ e)) (no_further st.ctx) in
+    let x = added_further st.ctx f s.builtin (λ e. no_function_here h.class n (f.kind ≡ Plain) w (sym s.class ∙ e))
+    (λ i e. subst (λ (j : ℕ). completion_of st.ctx.classes j ≡ None) (same_Some n i (sym w ∙ sym s.class ∙ e)) z)
+    (same_declared d (member_func h m o) st.ctx.funcs q) in
     record { walk = x.walk; same = x.same }
 
-with_read : (st : State) (r : Members) (h : Header) (m : Marks) (o : Option Function) (d : Option Definition) → Owned h → Read st r
-    → Read st (with_function r (as_defined d (member_func h m o)))
-with_read st r h m o d w e = record {
+with_read : (n : ℕ) (st : State) (r : Members) (h : Header) (m : Marks) (o : Option Function) (d : Option Definition) → Owned n h
+    → first_from (is_same_function h) 0 r.state.ctx.funcs ≡ None → Read n st r → Read n st (with_function r (as_defined d (member_func h m o)))
+with_read n st r h m o d w q e = record {
   classes = e.classes;
-  leaves = after st r.state (with_function r (as_defined d (member_func h m o))).state e.leaves (function_added r.state h m o d w);
+  leaves = after st r.state (with_function r (as_defined d (member_func h m o))).state e.leaves (function_added n r.state h m o d w e.unclosed q);
+  unclosed = e.unclosed;
   are = e.are;
 }
+
+no_first : (o : Option ℕ) (b : Bool) → (is_none o && b) ≡ true → o ≡ None
+no_first None b h = refl
+no_first (Some n) b h = absurd cc
 
 form_object : (at : At) (t : Typ) → On (λ (b : Bool). is_reference t ≡ false) (member_form at (form_in t))
 form_object at (typ void c v) = tt
@@ -196,17 +211,18 @@ form_object at (typ (class n) c v) = refl
 form_object at (typ (closure n) c v) = refl
 form_object at (typ (tx_ex t) c v) = refl
 
-data_read : (st : State) (n : ℕ) (r : Members) (at : At) (name : List ℕ) (t : Typ) (b : Bool) → Read st r → On (Read st) (data_member n r at name t b)
-data_read st n r at name t b e = bind (λ (x : Bool). is_reference t ≡ false) (Read st) (member_form at (form_in t)) _ (form_object at t)
-    (λ a q. skip (Read st) (check at OutOfProfile (not (has_auto t))) _
-    (λ b2. checked (Read st) at BadDeclaration (is_bounded t) _
-    (λ d. checked (Read st) at Incomplete (is_complete r.state.ctx (held t)) _
-    (λ e2. skip (Read st) (check at AbstractObject (not (is_abstract_type r.state.ctx (element_of t)))) _
-    (λ f. skip (Read st) (typ_sized r.state.ctx.classes at t) _
-    (λ h. skip (Read st) (check at Redeclared (not (has_member name r.members) && not (has_function n name r.state.ctx.funcs))) _
+data_read : (st : State) (n : ℕ) (r : Members) (at : At) (name : List ℕ) (t : Typ) (b : Bool) → Read n st r → On (Read n st) (data_member n r at name t b)
+data_read st n r at name t b e = bind (λ (x : Bool). is_reference t ≡ false) (Read n st) (member_form at (form_in t)) _ (form_object at t)
+    (λ a q. skip (Read n st) (check at OutOfProfile (not (has_auto t))) _
+    (λ b2. checked (Read n st) at BadDeclaration (is_bounded t) _
+    (λ d. checked (Read n st) at Incomplete (is_complete r.state.ctx (held t)) _
+    (λ e2. skip (Read n st) (check at AbstractObject (not (is_abstract_type r.state.ctx (element_of t)))) _
+    (λ f. skip (Read n st) (typ_sized r.state.ctx.classes at t) _
+    (λ h. skip (Read n st) (check at Redeclared (not (has_member name r.members) && not (has_function n name r.state.ctx.funcs))) _
     (λ g. record {
       classes = e.classes;
       leaves = e.leaves;
+      unclosed = e.unclosed;
       are = one_more (IsMember st.ctx.classes) r.members (record { name = name; typ = t }) e.are (record {
         object = q;
         bounded = d;
@@ -214,49 +230,49 @@ data_read st n r at name t b e = bind (λ (x : Bool). is_reference t ≡ false) 
       });
     })))))))
 
-function_member_read : (st : State) (home : Home) (r : Members) (h : Header) (m : Marks) (d : Option Definition) → Owned h → Read st r
-    → On (Read st) (member_function home r h m d)
-function_member_read st home r h m d w e = skip (Read st) (check h.at Redeclared
-    (is_none (first_from (is_same_function h) 0 r.state.ctx.funcs) && not (has_member h.name r.members))) _
-    (λ y. skip (Read st) (overrides_well h (overridden r.state.ctx home.base (new_function h).declared)) _
-    (λ z. skip (Read st) (marks_fit h m (is_some (overridden r.state.ctx home.base (new_function h).declared))
+function_member_read : (st : State) (home : Home) (r : Members) (h : Header) (m : Marks) (d : Option Definition) → Owned home.number h → Read home.number st r
+    → On (Read home.number st) (member_function home r h m d)
+function_member_read st home r h m d w e = checked (Read home.number st) h.at Redeclared
+    (is_none (first_from (is_same_function h) 0 r.state.ctx.funcs) && not (has_member h.name r.members)) _
+    (λ y. skip (Read home.number st) (overrides_well h (overridden r.state.ctx home.base (new_function h).declared)) _
+    (λ z. skip (Read home.number st) (marks_fit h m (is_some (overridden r.state.ctx home.base (new_function h).declared))
     (h.storage.is_virtual || is_some (overridden r.state.ctx home.base (new_function h).declared))) _
-    (λ x. skip (Read st) (header_sized r.state.ctx h) _ (λ u. skip (Read st) (definition_sized h.at d) _
-    (λ v. with_read st r h m (overridden r.state.ctx home.base (new_function h).declared) d w e)))))
+    (λ x. skip (Read home.number st) (header_sized r.state.ctx h) _ (λ u. skip (Read home.number st) (definition_sized h.at d) _
+    (λ v. with_read home.number st r h m (overridden r.state.ctx home.base (new_function h).declared) d w (no_first _ _ y) e)))))
 
-method_declared_read : (st : State) (s : List Lexeme) (home : Home) (r : Members) (kind : FuncKind) (at : At) (d : Option Definition) (kids : syntax.Trees) → Read st r
-    → On (Read st) (declared_method s home r kind at d kids)
-method_declared_read st s home r kind at d kids e = skip (Read st) (within_bounds (declarator_among s home.number r kids)) _
-    (λ w. bind OwnedMethod (Read st) (method_of s r.state home.number home.name at kind kids) _
+method_declared_read : (st : State) (s : List Lexeme) (home : Home) (r : Members) (kind : FuncKind) (at : At) (d : Option Definition) (kids : syntax.Trees) → Read home.number st r
+    → On (Read home.number st) (declared_method s home r kind at d kids)
+method_declared_read st s home r kind at d kids e = skip (Read home.number st) (within_bounds (declarator_among s home.number r kids)) _
+    (λ w. bind (OwnedMethod home.number) (Read home.number st) (method_of s r.state home.number home.name at kind kids) _
     (method_owned s r.state home.number home.name at kind kids)
     (λ m i. function_member_read st home r m.header (marks_from s no_marks m.rest) d i e))
 
-declared_read : (st : State) (home : Home) (r : Members) (at : At) (x : Storage) (m : Marks) (rest : syntax.Trees) (name : List ℕ) (d : Declared) (f : Form) → Read st r
-    → On (Read st) (declared_member home r at x m rest name d f)
+declared_read : (st : State) (home : Home) (r : Members) (at : At) (x : Storage) (m : Marks) (rest : syntax.Trees) (name : List ℕ) (d : Declared) (f : Form) → Read home.number st r
+    → On (Read home.number st) (declared_member home r at x m rest name d f)
 declared_read st home r at x m rest name d (func sig) e =
-    skip (Read st) (check at BadDeclaration (not (has_equal rest))) _
-    (λ y. bind Owned (Read st) (header_in home.number x Plain at name d (func sig)) _ (header_owned home.number x Plain at name d (func sig))
+    skip (Read home.number st) (check at BadDeclaration (not (has_equal rest))) _
+    (λ y. bind (Owned home.number) (Read home.number st) (header_in home.number x Plain at name d (func sig)) _ (header_owned home.number x Plain at name d (func sig))
     (λ h i. function_member_read st home r h m None i e))
-declared_read st home r at x m rest name d f e = skip (Read st) (check at BadDeclaration (no_function_words x m)) _
+declared_read st home r at x m rest name d f e = skip (Read home.number st) (check at BadDeclaration (no_function_words x m)) _
     (λ y. data_read st home.number r at name d.typ (has_initialiser rest) e)
 
-declarator_read : (st : State) (s : List Lexeme) (home : Home) (x : Storage) (t : Typ) (r : Members) (d : syntax.Tree) → Read st r
-    → On (Read st) (member_declarator s home x t r d)
+declarator_read : (st : State) (s : List Lexeme) (home : Home) (x : Storage) (t : Typ) (r : Members) (d : syntax.Tree) → Read home.number st r
+    → On (Read home.number st) (member_declarator s home x t r d)
 declarator_read st s home x t r (syntax.node kind p token (syntax.more d rest)) e =
-    skip (Read st) (within_bounds (member_named s home.number r d)) _
-    (λ w. skip (Read st) (declared_by s r.state.ctx r.state.work (at_of p) t d) _
-    (λ y. skip (Read st) (check (at_of p) BadDeclaration (is_own_name y)) _
+    skip (Read home.number st) (within_bounds (member_named s home.number r d)) _
+    (λ w. skip (Read home.number st) (declared_by s r.state.ctx r.state.work (at_of p) t d) _
+    (λ y. skip (Read home.number st) (check (at_of p) BadDeclaration (is_own_name y)) _
     (λ z. declared_read st home r (at_of p) x (marks_from s no_marks rest) rest (name_of s y.name) y (form_in y.typ) e)))
 declarator_read st s home x t r (syntax.node kind p token syntax.none) e = tt
 
-declarators_read : (st : State) (s : List Lexeme) (home : Home) (r : Members) (at : At) (x : Started) (ds : syntax.Trees) → Read st r
-    → On (Read st) (member_declarators s home r at x ds)
+declarators_read : (st : State) (s : List Lexeme) (home : Home) (r : Members) (at : At) (x : Started) (ds : syntax.Trees) → Read home.number st r
+    → On (Read home.number st) (member_declarators s home r at x ds)
 declarators_read st s home r at x (syntax.more base ds) e =
-    skip (Read st) (type_of_specifiers s r.state.ctx r.state.work base) _
-    (λ t. each_holds (Read st) (member_declarator s home x.storage t) r ds e (λ y d i. declarator_read st s home x.storage t y d i))
+    skip (Read home.number st) (type_of_specifiers s r.state.ctx r.state.work base) _
+    (λ t. each_holds (Read home.number st) (member_declarator s home x.storage t) r ds e (λ y d i. declarator_read st s home x.storage t y d i))
 declarators_read st s home r at x syntax.none e = tt
 
-member_read : (st : State) (s : List Lexeme) (home : Home) (r : Members) (t : syntax.Tree) → Read st r → On (Read st) (member_of s home r t)
+member_read : (st : State) (s : List Lexeme) (home : Home) (r : Members) (t : syntax.Tree) → Read home.number st r → On (Read home.number st) (member_of s home r t)
 member_read st s home r (syntax.node k.AccessLabel p token kids) e = e
 member_read st s home r (syntax.node k.MemberDeclaration p token kids) e =
     declarators_read st s home r (at_of p) (started_from s no_storage kids) (started_from s no_storage kids).rest e
@@ -342,7 +358,7 @@ late_leaves lams q s home y members = follow of_state of_state y (all_defaults l
     (λ x. all_late_kept lams q s home.number home.name x members)
 
 closed_kept : (lams : Lambdas) → Lawful lams → (s : List Lexeme) (st : State) (home : Home) (at : At) (r : Members) (members : syntax.Trees)
-    → Read st r → IsWhole st.ctx.classes home.base → completion_of st.ctx.classes home.number ≡ None → On (Leaves st) (class_closed lams s home at r members)
+    → Read home.number st r → IsWhole st.ctx.classes home.base → completion_of st.ctx.classes home.number ≡ None → On (Leaves st) (class_closed lams s home at r members)
 closed_kept lams q s st home at r members i b e = bind (λ (d : Ctx). Leaves r.state (record r.state { ctx = d })) (Leaves st)
     (closed_class at home.number (completed r.state.ctx home at r.members r.initialised)) _
     (closed_leaves r.state home at r.members r.initialised (ap (λ (cs : List Class). completion_of cs home.number) i.classes ∙ e)
@@ -353,9 +369,9 @@ closed_kept lams q s st home at r members i b e = bind (λ (d : Ctx). Leaves r.s
 with_kept : (lams : Lambdas) → Lawful lams → (s : List Lexeme) (st : State) (at : At) (home : Home) (members : syntax.Trees)
     → IsWhole st.ctx.classes home.base → completion_of st.ctx.classes home.number ≡ None → On (Leaves st) (class_with lams s st at home members)
 with_kept lams q s st at home members b e =
-    bind (Read st) (Leaves st) (members_of s home (record { state = st; members = []; initialised = [] }) members) _
-    (each_holds (Read st) (member_of s home) (record { state = st; members = []; initialised = [] }) members
-    (record { classes = refl; leaves = stays st; are = λ i m h. absurd cc }) (λ r t i. member_read st s home r t i))
+    bind (Read home.number st) (Leaves st) (members_of s home (record { state = st; members = []; initialised = [] }) members) _
+    (each_holds (Read home.number st) (member_of s home) (record { state = st; members = []; initialised = [] }) members
+    (record { classes = refl; leaves = stays st; unclosed = e; are = λ i m h. absurd cc }) (λ r t i. member_read st s home r t i))
     (λ r i. closed_kept lams q s st home at r members i b e)
 
 -- The base

@@ -126,7 +126,7 @@ global_kept s st x at name t init = skip (Leaves st) (global_declarable st at na
 typed_kept : (s : List Lexeme) (st : State) (x : Storage) (at : At) (d : Declared) (init : syntax.Trees) (f : Form)
     → On (Leaves st) (declared_of_type s st x at d init f)
 typed_kept s st x at d syntax.none (func sig) = bind (Placing st.ctx) (Leaves st) (function_declared st.ctx (header_of s at x d sig) false) _
-    (function_further st.ctx (header_of s at x d sig) false (λ e. refl)) (λ p i. further_leaves st p.ctx i)
+    (function_further st.ctx (header_of s at x d sig) false (refl, refl)) (λ p i. further_leaves st p.ctx i)
 typed_kept s st x at d (syntax.more i is) (func sig) = tt
 typed_kept s st x at d init f = global_kept s st x at (name_of s d.name) (bound_by_initialiser s d.typ init) init
 

@@ -25,6 +25,8 @@ use Rattle.elab_contexts.proofs.Items.{Lawful}
 use Rattle.elab_contexts.proofs.Members.{method_kept}
 use Rattle.elab_rules.specs.cpp_tree.declared.program.FuncKind.TheVariants.{Plain}
 use Rattle.elab_contexts.specs.Steps.{view, Steps, none_yet, function_added, function_defined, SameFunction}
+use Rattle.elab_rules.specs.cpp_types.Class.{completion_of}
+use Rattle.elab_contexts.specs.Steps.{is_same_declared}
 
 -- Contexts with more steps behind them
 
@@ -76,32 +78,51 @@ outside_further s c i h first last =
 
 -- A declaration
 
-named_further : (c : Ctx) (at : At) (name : List ℕ) (o : Option Entity) → On (Further c) (function_named c at name o)
-named_further c at name None = record { walk = none_yet; same = refl }
-named_further c at name (Some x) = skip (Further c) (check at Redeclared (is_function_entity x.kind)) _ (λ y. no_further c)
-
-name_further : (c : Ctx) (h : Header) (o : Option ℕ) → On (Further c) (name_declared c h o)
-name_further c h (Some n) = no_further c
-name_further c h None = named_further c h.at h.name (innermost_of c.scopes h.name)
-
 abbrev pub Placing : Ctx → Placed → Type 0
 Placing c p = Further c p.ctx
 
-pub added_further : (c d : Ctx) (f : Func) → f.builtin ≡ None → (f.class ≡ None → f.kind ≡ Plain) → Further c d
-    → Further c (record d { funcs = d.funcs ++ f ∷ [] })
-added_further c d f b k g = further_on c d (record d { funcs = d.funcs ++ f ∷ [] }) g
-    (record { walk = one_step (function_added (record { func = f; is = refl; unknown = b; free = k })); same = refl })
+pub added_further : (c : Ctx) (f : Func) → f.builtin ≡ None → (f.class ≡ None → f.kind ≡ Plain)
+    → ((n : ℕ) → f.class ≡ Some n → completion_of c.classes n ≡ None) → first_from (is_same_declared f) 0 c.funcs ≡ None
+    → Further c (record c { funcs = c.funcs ++ f ∷ [] })
+added_further c f b k o n = record {
+  walk = one_step (function_added (record { func = f; is = refl; unknown = b; free = k; unclosed = o; fresh = n }));
+  same = refl;
+}
 
-in_further : (c : Ctx) (h : Header) (defines : Bool) (o : Option ℕ) → (h.class ≡ None → h.kind ≡ Plain) → On (Placing c) (declared_in c h defines o)
-in_further c h defines (Some i) k = skip (Placing c) (agrees h (func_at c.funcs i) defines) _ (λ y. no_further c)
-in_further c h defines None k = bind (Further c) (Placing c) (name_declared c h h.class) _ (name_further c h h.class)
-    (λ d i. added_further c d (new_function h) refl k i)
+-- at file scope
+abbrev pub IsFree : Header → Type 0
+IsFree h = (h.class ≡ None) × (h.kind ≡ Plain)
 
-pub function_further : (c : Ctx) (h : Header) (defines : Bool) → (h.class ≡ None → h.kind ≡ Plain) → On (Placing c) (function_declared c h defines)
+of_no_class : (o : Option ℕ) (n : ℕ) (A : Type 0) → o ≡ None → o ≡ Some n → A
+of_no_class None n A e f = absurd cc
+of_no_class (Some m) n A e f = absurd cc
+
+-- a context in which only a name is more
+record Named (c d : Ctx) : Type 0 where
+  walk : Further c d
+  funcs : d.funcs ≡ c.funcs
+
+named_only : (c : Ctx) (at : At) (name : List ℕ) (o : Option Entity) → On (Named c) (function_named c at name o)
+named_only c at name None = record { walk = record { walk = none_yet; same = refl }; funcs = refl }
+named_only c at name (Some x) = skip (Named c) (check at Redeclared (is_function_entity x.kind)) _ (λ y. record { walk = no_further c; funcs = refl })
+
+name_only : (c : Ctx) (h : Header) (o : Option ℕ) → On (Named c) (name_declared c h o)
+name_only c h (Some n) = record { walk = no_further c; funcs = refl }
+name_only c h None = named_only c h.at h.name (innermost_of c.scopes h.name)
+
+in_further : (c : Ctx) (h : Header) (defines : Bool) (o : Option ℕ) → first_from (is_same_function h) 0 c.funcs ≡ o → IsFree h
+    → On (Placing c) (declared_in c h defines o)
+in_further c h defines (Some i) q k = skip (Placing c) (agrees h (func_at c.funcs i) defines) _ (λ y. no_further c)
+in_further c h defines None q k = bind (Named c) (Placing c) (name_declared c h h.class) _ (name_only c h h.class)
+    (λ d x. further_on c d (record d { funcs = d.funcs ++ new_function h ∷ [] }) x.walk
+    (added_further d (new_function h) refl (λ e. k.1) (λ n e. of_no_class h.class n _ k.0 e)
+    (ap (λ (fs : List Func). first_from (is_same_declared (new_function h)) 0 fs) x.funcs ∙ q)))
+
+pub function_further : (c : Ctx) (h : Header) (defines : Bool) → IsFree h → On (Placing c) (function_declared c h defines)
 function_further c h defines k = skip (Placing c) (main_fits h) _
     (λ a. skip (Placing c) (check h.at BadDeclaration (not h.qualifiers.is_const)) _
     (λ b. skip (Placing c) (dynamic_fits h) _ (λ d. skip (Placing c) (check h.at OutOfProfile (not h.storage.is_c || may_be_c h)) _
-    (λ e. skip (Placing c) (header_sized c h) _ (λ z. in_further c h defines (first_from (is_same_function h) 0 c.funcs) k)))))
+    (λ e. skip (Placing c) (header_sized c h) _ (λ z. in_further c h defines (first_from (is_same_function h) 0 c.funcs) refl k)))))
 
 -- Members that are defined outside their class
 

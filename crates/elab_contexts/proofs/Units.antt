@@ -38,7 +38,7 @@ with_kept s st x at first d body (func sig) =
     let h : Header = header_of s at x d sig in
     let text : List ℕ = definition_text s x first body in
     skip (Leaves st) (text_sized at text) _
-    (λ y. bind (Placing st.ctx) (Leaves st) (function_declared st.ctx h true) _ (function_further st.ctx h true (λ e. refl)) (λ p i.
+    (λ y. bind (Placing st.ctx) (Leaves st) (function_declared st.ctx h true) _ (function_further st.ctx h true (refl, refl)) (λ p i.
     let c : Ctx = with_definition p.ctx p.place h text (closing_offset s body) in
     behind st (record st { ctx = c }) of_state (function_body lambdas_of s (record st { ctx = c }) h None p.place body)
     (further_leaves st c (further_on st.ctx p.ctx c i (definition_further p.ctx p.place h text (closing_offset s body))))

@@ -1,5 +1,7 @@
 -- What the declarations of a unit make, step by step, of its classes and functions.
-use Rattle.std.specs.Prelude.{◌≡◌, ℕ, true, false, nat_le, List, [], ◌∷◌, ◌++◌, Option, Some, None, is_some, slice_get, slice_set}
+use Rattle.std.specs.Prelude.{◌≡◌, ℕ, Bool, ◌&&◌, true, false, nat_le, List, [], ◌∷◌, ◌++◌, Option, Some, None, is_some, slice_get, slice_set}
+use Rattle.std.specs.Str.{bytes_eq}
+use Rattle.elab_rules.specs.cpp_types.Equal.{typs_eq, flag_eq}
 use Rattle.elab_rules.specs.cpp_types.Class.{Class, Member, Function, completion_of, held}
 use Rattle.elab_rules.specs.cpp_types.declared.classes.At.{At}
 use Rattle.elab_rules.specs.cpp_layout.Layout.{class_extent}
@@ -9,6 +11,9 @@ use Rattle.elab_rules.specs.cpp_tree.Typing.{is_reference}
 use Rattle.elab_rules.specs.cpp_tree.Units.{SlotFunc}
 use Rattle.elab_rules.specs.elab_ctx.Ctx.{Ctx, Func, Traits, Capture}
 use Rattle.elab_rules.specs.Objects.{no_traits}
+use Rattle.elab_rules.specs.Initialising.{signature_parameters}
+use Rattle.elab_rules.specs.Names.{same_variable}
+use Rattle.elab_rules.specs.Functions.{first_from}
 use Rattle.elab_rules.specs.Types.{Parameter, is_bounded}
 use Rattle.elab_rules.specs.Classes.{Home, class_named, completed}
 use Rattle.elab_rules.specs.Lambdas.{with_closure}
@@ -28,12 +33,20 @@ view c = record {
   funcs = c.funcs;
 }
 
+-- the same function: its name, its class, its parameters and `const`
+abbrev pub is_same_declared : Func → Func → Bool
+is_same_declared g f = bytes_eq f.declared.name g.declared.name && same_variable f.class g.class
+    && typs_eq (signature_parameters f.declared.signature) (signature_parameters g.declared.signature) && flag_eq f.declared.is_const g.declared.is_const
+
 -- a function is declared, at file scope or in a class: at file scope it is a plain one
 pub record FunctionAdded (a b : View) : Type 0 where
   pub func : Func
   pub is : b ≡ record a { funcs = a.funcs ++ func ∷ [] }
   pub unknown : func.builtin ≡ None
   pub free : func.class ≡ None → func.kind ≡ Plain
+  -- its class is still open, and no other function is the same
+  pub unclosed : (n : ℕ) → func.class ≡ Some n → completion_of a.classes n ≡ None
+  pub fresh : first_from (is_same_declared func) 0 a.funcs ≡ None
 
 -- what a function keeps where it is defined
 pub record SameFunction (f g : Func) : Type 0 where
