@@ -1,0 +1,21 @@
+pub use Rattle.elab_fits.proofs as elab_fits
+pub mod Anywhere
+pub mod Composed
+pub mod Constants
+pub mod Declared
+pub mod Fields
+pub mod Forms
+pub mod Full
+pub mod Handlers
+pub mod Items
+pub mod Labelled
+pub mod Parts
+pub mod Returning
+pub mod Roles
+pub mod Scalars
+pub mod Skipping
+pub mod Statements
+pub mod States
+pub mod Switches
+pub mod Variables
+pub mod Wholes
