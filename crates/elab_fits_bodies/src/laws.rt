@@ -1,0 +1,26 @@
+//! Laws of bodies. A function here does nothing: its clauses are the laws.
+
+ghost use Rattle.elab_fits_bodies.specs.Functions.{EndsServe, FunctionsFit};
+ghost use Rattle.elab_fits_bodies.specs.Parts.{OwnPartsStand, OwnBasesStand, PartsServe, PointersServe, ConstructorsFit, BasesDeferred, MembersDeferred, DestructorsFit};
+
+/// Bodies of functions and of lambdas.
+pub fn functions()
+    ensures ends { EndsServe }
+    ensures bodies { FunctionsFit }
+{}
+
+/// The parts of the object at hand.
+pub fn parts()
+    ensures members { OwnPartsStand }
+    ensures bases { OwnBasesStand }
+    ensures initialised { PartsServe }
+    ensures pointers { PointersServe }
+{}
+
+/// Bodies of constructors and destructors.
+pub fn members()
+    ensures constructors { ConstructorsFit }
+    ensures bases { BasesDeferred }
+    ensures members { MembersDeferred }
+    ensures destructors { DestructorsFit }
+{}
