@@ -4,3 +4,6 @@ pub use Rattle.elab_fits.proofs as elab_fits
 pub mod Ends
 pub mod Parts
 pub mod Bodies
+pub mod Plain
+pub mod Contexts
+pub mod Built

@@ -1,5 +1,6 @@
 //! Laws of bodies. A function here does nothing: its clauses are the laws.
 
+ghost use Rattle.elab_fits_bodies.specs.Built.{NothingsBuild, PartsBuild};
 ghost use Rattle.elab_fits_bodies.specs.Functions.{EndsServe, FunctionsFit};
 ghost use Rattle.elab_fits_bodies.specs.Parts.{OwnPartsStand, OwnBasesStand, PartsServe, PointersServe, ConstructorsFit, BasesDeferred, MembersDeferred, DestructorsFit};
 
@@ -23,4 +24,10 @@ pub fn members()
     ensures bases { BasesDeferred }
     ensures members { MembersDeferred }
     ensures destructors { DestructorsFit }
+{}
+
+/// What initialises the parts of an object under construction.
+pub fn built()
+    ensures nothing { NothingsBuild }
+    ensures parts { PartsBuild }
 {}
