@@ -7,3 +7,6 @@ pub mod Bodies
 pub mod Plain
 pub mod Contexts
 pub mod Built
+pub mod PlainCopies
+pub mod Copied
+pub mod Implied

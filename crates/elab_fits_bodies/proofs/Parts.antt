@@ -33,7 +33,7 @@ use Rattle.elab_fits_bodies.specs.Parts.{IsObjectOf, HasThis}
 
 -- Parts as lvalues
 
-number_fits : (s : Setting) (offset : ℕ) (at : At) → is_word_of ULong offset ≡ true → FitsAnywhere s Value (number ULong offset at)
+pub number_fits : (s : Setting) (offset : ℕ) (at : At) → is_word_of ULong offset ≡ true → FitsAnywhere s Value (number ULong offset at)
 number_fits s offset at h = λ p. node_fits s p Value (forms.Literal offset) (plain (int ULong)) Prvalue at none (only []) refl refl refl refl (both refl h) refl refl refl refl
 
 this_fits : (s : Setting) (n : ℕ) (at : At) → HasThis s n → FitsAnywhere s Value (this_pointer at (own_this n))

@@ -1,3 +1,4 @@
 pub mod Built
 pub mod Functions
 pub mod Parts
+pub mod Copied

@@ -1,6 +1,7 @@
 //! Laws of bodies. A function here does nothing: its clauses are the laws.
 
 ghost use Rattle.elab_fits_bodies.specs.Built.{NothingsBuild, PartsBuild};
+ghost use Rattle.elab_fits_bodies.specs.Copied.{SourcesStand, CopiesOfPartsBuild, PartsCopied};
 ghost use Rattle.elab_fits_bodies.specs.Functions.{EndsServe, FunctionsFit};
 ghost use Rattle.elab_fits_bodies.specs.Parts.{OwnPartsStand, OwnBasesStand, PartsServe, PointersServe, ConstructorsFit, BasesDeferred, MembersDeferred, DestructorsFit};
 
@@ -30,4 +31,11 @@ pub fn members()
 pub fn built()
     ensures nothing { NothingsBuild }
     ensures parts { PartsBuild }
+{}
+
+/// Implicit copies.
+pub fn copied()
+    ensures sources { SourcesStand }
+    ensures parts { CopiesOfPartsBuild }
+    ensures objects { PartsCopied }
 {}
