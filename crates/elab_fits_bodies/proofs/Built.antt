@@ -1,35 +1,35 @@
 -- What initialises the parts of an object under construction.
-use Rattle.std.proofs.Common.{◌≡◌, refl, sym, ap, ◌∙◌, subst, ℕ, zero, suc, ◌+◌, Bool, true, false, List, [], ◌∷◌, ◌++◌, slice_get, Option, Some, None}
+use Rattle.std.proofs.Common.{◌≡◌, refl, subst, ℕ, zero, suc, ◌+◌, Bool, true, false, List, [], ◌∷◌, ◌++◌, slice_get, Option, Some, None}
 use Rattle.std.proofs.Common.{Result, Ok, Err, arith}
 use Rattle.elab_rules.specs.cpp_types.Typ.{Typ, class}
 use Rattle.elab_rules.specs.cpp_types.Class.{Member}
 use Rattle.elab_rules.specs.cpp_types.declared.classes.At.{At}
 use Rattle.elab_rules.specs.cpp_tree.declared.faults.ElabFault.{ElabFault}
 use Rattle.elab_rules.specs.cpp_tree.declared.roles.Role.TheVariants.{BlockItem}
-use Rattle.elab_rules.specs.cpp_tree.Trees.{Tree, Trees, none, more, one}
+use Rattle.elab_rules.specs.cpp_tree.Trees.{Tree, Trees, one}
 use Rattle.elab_rules.specs.cpp_tree.Notation.{plain}
 use Rattle.elab_rules.specs.cpp_tree.Rows.{Setting}
 use Rattle.elab_rules.specs.elab_ctx.Ctx.{Ctx, Work, Default}
-use Rattle.elab_rules.specs.elab_ctx.Steps.{Made, and_then}
+use Rattle.elab_rules.specs.elab_ctx.Steps.{Made}
 use Rattle.elab_rules.specs.Braces.{default_at}
 use Rattle.elab_rules.specs.Calls.{pointer_offset, base_of_class}
 use Rattle.elab_rules.specs.Initialising.{from_nothing}
 use Rattle.elab_rules.specs.Names.{members_in, offset_at}
 use Rattle.elab_rules.specs.Objects.{destroys, followed_by}
-use Rattle.elab_rules.specs.Statements.{State, Done, default_object, with_work, holds_temporary}
+use Rattle.elab_rules.specs.Statements.{State, Done, default_object}
 use Rattle.elab_rules.specs.Members.{Given, given_for, own_part, own_base, part_init, pointer_stored, as_base_of, base_built, default_built, member_built}
 use Rattle.elab_rules.specs.Members.{members_built, parts_built}
 use Rattle.elab_fits.specs.Standing.{IsSetting, Reaches, On}
 use Rattle.elab_fits.specs.Objects.{DestroysOne, IsElementType}
 use Rattle.elab_fits.proofs.Destructions.{destructions_law}
 use Rattle.elab_fits.proofs.Steps.{bind, skip}
-use Rattle.elab_fits_objects.specs.Contexts.{IsObjectTyp, HasMakers}
+use Rattle.elab_fits_objects.specs.Contexts.{HasMakers}
 use Rattle.elab_fits_objects.specs.Making.{Makes}
 use Rattle.elab_fits_objects.proofs.Nothing.{nothing_builds}
-use Rattle.elab_fits_statements.specs.Anywhere.{BuildsAnywhere, Serves, AllServe}
+use Rattle.elab_fits_statements.specs.Anywhere.{BuildsAnywhere, AllServe}
 use Rattle.elab_fits_statements.proofs.Anywhere.{anywhere}
 use Rattle.elab_fits_statements.proofs.Items.{all_followed}
-use Rattle.elab_fits_bodies.specs.Parts.{IsObjectOf, HasParts}
+use Rattle.elab_fits_bodies.specs.Parts.{HasParts}
 use Rattle.elab_fits_bodies.specs.Built.{NothingsBuild, IsMember, own_default, MakesParts, PartsMade}
 use Rattle.elab_fits_bodies.proofs.Plain.{IsPlain, nothing_plain}
 use Rattle.elab_fits_bodies.proofs.Contexts.{object_same, makers_same, base_same, base_setting, cleared, cleared_same, cleared_setting}
@@ -98,9 +98,12 @@ module _ (s : Setting) (lambda : ℕ → Bool) (at : At) (n : ℕ) (gs : List Gi
 
   member_serves : (c : Ctx) (p : At) (i : ℕ) (m : Member) (e : Tree) → Ready s c lambda n gs → IsMember c n i m → BuildsAnywhere s m.typ e
       → AllServe s false false BlockItem (one (part_init c at p m.typ (own_part c.classes n p (offset_at c.classes n i) m.typ) e))
-  member_serves c p i m e r is b = (part_serves s c at p m.typ (own_part c.classes n p (offset_at c.classes n i) m.typ) e
-      (part_stands s c.classes n p (offset_at c.classes n i) m.typ r.parts.this (r.parts.offsets i)) b
-      (destroyed s c lambda at m.typ r.setting r.makers (r.parts.members i m is)), tt)
+  member_serves c p i m e r is b = (
+    part_serves s c at p m.typ (own_part c.classes n p (offset_at c.classes n i) m.typ) e
+        (part_stands s c.classes n p (offset_at c.classes n i) m.typ r.parts.this (r.parts.offsets i)) b
+        (destroyed s c lambda at m.typ r.setting r.makers (r.parts.members i m is)),
+    tt,
+  )
 
   -- what builds a member that is not written
   record Whole (st : State) (t : Typ) (m : Made) : Type 0 where
@@ -166,8 +169,11 @@ module _ (s : Setting) (lambda : ℕ → Bool) (at : At) (n : ℕ) (gs : List Gi
 
   base_serves : (c : Ctx) (p : At) (b : ℕ) (e : Tree) → Ready s c lambda n gs → base_of_class (slice_get c.classes n) ≡ Some b
       → BuildsAnywhere s (plain (class b)) e → ItemsServe (one (part_init c at p (plain (class b)) (own_base n p b) e))
-  base_serves c p b e r is x = (part_serves s c at p (plain (class b)) (own_base n p b) e (base_stands s n p b r.parts.this) x
-      (destroyed s c lambda at (plain (class b)) r.setting r.makers (r.parts.base b is)), tt)
+  base_serves c p b e r is x = (
+    part_serves s c at p (plain (class b)) (own_base n p b) e (base_stands s n p b r.parts.this) x
+        (destroyed s c lambda at (plain (class b)) r.setting r.makers (r.parts.base b is)),
+    tt,
+  )
 
   base_made : (st : State) (o : Option ℕ) (x : Option Given) → base_of_class (slice_get st.ctx.classes n) ≡ o → given_for None gs ≡ x
       → Ready s st.ctx lambda n gs → On ItemsServe (base_built st at n o x)

@@ -1,5 +1,5 @@
 -- Contexts that say the same of the program.
-use Rattle.std.proofs.Common.{◌≡◌, refl, sym, ap, ◌∙◌, subst, ℕ, zero, suc, Bool, true, false, List, [], ◌∷◌, slice_get, slice_set, Option, Some, None, unwrap_or}
+use Rattle.std.proofs.Common.{◌≡◌, refl, sym, ap, ◌∙◌, ℕ, zero, suc, Bool, true, false, List, [], ◌∷◌, slice_get, slice_set, Option, Some, unwrap_or}
 use Rattle.elab_rules.specs.cpp_types.Typ.{Typ, Typs, none as no_typs, more as and_typ}
 use Rattle.elab_rules.specs.cpp_types.Class.{Class}
 use Rattle.elab_rules.specs.cpp_tree.Typing.{form_in}
@@ -7,7 +7,7 @@ use Rattle.elab_rules.specs.cpp_tree.Parts.{holds_complete}
 use Rattle.elab_rules.specs.cpp_tree.Rows.{Setting}
 use Rattle.elab_rules.specs.elab_ctx.Ctx.{Ctx, Func, Traits, Special}
 use Rattle.elab_rules.specs.Initialising.{signature_parameters}
-use Rattle.elab_rules.specs.Objects.{Part, parts_of, traits_at, no_traits}
+use Rattle.elab_rules.specs.Objects.{parts_of, traits_at, no_traits}
 use Rattle.elab_rules.specs.Members.{as_base_of}
 use Rattle.elab_fits.specs.Standing.{IsSetting}
 use Rattle.elab_fits.specs.Objects.{is_ready, IsDestructorOf}

@@ -1,6 +1,5 @@
 -- A part that is copied from that of another object.
-use Rattle.std.proofs.Common.{◌≡◌, refl, sym, ap, ◌∙◌, subst, ℕ, Bool, true, false, ◌&&◌, ◌||◌, List, [], ◌∷◌, Some, None, eq-eqb}
-use Rattle.std.specs.Prelude.{if◌then◌else◌}
+use Rattle.std.proofs.Common.{◌≡◌, refl, sym, ap, ◌∙◌, subst, ℕ, Bool, true, false, ◌||◌, [], ◌∷◌, eq-eqb}
 use Rattle.elab_rules.specs.tx_ints.declared.kinds.IntKind.TheVariants.{ULong}
 use Rattle.elab_rules.specs.cpp_types.Typ.{Typ, typ, Form, void, int, enum, null, ptr, ref, array, func, class, closure, tx_ex}
 use Rattle.elab_rules.specs.cpp_types.Conversion.{is_lvalue}
@@ -10,22 +9,20 @@ use Rattle.elab_rules.specs.cpp_types.declared.ranks.Cat.TheVariants.{Lvalue, Pr
 use Rattle.elab_rules.specs.cpp_tree.declared.kinds.TKind.TheVariants as forms
 use Rattle.elab_rules.specs.cpp_tree.declared.roles.Role.TheVariants.{Value, Initialiser}
 use Rattle.elab_rules.specs.cpp_tree.Trees.{Tree, node, none, one, two, typ_in, cat_of}
-use Rattle.elab_rules.specs.cpp_tree.Typing.{head_of, form_in, is_class_typ, is_class_prvalue, same_shape, qualified}
+use Rattle.elab_rules.specs.cpp_tree.Typing.{form_in, is_class_typ, is_class_prvalue, same_shape, qualified}
 use Rattle.elab_rules.specs.cpp_tree.Roles.{only}
-use Rattle.elab_rules.specs.cpp_tree.Rows.{Setting, is_copied_from}
-use Rattle.elab_rules.specs.elab_ctx.Ctx.{Ctx, Work}
-use Rattle.elab_rules.specs.elab_ctx.Steps.{Operand, Made}
+use Rattle.elab_rules.specs.cpp_tree.Rows.{Setting}
+use Rattle.elab_rules.specs.elab_ctx.Steps.{Made}
 use Rattle.elab_rules.specs.Initialising.{class_from, closure_part}
 use Rattle.elab_rules.specs.Objects.{Part, is_array}
 use Rattle.elab_rules.specs.Values.{stored, valued, builder}
 use Rattle.elab_rules.specs.Statements.{State, holds_temporary}
-use Rattle.elab_rules.specs.Implicit.{source_object, own_operand, made, part_copied}
-use Rattle.elab_fits.specs.Standing.{FitsAs, IsExpressionType, Stands, IsSetting, Reaches, On}
-use Rattle.elab_fits.specs.Scalars.{is_scalar, Gives, IsOperand}
-use Rattle.elab_fits.specs.Objects.{CopiesOne}
+use Rattle.elab_rules.specs.Implicit.{source_object, own_operand, part_copied}
+use Rattle.elab_fits.specs.Standing.{IsExpressionType, Stands, IsSetting, Reaches, On}
+use Rattle.elab_fits.specs.Scalars.{is_scalar, Gives}
 use Rattle.elab_fits.proofs.Equal.{typ_refl, form_refl}
 use Rattle.elab_fits.proofs.Nodes.{both, or_left, clash, node_fits, head_typ, head_cat, of_value}
-use Rattle.elab_fits.proofs.Steps.{bind, either}
+use Rattle.elab_fits.proofs.Steps.{either}
 use Rattle.elab_fits.proofs.Values.{value_gives, stored_builds, scalar_type}
 use Rattle.elab_fits_objects.specs.Contexts.{is_sorted, copies_itself, IsObjectTyp, HasMakers, IsSource}
 use Rattle.elab_fits_objects.specs.Making.{Makes}
@@ -205,8 +202,11 @@ module _ (s : Setting) (st : State) (lambda : ℕ → Bool) (at : At) (i : IsSet
       (λ a. record { before = λ h. h; builds = λ h. array_copied t q e z o n })
       (λ a. either (CopyMade s st t) (is_class_typ t) _ _ (λ b. class_copied t (qualified q false t) e (still_class q false t b)
       (ap (is_sorted lambda) (class_qualified q false t b) ∙ (z.object b).sorted) (z.object b) o n)
-      (λ b. record { before = λ h. h; builds = λ h. scalar_copied t q e (rest_of (is_class_typ t) (is_scalar (form_in t)) b
-      (rest_of (is_array t) (is_class_typ t || is_scalar (form_in t)) a z.formed)) o n }))
+      (λ b. record {
+        before = λ h. h;
+        builds = λ h. scalar_copied t q e (rest_of (is_class_typ t) (is_scalar (form_in t)) b
+            (rest_of (is_array t) (is_class_typ t || is_scalar (form_in t)) a z.formed)) o n;
+      }))
 
 pub copies_of_parts : (s : Setting) (st : State) (lambda : ℕ → Bool) (at : At) (t : Typ) (q : Bool) (e : Tree) → IsSetting s st.ctx → HasMakers st.ctx lambda
     → IsCopied st.ctx lambda t → IsObjectOf s (qualified q false t) e → holds_temporary e ≡ false → On (CopyMade s st t) (part_copied st at t e)

@@ -1,6 +1,6 @@
 -- The parts of an implicit copy.
-use Rattle.std.proofs.Common.{◌≡◌, refl, sym, ap, ◌∙◌, subst, ℕ, zero, suc, ◌+◌, Bool, true, false, ◌&&◌, ◌||◌, not, List, [], ◌∷◌, slice_get, Option, Some, None, arith}
-use Rattle.std.proofs.Common.{eqb-true, ◌==◌}
+use Rattle.std.proofs.Common.{◌≡◌, refl, sym, ap, ◌∙◌, subst, ℕ, suc, ◌+◌, Bool, true, false, List, [], ◌∷◌, slice_get, Option, Some, None, arith}
+use Rattle.std.proofs.Common.{eqb-true}
 use Rattle.std.specs.Prelude.{if◌then◌else◌}
 use Rattle.elab_rules.specs.tx_ints.declared.kinds.BinOp.TheVariants.{Add}
 use Rattle.elab_rules.specs.tx_ints.declared.kinds.IntKind.{IntKind}
@@ -12,30 +12,28 @@ use Rattle.elab_rules.specs.cpp_types.declared.ranks.Cat.{Cat}
 use Rattle.elab_rules.specs.cpp_types.declared.ranks.Cat.TheVariants.{Lvalue}
 use Rattle.elab_rules.specs.cpp_tree.declared.kinds.TKind.TheVariants as forms
 use Rattle.elab_rules.specs.cpp_tree.declared.roles.Role.TheVariants.{Value, BlockItem}
-use Rattle.elab_rules.specs.cpp_tree.Trees.{Tree, Trees, none, more, one, two, typ_in, cat_of}
+use Rattle.elab_rules.specs.cpp_tree.Trees.{Tree, one, two, typ_in, cat_of}
 use Rattle.elab_rules.specs.cpp_tree.Notation.{plain}
-use Rattle.elab_rules.specs.cpp_tree.Typing.{Head, head_of, qualified, word_kind, is_kind, same_kind, gives, is_word_of}
+use Rattle.elab_rules.specs.cpp_tree.Typing.{head_of, qualified, word_kind, is_kind, same_kind, gives, is_word_of}
 use Rattle.elab_rules.specs.cpp_tree.Roles.{only}
 use Rattle.elab_rules.specs.cpp_tree.Rows.{Setting}
-use Rattle.elab_rules.specs.elab_ctx.Ctx.{Ctx, Work}
-use Rattle.elab_rules.specs.elab_ctx.Steps.{Made}
+use Rattle.elab_rules.specs.elab_ctx.Ctx.{Ctx}
 use Rattle.elab_rules.specs.Calls.{pointer_offset, base_of_class}
 use Rattle.elab_rules.specs.Initialising.{as_source, as_base, same_number, class_number, class_from}
 use Rattle.elab_rules.specs.Names.{members_in, offset_at}
 use Rattle.elab_rules.specs.Objects.{followed_by}
-use Rattle.elab_rules.specs.Values.{number, part_at, retyped}
-use Rattle.elab_rules.specs.Members.{own_part, own_base, part_init, pointer_stored, as_base_of}
+use Rattle.elab_rules.specs.Values.{number, part_at}
+use Rattle.elab_rules.specs.Members.{own_part, own_base, pointer_stored, as_base_of}
 use Rattle.elab_rules.specs.Statements.{State, Done, with_work, holds_temporary}
-use Rattle.elab_rules.specs.Implicit.{own_operand, part_copied, part_of_source, part_done, members_copied, base_copied, parts_copied}
-use Rattle.elab_fits.specs.Standing.{IsSetting, Reaches, On}
+use Rattle.elab_rules.specs.Implicit.{own_operand, part_copied, part_of_source, members_copied, base_copied, parts_copied}
+use Rattle.elab_fits.specs.Standing.{IsSetting, On}
 use Rattle.elab_fits.proofs.Nodes.{both, or_left, head_cat, node_fits, one_value, two_values}
 use Rattle.elab_fits.proofs.Steps.{bind}
-use Rattle.elab_fits_objects.specs.Contexts.{IsObjectTyp, HasMakers}
-use Rattle.elab_fits_statements.specs.Anywhere.{AllServe}
+use Rattle.elab_fits_objects.specs.Contexts.{HasMakers}
 use Rattle.elab_fits_statements.proofs.Items.{all_followed}
 use Rattle.elab_fits_bodies.specs.Parts.{IsObjectOf, HasParts}
 use Rattle.elab_fits_bodies.specs.Built.{IsMember, PartsMade}
-use Rattle.elab_fits_bodies.specs.Copied.{IsCopied, CopyMade, CopiesParts}
+use Rattle.elab_fits_bodies.specs.Copied.{CopyMade, CopiesParts}
 use Rattle.elab_fits_bodies.proofs.Plain.{IsPlain}
 use Rattle.elab_fits_bodies.proofs.PlainCopies.{two_plain, source_plain}
 use Rattle.elab_fits_bodies.proofs.Contexts.{object_same, makers_same, base_same, base_setting, cleared, cleared_same, cleared_setting}
@@ -136,9 +134,12 @@ module _ (s : Setting) (lambda : ℕ → Bool) (at : At) (n : ℕ) (source : Tre
       (members_made (with_work st x.work) (suc i) ms (cleared_ready s st.ctx lambda n r) (rest_from st.ctx i m ms f))
       (λ d b. record {
         before = λ h. a.before (b.before h);
-        serve = λ h. (part_serves s st.ctx at at m.typ (own_part st.ctx.classes n at (offset_at st.ctx.classes n i) m.typ) x.tree
-            (part_stands s st.ctx.classes n at (offset_at st.ctx.classes n i) m.typ r.parts.this (r.parts.offsets i)) (a.builds (b.before h))
-            (destroyed s st.ctx lambda at m.typ r.setting r.makers (r.parts.members i m (first_from st.ctx i m ms f))), b.serve h);
+        serve = λ h. (
+          part_serves s st.ctx at at m.typ (own_part st.ctx.classes n at (offset_at st.ctx.classes n i) m.typ) x.tree
+              (part_stands s st.ctx.classes n at (offset_at st.ctx.classes n i) m.typ r.parts.this (r.parts.offsets i)) (a.builds (b.before h))
+              (destroyed s st.ctx lambda at m.typ r.setting r.makers (r.parts.members i m (first_from st.ctx i m ms f))),
+          b.serve h,
+        );
       }))
 
   -- The base
@@ -160,8 +161,11 @@ module _ (s : Setting) (lambda : ℕ → Bool) (at : At) (n : ℕ) (source : Tre
       (λ x a. record {
         made = record {
           before = a.before;
-          serve = λ h. (part_serves s st.ctx at at (plain (class b)) (own_base n at b) x.tree (base_stands s n at b r.parts.this) (a.builds h)
-              (destroyed s st.ctx lambda at (plain (class b)) r.setting r.makers (r.parts.base b e)), tt);
+          serve = λ h. (
+            part_serves s st.ctx at at (plain (class b)) (own_base n at b) x.tree (base_stands s n at b r.parts.this) (a.builds h)
+                (destroyed s st.ctx lambda at (plain (class b)) r.setting r.makers (r.parts.base b e)),
+            tt,
+          );
         };
         ready = cleared_ready s st.ctx lambda n r;
         members = λ i m h. h;

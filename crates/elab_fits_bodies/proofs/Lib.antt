@@ -10,3 +10,4 @@ pub mod Built
 pub mod PlainCopies
 pub mod Copied
 pub mod Implied
+pub mod Members

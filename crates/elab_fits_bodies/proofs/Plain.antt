@@ -1,8 +1,8 @@
 -- What is made of nothing has no temporary in it.
-use Rattle.std.proofs.Common.{◌≡◌, refl, ℕ, Bool, true, false, ◌&&◌, ◌||◌, List, [], ◌∷◌, ◌*◌}
+use Rattle.std.proofs.Common.{◌≡◌, refl, ℕ, Bool, true, false, ◌||◌, List, [], ◌∷◌}
 use Rattle.std.specs.Prelude.{if◌then◌else◌}
 use Rattle.std.proofs.lemmas.Bool.{and_parts}
-use Rattle.elab_rules.specs.cpp_types.Typ.{Typ, typ, Form, void, int, enum, null, ptr, ref, array, func, class, closure, tx_ex}
+use Rattle.elab_rules.specs.cpp_types.Typ.{Typ, Form, void, int, enum, null, ptr, ref, array, func, class, closure, tx_ex}
 use Rattle.elab_rules.specs.cpp_types.declared.classes.At.{At}
 use Rattle.elab_rules.specs.cpp_tree.declared.kinds.TKind.{TKind}
 use Rattle.elab_rules.specs.cpp_tree.declared.kinds.TKind.TheVariants.{Materialize}
@@ -11,8 +11,8 @@ use Rattle.elab_rules.specs.cpp_tree.Typing.{form_in}
 use Rattle.elab_rules.specs.cpp_tree.WellFormed.{is_zeroing, is_zero, are_zero}
 use Rattle.elab_rules.specs.elab_ctx.Ctx.{Ctx, Special, absent, trivial, function}
 use Rattle.elab_rules.specs.Objects.{Part, followed_by, zeros, destroyed, destroys_in, destroys_at, backwards, destroys_of, destroys, element_of, count_in}
-use Rattle.elab_rules.specs.Objects.{stride_of, parts_of, traits_at, is_array, size_of}
-use Rattle.elab_rules.specs.Initialising.{makeable, each_constructed, default_by, default_in, from_nothing}
+use Rattle.elab_rules.specs.Objects.{stride_of, parts_of, traits_at, is_array}
+use Rattle.elab_rules.specs.Initialising.{makeable, default_by, default_in, from_nothing}
 use Rattle.elab_rules.specs.Statements.{is_temporary_with, holds_temporary, hold_temporary}
 use Rattle.elab_fits.specs.Standing.{On}
 use Rattle.elab_fits.proofs.AreZeros.{are_zero_law}

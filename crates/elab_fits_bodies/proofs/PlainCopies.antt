@@ -16,16 +16,16 @@ use Rattle.elab_rules.specs.cpp_types.declared.ranks.Step.TheVariants.{NullPoint
 use Rattle.elab_rules.specs.cpp_overload.Choosing.{chosen}
 use Rattle.elab_rules.specs.cpp_tree.declared.kinds.TKind.TheVariants.{Pieces}
 use Rattle.elab_rules.specs.cpp_tree.declared.faults.IllRule.TheVariants.{NoConversion, NoCopy, OutOfProfile}
-use Rattle.elab_rules.specs.cpp_tree.Trees.{Tree, node, Trees, none, more, one, two, typ_in, cat_of}
+use Rattle.elab_rules.specs.cpp_tree.Trees.{Tree, node, one, two, typ_in, cat_of}
 use Rattle.elab_rules.specs.cpp_tree.Typing.{form_in, kind_in, unqualified, is_volatile_typ, is_class_typ, is_class_prvalue, without_exception}
 use Rattle.elab_rules.specs.elab_ctx.Ctx.{Ctx, Work, Special, absent, trivial, function}
-use Rattle.elab_rules.specs.elab_ctx.Steps.{and_then, expect, check, Operand, Made, MadeAll}
-use Rattle.elab_rules.specs.Values.{retyped, loaded, value_in, valued, retyped_if, between, converted, stepped, stored_as, stored, temporary, builder}
+use Rattle.elab_rules.specs.elab_ctx.Steps.{expect, check, Operand, Made, MadeAll}
+use Rattle.elab_rules.specs.Values.{loaded, value_in, valued, retyped_if, between, stepped, stored_as, stored, temporary, builder}
 use Rattle.elab_rules.specs.Objects.{Part, whole, whole_form, class_whole, as_closure, pieces, copy_leaf, copied_scalar, copies, parts_of, traits_at, is_array, element_of}
 use Rattle.elab_rules.specs.Objects.{destroys}
-use Rattle.elab_rules.specs.Initialising.{object_of, seen_as, with_tree, bound_by, conversion, initial, argument, meant, makers, constructor_at, parameters_at, as_base}
+use Rattle.elab_rules.specs.Initialising.{object_of, bound_by, conversion, initial, argument, meant, makers, constructor_at, parameters_at, as_base}
 use Rattle.elab_rules.specs.Initialising.{as_source, reference_word, constructed_copy, has_copy, copied_object, copied_part, copy_of_held, closure_part, closure_piece, qualified_part}
-use Rattle.elab_rules.specs.Initialising.{closure_pieces, closure_copied, exception_copied, exception_made, class_from, class_number, same_number, is_closure_itself, is_prvalue_of_class}
+use Rattle.elab_rules.specs.Initialising.{closure_pieces, class_from, class_number, same_number, is_closure_itself, is_prvalue_of_class}
 use Rattle.elab_rules.specs.Initialising.{is_same_or_base, makeable}
 use Rattle.elab_rules.specs.Statements.{holds_temporary, hold_temporary}
 use Rattle.elab_fits.specs.Standing.{On}

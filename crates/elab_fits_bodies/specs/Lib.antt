@@ -2,3 +2,4 @@ pub mod Built
 pub mod Functions
 pub mod Parts
 pub mod Copied
+pub mod Implied

@@ -3,6 +3,7 @@
 ghost use Rattle.elab_fits_bodies.specs.Built.{NothingsBuild, PartsBuild};
 ghost use Rattle.elab_fits_bodies.specs.Copied.{SourcesStand, CopiesOfPartsBuild, PartsCopied};
 ghost use Rattle.elab_fits_bodies.specs.Functions.{EndsServe, FunctionsFit};
+ghost use Rattle.elab_fits_bodies.specs.Implied.{DefaultsImplied, CopiesImplied, DestructorsImplied};
 ghost use Rattle.elab_fits_bodies.specs.Parts.{OwnPartsStand, OwnBasesStand, PartsServe, PointersServe, ConstructorsFit, BasesDeferred, MembersDeferred, DestructorsFit};
 
 /// Bodies of functions and of lambdas.
@@ -38,4 +39,11 @@ pub fn copied()
     ensures sources { SourcesStand }
     ensures parts { CopiesOfPartsBuild }
     ensures objects { PartsCopied }
+{}
+
+/// Bodies of implicit members.
+pub fn implied()
+    ensures defaults { DefaultsImplied }
+    ensures copies { CopiesImplied }
+    ensures destructors { DestructorsImplied }
 {}
