@@ -32,7 +32,7 @@ use Rattle.elab_fits_statements.proofs.Items.{all_followed}
 use Rattle.elab_fits_bodies.specs.Parts.{HasParts}
 use Rattle.elab_fits_bodies.specs.Built.{NothingsBuild, IsMember, own_default, MakesParts, PartsMade}
 use Rattle.elab_fits_bodies.proofs.Plain.{IsPlain, nothing_plain}
-use Rattle.elab_fits_bodies.proofs.Contexts.{object_same, makers_same, base_same, base_setting, cleared, cleared_same, cleared_setting}
+use Rattle.elab_fits_bodies.proofs.Contexts.{object_same, makers_same, base_same, base_setting, cleared, cleared_same, cleared_setting, MembersFrom, first_member, rest_members, all_members}
 use Rattle.elab_fits_bodies.proofs.Parts.{part_stands, base_stands, part_serves}
 use Rattle.elab_fits_bodies.proofs.Bodies.{pointer_kept}
 
@@ -140,23 +140,13 @@ module _ (s : Setting) (lambda : ℕ → Bool) (at : At) (n : ℕ) (gs : List Gi
         members = λ j y h. h;
       })
 
-  -- the members from one on
-  abbrev From : Ctx → ℕ → List Member → Type 0
-  From c i ms = (j : ℕ) (m : Member) → slice_get ms j ≡ Some m → IsMember c n (i + j) m
-
-  first_from : (c : Ctx) (i : ℕ) (m : Member) (ms : List Member) → From c i (m ∷ ms) → IsMember c n i m
-  first_from c i m ms f = let z : i + 0 ≡ i = omega arith in subst (λ (k : ℕ). IsMember c n k m) z (f 0 m refl)
-
-  rest_from : (c : Ctx) (i : ℕ) (m : Member) (ms : List Member) → From c i (m ∷ ms) → From c (suc i) ms
-  rest_from c i m ms f = λ j x e. let z : i + suc j ≡ suc i + j = omega arith in subst (λ (k : ℕ). IsMember c n k x) z (f (suc j) x e)
-
-  members_made : (st : State) (i : ℕ) (ms : List Member) → Ready s st.ctx lambda n gs → From st.ctx i ms
+  members_made : (st : State) (i : ℕ) (ms : List Member) → Ready s st.ctx lambda n gs → MembersFrom st.ctx n i ms
       → On (PartsMade s st) (members_built at n gs st i ms)
   members_made st i [] r f = record { before = λ h. h; serve = λ h. tt }
   members_made st i (m ∷ ms) r f = bind (Step st) (PartsMade s st) (member_built st at n i m.typ (given_for (Some i) gs)) _
-      (member_made st i m (given_for (Some i) gs) refl r (first_from st.ctx i m ms f))
+      (member_made st i m (given_for (Some i) gs) refl r (first_member st.ctx n i m ms f))
       (λ x a. bind (PartsMade s x.state) (PartsMade s st) (members_built at n gs x.state (suc i) ms) _
-      (members_made x.state (suc i) ms a.ready (λ j y e. a.members (suc i + j) y (rest_from st.ctx i m ms f j y e)))
+      (members_made x.state (suc i) ms a.ready (λ j y e. a.members (suc i + j) y (rest_members st.ctx n i m ms f j y e)))
       (λ y b. record {
         before = λ h. a.made.before (b.before h);
         serve = λ h. all_followed s false false BlockItem x.trees y.trees (a.made.serve (b.before h)) (b.serve h);
@@ -190,7 +180,7 @@ module _ (s : Setting) (lambda : ℕ → Bool) (at : At) (n : ℕ) (gs : List Gi
       (base_made st (base_of_class (slice_get st.ctx.classes n)) (given_for None gs) refl refl r)
       (λ b h. bind (PartsMade s st) (PartsMade s st) (members_built at n gs st 0 (members_in (slice_get st.ctx.classes n))) _
       (members_made st 0 (members_in (slice_get st.ctx.classes n)) r
-      (λ j m e. let z : j ≡ 0 + j = omega arith in subst (λ (k : ℕ). IsMember st.ctx n k m) z e))
+      (all_members st.ctx n (members_in (slice_get st.ctx.classes n)) (λ j m e. e)))
       (λ d k. record {
         before = k.before;
         serve = λ g. all_followed s false false BlockItem b (followed_by (pointer_stored at n (pointer_offset st.ctx.classes n)) d.trees) h

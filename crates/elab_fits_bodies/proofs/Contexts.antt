@@ -1,7 +1,7 @@
 -- Contexts that say the same of the program.
-use Rattle.std.proofs.Common.{◌≡◌, refl, sym, ap, ◌∙◌, ℕ, zero, suc, Bool, true, false, List, [], ◌∷◌, slice_get, slice_set, Option, Some, unwrap_or}
+use Rattle.std.proofs.Common.{◌≡◌, refl, sym, ap, ◌∙◌, subst, ℕ, zero, suc, ◌+◌, arith, Bool, true, false, List, [], ◌∷◌, slice_get, slice_set, Option, Some, unwrap_or}
 use Rattle.elab_rules.specs.cpp_types.Typ.{Typ, Typs, none as no_typs, more as and_typ}
-use Rattle.elab_rules.specs.cpp_types.Class.{Class}
+use Rattle.elab_rules.specs.cpp_types.Class.{Class, Member}
 use Rattle.elab_rules.specs.cpp_tree.Typing.{form_in}
 use Rattle.elab_rules.specs.cpp_tree.Parts.{holds_complete}
 use Rattle.elab_rules.specs.cpp_tree.Rows.{Setting}
@@ -12,6 +12,7 @@ use Rattle.elab_rules.specs.Members.{as_base_of}
 use Rattle.elab_fits.specs.Standing.{IsSetting}
 use Rattle.elab_fits.specs.Objects.{is_ready, IsDestructorOf}
 use Rattle.elab_fits_objects.specs.Contexts.{is_whole, IsObjectTyp, IsParameter, AreParameters, IsConstructorOf, HasMakers}
+use Rattle.elab_fits_bodies.specs.Built.{IsMember}
 
 -- the same classes and functions, and the same special members
 pub record Same (c d : Ctx) : Type 0 where
@@ -91,3 +92,17 @@ cleared_same c = record { classes = refl; funcs = refl; destructors = λ n. refl
 
 pub cleared_setting : (s : Setting) (c : Ctx) → IsSetting s c → IsSetting s (cleared c)
 cleared_setting s c i = record { classes = i.classes; ordered = i.ordered; slots = i.slots; funcs = i.funcs }
+
+-- The members of a class from one on
+
+abbrev pub MembersFrom : Ctx → (n i : ℕ) → List Member → Type 0
+MembersFrom c n i ms = (j : ℕ) (m : Member) → slice_get ms j ≡ Some m → IsMember c n (i + j) m
+
+pub first_member : (c : Ctx) (n i : ℕ) (m : Member) (ms : List Member) → MembersFrom c n i (m ∷ ms) → IsMember c n i m
+first_member c n i m ms f = let z : i + 0 ≡ i = omega arith in subst (λ (k : ℕ). IsMember c n k m) z (f 0 m refl)
+
+pub rest_members : (c : Ctx) (n i : ℕ) (m : Member) (ms : List Member) → MembersFrom c n i (m ∷ ms) → MembersFrom c n (suc i) ms
+rest_members c n i m ms f = λ j x e. let z : i + suc j ≡ suc i + j = omega arith in subst (λ (k : ℕ). IsMember c n k x) z (f (suc j) x e)
+
+pub all_members : (c : Ctx) (n : ℕ) (ms : List Member) → ((j : ℕ) (m : Member) → slice_get ms j ≡ Some m → IsMember c n j m) → MembersFrom c n 0 ms
+all_members c n ms f = λ j m e. let z : j ≡ 0 + j = omega arith in subst (λ (k : ℕ). IsMember c n k m) z (f j m e)

@@ -144,9 +144,9 @@ module _ (s : Setting) (st : State) (lambda : ℕ → Bool) (at : At) (i : IsSet
       (keeping.class_from s st.ctx st.work t at (own_operand at e)) (λ x g h. (g, h)))
       (λ x g h. record { before = h.1; builds = λ r. made_anywhere s t x.tree (g r) h.0 })
 
-  scalar_by : (f : Form) (c v q : Bool) (e : Tree) → is_scalar f ≡ true → Gives s f (valued at e) → IsPlain e
+  scalar_by : (f : Form) (c v : Bool) (e : Tree) → is_scalar f ≡ true → Gives s f (valued at e) → IsPlain e
       → BuildsAnywhere s (typ f c v) (stored at (typ f c v) (valued at e))
-  scalar_by f c v q e k g n =
+  scalar_by f c v e k g n =
       let b = stored_builds s at f c v (valued at e) g in
       record {
         fits = anywhere s Initialiser (stored at (typ f c v) (valued at e)) b.fits (stored_plain at (typ f c v) (valued at e) (valued_plain at e n));
@@ -180,10 +180,10 @@ module _ (s : Setting) (st : State) (lambda : ℕ → Bool) (at : At) (i : IsSet
 
   scalar_copied : (t : Typ) (q : Bool) (e : Tree) → is_scalar (form_in t) ≡ true → IsObjectOf s (qualified q false t) e → IsPlain e
       → BuildsAnywhere s t (stored at t (valued at e))
-  scalar_copied (typ (int j) c v) q e k o n = scalar_by (int j) c v q e refl (scalar_given (int j) (q || c) v e refl o) n
-  scalar_copied (typ (enum x y) c v) q e k o n = scalar_by (enum x y) c v q e refl (scalar_given (enum x y) (q || c) v e refl o) n
-  scalar_copied (typ null c v) q e k o n = scalar_by null c v q e refl (scalar_given null (q || c) v e refl o) n
-  scalar_copied (typ (ptr u) c v) q e k o n = scalar_by (ptr u) c v q e refl (scalar_given (ptr u) (q || c) v e refl o) n
+  scalar_copied (typ (int j) c v) q e k o n = scalar_by (int j) c v e refl (scalar_given (int j) (q || c) v e refl o) n
+  scalar_copied (typ (enum x y) c v) q e k o n = scalar_by (enum x y) c v e refl (scalar_given (enum x y) (q || c) v e refl o) n
+  scalar_copied (typ null c v) q e k o n = scalar_by null c v e refl (scalar_given null (q || c) v e refl o) n
+  scalar_copied (typ (ptr u) c v) q e k o n = scalar_by (ptr u) c v e refl (scalar_given (ptr u) (q || c) v e refl o) n
   scalar_copied (typ void c v) q e k o n = absurd cc
   scalar_copied (typ (ref u) c v) q e k o n = absurd cc
   scalar_copied (typ (array u x) c v) q e k o n = absurd cc

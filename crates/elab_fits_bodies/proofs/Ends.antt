@@ -145,10 +145,9 @@ end_serves s c t at i r = by_void (is_void t) refl
 
 -- Bodies
 
-last_followed : (ts us : Trees) (a b : Bool) → last_is_return a us ≡ true → last_is_return b us ≡ true → ((x : Bool) → last_is_return x us ≡ true)
-    → last_is_return a (followed_by ts us) ≡ true
-last_followed none us a b h g f = f a
-last_followed (more t ts) us a b h g f = last_followed ts us (is_return (kind_of t)) b (f (is_return (kind_of t))) g f
+last_followed : (ts us : Trees) (a : Bool) → ((x : Bool) → last_is_return x us ≡ true) → last_is_return a (followed_by ts us) ≡ true
+last_followed none us a f = f a
+last_followed (more t ts) us a f = last_followed ts us (is_return (kind_of t)) f
 
 pub body_ends : (c : Ctx) (t : Typ) (at : At) (ts : Trees) → (is_void t || last_is_return false (followed_by ts (end_of c t at))) ≡ true
 body_ends c t at ts = by_void (is_void t)
@@ -161,7 +160,7 @@ body_ends c t at ts = by_void (is_void t)
     by_void : (b : Bool) → (b || last_is_return false (followed_by ts (if b then none else (if is_class_typ t then two (result_zeroed c t at) (void_at forms.Return at none)
         else one (void_at forms.Return at (one (zero_result t at))))))) ≡ true
     by_void true = refl
-    by_void false = last_followed ts _ false false (by_class (is_class_typ t) false) (by_class (is_class_typ t) false) (λ x. by_class (is_class_typ t) x)
+    by_void false = last_followed ts _ false (λ x. by_class (is_class_typ t) x)
 
 plain_block : (k : FuncKind) → is_constructor k ≡ false → is_body_of k (forms.Block false) ≡ true
 plain_block k h = ap (λ (b : Bool). flag_eq false b) h

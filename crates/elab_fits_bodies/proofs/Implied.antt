@@ -36,7 +36,7 @@ use Rattle.elab_fits_bodies.specs.Built.{IsMember, PartsMade}
 use Rattle.elab_fits_bodies.specs.Copied.{CopyMade, CopiesParts}
 use Rattle.elab_fits_bodies.proofs.Plain.{IsPlain}
 use Rattle.elab_fits_bodies.proofs.PlainCopies.{two_plain, source_plain}
-use Rattle.elab_fits_bodies.proofs.Contexts.{object_same, makers_same, base_same, base_setting, cleared, cleared_same, cleared_setting}
+use Rattle.elab_fits_bodies.proofs.Contexts.{object_same, makers_same, base_same, base_setting, cleared, cleared_same, cleared_setting, MembersFrom, first_member, rest_members, all_members}
 use Rattle.elab_fits_bodies.proofs.Parts.{number_fits, part_stands, base_stands, part_serves}
 use Rattle.elab_fits_bodies.proofs.Bodies.{pointer_kept}
 use Rattle.elab_fits_bodies.proofs.Built.{destroyed}
@@ -110,34 +110,25 @@ module _ (s : Setting) (lambda : ℕ → Bool) (at : At) (n : ℕ) (source : Tre
     (plain_source : IsPlain source) where
   -- Members
 
-  abbrev From : Ctx → ℕ → List Member → Type 0
-  From c i ms = (j : ℕ) (m : Member) → slice_get ms j ≡ Some m → IsMember c n (i + j) m
-
-  first_from : (c : Ctx) (i : ℕ) (m : Member) (ms : List Member) → From c i (m ∷ ms) → IsMember c n i m
-  first_from c i m ms f = let z : i + 0 ≡ i = omega arith in subst (λ (k : ℕ). IsMember c n k m) z (f 0 m refl)
-
-  rest_from : (c : Ctx) (i : ℕ) (m : Member) (ms : List Member) → From c i (m ∷ ms) → From c (suc i) ms
-  rest_from c i m ms f = λ j x e. let z : i + suc j ≡ suc i + j = omega arith in subst (λ (k : ℕ). IsMember c n k x) z (f (suc j) x e)
-
   member_made : (st : State) (i : ℕ) (m : Member) → Ready s st.ctx lambda n → IsMember st.ctx n i m
       → On (CopyMade s st m.typ) (part_copied st at m.typ (part_of_source st.ctx n at source q i m.typ))
   member_made st i m r is = copied s st lambda at r.setting r.makers m.typ q (part_of_source st.ctx n at source q i m.typ) (r.copies.members i m is)
       (source_part s (offset_at st.ctx.classes n i) (qualified q false m.typ) (typ (class n) q false) at source o (r.parts.offsets i))
       (two_plain source (number ULong (offset_at st.ctx.classes n i) at) plain_source refl)
 
-  members_made : (st : State) (i : ℕ) (ms : List Member) → Ready s st.ctx lambda n → From st.ctx i ms
+  members_made : (st : State) (i : ℕ) (ms : List Member) → Ready s st.ctx lambda n → MembersFrom st.ctx n i ms
       → On (PartsMade s st) (members_copied at n source q st i ms)
   members_made st i [] r f = record { before = λ h. h; serve = λ h. tt }
   members_made st i (m ∷ ms) r f = bind (CopyMade s st m.typ) (PartsMade s st) (part_copied st at m.typ (part_of_source st.ctx n at source q i m.typ)) _
-      (member_made st i m r (first_from st.ctx i m ms f))
+      (member_made st i m r (first_member st.ctx n i m ms f))
       (λ x a. bind (PartsMade s (with_work st x.work)) (PartsMade s st) (members_copied at n source q (with_work st x.work) (suc i) ms) _
-      (members_made (with_work st x.work) (suc i) ms (cleared_ready s st.ctx lambda n r) (rest_from st.ctx i m ms f))
+      (members_made (with_work st x.work) (suc i) ms (cleared_ready s st.ctx lambda n r) (rest_members st.ctx n i m ms f))
       (λ d b. record {
         before = λ h. a.before (b.before h);
         serve = λ h. (
           part_serves s st.ctx at at m.typ (own_part st.ctx.classes n at (offset_at st.ctx.classes n i) m.typ) x.tree
               (part_stands s st.ctx.classes n at (offset_at st.ctx.classes n i) m.typ r.parts.this (r.parts.offsets i)) (a.builds (b.before h))
-              (destroyed s st.ctx lambda at m.typ r.setting r.makers (r.parts.members i m (first_from st.ctx i m ms f))),
+              (destroyed s st.ctx lambda at m.typ r.setting r.makers (r.parts.members i m (first_member st.ctx n i m ms f))),
           b.serve h,
         );
       }))
@@ -176,7 +167,7 @@ module _ (s : Setting) (lambda : ℕ → Bool) (at : At) (n : ℕ) (source : Tre
       (base_made st (base_of_class (slice_get st.ctx.classes n)) refl r)
       (λ b a. bind (PartsMade s b.state) (PartsMade s st) (members_copied at n source q b.state 0 (members_in (slice_get st.ctx.classes n))) _
       (members_made b.state 0 (members_in (slice_get st.ctx.classes n)) a.ready
-      (λ j m e. let z : j ≡ 0 + j = omega arith in subst (λ (k : ℕ). IsMember b.state.ctx n k m) z (a.members j m e)))
+      (all_members b.state.ctx n (members_in (slice_get st.ctx.classes n)) a.members))
       (λ d k. record {
         before = λ h. a.made.before (k.before h);
         serve = λ g. all_followed s false false BlockItem b.trees (followed_by (pointer_stored at n (pointer_offset st.ctx.classes n)) d.trees)

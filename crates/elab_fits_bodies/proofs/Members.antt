@@ -47,9 +47,6 @@ made_fits : (s : Setting) (before : State) (at : At) (k : ℕ) (tree : Tree) (st
     → On (LastFits s) (body_made before at k tree st)
 made_fits s before at k tree st f = skip (LastFits s) (within_frame st.ctx at st.work.frame) _ (λ y. fits)
   where
-    own : Body
-    own = record { func = k; tree = tree; frame = st.work.frame }
-
     fits : (bs : List Body) (b : Body) → st.bodies ++ record { func = k; tree = tree; frame = st.work.frame } ∷ [] ≡ bs ++ b ∷ []
         → Reaches s (record st.work { frame = b.frame }) → IsBody s b.tree
     fits bs b e r = subst (λ (z : Body). Reaches s (record st.work { frame = z.frame }) → IsBody s z.tree)

@@ -86,9 +86,6 @@ scalar_plain None t at = refl
 leaf_plain : (t : Typ) (at : At) → IsPlain (copy_leaf t at)
 leaf_plain t at = scalar_plain (kind_in (form_in t)) t at
 
-as_closure_plain : (n : ℕ) (c v : Bool) (e : Tree) → IsPlain e → hold_temporary (one (as_closure n c v e)) ≡ false → IsPlain (as_closure n c v e)
-as_closure_plain n c v (node kind t cat at kids) h g = h
-
 pieces_plain : (each : Part → Tree) (type : Part → Typ) (at : At) (ps : List Part) → ((p : Part) → IsPlain (each p)) → hold_temporary (pieces each type at ps) ≡ false
 pieces_plain each type at [] h = refl
 pieces_plain each type at (p ∷ ps) h = none_of (hold_temporary (one (each p))) (hold_temporary (pieces each type at ps)) (one_plain (each p) (h p))
