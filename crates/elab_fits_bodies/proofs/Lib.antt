@@ -11,3 +11,4 @@ pub mod PlainCopies
 pub mod Copied
 pub mod Implied
 pub mod Members
+pub mod Written

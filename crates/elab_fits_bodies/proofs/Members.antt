@@ -43,7 +43,7 @@ last_is (x ∷ y ∷ ys) a = last_is (y ∷ ys) a
 same_last : (xs ys : List Body) (a b : Body) → xs ++ a ∷ [] ≡ ys ++ b ∷ [] → a ≡ b
 same_last xs ys a b e = ap (λ (o : Option Body). unwrap_or o a) (sym (last_is xs a) ∙ ap last_in e ∙ last_is ys b)
 
-made_fits : (s : Setting) (before : State) (at : At) (k : ℕ) (tree : Tree) (st : State) → (Reaches s st.work → IsBody s tree)
+pub made_fits : (s : Setting) (before : State) (at : At) (k : ℕ) (tree : Tree) (st : State) → (Reaches s st.work → IsBody s tree)
     → On (LastFits s) (body_made before at k tree st)
 made_fits s before at k tree st f = skip (LastFits s) (within_frame st.ctx at st.work.frame) _ (λ y. fits)
   where

@@ -1,3 +1,4 @@
+pub mod Bodies
 pub mod Built
 pub mod Functions
 pub mod Parts

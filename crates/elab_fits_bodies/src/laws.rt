@@ -1,5 +1,6 @@
 //! Laws of bodies. A function here does nothing: its clauses are the laws.
 
+ghost use Rattle.elab_fits_bodies.specs.Bodies.{FunctionBodiesFit, ConstructorBodiesFit, DestructorBodiesFit};
 ghost use Rattle.elab_fits_bodies.specs.Built.{NothingsBuild, PartsBuild};
 ghost use Rattle.elab_fits_bodies.specs.Copied.{SourcesStand, CopiesOfPartsBuild, PartsCopied};
 ghost use Rattle.elab_fits_bodies.specs.Functions.{EndsServe, FunctionsFit};
@@ -46,4 +47,11 @@ pub fn implied()
     ensures defaults { DefaultsImplied }
     ensures copies { CopiesImplied }
     ensures destructors { DestructorsImplied }
+{}
+
+/// Bodies that are written, given what their statements give.
+pub fn bodies()
+    ensures functions { FunctionBodiesFit }
+    ensures constructors { ConstructorBodiesFit }
+    ensures destructors { DestructorBodiesFit }
 {}
