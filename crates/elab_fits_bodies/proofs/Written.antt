@@ -1,6 +1,6 @@
 -- Bodies that are written.
-use Rattle.std.proofs.Common.{◌≡◌, refl, ℕ, true, false, List, Option, Result, Ok, Err}
-use Rattle.elab_rules.specs.cpp_types.Typ.{Typ}
+use Rattle.std.proofs.Common.{◌≡◌, refl, ℕ, true, false, List, length, Option, Result, Ok, Err}
+use Rattle.elab_rules.specs.cpp_types.Typ.{Typ, Signature}
 use Rattle.elab_rules.specs.cpp_lex.Tokens.{Lexeme}
 use Rattle.elab_rules.specs.cpp_ast.declared.arena.At.{At as SyntaxAt}
 use Rattle.elab_rules.specs.cpp_ast.declared.kinds.NodeKind.{NodeKind}
@@ -13,6 +13,8 @@ use Rattle.elab_rules.specs.elab_ctx.Steps.{and_then, at_of}
 use Rattle.elab_rules.specs.Initialising.{signature_result}
 use Rattle.elab_rules.specs.Objects.{followed_by}
 use Rattle.elab_rules.specs.Functions.{Header, entered, with_parameters, end_of, function_body}
+use Rattle.elab_rules.specs.Lambdas.{Written, inside, lambda_entered, declared_closure, body_statements, lambda_with}
+use Rattle.elab_rules.specs.elab_ctx.Ctx.{known}
 use Rattle.elab_rules.specs.Members.{in_object, constructor_tree, constructor_block, destructor_tree, destructor_body}
 use Rattle.elab_rules.specs.Statements.{State, Done, Lambdas, statement, statements_of}
 use Rattle.elab_fits.specs.Standing.{Reaches, On}
@@ -60,3 +62,14 @@ destructor_body_fits x lams s st h n place kind p token kids k g = bind (λ (d :
     (statements_of lams s (in_object st n) kids) _ g
     (λ d f. made_fits x st h.at place (destructor_tree d.state.ctx h.at (at_of p) n d.trees) d.state
     (λ r. let z = f r in destructor_fits x d.state.ctx h.at (at_of p) n d.trees z.setting z.specials z.parts k z.serve))
+
+pub lambda_body_fits : (x : Setting) (s : List Lexeme) (st : State) (l : Written) (r : Typ) (sig : Signature) → is_constructor x.function.kind ≡ false
+    → On (λ (d : Done). Reaches x d.state.work → ResultItems x r d)
+    (body_statements s (inside st (lambda_entered st l (known r) r) (declared_closure st l sig)) l)
+    → On (LastFits x) (lambda_with s st l r sig)
+lambda_body_fits x s st l r sig k g = skip (LastFits x) _ _
+    (λ y. bind (λ (d : Done). Reaches x d.state.work → ResultItems x r d) (LastFits x)
+    (body_statements s (inside st (lambda_entered st l (known r) r) (declared_closure st l sig)) l) _ g
+    (λ d f. made_fits x (record st { ctx = declared_closure st l sig }) l.at (length st.ctx.funcs)
+    (statement (forms.Block false) l.body_at (followed_by d.trees (end_of d.state.ctx r l.body_at))) d.state
+    (λ h. let z = f h in function_fits x d.state.ctx r l.body_at d.trees z.setting z.result k z.serve)))

@@ -1,14 +1,16 @@
 -- Bodies that are written, given what their statements give.
 use Rattle.std.specs.Prelude.{◌≡◌, ℕ, true, false, List, Option, Ok}
-use Rattle.elab_rules.specs.cpp_types.Typ.{Typ}
+use Rattle.elab_rules.specs.cpp_types.Typ.{Typ, Signature}
 use Rattle.elab_rules.specs.cpp_lex.Tokens.{Lexeme}
 use Rattle.elab_rules.specs.cpp_ast.declared.arena.At.{At as SyntaxAt}
 use Rattle.elab_rules.specs.cpp_ast.declared.kinds.NodeKind.{NodeKind}
 use Rattle.elab_rules.specs.cpp_ast.Trees as syntax
 use Rattle.elab_rules.specs.cpp_tree.declared.roles.Role.TheVariants.{BlockItem}
 use Rattle.elab_rules.specs.cpp_tree.Rows.{Setting, is_constructor, is_destructor}
+use Rattle.elab_rules.specs.elab_ctx.Ctx.{known}
 use Rattle.elab_rules.specs.Initialising.{signature_result}
 use Rattle.elab_rules.specs.Functions.{Header, entered, with_parameters, function_body}
+use Rattle.elab_rules.specs.Lambdas.{Written, inside, lambda_entered, declared_closure, body_statements, lambda_with}
 use Rattle.elab_rules.specs.Members.{in_object, constructor_block, destructor_body}
 use Rattle.elab_rules.specs.Statements.{State, Done, Lambdas, statements_of}
 use Rattle.elab_fits.specs.Standing.{IsSetting, Reaches, On}
@@ -52,3 +54,10 @@ DestructorBodiesFit = (x : Setting) (lams : Lambdas) (s : List Lexeme) (st : Sta
     (token : Option ℕ) (kids : syntax.Trees) → is_destructor x.function.kind ≡ true
     → On (λ (d : Done). Reaches x d.state.work → DestructorItems x n d) (statements_of lams s (in_object st n) kids)
     → On (LastFits x) (destructor_body lams s st h n place (syntax.node kind p token kids))
+
+-- that of a lambda's call, whose result is known
+abbrev pub LambdaBodiesFit : Type 0
+LambdaBodiesFit = (x : Setting) (s : List Lexeme) (st : State) (l : Written) (r : Typ) (sig : Signature) → is_constructor x.function.kind ≡ false
+    → On (λ (d : Done). Reaches x d.state.work → ResultItems x r d)
+    (body_statements s (inside st (lambda_entered st l (known r) r) (declared_closure st l sig)) l)
+    → On (LastFits x) (lambda_with s st l r sig)

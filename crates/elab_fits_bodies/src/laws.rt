@@ -1,6 +1,6 @@
 //! Laws of bodies. A function here does nothing: its clauses are the laws.
 
-ghost use Rattle.elab_fits_bodies.specs.Bodies.{FunctionBodiesFit, ConstructorBodiesFit, DestructorBodiesFit};
+ghost use Rattle.elab_fits_bodies.specs.Bodies.{FunctionBodiesFit, ConstructorBodiesFit, DestructorBodiesFit, LambdaBodiesFit};
 ghost use Rattle.elab_fits_bodies.specs.Built.{NothingsBuild, PartsBuild};
 ghost use Rattle.elab_fits_bodies.specs.Copied.{SourcesStand, CopiesOfPartsBuild, PartsCopied};
 ghost use Rattle.elab_fits_bodies.specs.Functions.{EndsServe, FunctionsFit};
@@ -54,4 +54,5 @@ pub fn bodies()
     ensures functions { FunctionBodiesFit }
     ensures constructors { ConstructorBodiesFit }
     ensures destructors { DestructorBodiesFit }
+    ensures lambdas { LambdaBodiesFit }
 {}
