@@ -30,11 +30,10 @@ use Rattle.elab_fits_objects.specs.Making.{IsSourceTree}
 use Rattle.elab_fits_forms.specs.Types.{is_target, is_declared, is_lambda}
 use Rattle.elab_fits_forms.specs.Meaning.{Proper}
 use Rattle.elab_fits_forms.specs.Context.{Holds}
-use Rattle.elab_fits_forms.specs.Expressions.{IsCapturedVariable}
+use Rattle.elab_fits_forms.specs.Expressions.{IsCapturedVariable, IsCapturedThis, IsCapture}
 use Rattle.elab_fits_forms.proofs.Sources.{object_typ_is, source_of}
 use Rattle.elab_fits_forms.proofs.Types.{target_no_void}
 use Rattle.elab_fits_forms.proofs.Variables.{IsThisTree, variable_stands, this_tree_is}
-use Rattle.elab_fits_expressions.specs.Closures.{IsCapturedThis, IsCapture}
 
 -- Types
 

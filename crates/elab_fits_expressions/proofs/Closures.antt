@@ -47,7 +47,8 @@ use Rattle.elab_fits_forms.specs.Context.{Holds}
 use Rattle.elab_fits_forms.specs.Forms.{Stands_made}
 use Rattle.elab_fits_forms.proofs.Sources.{whole_is}
 use Rattle.elab_fits_expressions.specs.Growing.{Behind}
-use Rattle.elab_fits_expressions.specs.Closures.{IsClosure, ClosuresStand}
+use Rattle.elab_fits_forms.specs.Expressions.{IsClosure}
+use Rattle.elab_fits_expressions.specs.Closures.{ClosuresStand}
 use Rattle.elab_fits_expressions.proofs.Captured.{IsTaken, taken}
 use Rattle.elab_fits_expressions.proofs.Growing as growing
 use Rattle.elab_fits_expressions.proofs.Holding.{held, reached}

@@ -30,14 +30,13 @@ use Rattle.elab_fits_forms.specs.Meaning.{Proper, Means, ProperOperand, MeansOpe
 use Rattle.elab_fits_forms.specs.Context.{Holds}
 use Rattle.elab_fits_forms.specs.Names.{Typed_means}
 use Rattle.elab_fits_forms.specs.Forms.{Stands_made, ProperOperands}
-use Rattle.elab_fits_forms.specs.Expressions.{is_spelled_token, is_spelled, are_spelled}
+use Rattle.elab_fits_forms.specs.Expressions.{is_spelled_token, is_spelled, are_spelled, ClosuresHold}
 use Rattle.elab_fits_forms.proofs.CallForms.{calls_stand}
 use Rattle.elab_fits_forms.proofs.Casts.{sizes_stand}
 use Rattle.elab_fits_forms.proofs.ClassCasts.{casts_stand, functionals_stand}
 use Rattle.elab_fits_forms.proofs.Forms.{made_typed, tree_typed}
 use Rattle.elab_fits_forms.proofs.Leaves.{tree_means, leaves_mean}
 use Rattle.elab_fits_forms.proofs.Names.{entities_mean, resolved_stand}
-use Rattle.elab_fits_expressions.specs.Closures.{ClosuresHold}
 use Rattle.elab_fits_expressions.specs.Expressions.{Typed_stands}
 use Rattle.elab_fits_expressions.specs.Growing.{Behind}
 use Rattle.elab_fits_expressions.specs.Written.{IsSound}

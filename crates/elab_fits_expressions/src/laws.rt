@@ -5,7 +5,8 @@ ghost use Rattle.elab_fits_expressions.specs.Growing.{ExpressionsGrow, OperandsG
 ghost use Rattle.elab_fits_expressions.specs.Growing.{HoldsKept, ReachesKept};
 ghost use Rattle.elab_fits_expressions.specs.Written.{TypesAreSound, SpecifiersAreSound, DeclaratorsAreSound, ParametersAreSound};
 ghost use Rattle.elab_fits_expressions.specs.Closures.{ClosuresStand};
-ghost use Rattle.elab_fits_expressions.specs.Expressions.{AllRowsMean, ExpressionsMean, ChosenStand, OperandsStand};
+ghost use Rattle.elab_fits_forms.specs.Expressions.{ExpressionsMean, OperandsStand};
+ghost use Rattle.elab_fits_expressions.specs.Expressions.{AllRowsMean, ChosenStand};
 
 /// What is made for expressions.
 pub fn growing()

@@ -1,10 +1,11 @@
 -- The law of all expressions: in a context that holds, whatever elaborates means something.
 use Rattle.std.specs.Prelude.{◌≡◌, ℕ, Bool, true, not, ◌&&◌, List, map, Option, Some, None, slice_get}
-use Rattle.elab_rules.specs.cpp_types.Typ.{Typ}
+use Rattle.elab_rules.specs.cpp_types.Typ.{Typ, ptr}
 use Rattle.elab_rules.specs.cpp_lex.Tokens.{Lexeme}
 use Rattle.elab_rules.specs.cpp_ast.Trees as syntax
+use Rattle.elab_rules.specs.cpp_tree.Notation.{plain}
 use Rattle.elab_rules.specs.cpp_tree.Rows.{Setting}
-use Rattle.elab_rules.specs.elab_ctx.Ctx.{Ctx, Work, Variable, Capture, Closure}
+use Rattle.elab_rules.specs.elab_ctx.Ctx.{Ctx, Work, Variable, This, Capture, Closure}
 use Rattle.elab_rules.specs.elab_ctx.Steps.{TypedAll, spelling}
 use Rattle.elab_rules.specs.Objects.{Part, parts_of}
 use Rattle.elab_rules.specs.Lambdas.{captured_as}
@@ -36,12 +37,20 @@ pub record IsCapturedVariable (c : Ctx) (x : Capture) (i : ℕ) : Type 0 where
   pub known : variable.typ ≡ Some typ
   pub is : x.typ ≡ captured_as x.by_ref typ
 
+-- the object at hand whose pointer is captured
+pub record IsCapturedThis (c : Ctx) (x : Capture) : Type 0 where
+  pub this : This
+  pub at : c.this ≡ Some this
+  pub is : x.typ ≡ plain (ptr this.typ)
+
 -- what is captured is such a variable, or `this`
 pub record IsCapture (c : Ctx) (x : Capture) : Type 0 where
   pub variable : (i : ℕ) → x.variable ≡ Some i → IsCapturedVariable c x i
+  pub this : x.variable ≡ None → IsCapturedThis c x
 
--- a lambda that was made before the full-expression: the parts of its objects are its captures
+-- a lambda that was made before the full-expression: there is none in a lambda (profile), and the parts of its objects are its captures
 pub record IsClosure (c : Ctx) (x : Closure) : Type 0 where
+  pub outside : c.lambda ≡ None
   pub lambda : is_lambda c.classes x.class ≡ true
   pub parts : map (λ (p : Part). p.typ) (parts_of c.classes x.class) ≡ map (λ (y : Capture). y.typ) x.captures
   pub captures : (i : ℕ) (y : Capture) → slice_get x.captures i ≡ Some y → IsCapture c y

@@ -1,0 +1,263 @@
+-- The special members of a class, as its brace is closed: functions of the unit.
+use Rattle.std.proofs.Common.{◌≡◌, refl, ap, ◌∙◌, subst, ℕ, Bool, true, false, List, [], ◌∷◌, ◌++◌, slice_get, Option, Some, None, eqb-true, eq-eqb}
+use Rattle.std.specs.Prelude.{slice_set, if◌then◌else◌, ◌&&◌, not}
+use Rattle.std.proofs.lemmas.Bool.{and_parts}
+use Rattle.elab_rules.specs.cpp_types.Typ.{Typs, none as no_typs, more as and_typ, Typ, signature}
+use Rattle.elab_rules.specs.cpp_types.Class.{Member, Function}
+use Rattle.elab_rules.specs.cpp_types.Equal.{typs_eq}
+use Rattle.elab_rules.specs.cpp_types.Trivial.{takes_itself, only_refers, is_destructor_name}
+use Rattle.elab_rules.specs.cpp_types.declared.classes.At.{At as Place}
+use Rattle.elab_rules.specs.cpp_tree.declared.program.FuncKind.{FuncKind}
+use Rattle.elab_rules.specs.cpp_tree.declared.program.FuncKind.TheVariants.{Plain, Constructor, Destructor, ClosureCall}
+use Rattle.elab_rules.specs.elab_ctx.Ctx.{Ctx, Func, Special, absent, trivial, function, Traits}
+use Rattle.elab_rules.specs.Objects.{traits_at}
+use Rattle.elab_rules.specs.Initialising.{same_number, is_constructor, makes, places_from, signature_parameters}
+use Rattle.elab_rules.specs.Statements.{is_trivial}
+use Rattle.elab_rules.specs.Functions.{first_from}
+use Rattle.elab_rules.specs.Classes.{Home, Specials, with_destructor, with_copy, with_default, with_implicit, kept_special, implicit_function}
+use Rattle.elab_rules.specs.Classes.{all_held, may_copy, has_no_pointer, own_reference, written_copy}
+use Rattle.elab_rules.specs.Classes.{either, is_copy_from, is_written_copy, is_destructor_of, is_default_constructor, written_default, base_default, members_default}
+use Rattle.elab_rules.specs.Classes.{is_trivial_default, is_no_place, completed}
+use Rattle.elab_rules.specs.Classes.{class_named, own_functions, is_completed, traits_of, with_record, takes_const}
+use Rattle.elab_rules.specs.cpp_types.Class.{Class}
+use Rattle.elab_rules.specs.cpp_types.Equal.{typ_eq, name_eq}
+use Rattle.elab_rules.specs.cpp_types.Typ.{Signature}
+use Rattle.elab_rules.specs.cpp_tree.Units.{Param}
+use Rattle.elab_rules.specs.cpp_tree.declared.kinds.Builtin.{Builtin}
+use Rattle.std.specs.Prelude.{count_by}
+use Rattle.elab_fits.proofs.Equal.{typ_same}
+use Rattle.elab_contexts.specs.Holding.{IsKnown}
+use Rattle.elab_contexts.proofs.Lists.{one_more}
+use Rattle.elab_contexts.proofs.Found.{At, Stay, stay, stay_on, stay_added, Respects, at_still, first_found, at_the_end}
+
+-- Which functions they are
+
+pub record IsDestructor (n : ℕ) (f : Func) : Type 0 where
+  pub class : f.class ≡ Some n
+  pub named : is_destructor_name f.declared.name ≡ true
+
+pub record IsCopy (n : ℕ) (f : Func) : Type 0 where
+  pub kind : f.kind ≡ Constructor
+  pub class : f.class ≡ Some n
+  pub takes : takes_itself n f.declared.signature ≡ true
+
+pub record IsDefault (n : ℕ) (f : Func) : Type 0 where
+  pub kind : f.kind ≡ Constructor
+  pub class : f.class ≡ Some n
+  pub takes : signature_parameters f.declared.signature ≡ no_typs
+
+pub destructor_respects : (n : ℕ) → Respects (IsDestructor n)
+destructor_respects n = record {
+  same = λ f g s h. record { class = s.class ∙ h.class; named = ap (λ (x : Function). is_destructor_name x.name) s.declared ∙ h.named };
+}
+
+pub copy_respects : (n : ℕ) → Respects (IsCopy n)
+copy_respects n = record {
+  same = λ f g s h. record {
+    kind = s.kind ∙ h.kind;
+    class = s.class ∙ h.class;
+    takes = ap (λ (x : Function). takes_itself n x.signature) s.declared ∙ h.takes;
+  };
+}
+
+pub default_respects : (n : ℕ) → Respects (IsDefault n)
+default_respects n = record {
+  same = λ f g s h. record {
+    kind = s.kind ∙ h.kind;
+    class = s.class ∙ h.class;
+    takes = ap (λ (x : Function). signature_parameters x.signature) s.declared ∙ h.takes;
+  };
+}
+
+-- Tests
+
+same_class : (n : ℕ) (o : Option ℕ) → same_number n o ≡ true → o ≡ Some n
+same_class n None h = absurd cc
+same_class n (Some m) h = ap (λ (k : ℕ). Some k) (eqb-true m n h)
+
+makes_is : (k : FuncKind) → makes k ≡ true → k ≡ Constructor
+makes_is Constructor h = refl
+makes_is Plain h = absurd cc
+makes_is Destructor h = absurd cc
+makes_is ClosureCall h = absurd cc
+
+pub destructor_is : (n : ℕ) (f : Func) → is_destructor_of n f ≡ true → IsDestructor n f
+destructor_is n f h = let p = and_parts (same_number n f.class) _ h in record { class = same_class n f.class p.0; named = p.1 }
+
+constructor_is : (n : ℕ) (f : Func) → is_constructor n f ≡ true → (f.kind ≡ Constructor) × (f.class ≡ Some n)
+constructor_is n f h = let p = and_parts (same_number n f.class) _ h in (makes_is f.kind p.1, same_class n f.class p.0)
+
+no_typs_is : (ps : Typs) → typs_eq ps no_typs ≡ true → ps ≡ no_typs
+no_typs_is no_typs h = refl
+no_typs_is (and_typ t ts) h = absurd cc
+
+pub default_is : (n : ℕ) (f : Func) → is_default_constructor n f ≡ true → IsDefault n f
+default_is n f h = let p = and_parts (is_constructor n f) _ h in
+    let q = constructor_is n f p.0 in record { kind = q.0; class = q.1; takes = no_typs_is (signature_parameters f.declared.signature) p.1 }
+
+one_typ : (ps : Typs) (t : Typ) → typs_eq ps (and_typ t no_typs) ≡ true → ps ≡ and_typ t no_typs
+one_typ no_typs t h = absurd cc
+one_typ (and_typ u no_typs) t h = ap (λ (x : Typ). and_typ x no_typs) (typ_same u t (and_parts (typ_eq u t) true h).0)
+one_typ (and_typ u (and_typ v vs)) t h = absurd (no_true (and_parts (typ_eq u t) false h).1)
+  where
+    no_true : false ≡ true → ⊥
+    no_true e = absurd cc
+
+takes_own : (n : ℕ) (b : Bool) (s : Signature) → signature_parameters s ≡ and_typ (own_reference n b) no_typs → takes_itself n s ≡ true
+takes_own n b (signature ps r safe) e = ap (only_refers n) e ∙ eq-eqb n n refl
+
+copy_from_is : (n : ℕ) (b : Bool) (f : Func) → is_copy_from n b f ≡ true → IsCopy n f
+copy_from_is n b f h = let p = and_parts (is_constructor n f) _ h in
+    let q = constructor_is n f p.0 in record {
+      kind = q.0;
+      class = q.1;
+      takes = takes_own n b f.declared.signature (one_typ (signature_parameters f.declared.signature) (own_reference n b) p.1);
+    }
+
+written_copy_is : (n : ℕ) (name : List ℕ) (f : Func) → is_written_copy n name f ≡ true → IsCopy n f
+written_copy_is n name f h = let p = and_parts (is_constructor n f) _ h in
+    let q = constructor_is n f p.0 in
+    let r = and_parts (name_eq f.declared.name name) _ p.1 in record { kind = q.0; class = q.1; takes = r.1 }
+
+-- One special member
+
+-- a function that the language knows is as it knows it, and those at file scope are plain ones
+pub record Proper (f : Func) : Type 0 where
+  pub known : (b : Builtin) → f.builtin ≡ Some b → IsKnown f b
+  pub free : f.class ≡ None → f.kind ≡ Plain
+
+abbrev pub AllProper : List Func → Type 0
+AllProper fs = (k : ℕ) (f : Func) → slice_get fs k ≡ Some f → Proper f
+
+pub record MadeOf (P : Func → Type 0) (c : Ctx) (x : Specials) : Type 0 where
+  pub classes : x.ctx.classes ≡ c.classes
+  pub traits : x.ctx.traits ≡ c.traits
+  pub stays : Stay c.funcs x.ctx.funcs
+  pub proper : AllProper c.funcs → AllProper x.ctx.funcs
+  pub special : (k : ℕ) → x.special ≡ function k → At P x.ctx.funcs k
+
+made_if : (P : Func → Type 0) (c : Ctx) (b : Bool) (x y : Specials) → MadeOf P c x → MadeOf P c y → MadeOf P c (if b then x else y)
+made_if P c true x y g h = g
+made_if P c false x y g h = h
+
+kept_made : (P : Func → Type 0) (c : Ctx) (s : Special) → ((k : ℕ) → s ≡ function k → At P c.funcs k) → MadeOf P c (kept_special c s)
+kept_made P c s h = record { classes = refl; traits = refl; stays = stay c.funcs; proper = λ p. p; special = h }
+
+not_there : (P : Func → Type 0) (c : Ctx) → MadeOf P c (kept_special c absent)
+not_there P c = kept_made P c absent (λ k e. absurd cc)
+
+nothing_to_do : (P : Func → Type 0) (c : Ctx) → MadeOf P c (kept_special c trivial)
+nothing_to_do P c = kept_made P c trivial (λ k e. absurd cc)
+
+abbrev number_in : Special → ℕ
+number_in (function k) = k
+number_in absent = 0
+number_in trivial = 0
+
+found_made : (P : Func → Type 0) (c : Ctx) (i : ℕ) → At P c.funcs i → MadeOf P c (kept_special c (function i))
+found_made P c i x = kept_made P c (function i) (λ k e. subst (λ (j : ℕ). At P c.funcs j) (ap number_in e) x)
+
+implicit_made : (P : Func → Type 0) (c : Ctx) (f : Func) → P f → Proper f → MadeOf P c (with_implicit c f)
+implicit_made P c f p q = record {
+  classes = refl;
+  traits = refl;
+  stays = stay_added c.funcs f;
+  proper = λ h. one_more Proper c.funcs f h q;
+  special = λ k e. subst (λ (j : ℕ). At P (c.funcs ++ f ∷ []) j) (ap number_in e)
+      (record { func = f; at = at_the_end c.funcs f; is = p });
+}
+
+implicit_proper : (n : ℕ) (kind : FuncKind) (ps : List Param) (g : Function) → Proper (implicit_function n kind ps g)
+implicit_proper n kind ps g = record { known = λ b e. absurd cc; free = λ e. absurd cc }
+
+passed : (P : Func → Type 0) (test : Func → Bool) → ((f : Func) → test f ≡ true → P f) → (fs : List Func) (k : ℕ) → first_from test 0 fs ≡ Some k
+    → At P fs k
+passed P test h fs k e = let x = first_found test fs k e in record { func = x.func; at = x.at; is = h x.func x.is }
+
+destructor_made : (c : Ctx) (home : Home) (at : Place) (ms : List Member) (o : Option ℕ) → first_from (is_destructor_of home.number) 0 c.funcs ≡ o
+    → MadeOf (IsDestructor home.number) c (with_destructor c home at ms o)
+destructor_made c home at ms (Some i) e = found_made (IsDestructor home.number) c i
+    (passed (IsDestructor home.number) (is_destructor_of home.number) (destructor_is home.number) c.funcs i e)
+destructor_made c home at ms None e = made_if (IsDestructor home.number) c (all_held (λ n. is_trivial (traits_at c n).destructor) home.base ms) _ _
+    (nothing_to_do (IsDestructor home.number) c)
+    (implicit_made (IsDestructor home.number) c _ (record { class = refl; named = refl }) (implicit_proper home.number Destructor [] _))
+
+either_found : (n : ℕ) (name : List ℕ) (fs : List Func) (a b : Option ℕ) → first_from (is_copy_from n true) 0 fs ≡ a
+    → first_from (is_written_copy n name) 0 fs ≡ b → (k : ℕ) → either a b ≡ Some k → At (IsCopy n) fs k
+either_found n name fs (Some i) b e f k q =
+    passed (IsCopy n) (is_copy_from n true) (copy_from_is n true) fs k (e ∙ q)
+either_found n name fs None b e f k q = passed (IsCopy n) (is_written_copy n name) (written_copy_is n name) fs k (f ∙ q)
+
+copy_made : (c : Ctx) (home : Home) (at : Place) (ms : List Member) (o : Option ℕ) → written_copy c home ≡ o
+    → MadeOf (IsCopy home.number) c (with_copy c home at ms o)
+copy_made c home at ms (Some i) e = found_made (IsCopy home.number) c i (either_found home.number home.name c.funcs _ _ refl refl i e)
+copy_made c home at ms None e = made_if (IsCopy home.number) c (not (may_copy c home.base ms)) _ _ (not_there (IsCopy home.number) c)
+    (made_if (IsCopy home.number) c (has_no_pointer c home && all_held (λ n. is_trivial (traits_at c n).copy) home.base ms) _ _
+    (nothing_to_do (IsCopy home.number) c)
+    (implicit_made (IsCopy home.number) c _ (record { kind = refl; class = refl; takes = eq-eqb home.number home.number refl })
+    (implicit_proper home.number Constructor _ _)))
+
+written_made : (c : Ctx) (n : ℕ) (o : Option ℕ) → first_from (is_default_constructor n) 0 c.funcs ≡ o
+    → MadeOf (IsDefault n) c (kept_special c (written_default o))
+written_made c n (Some i) e = found_made (IsDefault n) c i (passed (IsDefault n) (is_default_constructor n) (default_is n) c.funcs i e)
+written_made c n None e = not_there (IsDefault n) c
+
+default_made : (c : Ctx) (home : Home) (at : Place) (ms : List Member) (initialised : List ℕ) (b : Bool)
+    → MadeOf (IsDefault home.number) c (with_default c home at ms initialised b)
+default_made c home at ms initialised false = written_made c home.number (first_from (is_default_constructor home.number) 0 c.funcs) refl
+default_made c home at ms initialised true =
+    made_if (IsDefault home.number) c (not (base_default c home.base && members_default c initialised 0 ms)) _ _ (not_there (IsDefault home.number) c)
+    (made_if (IsDefault home.number) c (is_trivial_default c home ms initialised) _ _ (nothing_to_do (IsDefault home.number) c)
+    (implicit_made (IsDefault home.number) c _ (record { kind = refl; class = refl; takes = refl }) (implicit_proper home.number Constructor [] _)))
+
+-- All of them, at the brace
+
+-- a class with this base and these members that gets the next number
+pub record IsClosed (cs : List Class) (b : Option ℕ) (ms : List Member) (k : Class) : Type 0 where
+  pub complete : k.complete ≡ Some (count_by is_completed cs)
+  pub base : k.base ≡ b
+  pub members : k.members ≡ ms
+
+pub record Closing (c : Ctx) (n : ℕ) (base : Option ℕ) (ms : List Member) (d : Ctx) : Type 0 where
+  pub class : Class
+  pub closed : IsClosed c.classes base ms class
+  pub classes : d.classes ≡ slice_set c.classes n class
+  pub own : Traits
+  pub traits : d.traits ≡ slice_set c.traits n own
+  pub stays : Stay c.funcs d.funcs
+  pub proper : AllProper c.funcs → AllProper d.funcs
+  pub destructor : (k : ℕ) → own.destructor ≡ function k → At (IsDestructor n) d.funcs k
+  pub copy : (k : ℕ) → own.copy ≡ function k → At (IsCopy n) d.funcs k
+  pub default : (k : ℕ) → own.default ≡ function k → At (IsDefault n) d.funcs k
+
+pub closing : (c : Ctx) (home : Home) (at : Place) (ms : List Member) (initialised : List ℕ)
+    → Closing c home.number home.base ms (completed c home at ms initialised)
+closing c home at ms initialised =
+    let n : ℕ = home.number in
+    let d : Specials = with_destructor c home at ms (first_from (is_destructor_of n) 0 c.funcs) in
+    let k : Specials = with_copy d.ctx home at ms (written_copy d.ctx home) in
+    let x : Specials = with_default k.ctx home at ms initialised (is_no_place (places_from (is_constructor n) 0 c.funcs)) in
+    let dm = destructor_made c home at ms (first_from (is_destructor_of n) 0 c.funcs) refl in
+    let km = copy_made d.ctx home at ms (written_copy d.ctx home) refl in
+    let xm = default_made k.ctx home at ms initialised (is_no_place (places_from (is_constructor n) 0 c.funcs)) in
+    record {
+      class = class_named home.name home.base home.is_final ms (own_functions n x.ctx.funcs) (Some (count_by is_completed x.ctx.classes));
+      closed = record {
+        complete = ap (λ (cs : List Class). Some (count_by is_completed cs)) (xm.classes ∙ km.classes ∙ dm.classes);
+        base = refl;
+        members = refl;
+      };
+      classes = ap (λ (cs : List Class). slice_set cs n
+          (class_named home.name home.base home.is_final ms (own_functions n x.ctx.funcs) (Some (count_by is_completed x.ctx.classes))))
+          (xm.classes ∙ km.classes ∙ dm.classes);
+      own = traits_of (with_record x.ctx home ms) home ms (takes_const c home ms (written_copy c home)) x.special k.special d.special;
+      traits = ap (λ (ts : List Traits). slice_set ts n
+          (traits_of (with_record x.ctx home ms) home ms (takes_const c home ms (written_copy c home)) x.special k.special d.special))
+          (xm.traits ∙ km.traits ∙ dm.traits);
+      stays = stay_on c.funcs d.ctx.funcs x.ctx.funcs dm.stays (stay_on d.ctx.funcs k.ctx.funcs x.ctx.funcs km.stays xm.stays);
+      proper = λ p. xm.proper (km.proper (dm.proper p));
+      destructor = λ i e. at_still (IsDestructor n) (destructor_respects n) d.ctx.funcs x.ctx.funcs
+          (stay_on d.ctx.funcs k.ctx.funcs x.ctx.funcs km.stays xm.stays) i (dm.special i e);
+      copy = λ i e. at_still (IsCopy n) (copy_respects n) k.ctx.funcs x.ctx.funcs xm.stays i (km.special i e);
+      default = λ i e. xm.special i e;
+    }
