@@ -18,7 +18,7 @@ use Rattle.elab_fits.proofs.Equal.{typ_refl}
 use Rattle.elab_growth.proofs.Growth.{Behind}
 use Rattle.elab_fits_forms.specs.Types.{is_target, is_declared}
 use Rattle.elab_fits_forms.specs.Context.{IsVariable}
-use Rattle.elab_fits_expressions.specs.Closures.{ClosuresHold}
+use Rattle.elab_fits_forms.specs.Expressions.{ClosuresHold}
 use Rattle.elab_fits_statements.specs.Discipline.{within}
 use Rattle.state_growth.proofs.Lists.{behind, added}
 use Rattle.state_growth.proofs.Works.{one_item}

@@ -20,8 +20,7 @@ use Rattle.elab_fits_objects.specs.Contexts.{IsInitialised}
 use Rattle.elab_fits_forms.specs.Types.{is_lambda, is_sound, is_declared, is_result}
 use Rattle.elab_fits_forms.specs.Meaning.{ProperOperand}
 use Rattle.elab_fits_forms.specs.Context.{Holds}
-use Rattle.elab_fits_forms.specs.Expressions.{is_spelled, are_spelled}
-use Rattle.elab_fits_expressions.specs.Closures.{ClosuresHold}
+use Rattle.elab_fits_forms.specs.Expressions.{is_spelled, are_spelled, ClosuresHold}
 use Rattle.elab_fits_statements.specs.Variables.{HasItem}
 use Rattle.elab_fits_statements.specs.Discipline.{Words}
 use Rattle.state_growth.specs.Settings.{setting_at}
