@@ -1,0 +1,4 @@
+pub mod Bodies
+pub mod Lambdas
+pub mod Premises
+pub mod States

@@ -1,0 +1,9 @@
+//! Laws of the states of elaboration inside of a function. A function here does nothing: its clauses are the laws.
+
+ghost use Rattle.elab_fits_states.specs.Lambdas.{NoLambdasKeep, LambdasKeep};
+
+/// What makes the lambdas of an expression leads to good states.
+pub fn lambdas()
+    ensures none { NoLambdasKeep }
+    ensures all { LambdasKeep }
+{}
