@@ -4,3 +4,4 @@ pub mod MovedKinds
 pub mod Plain
 pub mod PlainRows
 pub mod Strings
+pub mod This

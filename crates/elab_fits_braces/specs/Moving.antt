@@ -3,7 +3,7 @@ use Rattle.std.specs.Prelude.{◌≡◌, ℕ, zero, ◌<◌, Bool, true, false, 
 use Rattle.elab_rules.specs.cpp_types.Typ.{Typ, ptr, class}
 use Rattle.elab_rules.specs.cpp_types.Equal.{typ_eq}
 use Rattle.elab_rules.specs.cpp_types.declared.classes.At.{At}
-use Rattle.elab_rules.specs.cpp_types.declared.ranks.Cat.TheVariants.{Prvalue}
+use Rattle.elab_rules.specs.cpp_types.declared.ranks.Cat.TheVariants.{Lvalue, Prvalue}
 use Rattle.elab_rules.specs.cpp_tree.declared.kinds.TKind.{TKind}
 use Rattle.elab_rules.specs.cpp_tree.declared.kinds.TKind.TheVariants.{Local, Load, Retype, Materialize, Init, Defer, Switch, Return, Handler}
 use Rattle.elab_rules.specs.cpp_tree.declared.program.FuncKind.TheVariants.{Constructor}
@@ -11,11 +11,13 @@ use Rattle.elab_rules.specs.cpp_tree.declared.roles.Role.{Role}
 use Rattle.elab_rules.specs.cpp_tree.declared.roles.Role.TheVariants.{Value}
 use Rattle.elab_rules.specs.cpp_tree.Trees.{Tree, node, Trees, none, more, kind_of, typ_in, cat_of}
 use Rattle.elab_rules.specs.cpp_tree.Notation.{plain}
-use Rattle.elab_rules.specs.cpp_tree.Typing.{is_class_typ}
+use Rattle.elab_rules.specs.cpp_tree.Typing.{is_class_typ, unqualified}
 use Rattle.elab_rules.specs.cpp_tree.Units.{Func}
 use Rattle.elab_rules.specs.cpp_tree.Rows.{Setting, result_of}
 use Rattle.elab_rules.specs.elab_ctx.Ctx.{Work, Default}
-use Rattle.elab_rules.specs.Braces.{ThisAt, moved_place, relocated, as_part, default_whole, default_made}
+use Rattle.elab_rules.specs.Names.{this_pointer}
+use Rattle.elab_rules.specs.Members.{own_this}
+use Rattle.elab_rules.specs.Braces.{ThisAt, this_of, moved_place, relocated, as_part, default_whole, default_made}
 use Rattle.elab_fits.specs.Standing.{FitsAs, BuildsOne, Reaches}
 
 -- a node that says nothing of its function
@@ -80,3 +82,15 @@ pub record DefaultFits (s : Setting) (t : Typ) (d : Default) : Type 0 where
 abbrev pub DefaultsBuild : Type 0
 DefaultsBuild = (s : Setting) (w : Work) (t : Typ) (this : ThisAt) (d : Default) → IsThis s (this_typ d) this → DefaultFits s t d
     → Reaches s (default_whole w this d).work → BuildsOne s t (default_whole w this d).tree × BuildsOne s t (default_made w this d).tree
+
+-- The pointer `this` where an object is built
+
+-- the address of an object that braces initialise
+abbrev pub ObjectsAreThis : Type 0
+ObjectsAreThis = (s : Setting) (t : Typ) (object : Tree) → FitsAs s Value object → cat_of object ≡ Lvalue
+    → IsThis s (plain (ptr (unqualified t))) (this_of t object)
+
+-- the first item of a constructor's frame
+abbrev pub OwnIsThis : Type 0
+OwnIsThis = (s : Setting) (n : ℕ) → slice_get s.function.frame 0 ≡ Some (plain (ptr (plain (class n))))
+    → IsThis s (plain (ptr (plain (class n)))) (λ (at : At). this_pointer at (own_this n))
