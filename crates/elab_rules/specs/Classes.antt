@@ -3,7 +3,7 @@ use Rattle.std.specs.Prelude.{ℕ, suc, ◌==◌, nat_le, Bool, true, false, not
 use Rattle.std.specs.Prelude.{Result, Ok, Err, if◌then◌else◌, slice_get, slice_set, codes, unwrap_or, count_by, filter}
 use Rattle.std.specs.List.{list_all, list_any}
 use Rattle.std.specs.Str.{bytes_eq}
-use Rattle.elab_ctx.specs.cpp_types.Typ.{Typ, typ, Form, void, ref, func, class, tx_ex, signature, Typs, none as no_typs, more as and_typ}
+use Rattle.elab_ctx.specs.cpp_types.Typ.{Typ, typ, Form, void, ref, func, class, tx_ex, Signature, signature, Typs, none as no_typs, more as and_typ}
 use Rattle.elab_ctx.specs.cpp_types.Equal.{typ_eq, typs_eq, flag_eq}
 use Rattle.elab_ctx.specs.cpp_types.Class.{Class, Member, Function, held, completion_of}
 use Rattle.elab_ctx.specs.cpp_types.Conversion.{volatile_of}
@@ -28,7 +28,7 @@ use Rattle.elab_ctx.specs.cpp_tree.declared.faults.OverrideRule.TheVariants.{Dyn
 use Rattle.elab_ctx.specs.cpp_tree.declared.faults.IllRule.TheVariants.{UnknownName, Redeclared, BadDeclaration, Incomplete, AbstractObject, OutOfProfile}
 use Rattle.elab_ctx.specs.cpp_tree.Units.{SlotFunc, Param}
 use Rattle.elab_ctx.specs.cpp_tree.Notation.{plain}
-use Rattle.elab_ctx.specs.cpp_tree.Typing.{form_in}
+use Rattle.elab_ctx.specs.cpp_tree.Typing.{form_in, is_void}
 use Rattle.elab_ctx.specs.Ctx.{Ctx, Func, Special, absent, trivial, function, Traits}
 use Rattle.elab_ctx.specs.Steps.{and_then, expect, check, each_of, at_of, spelling}
 use Rattle.elab_rules.specs.Objects.{no_traits, traits_at, element_of}
@@ -40,7 +40,7 @@ use Rattle.elab_rules.specs.Sizes.{typ_sized}
 use Rattle.elab_rules.specs.Expressions.{type_of_specifiers, declared_by}
 use Rattle.elab_rules.specs.Statements.{State, is_own_name, name_of, is_const_element, has_written_default, is_trivial}
 use Rattle.elab_rules.specs.Functions.{Storage, no_storage, with_specifier, Header, new_function, is_same_function, first_from, text_between, header_sized}
-use Rattle.elab_rules.specs.Functions.{text_sized}
+use Rattle.elab_rules.specs.Functions.{text_sized, is_none_typs}
 use Rattle.elab_rules.specs.Globals.{with_type}
 
 -- The name (9.1): a new class, or one that is only declared
@@ -333,11 +333,15 @@ abbrev pub takes_own_value : ℕ → Typs → Bool
 takes_own_value n (and_typ (typ (class m) c v) no_typs) = m == n
 takes_own_value n ps = false
 
+-- no result; a destructor has no parameters either
+abbrev pub is_special : FuncKind → ℕ → Signature → Bool
+is_special kind n (signature ps r safe) = is_void r && (if makes kind then not (takes_own_value n ps) else is_none_typs ps)
+
 -- a constructor or a destructor has the name of its class, no result and no `const` (12.1, 12.4)
 abbrev pub special_header : ℕ → List ℕ → At → Storage → FuncKind → Declared → List ℕ → Result Header ElabFault
 special_header n class_name at x kind r name = and_then (check at BadDeclaration (bytes_eq name class_name && not r.qualifiers.is_const))
     (λ y. and_then (header_in n x kind at (special_name kind class_name) r (form_in r.typ)) (λ (h : Header).
-    and_then (check at BadDeclaration (not (makes kind && takes_own_value n (signature_parameters h.signature)))) (λ z. Ok h)))
+    and_then (check at BadDeclaration (is_special kind n h.signature)) (λ z. Ok h)))
 
 abbrev pub special_method : List Lexeme → State → ℕ → List ℕ → At → Storage → FuncKind → syntax.Trees → Result Method ElabFault
 special_method s st n class_name at x kind (syntax.more d rest) =

@@ -22,6 +22,7 @@ use Rattle.elab_ctx.specs.cpp_names.Names.{innermost_of, with_name}
 use Rattle.elab_ctx.specs.cpp_tree.declared.kinds.TKind.{TKind}
 use Rattle.elab_ctx.specs.cpp_tree.declared.kinds.TKind.TheVariants as forms
 use Rattle.elab_ctx.specs.cpp_tree.declared.program.FuncKind.{FuncKind}
+use Rattle.elab_ctx.specs.cpp_tree.declared.program.FuncKind.TheVariants.{Plain, Constructor, Destructor, ClosureCall}
 use Rattle.elab_ctx.specs.cpp_tree.declared.program.Linkage.{Linkage}
 use Rattle.elab_ctx.specs.cpp_tree.declared.program.Linkage.TheVariants.{External, Internal, Inline}
 use Rattle.elab_ctx.specs.cpp_tree.declared.faults.ElabFault.{ElabFault}
@@ -43,7 +44,7 @@ use Rattle.elab_rules.specs.Initialising.{func_at, signature_parameters, signatu
 use Rattle.elab_rules.specs.Operators.{is_complete}
 use Rattle.elab_rules.specs.Names.{same_variable}
 use Rattle.elab_rules.specs.Sizes.{typ_sized, sized, symbol_length}
-use Rattle.elab_rules.specs.Types.{Parameter, Qualifiers}
+use Rattle.elab_rules.specs.Types.{Parameter, Qualifiers, types_of}
 use Rattle.elab_rules.specs.Statements.{State, Done, Lambdas, statements_of, statement, is_fresh, next_variable, no_labels}
 
 -- What stands before the type of a declaration
@@ -118,10 +119,18 @@ new_function h = record {
   closed_at = 0;
 }
 
--- the same function: its name, its class, its parameters and `const` (C++14 13.1)
+abbrev pub same_kind : FuncKind → FuncKind → Bool
+same_kind Plain Plain = true
+same_kind Constructor Constructor = true
+same_kind Destructor Destructor = true
+same_kind ClosureCall ClosureCall = true
+same_kind _ _ = false
+
+-- the same function: its name, its class, its parameters and `const` (C++14 13.1), and its kind
 abbrev pub is_same_function : Header → Func → Bool
 is_same_function h f = bytes_eq f.declared.name h.name && same_variable f.class h.class
     && typs_eq (signature_parameters f.declared.signature) (signature_parameters h.signature) && flag_eq f.declared.is_const h.qualifiers.is_const
+    && same_kind f.kind h.kind
 
 abbrev pub first_from : (Func → Bool) → ℕ → List Func → Option ℕ
 first_from test i [] = None
@@ -294,6 +303,10 @@ leaving before st = record {
 abbrev pub body_made : State → At → ℕ → Tree → State → Result State ElabFault
 body_made before at place tree st = and_then (within_frame st.ctx at st.work.frame)
     (λ y. Ok (record (leaving before st) { bodies = st.bodies ++ record { func = place; tree = tree; frame = st.work.frame } ∷ [] }))
+
+-- a function is defined with the parameters that its declarator writes, not through another name of its type (8.3.5 p12)
+abbrev pub defines_well : Header → Result Bool ElabFault
+defines_well h = check h.at BadDeclaration (typs_eq (types_of h.params) (signature_parameters h.signature))
 
 -- a body in the scope of the parameters
 abbrev pub function_body : Lambdas → List Lexeme → State → Header → Option Typ → ℕ → syntax.Tree → Result State ElabFault

@@ -38,7 +38,7 @@ use Rattle.elab_ctx.specs.Steps.{and_then, expect, check, Operand, Made, Typed, 
 use Rattle.elab_rules.specs.Objects.{element_of, traits_at}
 use Rattle.elab_rules.specs.Initialising.{class_number, func_at, signature_parameters}
 use Rattle.elab_rules.specs.Constants.{constant, Address, of_global, of_function, address}
-use Rattle.elab_rules.specs.Operators.{value, is_complete, arithmetic}
+use Rattle.elab_rules.specs.Operators.{value, is_complete, arithmetic, within_if_sized}
 use Rattle.elab_rules.specs.Strings.{string_bytes}
 use Rattle.elab_rules.specs.Types.{has_auto, type_named, is_bounded}
 use Rattle.elab_rules.specs.Braces.{item_of, string_token, string_object, is_char_array, syntax_place, tree_place}
@@ -180,7 +180,8 @@ global_named st at name x t defines None = Ok (added_global st name x t)
 abbrev pub global_declarable : State → At → List ℕ → Typ → Result Bool ElabFault
 global_declarable st at name t = and_then (check at BadMain (not (bytes_eq name (codes "main"))))
     (λ a. and_then (check at OutOfProfile (not (has_auto t)))
-    (λ b. and_then (not_void at (form_in t)) (λ d. and_then (check at BadDeclaration (is_bounded t)) (λ e. typ_sized st.ctx.classes at t))))
+    (λ b. and_then (not_void at (form_in t)) (λ d. and_then (check at BadDeclaration (is_bounded t)) (λ e.
+    and_then (typ_sized st.ctx.classes at t) (λ f. within_if_sized st.ctx at t)))))
 
 abbrev pub global_object : ℕ → Typ → At → Tree
 global_object g t at = node (forms.Global g) t Lvalue at none

@@ -13,6 +13,7 @@ use Rattle.elab_ctx.specs.cpp_names.declared.entity.Entity.{Entity}
 use Rattle.elab_ctx.specs.cpp_ast.declared.kinds.NodeKind.TheVariants as k
 use Rattle.elab_ctx.specs.cpp_ast.Trees as syntax
 use Rattle.elab_ctx.specs.cpp_tree.declared.kinds.TKind.TheVariants as forms
+use Rattle.elab_ctx.specs.cpp_layout.Layout.{class_extent}
 use Rattle.elab_ctx.specs.cpp_tree.declared.program.FuncKind.TheVariants.{ClosureCall}
 use Rattle.elab_ctx.specs.cpp_tree.declared.program.Linkage.TheVariants.{Internal}
 use Rattle.elab_ctx.specs.cpp_tree.declared.faults.ElabFault.{ElabFault}
@@ -29,7 +30,7 @@ use Rattle.elab_rules.specs.Initialising.{no_function}
 use Rattle.elab_rules.specs.Operators.{is_complete}
 use Rattle.elab_rules.specs.Names.{captured_from, is_local_entity, member_here}
 use Rattle.elab_rules.specs.Types.{Parameter, Qualifiers, no_qualifiers, qualifiers_from, is_declared_safe, function_of}
-use Rattle.elab_rules.specs.Sizes.{typ_sized}
+use Rattle.elab_rules.specs.Sizes.{typ_sized, sized}
 use Rattle.elab_rules.specs.Expressions.{type_id_of, parameters_in}
 use Rattle.elab_rules.specs.Statements.{State, Done, Lambdas, statements_of, statement, no_labels, is_trivial}
 use Rattle.elab_rules.specs.Functions.{safety_of, param_of, result_items, with_parameters, end_of, body_made}
@@ -315,6 +316,10 @@ body_statements s e x = and_then (with_parameters s e x.params) (λ (y : State).
 abbrev pub lambda_type : Ctx → Written → Typ → Result Typ ElabFault
 lambda_type c x r = and_then (function_of c x.at r x.params (is_declared_safe x.qualifiers)) (λ (t : Typ). and_then (typ_sized c.classes x.at t) (λ y. Ok t))
 
+-- its object is no larger than the greatest one (profile)
+abbrev pub closure_sized : State → Written → Signature → Result Bool ElabFault
+closure_sized st x sig = sized x.at (class_extent (declared_closure st x sig).classes (length st.ctx.classes)).size
+
 abbrev pub signature_in : Form → Signature
 signature_in (func sig) = sig
 signature_in f = signature no_typs (plain void) false
@@ -322,9 +327,10 @@ signature_in f = signature no_typs (plain void) false
 -- with its result known: the body once
 abbrev pub lambda_with : List Lexeme → State → Written → Typ → Signature → Result State ElabFault
 lambda_with s st x r sig = and_then (check x.at Incomplete (is_complete st.ctx (held r)))
-    (λ y. and_then (body_statements s (inside st (lambda_entered st x (known r) r) (declared_closure st x sig)) x) (λ (d : Done).
+    (λ y. and_then (closure_sized st x sig)
+    (λ z. and_then (body_statements s (inside st (lambda_entered st x (known r) r) (declared_closure st x sig)) x) (λ (d : Done).
     body_made (record st { ctx = declared_closure st x sig }) x.at (length st.ctx.funcs)
-    (statement (forms.Block false) x.body_at (followed_by d.trees (end_of d.state.ctx r x.body_at))) d.state))
+    (statement (forms.Block false) x.body_at (followed_by d.trees (end_of d.state.ctx r x.body_at))) d.state)))
 
 abbrev pub lambda_known : List Lexeme → State → Written → Typ → Result State ElabFault
 lambda_known s st x r = and_then (lambda_type st.ctx x r) (λ (t : Typ). lambda_with s st x r (signature_in (form_in t)))
@@ -334,10 +340,13 @@ abbrev pub result_in : Returns → Typ
 result_in (deduced (Some t)) = t
 result_in rs = plain void
 
+abbrev pub result_read : List Lexeme → State → Written → Signature → Result Typ ElabFault
+result_read s st x sig = and_then (closure_sized st x sig)
+    (λ z. and_then (body_statements s (inside st (lambda_entered st x (deduced None) (plain void)) (declared_closure st x sig)) x)
+    (λ (d : Done). Ok (result_in d.state.ctx.returns)))
+
 abbrev pub result_deduced : List Lexeme → State → Written → Typ → Result Typ ElabFault
-result_deduced s st x t = and_then (body_statements s
-    (inside st (lambda_entered st x (deduced None) (plain void)) (declared_closure st x (signature_in (form_in t)))) x)
-    (λ (d : Done). Ok (result_in d.state.ctx.returns))
+result_deduced s st x t = result_read s st x (signature_in (form_in t))
 
 abbrev pub result_of : List Lexeme → State → Written → Option Typ → Result Typ ElabFault
 result_of s st x (Some r) = Ok r

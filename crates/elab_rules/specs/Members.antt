@@ -7,6 +7,7 @@ use Rattle.std.specs.Str.{bytes_eq}
 use Rattle.elab_ctx.specs.tx_ints.declared.kinds.IntKind.TheVariants.{ULong}
 use Rattle.elab_ctx.specs.cpp_types.Typ.{Typ, typ, void, ptr, class}
 use Rattle.elab_ctx.specs.cpp_types.Class.{Class, Member, completion_of}
+use Rattle.elab_ctx.specs.cpp_types.Equal.{typ_eq}
 use Rattle.elab_ctx.specs.cpp_types.Trivial.{is_destructor_name}
 use Rattle.elab_ctx.specs.cpp_types.declared.classes.At.{At}
 use Rattle.elab_ctx.specs.cpp_types.declared.ranks.Cat.TheVariants.{Lvalue, Prvalue}
@@ -28,7 +29,7 @@ use Rattle.elab_ctx.specs.Ctx.{Ctx, Func, This, Default}
 use Rattle.elab_ctx.specs.Steps.{and_then, expect, check, each_of, Made, TypedAll, at_of, spelling, token_place}
 use Rattle.elab_rules.specs.Values.{size_type, part_at}
 use Rattle.elab_rules.specs.Objects.{traits_at, destroys, followed_by}
-use Rattle.elab_rules.specs.Initialising.{func_at, same_number, class_number}
+use Rattle.elab_rules.specs.Initialising.{func_at, same_number, class_number, signature_result}
 use Rattle.elab_rules.specs.Names.{held_by, this_pointer, members_in, offset_at}
 use Rattle.elab_rules.specs.Calls.{pointer_offset, base_of_class}
 use Rattle.elab_rules.specs.Types.{Declared, type_named}
@@ -38,7 +39,7 @@ use Rattle.elab_rules.specs.Expressions.{operands_of, type_of_specifiers, declar
 use Rattle.elab_rules.specs.Statements.{State, Done, Full, Lambdas, statement, full, with_work, full_operand, all_lambdas, default_object, copy_initialised}
 use Rattle.elab_rules.specs.Statements.{directly_initialised, statements_of, name_of, values_place}
 use Rattle.elab_rules.specs.Functions.{Storage, Header, entered, with_parameters, leaving, body_made, function_body, agrees, first_from, is_same_function}
-use Rattle.elab_rules.specs.Functions.{with_definition, text_between, text_sized}
+use Rattle.elab_rules.specs.Functions.{with_definition, text_between, text_sized, defines_well}
 use Rattle.elab_rules.specs.Classes.{Home, Members, Begun, begun, based_on, members_of, completed, closed_class, Method, method_of, special_header, header_in}
 use Rattle.elab_rules.specs.Classes.{started_from, Started, body_in, last_token, token_end, class_text}
 
@@ -279,17 +280,27 @@ destructor_body lams s st h n place (syntax.node kind p token kids) =
 abbrev pub this_type : ℕ → Header → Typ
 this_type n h = typ (class n) h.qualifiers.is_const false
 
+abbrev pub body_by_kind : Lambdas → List Lexeme → State → ℕ → ℕ → FuncKind → Method → syntax.Tree → Result State ElabFault
+body_by_kind lams s st n place Constructor m body = constructor_body lams s st m.header n place m.rest body
+body_by_kind lams s st n place Destructor m body = destructor_body lams s st m.header n place body
+body_by_kind lams s st n place kind m body = function_body lams s st m.header (Some (this_type n m.header)) place body
+
 abbrev pub method_body : Lambdas → List Lexeme → State → ℕ → ℕ → FuncKind → Method → syntax.Tree → Result State ElabFault
-method_body lams s st n place Constructor m body = constructor_body lams s st m.header n place m.rest body
-method_body lams s st n place Destructor m body = destructor_body lams s st m.header n place body
-method_body lams s st n place kind m body = function_body lams s st m.header (Some (this_type n m.header)) place body
+method_body lams s st n place kind m body = and_then (defines_well m.header) (λ y. body_by_kind lams s st n place kind m body)
 
 -- the function of the class that the header declares
 abbrev pub place_of_header : Ctx → Header → Result ℕ ElabFault
 place_of_header c h = expect h.at NoMember (first_from (is_same_function h) 0 c.funcs)
 
+-- the header is read again behind the brace: the result is the same, and the parameters are those of now
+abbrev pub late_kept : Ctx → ℕ → Header → Result Ctx ElabFault
+late_kept c i h =
+    and_then (check h.at TypeDiffers (typ_eq (signature_result (func_at c.funcs i).declared.signature) (signature_result h.signature)))
+    (λ y. Ok (with_definition c i h (func_at c.funcs i).text (func_at c.funcs i).closed_at))
+
 abbrev pub late_method : Lambdas → List Lexeme → State → ℕ → FuncKind → Method → Option syntax.Tree → Result State ElabFault
-late_method lams s st n kind m (Some body) = and_then (place_of_header st.ctx m.header) (λ place. method_body lams s st n place kind m body)
+late_method lams s st n kind m (Some body) = and_then (place_of_header st.ctx m.header)
+    (λ place. and_then (late_kept st.ctx place m.header) (λ (c : Ctx). method_body lams s (record st { ctx = c }) n place kind m body))
 late_method lams s st n kind m None = Ok st
 
 abbrev pub late_function : Lambdas → List Lexeme → State → ℕ → List ℕ → At → FuncKind → syntax.Trees → Result State ElabFault

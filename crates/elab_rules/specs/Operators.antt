@@ -134,6 +134,10 @@ moved_back c at t n p = operated Add ULong (unqualified (typ_in (value p))) at (
 abbrev pub within_greatest : Ctx → At → Typ → Result Bool ElabFault
 within_greatest c at t = if nat_le (size_of c.classes t) GREATEST_SIZE then Ok true else Err (Limit at Size)
 
+-- the same of a type that may have no size yet
+abbrev pub within_if_sized : Ctx → At → Typ → Result Bool ElabFault
+within_if_sized c at t = if not (is_sized c t) || nat_le (size_of c.classes t) GREATEST_SIZE then Ok true else Err (Limit at Size)
+
 abbrev pub measurable : Ctx → At → Typ → Result Bool ElabFault
 measurable c at t = and_then (check at Incomplete (is_sized c t)) (λ y. within_greatest c at t)
 

@@ -44,7 +44,7 @@ use Rattle.elab_rules.specs.Objects.{destroys, element_of, fields, traits_at, fo
 use Rattle.elab_rules.specs.Initialising.{conversion, initial, class_from, from_nothing, from_values, scalar_from, func_at, class_number, is_prvalue_of_class, seen_as}
 use Rattle.elab_rules.specs.Constants.{constant}
 use Rattle.elab_rules.specs.Casts.{within_exception}
-use Rattle.elab_rules.specs.Operators.{value, truth, dropped, true_at, is_complete, is_throw, without_value, bare_throw}
+use Rattle.elab_rules.specs.Operators.{value, truth, dropped, true_at, is_complete, is_throw, without_value, bare_throw, within_if_sized}
 use Rattle.elab_rules.specs.Names.{is_const_typ}
 use Rattle.elab_rules.specs.Sizes.{typ_sized}
 use Rattle.elab_rules.specs.Strings.{string_bytes}
@@ -342,7 +342,8 @@ without_auto before r = and_then r (λ (d : Done). Ok (record { done = d; auto =
 abbrev pub plain_variable : Lambdas → List Lexeme → State → List ℕ → Typ → At → syntax.Trees → Result Done ElabFault
 plain_variable lams s st name t at init = and_then (declarable st.ctx at t)
     (λ x. and_then (check at BadDeclaration (is_bounded t))
-    (λ z. and_then (typ_sized st.ctx.classes at t) (λ y. with_initialiser lams s st (placed_variable st name t) t at init)))
+    (λ z. and_then (typ_sized st.ctx.classes at t)
+    (λ y. and_then (within_if_sized st.ctx at t) (λ w. with_initialiser lams s st (placed_variable st name t) t at init))))
 
 abbrev pub variable_by : Lambdas → List Lexeme → State → List ℕ → Typ → At → Option Typ → syntax.Trees → Bool → Result Deduction ElabFault
 variable_by lams s st name t at before init true = and_then (expect at BadInit (only_expression init))

@@ -25,7 +25,7 @@ use Rattle.elab_rules.specs.Strings.{string_bytes}
 use Rattle.elab_rules.specs.Expressions.{type_of_specifiers, type_id_of, declared_by}
 use Rattle.elab_rules.specs.Statements.{State, is_own_name, name_of, no_labels, bound_by_initialiser}
 use Rattle.elab_rules.specs.Functions.{Storage, no_storage, with_specifier, Header, Placed, function_declared, function_body, with_definition, text_between}
-use Rattle.elab_rules.specs.Functions.{text_sized}
+use Rattle.elab_rules.specs.Functions.{text_sized, defines_well}
 use Rattle.elab_rules.specs.Members.{member_defined, declared_only, class_defined}
 use Rattle.elab_rules.specs.Lambdas.{lambdas_of}
 use Rattle.elab_rules.specs.Implicit.{with_implied}
@@ -128,11 +128,11 @@ closing_offset s body = token_end (slice_get s (brace_of body))
 
 abbrev pub defined_with : List Lexeme → State → Storage → At → ℕ → Declared → syntax.Tree → Form → Result State ElabFault
 defined_with s st x at first d body (func sig) = and_then (text_sized at (definition_text s x first body))
-    (λ y. and_then (function_declared st.ctx (header_of s at x d sig) true) (λ (p : Placed).
+    (λ y. and_then (defines_well (header_of s at x d sig)) (λ z. and_then (function_declared st.ctx (header_of s at x d sig) true) (λ (p : Placed).
     function_body lambdas_of s (record st {
       ctx = with_definition p.ctx p.place (header_of s at x d sig) (definition_text s x first body)
           (closing_offset s body);
-    }) (header_of s at x d sig) None p.place body))
+    }) (header_of s at x d sig) None p.place body)))
 defined_with s st x at first d body f = Err (Ill at BadDeclaration)
 
 abbrev pub is_qualified : Declared → Bool
