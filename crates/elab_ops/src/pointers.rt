@@ -18,7 +18,7 @@ ghost use Rattle.elab_ops.specs.Forms.{object_at};
 ghost use Rattle.elab_conv.specs.elab_ctx.Says.{Gives, Tells};
 ghost use Rattle.elab_conv.specs.elab_rules.Objects.{size_of};
 ghost use Rattle.elab_conv.specs.elab_rules.Values.{number, operated, in_kind, size_type, retyped};
-ghost use Rattle.elab_conv.specs.elab_rules.Operators.{value, as_kind, arithmetic, arithmetic_of, is_object_type, is_complete, is_sized, is_function, pointed, measurable, movable, sum_of, indirection, address_of, subscript, value_form};
+ghost use Rattle.elab_conv.specs.elab_rules.Operators.{value, as_kind, arithmetic, arithmetic_of, is_object_type, is_complete, is_sized, is_function, pointed, within_if_sized, measurable, movable, sum_of, indirection, address_of, subscript, value_form};
 
 use crate::arithmetic::{arithmetic_of, in_kind, number, on_values, operated, operated_in};
 use crate::operands::{as_kind, ill, int_type, number_kind, pointed, value, value_type};
@@ -93,6 +93,19 @@ fn is_within_greatest(env: &Env, ty: &Ty) -> bool
         Ok(_) => true,
         Err(_) => false,
     }
+}
+
+/// Tests that objects of a type, where they have a size, are no larger than the greatest one.
+pub fn within_if_sized(env: &Env, at: At, ty: &Ty) -> Result<bool, ElabFault>
+    ensures { Tells result (within_if_sized (ctx_of env.now) at (typ_of ty.now)) }
+{
+    if is_sized(env, ty) && !is_within_greatest(env, ty) {
+        return Err(ElabFault::Limit {
+            at,
+            which: LimitKind::Size,
+        });
+    }
+    Ok(true)
 }
 
 /// Tests that objects of a type have a size, and that it is no more than the greatest one.

@@ -112,8 +112,8 @@ pub fn parameter_type(alloc: Global, env: &Env, at: At, ty: &Ty) -> Result<Ty, E
     Ok(made)
 }
 
-// The types of parameters, as they are part of the type of their function.
-fn types_of_parameters(alloc: Global, params: &[Parameter]) -> Result<Vec<Ty>, AllocError>
+/// The types of parameters, as they are part of the type of their function.
+pub fn types_of_parameters(alloc: Global, params: &[Parameter]) -> Result<Vec<Ty>, AllocError>
     ensures { IfOk result (λ v. typs_of v.items ≡ types_of (map parameter_of params.now)) }
 {
     let mut types = Vec::new(alloc);
