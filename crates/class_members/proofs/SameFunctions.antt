@@ -18,7 +18,7 @@ named_any n name fs places e = class_any n (is_named n name) (λ f h. asks_first
 
 -- the name and the class of the function that is declared
 same_name_class : (h : Header) (f : Func) → is_same_function h f ≡ true → (bytes_eq f.declared.name h.name && same_variable f.class h.class) ≡ true
-same_name_class h f e = asks_first _ _ (asks_first _ _ e)
+same_name_class h f e = asks_first _ _ (asks_first _ _ (asks_first _ _ e))
 
 own_class : (o : Option ℕ) (n : ℕ) → same_variable o (Some n) ≡ true → same_number n o ≡ true
 own_class None n e = absurd (true≢false (sym e))

@@ -11,6 +11,6 @@ pub mod sizes;
 
 pub use bases::{based_on, keeps};
 pub use data_members::{data_member, has_function, has_member};
-pub use methods::{first_same, member_function};
+pub use methods::{defines_well, first_same, member_function, same_kind};
 pub use records::{Definition, Header, Home, Marks, Members, Storage};
 pub use sizes::{header_sized, text_sized};

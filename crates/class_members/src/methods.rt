@@ -1,15 +1,17 @@
 // Member functions, constructors and destructors (C++14 9.3, 12.1, 12.4).
 
 ghost use Rattle.std.specs.Prelude.{◌≡◌, IfOk, List, map, is_some, option_map, slice_get};
-ghost use Rattle.cpp_types.specs.Typ.{signature_of};
+ghost use Rattle.cpp_types.specs.Typ.{signature_of, typs_of};
+ghost use Rattle.cpp_types.specs.Equal.{typs_eq};
 ghost use Rattle.cpp_types.specs.Class.{function_of, member_of};
 ghost use Rattle.elab_init.specs.cpp_tree.Units.{param_of};
 ghost use Rattle.elab_init.specs.elab_ctx.Ctx.{ctx_of, func_of, Work};
 ghost use Rattle.elab_init.specs.elab_ctx.Places.{passes, first_among};
 ghost use Rattle.elab_init.specs.elab_ctx.Says.{Tells};
+ghost use Rattle.elab_init.specs.elab_rules.Initialising.{signature_parameters};
 ghost use Rattle.elab_init.specs.elab_rules.Names.{same_variable};
 ghost use Rattle.elab_init.specs.elab_rules.Statements.{Body};
-ghost use Rattle.elab_init.specs.elab_rules.Functions.{param_of as declared_param, safety_of as safety_of_of, linkage_of as linkage_of_of, function_record as function_record_of, is_same_function as is_same_function_of, first_from};
+ghost use Rattle.elab_init.specs.elab_rules.Functions.{param_of as declared_param, safety_of as safety_of_of, linkage_of as linkage_of_of, function_record as function_record_of, same_kind as same_kind_of, is_same_function as is_same_function_of, defines_well as defines_well_of, first_from};
 ghost use Rattle.elab_init.specs.elab_rules.Classes.{as_defined as as_defined_of, definition_sized as definition_sized_of, member_function as member_function_of};
 ghost use Rattle.elab_types.specs.Shown.{Says, parameter_of, qualifiers_of};
 ghost use Rattle.class_members.specs.Shown.{header_of, storage_of, marks_of, definition_of, home_of, reading, Answers};
@@ -23,9 +25,10 @@ use crate::overriding::{
 };
 use crate::records::{Definition, Header, Home, Marks, Members, Storage};
 use crate::sizes::{header_sized, text_sized};
-use cpp_types::{FuncRec, MemberRec, Safety, copy, copy_function};
-use elab_init::below::{ElabFault, Env, FuncDecl, Functions, IllRule, Linkage, TParam};
+use cpp_types::{FnTy, FuncRec, MemberRec, Safety, Ty, copy, copy_function, equal_lists};
+use elab_init::below::{ElabFault, Env, FuncDecl, FuncKind, Functions, IllRule, Linkage, TParam};
 use elab_init::ill;
+use elab_types::declarators::types_of_parameters;
 use elab_types::{Parameter, Qualifiers};
 use std::alloc::{AllocError, Global};
 
@@ -161,7 +164,21 @@ fn same_class(a: Option<u32>, b: Option<u32>) -> bool
     }
 }
 
-// Whether a function is the one that is declared: its name, its class, its parameters and `const` (C++14 13.1).
+/// Whether two kinds of functions are the same.
+pub fn same_kind(a: FuncKind, b: FuncKind) -> bool
+    ensures { result ≡ same_kind_of a b }
+{
+    match (a, b) {
+        (FuncKind::Plain, FuncKind::Plain)
+        | (FuncKind::Constructor, FuncKind::Constructor)
+        | (FuncKind::Destructor, FuncKind::Destructor)
+        | (FuncKind::ClosureCall, FuncKind::ClosureCall) => true,
+        _ => false,
+    }
+}
+
+// Whether a function is the one that is declared: its name, its class, its parameters and `const` (C++14 13.1), and its
+// kind.
 fn is_same_function(header: &Header, found: &FuncDecl) -> bool
     ensures { result ≡ is_same_function_of (header_of header.now) (func_of found.now) }
 {
@@ -169,6 +186,7 @@ fn is_same_function(header: &Header, found: &FuncDecl) -> bool
         && same_class(found.class, header.class)
         && same_parameters(&found.rec.ty, &header.ty)
         && same_flag(found.rec.is_const, header.qualifiers.is_const)
+        && same_kind(found.kind, header.kind)
 }
 
 // Whether the function at a place is the one that is declared.
@@ -273,4 +291,24 @@ pub fn member_function(
     )?;
     add_function(env, made)?;
     Ok(())
+}
+
+// Whether these are the types of the parameters of a function.
+#[tactic(auto, using(cpp_types::proofs::Views::signature_view))]
+fn takes(types: &[Ty], function: &FnTy) -> bool
+    ensures { result ≡ typs_eq (typs_of types.now) (signature_parameters (signature_of function.now)) }
+{
+    equal_lists(types, &function.params)
+}
+
+/// Tests that a function which is defined has the parameters that its declarator writes: another name of its type does
+/// not do (C++14 8.3.5 p12).
+pub fn defines_well(alloc: Global, header: &Header) -> Result<bool, ElabFault>
+    ensures { Tells result (defines_well_of (header_of header.now)) }
+{
+    let types = types_of_parameters(alloc, &header.params)?;
+    if !takes(&types, &header.ty) {
+        return Err(ill(header.at, IllRule::BadDeclaration));
+    }
+    Ok(true)
 }

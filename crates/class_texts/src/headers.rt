@@ -1,12 +1,13 @@
 // What member functions, constructors and destructors declare (C++14 9.3, 12.1, 12.4).
 
-ghost use Rattle.std.specs.Prelude.{◌≡◌, IfOk};
+ghost use Rattle.std.specs.Prelude.{◌≡◌, not, if◌then◌else◌, IfOk};
 ghost use Rattle.elab_init.specs.cpp_lex.Tokens.{lexemes_of};
 ghost use Rattle.cpp_types.specs.Typ.{typ_of, signature_of, typs_of, more as and_typ, none as no_typs};
 ghost use Rattle.elab_init.specs.cpp_tree.Typing.{form_in};
-ghost use Rattle.elab_init.specs.elab_rules.Initialising.{makes, signature_parameters};
+ghost use Rattle.elab_init.specs.elab_rules.Initialising.{makes};
 ghost use Rattle.elab_init.specs.elab_rules.Statements.{name_of as name_of_of};
-ghost use Rattle.elab_init.specs.elab_rules.Classes.{header_in as header_in_of, special_name as special_name_of, special_header as special_header_of, takes_own_value as takes_own_value_of};
+ghost use Rattle.elab_init.specs.elab_rules.Functions.{is_none_typs};
+ghost use Rattle.elab_init.specs.elab_rules.Classes.{header_in as header_in_of, special_name as special_name_of, special_header as special_header_of, takes_own_value as takes_own_value_of, is_special as is_special_of};
 ghost use Rattle.elab_types.specs.Shown.{Says, declared_of};
 ghost use Rattle.class_members.specs.Shown.{header_of, storage_of};
 ghost use Rattle.class_texts.specs.Signatures.{signature_in, header_by};
@@ -17,6 +18,7 @@ use elab_init::below::{ElabFault, FuncKind, IllRule, Tokens};
 use elab_init::ill;
 use elab_types::Declared;
 use elab_types::syntax::spelling;
+use elab_types::types::is_void_type;
 use std::alloc::{AllocError, Global};
 
 /// The name that a declarator declares; nothing where it declares none.
@@ -126,20 +128,31 @@ fn is_only_class(types: &[Ty], class: u32) -> bool
     types.len() == 1 && is_class(&types[0], class)
 }
 
-// Whether a constructor takes an object of its class by value.
-#[tactic(auto, using(cpp_types::proofs::Views::signature_view))]
-fn takes_own_value(function: &FnTy, class: u32) -> bool
-    ensures { result ≡ takes_own_value_of class (signature_parameters (signature_of function.now)) }
-{
-    is_only_class(&function.params, class)
-}
-
 fn makes_objects(kind: FuncKind) -> bool
     ensures { result ≡ makes kind }
 {
     match kind {
         FuncKind::Constructor => true,
         FuncKind::Plain | FuncKind::Destructor | FuncKind::ClosureCall => false,
+    }
+}
+
+// Whether the type of a function is that of a constructor or a destructor: it has no result, and a destructor has no
+// parameters.
+#[tactic(auto, using(cpp_types::proofs::Views::signature_view))]
+fn is_special(kind: FuncKind, class: u32, function: &FnTy) -> bool
+    ensures { result ≡ is_special_of kind class (signature_of function.now) }
+{
+    is_void_type(&function.ret) && fits_kind(makes_objects(kind), class, &function.params)
+}
+
+fn fits_kind(makes: bool, class: u32, params: &[Ty]) -> bool
+    ensures { result ≡ (if makes then not (takes_own_value_of class (typs_of params.now)) else is_none_typs (typs_of params.now)) }
+{
+    if makes {
+        !is_only_class(params, class)
+    } else {
+        params.is_empty()
     }
 }
 
@@ -161,7 +174,7 @@ pub fn special_header(
     }
     let special = special_name(alloc, kind, class_name)?;
     let header = header_in(alloc, class, storage, kind, at, &special, declared)?;
-    if makes_objects(kind) && takes_own_value(&header.ty, class) {
+    if !is_special(kind, class, &header.ty) {
         return Err(ill(at, IllRule::BadDeclaration));
     }
     Ok(header)

@@ -41,7 +41,7 @@ use Rattle.elab_contexts.proofs.Items.{Lawful}
 use Rattle.elab_contexts.proofs.Members.{each_holds, defaults_kept, all_late_kept}
 use Rattle.elab_rules.specs.cpp_tree.Typing.{is_reference}
 use Rattle.elab_rules.specs.cpp_types.Typ.{void, int, enum, null, ptr, ref, array, closure, tx_ex}
-use Rattle.elab_rules.specs.Classes.{plain_method, special_method, method_started, special_header, special_name, takes_own_value}
+use Rattle.elab_rules.specs.Classes.{plain_method, special_method, method_started, special_header, special_name, is_special}
 use Rattle.elab_contexts.specs.Steps.{class_begun as begun_step, class_completed, SameFunction, IsWhole, IsMember}
 use Rattle.elab_contexts.proofs.Walking.{Leaves, stays, after, bind, skip, behind, follow, of_state, one_step}
 use Rattle.elab_contexts.proofs.Outside.{added_further}
@@ -127,7 +127,7 @@ special_owned : (n : ℕ) (class_name : List ℕ) (at : At) (x : Storage) (kind 
 special_owned n class_name at x kind r name = skip (Owned n) (check at BadDeclaration (bytes_eq name class_name && not r.qualifiers.is_const)) _
     (λ y. bind (Owned n) (Owned n) (header_in n x kind at (special_name kind class_name) r (form_in r.typ)) _
     (header_owned n x kind at (special_name kind class_name) r (form_in r.typ))
-    (λ h i. skip (Owned n) (check at BadDeclaration (not (makes kind && takes_own_value n (signature_parameters h.signature)))) _ (λ z. i)))
+    (λ h i. skip (Owned n) (check at BadDeclaration (is_special kind n h.signature)) _ (λ z. i)))
 
 method_special_owned : (s : List Lexeme) (st : State) (n : ℕ) (class_name : List ℕ) (at : At) (x : Storage) (kind : FuncKind) (ts : syntax.Trees)
     → On (OwnedMethod n) (special_method s st n class_name at x kind ts)

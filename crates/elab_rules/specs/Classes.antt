@@ -40,7 +40,7 @@ use Rattle.elab_rules.specs.Sizes.{typ_sized}
 use Rattle.elab_rules.specs.Expressions.{type_of_specifiers, declared_by}
 use Rattle.elab_rules.specs.Statements.{State, is_own_name, name_of, is_const_element, has_written_default, is_trivial}
 use Rattle.elab_rules.specs.Functions.{Storage, no_storage, with_specifier, Header, new_function, is_same_function, first_from, text_between, header_sized}
-use Rattle.elab_rules.specs.Functions.{text_sized, is_none_typs}
+use Rattle.elab_rules.specs.Functions.{text_sized, is_none_typs, same_kind}
 use Rattle.elab_rules.specs.Globals.{with_type}
 
 -- The name (9.1): a new class, or one that is only declared
@@ -549,7 +549,7 @@ abbrev pub kept_special : Ctx → Special → Specials
 kept_special c x = record { ctx = c; special = x }
 
 abbrev pub is_destructor_of : ℕ → Func → Bool
-is_destructor_of n f = same_number n f.class && is_destructor_name f.declared.name
+is_destructor_of n f = same_number n f.class && same_kind f.kind Destructor
 
 -- the destructor: written, trivial, or that of each part (12.4)
 abbrev pub with_destructor : Ctx → Home → At → List Member → Option ℕ → Specials

@@ -1,5 +1,5 @@
 -- The typed program of some units (C++14 2.1, 3.5): each unit has its own names; classes keep their numbers through all of them.
-use Rattle.std.specs.Prelude.{ℕ, suc, ◌+◌, ◌==◌, Bool, true, false, List, [], ◌∷◌, ◌++◌, length, Option, Some, None, is_some, Result, Ok, find}
+use Rattle.std.specs.Prelude.{ℕ, suc, ◌+◌, ◌==◌, Bool, true, false, List, [], ◌∷◌, ◌++◌, length, Option, Some, None, is_some, Result, Ok, find, map}
 use Rattle.elab_ctx.specs.cpp_types.Typ.{Typ, typ, class}
 use Rattle.elab_ctx.specs.cpp_types.Class.{Class}
 use Rattle.elab_ctx.specs.cpp_lex.Tokens.{Lexeme}
@@ -11,6 +11,7 @@ use Rattle.elab_ctx.specs.cpp_tree.Units.{Func as TypedFunc, Definition, Unit, T
 use Rattle.elab_ctx.specs.cpp_tree.Typing.{is_class_typ}
 use Rattle.elab_ctx.specs.Ctx.{Ctx, Func, Traits}
 use Rattle.elab_ctx.specs.Steps.{and_then, spelling}
+use Rattle.elab_rules.specs.Objects.{no_traits}
 use Rattle.elab_rules.specs.Initialising.{signature_result}
 use Rattle.elab_rules.specs.Types.{type_named}
 use Rattle.elab_rules.specs.Statements.{State, Body}
@@ -86,9 +87,12 @@ pub record Source : Type 0 where
   pub tokens : List Lexeme
   pub decls : syntax.Trees
 
--- a unit behind others: their classes stay, their names are gone
+-- a unit behind others: their classes stay; their names are gone, and their special members, which are functions of those units
 abbrev pub start_behind : ℕ → TypedProgram → List Traits → State
-start_behind source p traits = record (start source) { ctx = record (start source).ctx { classes = p.classes; slots = p.slots; traits = traits } }
+start_behind source p traits = record (start source) {
+  ctx =
+      record (start source).ctx { classes = p.classes; slots = p.slots; traits = map (λ (t : Traits). no_traits) traits };
+}
 
 abbrev pub with_unit : TypedProgram → Source → State → TypedProgram
 with_unit p x st = record { units = p.units ++ unit_shown x.tokens x.decls st ∷ []; classes = st.ctx.classes; slots = st.ctx.slots }
