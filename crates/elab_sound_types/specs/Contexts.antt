@@ -1,5 +1,5 @@
 -- What a context has to say for the types of expressions to be sound, and what the text has to be.
-use Rattle.std.specs.Prelude.{◌≡◌, ℕ, Bool, true, false, not, ◌&&◌, ◌||◌, List, Option, Some, None, is_some}
+use Rattle.std.specs.Prelude.{◌≡◌, ℕ, Bool, true, false, not, ◌&&◌, ◌||◌, List, length, Option, Some, None, is_some}
 use Rattle.std.specs.List.{list_all}
 use Rattle.elab_rules.specs.cpp_types.Typ.{Typ, typ, Form, int, enum, class, closure}
 use Rattle.elab_rules.specs.cpp_types.Class.{Class, Member, completion_of}
@@ -99,6 +99,8 @@ pub record HasSoundTypes (c : Ctx) (w : Work) : Type 0 where
   pub captures : are_sound_captures c.classes c.lambda ≡ true
   -- a global is what an lvalue can refer to
   pub globals : are_sound_globals c.classes w ≡ true
+  -- each class has its traits
+  pub many : length c.traits ≡ length c.classes
   -- a class whose objects may be copied as bytes is complete
   pub copied : (n : ℕ) → (traits_at c n).is_trivially_copyable ≡ true → is_some (completion_of c.classes n) ≡ true
 
