@@ -1,5 +1,5 @@
 -- The lambdas of an expression keep the types of a context sound: their bodies are statements in which there are no lambdas.
-use Rattle.std.proofs.Common.{◌≡◌, refl, subst, Bool, true, false, not, ◌||◌, List, [], ◌∷◌, length}
+use Rattle.std.proofs.Common.{◌≡◌, refl, subst, ℕ, Bool, true, false, not, ◌||◌, List, [], ◌∷◌, length}
 use Rattle.std.proofs.Common.{Option, Some, None, Result, Ok}
 use Rattle.std.specs.List.{list_all}
 use Rattle.std.proofs.lemmas.Bool.{and_parts}

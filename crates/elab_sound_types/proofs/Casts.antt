@@ -1,5 +1,5 @@
 -- Casts, `sizeof`, `throw` and strings have the types of expressions.
-use Rattle.std.proofs.Common.{◌≡◌, refl, ℕ, true, false, not, ◌&&◌, ◌||◌, List, [], ◌∷◌, is_some, Ok}
+use Rattle.std.proofs.Common.{◌≡◌, refl, true, false, not, ◌&&◌, ◌||◌, List, [], ◌∷◌, is_some, Ok}
 use Rattle.std.proofs.lemmas.Bool.{and_parts}
 use Rattle.elab_rules.specs.cpp_types.Typ.{Typ, typ, void, int, enum, null, ptr, ref, array, func, class, closure, tx_ex}
 use Rattle.elab_rules.specs.cpp_types.Class.{Class}

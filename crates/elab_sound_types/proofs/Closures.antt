@@ -3,7 +3,7 @@ use Rattle.std.proofs.Common.{◌≡◌, refl, ap, ◌∙◌, sym, subst, ℕ, z
 use Rattle.std.proofs.Common.{Option, Some, None, is_some, arith}
 use Rattle.std.specs.Prelude.{count_by, slice_get, unwrap_or}
 use Rattle.std.specs.List.{list_all}
-use Rattle.std.proofs.lemmas.Bool.{and_parts, ltb-true}
+use Rattle.std.proofs.lemmas.Bool.{and_parts, lt-ltb, ltb-true}
 use Rattle.std.proofs.lemmas.List.Folds.{list_all-append}
 use Rattle.std.proofs.Math.Nat.{le-suc, le_refl}
 use Rattle.elab_rules.specs.cpp_types.Typ.{Typ, Form, void, int, enum, null, ptr, ref, array, func, class, closure, tx_ex}
@@ -103,7 +103,7 @@ one_longer xs x = subst (λ (k : ℕ). length xs ≤ k) (sym (length_one xs x)) 
 names_before : (xs : List Class) (x : Class) (k : ℕ) → nat_lt k (length xs) ≡ true → is_lambda (xs ++ x ∷ []) k ≡ is_lambda xs k
 names_before [] x k h = let lt = ltb-true k 0 h in absurd (omega arith)
 names_before (y ∷ ys) x zero h = refl
-names_before (y ∷ ys) x (suc k) h = names_before ys x k h
+names_before (y ∷ ys) x (suc k) h = let lt = ltb-true (suc k) (suc (length ys)) h in names_before ys x k (lt-ltb k (length ys) (omega arith))
 
 complete_before : (xs : List Class) (x : Class) (k : ℕ) → is_some (completion_of xs k) ≡ true → is_some (completion_of (xs ++ x ∷ []) k) ≡ true
 complete_before [] x k h = absurd cc

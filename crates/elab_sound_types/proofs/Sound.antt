@@ -7,7 +7,7 @@ use Rattle.elab_rules.specs.cpp_types.Conversion.{is_object_form}
 use Rattle.elab_rules.specs.cpp_tree.Notation.{plain}
 use Rattle.elab_rules.specs.cpp_tree.Typing.{form_in, qualified, unqualified, is_void}
 use Rattle.elab_rules.specs.Types.{with_qualifiers, is_reference_form, is_array_form, is_function_form, is_bounded}
-use Rattle.elab_sound_types.specs.Types.{Use, object, target, variable, parameter, result, value, denoted, declared, may_be_void, may_refer, may_be_array}
+use Rattle.elab_sound_types.specs.Types.{Use, object, target, variable, parameter, result, denoted, declared, may_be_void, may_refer, may_be_array}
 use Rattle.elab_sound_types.specs.Types.{may_be_function, may_be_lambda, is_lambda, is_sound, is_sound_form, is_sound_signature}
 
 pub both : {a b : Bool} → a ≡ true → b ≡ true → (a && b) ≡ true

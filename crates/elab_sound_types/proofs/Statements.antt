@@ -271,7 +271,7 @@ module _ (adds : Bool) (lams : Lambdas) (s : List Lexeme) (keeps : KeepsSound ad
       (λ w. skip (DoneSound adds st) (expect o.operand.at NotConstant (constant st.work.globals m.tree)) _
       (λ word. skip (DoneSound adds st) (check o.operand.at Narrowing
       (statements.case_fits (kind_in (form_in (typ_in (value o.operand)))) (kind_in (form_in st.ctx.labels.typ)) w)) _
-      (λ x. skip (DoneSound adds st) (check at BadCase (not (list_any (λ (n : List Class). n == word) st.ctx.labels.words))) _ (λ z. label_sound st _ h)))))))
+      (λ x. skip (DoneSound adds st) (check at BadCase (not (list_any (λ (n : ℕ). n == word) st.ctx.labels.words))) _ (λ z. label_sound st _ h)))))))
 
   default_label : (st : State) (at : At) → IsSoundState st → On (DoneSound adds st) (statements.default_label st at)
   default_label st at h = skip (DoneSound adds st) (statements.label_here st at) _
