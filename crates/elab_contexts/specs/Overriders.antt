@@ -12,11 +12,12 @@ use Rattle.elab_rules.specs.elab_ctx.Ctx.{Ctx, Func}
 use Rattle.elab_rules.specs.Types.{Declared}
 use Rattle.elab_rules.specs.Functions.{Storage, same_kind}
 use Rattle.elab_rules.specs.Classes.{Home, Members, Method, completed, closed_class}
+use Rattle.elab_rules.specs.Globals.{enum_declared}
 use Rattle.elab_rules.specs.Implicit.{implied}
 use Rattle.elab_rules.specs.Lambdas.{lambdas_of}
-use Rattle.elab_rules.specs.Members.{default_made, late_method, outside_body}
+use Rattle.elab_rules.specs.Members.{declared_only, default_made, late_method, outside_body}
 use Rattle.elab_rules.specs.Statements.{State, Done, Full, full_operand, statements_of}
-use Rattle.elab_rules.specs.Units.{file_declaration, defined_with}
+use Rattle.elab_rules.specs.Units.{file_declaration, alias_of, defined_with}
 use Rattle.elab_fits.specs.Standing.{On}
 
 -- what overrides is a plain function whose name does not begin with `~`, or a destructor, whose name does; no constructor is virtual
@@ -43,6 +44,15 @@ StatementsOverride = (s : List Lexeme) (st : State) (ts : syntax.Trees) → On (
 
 abbrev pub VariablesOverride : Type 0
 VariablesOverride = (s : List Lexeme) (st : State) (x : Storage) (at : At) (ts : syntax.Trees) → On (Overrides st) (file_declaration s st x at ts)
+
+abbrev pub AliasesOverride : Type 0
+AliasesOverride = (s : List Lexeme) (st : State) (at : At) (name : List ℕ) (ts : syntax.Trees) → On (Overrides st) (alias_of s st at name ts)
+
+abbrev pub EnumsOverride : Type 0
+EnumsOverride = (s : List Lexeme) (st : State) (at : At) (name : List ℕ) (ts : syntax.Trees) → On (Overrides st) (enum_declared s st at name ts)
+
+abbrev pub NamesOverride : Type 0
+NamesOverride = (st : State) (at : At) (name : List ℕ) → On (Overrides st) (declared_only st at name)
 
 abbrev pub FunctionsOverride : Type 0
 FunctionsOverride = (s : List Lexeme) (st : State) (x : Storage) (at : At) (first : ℕ) (r : Declared) (body : syntax.Tree)

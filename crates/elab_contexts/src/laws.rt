@@ -5,6 +5,7 @@ ghost use Rattle.elab_contexts.specs.Holding.{LambdasHold, OperandsHold, Stateme
 ghost use Rattle.elab_contexts.specs.Holding.{VariablesHold, AliasesHold, EnumsHold, NamesHold, FunctionsHold, OutsideHold};
 ghost use Rattle.elab_contexts.specs.Holding.{ClassesHold, MemberDefaultsHold, MethodsHold, ImpliedHold};
 ghost use Rattle.elab_contexts.specs.Overriders.{LambdasOverride, OperandsOverride, StatementsOverride, VariablesOverride, FunctionsOverride};
+ghost use Rattle.elab_contexts.specs.Overriders.{AliasesOverride, EnumsOverride, NamesOverride};
 ghost use Rattle.elab_contexts.specs.Overriders.{OutsideOverride, ClassesOverride, MemberDefaultsOverride, MethodsOverride, ImpliedOverride};
 ghost use Rattle.elab_contexts.specs.Walks.{LambdasWalk, OperandsWalk, StatementsWalk, BodiesWalk, DeclarationsWalk, UnitsWalk};
 
@@ -54,6 +55,9 @@ pub fn overriders()
     ensures operands { OperandsOverride }
     ensures statements { StatementsOverride }
     ensures variables { VariablesOverride }
+    ensures aliases { AliasesOverride }
+    ensures enums { EnumsOverride }
+    ensures names { NamesOverride }
     ensures functions { FunctionsOverride }
     ensures outside { OutsideOverride }
     ensures classes { ClassesOverride }

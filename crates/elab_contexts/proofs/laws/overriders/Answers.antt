@@ -1,4 +1,5 @@
 use Rattle.elab_contexts.proofs.Holding.{lambdas_override, operands_override, statements_override, variables_override, functions_override, outside_override, classes_override, defaults_override, methods_override, implied_override}
+use Rattle.elab_contexts.proofs.Unchanged.{aliases_override, enums_override, names_override}
 use Rattle.elab_contexts.proofs.laws.overriders.Goals as goal
 
 pub returns-clause-lambdas : goal.returns-clause-lambdas
@@ -30,3 +31,12 @@ returns-clause-methods c = methods_override
 
 pub returns-clause-implied : goal.returns-clause-implied
 returns-clause-implied c = implied_override
+
+pub returns-clause-aliases : goal.returns-clause-aliases
+returns-clause-aliases c = aliases_override
+
+pub returns-clause-enums : goal.returns-clause-enums
+returns-clause-enums c = enums_override
+
+pub returns-clause-names : goal.returns-clause-names
+returns-clause-names c = names_override
