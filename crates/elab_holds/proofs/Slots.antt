@@ -7,7 +7,7 @@ use Rattle.std.specs.Str.{bytes_eq}
 use Rattle.std.proofs.Math.Nat.{div-eq_of_lt}
 use Rattle.std.proofs.lemmas.Bool.{and_parts, and_from}
 use Rattle.std.proofs.lemmas.Option.{same_Some}
-use Rattle.elab_rules.specs.cpp_types.Typ.{typ, class, enum, func, Typs, Signature}
+use Rattle.elab_rules.specs.cpp_types.Typ.{class, func, Signature}
 use Rattle.elab_rules.specs.cpp_types.Class.{Class, Function, InOrder, base_of, completion_of}
 use Rattle.elab_rules.specs.cpp_types.Conversion.{bases, first_and}
 use Rattle.elab_rules.specs.cpp_types.Equal.{name_eq, form_eq, typs_eq, flag_eq}
@@ -15,7 +15,6 @@ use Rattle.elab_rules.specs.cpp_types.Trivial.{is_destructor_name}
 use Rattle.cpp_types.proofs.Bases.{bases_unroll}
 use Rattle.elab_rules.specs.cpp_layout.Layout.{Extent, next_multiple, end_from, base_items, class_extent, is_virtual_function, functions_of, has_virtual}
 use Rattle.elab_rules.specs.cpp_layout.Layout.{has_class_pointer}
-use Rattle.elab_rules.specs.cpp_tree.declared.program.FuncKind.{FuncKind}
 use Rattle.elab_rules.specs.cpp_tree.declared.program.FuncKind.TheVariants.{Plain, Destructor}
 use Rattle.elab_rules.specs.cpp_tree.Notation.{plain}
 use Rattle.elab_rules.specs.cpp_tree.Typing.{passes}
@@ -23,19 +22,18 @@ use Rattle.elab_rules.specs.cpp_tree.Units.{SlotFunc}
 use Rattle.elab_rules.specs.cpp_tree.Rows.{is_slot_of, has_slot}
 use Rattle.elab_rules.specs.cpp_tree.Parts.{size_in, sized_class, pointer_behind, adds_pointer_at, has_pointer_at}
 use Rattle.elab_rules.specs.elab_ctx.Ctx.{Ctx, Work, Func}
-use Rattle.elab_rules.specs.Calls.{slot_from, slot_of_function, index_in_class, base_of_class, own_pointer_offset, pointer_along, pointer_offset}
+use Rattle.elab_rules.specs.Calls.{slot_of_function, index_in_class, base_of_class, own_pointer_offset, pointer_along, pointer_offset}
 use Rattle.elab_rules.specs.Classes.{functions_in, same_virtual}
 use Rattle.elab_rules.specs.Initialising.{signature_parameters}
 use Rattle.elab_rules.specs.Functions.{same_kind}
 use Rattle.elab_fits.proofs.Equal.{form_refl, flag_same}
 use Rattle.elab_fits.proofs.Objects.{sized_from, size_is}
 use Rattle.elab_sound_types.specs.Contexts.{HasSoundTypes}
-use Rattle.elab_contexts.specs.Steps.{view}
 use Rattle.elab_contexts.specs.Holding.{UnitHolds}
 use Rattle.elab_contexts.specs.Overriders.{is_overrider, HasOverriders}
-use Rattle.elab_contexts.specs.Slots.{slots_at, HasOwnSlot, IsAlone}
-use Rattle.elab_contexts.proofs.Functions.{Alike, alike_says, bytes_same, typs_same, kind_same}
-use Rattle.elab_holds.specs.Contexts.{HasSlots, SlotsHold}
+use Rattle.elab_contexts.specs.Slots.{HasOwnSlot, IsAlone}
+use Rattle.elab_contexts.proofs.Functions.{alike_says, bytes_same, typs_same, kind_same}
+use Rattle.elab_holds.specs.Contexts.{SlotsHold}
 use Rattle.elab_holds.proofs.Order.{order_law}
 use Rattle.elab_holds.proofs.Sound.{complete_found}
 use Rattle.elab_holds.proofs.Complete.{class_sized, class_at}
