@@ -26,6 +26,7 @@ use Rattle.elab_rules.specs.Strings.{string_bytes}
 use Rattle.elab_rules.specs.Braces.{default_at, string_object, string_token, syntax_place, is_char_array}
 use Rattle.elab_rules.specs.Expressions.{operands_of}
 use Rattle.elab_rules.specs.Statements.{State, Done, Body, Lambdas, with_work, all_lambdas, default_object, directly_initialised, statements_of, full_operand, copy_initialised}
+use Rattle.elab_rules.specs.Functions.{this_at, result_items}
 use Rattle.elab_rules.specs.Functions.{Header, entered, leaving, with_parameters, within_frame, body_made, function_body, defines_well, with_definition, defined_function}
 use Rattle.elab_rules.specs.Classes.{Method, method_of, body_in}
 use Rattle.elab_rules.specs.Members.{Given, Giving, member_index, member_type, given_part, given_base, is_named_class, is_base_type, given_for}
@@ -35,18 +36,18 @@ use Rattle.elab_rules.specs.Members.{defaults_of, all_defaults, initialiser_in, 
 use Rattle.elab_fits.specs.Standing.{On}
 use Rattle.elab_fits.proofs.Steps.{bind, skip}
 use Rattle.elab_sound_types.specs.Types.{is_class}
-use Rattle.elab_sound_types.specs.Contexts.{HasSoundTypes, is_spelled, are_spelled, is_sound_function, is_sound_parameter, are_sound_closures}
-use Rattle.elab_sound_types.specs.States.{IsSoundState, IsSoundAfter, Kept, Grown, KeepsSound, is_sound_return}
+use Rattle.elab_sound_types.specs.Contexts.{HasSoundTypes, is_spelled, are_spelled, is_sound_function, is_sound_this, are_sound_closures}
+use Rattle.elab_sound_types.specs.States.{IsSoundState, IsSoundAfter, Kept, Grown, KeepsSound, is_sound_object, is_sound_return}
 use Rattle.elab_sound_types.proofs.Growth.{grown_same, class_more}
 use Rattle.elab_sound_types.proofs.Closures.{names_more, variables_more, this_more, captures_more, closures_more, return_more}
 use Rattle.elab_sound_types.proofs.Braces.{copy_kept, direct_kept}
 use Rattle.elab_sound_types.proofs.Expressions.{first_spelled, rest_spelled, kids_spelled}
 use Rattle.elab_sound_types.proofs.States.{all_but, nothing, later, since}
-use Rattle.elab_sound_units.specs.Headers.{IsSoundHeader}
+use Rattle.elab_sound_units.specs.Headers.{IsSoundHeader, IsRead}
 use Rattle.elab_sound_units.proofs.Below.{GlobalsStay, MadeBehind, After, DoneAfter, FullAfter, AllTypedIn, full_sound, lambdas_sound, statements_sound}
 use Rattle.elab_sound_units.proofs.Below.{function_sound, parameters_sound, operands_sound}
 use Rattle.elab_sound_units.proofs.Contexts.{moved, function_at, work_state, functions_state, with_defaults}
-use Rattle.elab_sound_units.proofs.Headers.{IsRead, method_read, SpelledIf, body_spelled}
+use Rattle.elab_sound_units.proofs.Headers.{method_read, SpelledIf, body_spelled}
 
 -- steps over trees, one behind the other
 pub each_sound : {R : Type 0} (P : R → Type 0) (s : List Lexeme) (f : R → syntax.Tree → Result R ElabFault) (r : R) (ts : syntax.Trees) → P r
@@ -66,15 +67,20 @@ each_after s f g st ts h i = each_sound (After st) s f st ts (nothing true st h)
 
 -- Into an object, and out of a body
 
-pub object_sound : (st : State) (n : ℕ) → IsSoundState st → is_class st.ctx.classes n ≡ true → IsSoundState (in_object st n)
-object_sound st n h g = record {
+this_sound : (classes : List Class) (before : List Typ) (o : Option Typ) → is_sound_object classes o ≡ true → is_sound_this classes (this_at before o) ≡ true
+this_sound classes before (Some t) h = h
+this_sound classes before None h = refl
+
+pub entered_sound : (st : State) (r : Typ) (this : Option Typ) (class : Option ℕ) → IsSoundState st → is_sound_object st.ctx.classes this ≡ true
+    → IsSoundState (entered st r this class)
+entered_sound st r this cls h g = record {
   context = record {
     types = h.context.types;
     members = h.context.members;
     functions = h.context.functions;
     enumerators = h.context.enumerators;
     variables = refl;
-    this = g;
+    this = this_sound st.ctx.classes (result_items r) this g;
     captures = refl;
     globals = h.context.globals;
     many = h.context.many;
@@ -83,6 +89,9 @@ object_sound st n h g = record {
   closures = h.closures;
   returned = refl;
 }
+
+pub object_sound : (st : State) (n : ℕ) → IsSoundState st → is_class st.ctx.classes n ≡ true → IsSoundState (in_object st n)
+object_sound st n h g = entered_sound st (plain void) (Some (plain (class n))) (Some n) h g
 
 pub left_context : (st z : State) → Kept st.ctx.classes z.ctx.classes → IsSoundState st → IsSoundState z → HasSoundTypes (leaving st z).ctx (leaving st z).work
 left_context st z l h g = record {
@@ -234,7 +243,7 @@ definition_after st i h text closed a = functions_state st (slice_set st.ctx.fun
 module _ (lams : Lambdas) (s : List Lexeme) (keeps : KeepsSound true s lams) where
   -- What is written for parts
 
-  abbrev GivingAfter : State → Giving → Type 0
+  abbrev pub GivingAfter : State → Giving → Type 0
   GivingAfter a g = IsSoundAfter true a g.state
 
   part_after : (n : ℕ) (g : Giving) (i : Option ℕ) (at : At) (t : Typ) (es : syntax.Trees) → IsSoundState g.state → are_spelled s es ≡ true
@@ -265,7 +274,7 @@ module _ (lams : Lambdas) (s : List Lexeme) (keeps : KeepsSound true s lams) whe
   given_behind : (a : State) (x : Giving) (r : Result Giving ElabFault) → After a x.state → On (GivingAfter x.state) r → On (GivingAfter a) r
   given_behind a x r h g = since (GivingAfter x.state) (GivingAfter a) r g (λ y i. later true a x.state y.state h i)
 
-  given_after : (n : ℕ) (g : Giving) (ts : syntax.Trees) → IsSoundState g.state → are_spelled s ts ≡ true → On (GivingAfter g.state) (all_given lams s n g ts)
+  pub given_after : (n : ℕ) (g : Giving) (ts : syntax.Trees) → IsSoundState g.state → are_spelled s ts ≡ true → On (GivingAfter g.state) (all_given lams s n g ts)
   given_after n g ts h j = each_sound (GivingAfter g.state) s (given_by lams s n) g ts (nothing true g.state h) j
       (λ x t i m. given_behind g.state x (given_by lams s n x t) i (by_after n x t i.sound m))
 
@@ -380,7 +389,7 @@ module _ (lams : Lambdas) (s : List Lexeme) (keeps : KeepsSound true s lams) whe
 
   -- Bodies behind the brace
 
-  late_method_after : (st : State) (n : ℕ) (kind : FuncKind) (m : Method) (body : Option syntax.Tree) → IsSoundState st → is_class st.ctx.classes n ≡ true
+  pub late_method_after : (st : State) (n : ℕ) (kind : FuncKind) (m : Method) (body : Option syntax.Tree) → IsSoundState st → is_class st.ctx.classes n ≡ true
       → IsRead s st.ctx.classes n m → SpelledIf s body → On (After st) (late_method lams s st n kind m body)
   late_method_after st n kind m (Some body) h c r j = skip (After st) (place_of_header st.ctx m.header) _
       (λ place. with_late place (check m.header.at TypeDiffers

@@ -42,11 +42,11 @@ use Rattle.elab_sound_types.proofs.Growth.{grown_same, class_more}
 use Rattle.elab_sound_types.proofs.Closures.{all_and_one, one_kept, closures_more, return_more}
 use Rattle.elab_sound_types.proofs.Expressions.{first_spelled, rest_spelled, kids_spelled}
 use Rattle.elab_sound_types.proofs.States.{nothing, later}
-use Rattle.elab_sound_units.specs.Headers.{IsSoundHeader, IsSoundClass}
+use Rattle.elab_sound_units.specs.Headers.{IsSoundHeader, IsOwnHeader, IsRead, IsSoundClass}
 use Rattle.elab_sound_units.proofs.Below.{After, IsDenoted, specifiers_sound, declarator_sound}
 use Rattle.elab_sound_units.proofs.Contexts.{functions_state}
 use Rattle.elab_sound_units.proofs.Adding.{named_sound, last_class}
-use Rattle.elab_sound_units.proofs.Headers.{IsRead, IsOwnHeader, header_sound, method_read}
+use Rattle.elab_sound_units.proofs.Headers.{header_sound, method_read}
 use Rattle.elab_sound_units.proofs.Bodies.{each_sound, behind, defaults_after, all_late_after}
 use Rattle.elab_sound_units.proofs.Completing.{closed_after}
 
@@ -68,9 +68,9 @@ called_sound classes name (x ∷ xs) h = let p = and_parts (is_sound_name classe
 
 -- Up to the name
 
-record IsBegun (st : State) (b : Begun) : Type 0 where
-  after : IsSoundAfter true st (record st { ctx = b.ctx })
-  class : is_class b.ctx.classes b.number ≡ true
+pub record IsBegun (st : State) (b : Begun) : Type 0 where
+  pub after : IsSoundAfter true st (record st { ctx = b.ctx })
+  pub class : is_class b.ctx.classes b.number ≡ true
 
 begun_typ : (st : State) (at : At) (defines : Bool) (t : Typ) → IsSoundState st → IsDenoted st.ctx.classes t → On (IsBegun st) (begun_by st.ctx at defines t)
 begun_typ st at defines (typ (class n) false false) h g = skip (IsBegun st) (check at Redeclared (not defines || is_none (completion_of st.ctx.classes n))) _
@@ -92,7 +92,7 @@ begun_name : (st : State) (at : At) (name : List ℕ) (defines : Bool) (o : Opti
 begun_name st at name defines (Some t) e h g = begun_typ st at defines t h g
 begun_name st at name defines None e h g = record { after = named_after st name e h; class = last_class st.ctx.classes _ e }
 
-begun_after : (st : State) (at : At) (name : List ℕ) (defines : Bool) → is_nothing name ≡ false → IsSoundState st
+pub begun_after : (st : State) (at : At) (name : List ℕ) (defines : Bool) → is_nothing name ≡ false → IsSoundState st
     → On (IsBegun st) (begun st.ctx at name defines)
 begun_after st at name defines e h = begun_name st at name defines (type_named name st.ctx.types) e h
     (called_sound st.ctx.classes name st.ctx.types h.context.types)
@@ -250,11 +250,14 @@ module _ (classes : List Class) where
 
 -- The brace, and what stands behind it
 
-members_spelled : (s : List Lexeme) (ts : syntax.Trees) → are_spelled s ts ≡ true → are_spelled s (members_among ts) ≡ true
+pub members_spelled : (s : List Lexeme) (ts : syntax.Trees) → are_spelled s ts ≡ true → are_spelled s (members_among ts) ≡ true
 members_spelled s syntax.none h = refl
 members_spelled s (syntax.more (syntax.node k.MemberSpecification p token members) ts) h =
     kids_spelled s k.MemberSpecification p token members (first_spelled s (syntax.node k.MemberSpecification p token members) ts h)
 members_spelled s (syntax.more t ts) h = members_spelled s ts (rest_spelled s t ts h)
+
+pub same_state : (st : State) (r : Members) → IsSoundClass st.ctx.classes r → After st r.state
+same_state st r h = record { sound = h.state; grown = subst (λ (cs : List Class). Grown true st.ctx.classes cs) (sym h.same) (grown_same true st.ctx.classes) }
 
 module _ (lams : Lambdas) (s : List Lexeme) (keeps : KeepsSound true s lams) where
   behind_brace : (home : Home) (y : State) (members : syntax.Trees) → IsSoundState y → is_class y.ctx.classes home.number ≡ true
@@ -264,9 +267,6 @@ module _ (lams : Lambdas) (s : List Lexeme) (keeps : KeepsSound true s lams) whe
       (defaults_after lams s keeps home.number y members h c i)
       (λ x j. behind y x (all_late lams s home.number home.name x members) j
       (all_late_after lams s keeps home.number home.name x members j.sound (class_more y.ctx.classes x.ctx.classes j.grown.kept home.number c) i))
-
-  same_state : (st : State) (r : Members) → IsSoundClass st.ctx.classes r → After st r.state
-  same_state st r h = record { sound = h.state; grown = subst (λ (cs : List Class). Grown true st.ctx.classes cs) (sym h.same) (grown_same true st.ctx.classes) }
 
   pub class_closed_after : (st : State) (home : Home) (at : At) (r : Members) (members : syntax.Trees) → is_class st.ctx.classes home.number ≡ true
       → is_nothing home.name ≡ false → IsSoundClass st.ctx.classes r → are_spelled s members ≡ true

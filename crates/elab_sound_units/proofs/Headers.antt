@@ -33,7 +33,7 @@ use Rattle.elab_sound_types.specs.Contexts.{is_sound_parameter, is_spelled, are_
 use Rattle.elab_sound_types.specs.States.{IsSoundState}
 use Rattle.elab_sound_types.proofs.Objects.{not_true}
 use Rattle.elab_sound_types.proofs.Expressions.{first_spelled, rest_spelled}
-use Rattle.elab_sound_units.specs.Headers.{IsSoundHeader}
+use Rattle.elab_sound_units.specs.Headers.{IsSoundHeader, IsOwnHeader, IsRead}
 use Rattle.elab_sound_units.proofs.Below.{IsDenoted, specifiers_sound, declarator_sound}
 
 -- Spellings
@@ -73,11 +73,6 @@ pub signature_sound : (classes : List Class) (t : Typ) (sig : Signature) → IsD
 signature_sound classes t sig h e = (and_parts (not (has_own t)) (is_sound_signature classes sig)
     (sym (ap (λ (f : Form). is_sound_form classes denoted (has_own t) f) e) ∙ form_sound classes t h)).1
 
--- a header with its class
-pub record IsOwnHeader (classes : List Class) (n : ℕ) (h : Header) : Type 0 where
-  pub sound : IsSoundHeader classes h
-  pub class : h.class ≡ Some n
-
 pub header_sound : (classes : List Class) (n : ℕ) (x : Storage) (kind : FuncKind) (at : At) (name : List ℕ) (r : Declared) (f : Form)
     → IsSoundDeclared classes r → form_in r.typ ≡ f → On (IsOwnHeader classes n) (header_in n x kind at name r f)
 header_sound classes n x kind at name r (func sig) h e =
@@ -104,11 +99,6 @@ special_sound classes n class_name at x kind r name h =
     (λ y. bind (IsOwnHeader classes n) (IsOwnHeader classes n) (header_in n x kind at (special_name kind class_name) r (form_in r.typ)) _
     (header_sound classes n x kind at (special_name kind class_name) r (form_in r.typ) h refl)
     (λ g i. skip (IsOwnHeader classes n) (check at BadDeclaration (is_special kind n g.signature)) _ (λ z. i)))
-
--- a method, with what stands behind its declarator
-pub record IsRead (s : List Lexeme) (classes : List Class) (n : ℕ) (m : Method) : Type 0 where
-  pub header : IsOwnHeader classes n m.header
-  pub rest : are_spelled s m.rest ≡ true
 
 pub plain_read : (s : List Lexeme) (st : State) (n : ℕ) (at : At) (x : Storage) (ts : syntax.Trees) → IsSoundState st → are_spelled s ts ≡ true
     → On (IsRead s st.ctx.classes n) (plain_method s st n at x ts)

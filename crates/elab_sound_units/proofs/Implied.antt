@@ -54,7 +54,7 @@ base_work st at n source (Some b) =
     bind (MadeBehind st.work) (OnlyDone st) (class_from (as_base_of st.ctx b) st.work (plain (class b)) at (own_operand at (as_source at b source))) _
     (globals.class_from (as_base_of st.ctx b) st.work (plain (class b)) at (own_operand at (as_source at b source))) (λ m g. made_work st m.work g)
 
-copied_work : (st : State) (at : At) (n : ℕ) (source : Tree) (is_const : Bool) → On (OnlyDone st) (parts_copied st at n source is_const)
+pub copied_work : (st : State) (at : At) (n : ℕ) (source : Tree) (is_const : Bool) → On (OnlyDone st) (parts_copied st at n source is_const)
 copied_work st at n source is_const =
     bind (OnlyDone st) (OnlyDone st) (base_copied st at n source (base_of_class (slice_get st.ctx.classes n))) _
     (base_work st at n source (base_of_class (slice_get st.ctx.classes n)))
@@ -124,7 +124,7 @@ of_after : (st : State) (k : ℕ) (f : Func) (o : Option ℕ) → IsSoundState s
 of_after st k f (Some n) h = body_after st f.declared.at k n f.kind (signature_parameters f.declared.signature) h
 of_after st k f None h = nothing true st h
 
-one_after : (st : State) (k : ℕ) → IsSoundState st → On (After st) (implied st k)
+pub one_after : (st : State) (k : ℕ) → IsSoundState st → On (After st) (implied st k)
 one_after st k h = either (After st) ((func_at st.ctx.funcs k).implicit && is_referred st k) _ _
     (of_after st k (func_at st.ctx.funcs k) (func_at st.ctx.funcs k).class h) (nothing true st h)
 

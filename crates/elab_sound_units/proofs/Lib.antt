@@ -9,4 +9,6 @@ pub mod Globals
 pub mod Headers
 pub mod Implied
 pub mod Outside
+pub mod Programs
+pub mod Steps
 pub mod Units

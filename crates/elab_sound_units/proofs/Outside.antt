@@ -36,10 +36,10 @@ use Rattle.elab_sound_types.specs.States.{IsSoundState, IsSoundAfter, KeepsSound
 use Rattle.elab_sound_types.proofs.Closures.{all_and_one}
 use Rattle.elab_sound_types.proofs.Expressions.{first_spelled, rest_spelled}
 use Rattle.elab_sound_types.proofs.States.{all_but, nothing, later}
-use Rattle.elab_sound_units.specs.Headers.{IsSoundHeader}
+use Rattle.elab_sound_units.specs.Headers.{IsSoundHeader, IsOwnHeader, IsRead, IsOutside}
 use Rattle.elab_sound_units.proofs.Below.{After, IsDenoted, specifiers_sound, declarator_sound}
 use Rattle.elab_sound_units.proofs.Contexts.{function_at, functions_state, names_state}
-use Rattle.elab_sound_units.proofs.Headers.{IsRead, IsOwnHeader, header_sound, special_sound, started_spelled, body_spelled, SpelledIf}
+use Rattle.elab_sound_units.proofs.Headers.{header_sound, special_sound, started_spelled, body_spelled, SpelledIf}
 use Rattle.elab_sound_units.proofs.Bodies.{behind, definition_after, method_after}
 use Rattle.elab_sound_units.proofs.Classes.{DenotedIf, called_sound}
 
@@ -115,12 +115,6 @@ owners_sound s st at o h = skip (IsClassOf st.ctx) (expect at BadDeclaration o) 
     (λ u e. owner_sound st.ctx at u (found_denoted st.ctx.classes (type_named (spelling s t) st.ctx.types) u
     (called_sound st.ctx.classes (spelling s t) st.ctx.types h.context.types) e)))
 
--- a method with its class
-record IsOutside (s : List Lexeme) (classes : List Class) (m : Method) : Type 0 where
-  number : ℕ
-  class : is_class classes number ≡ true
-  read : IsRead s classes number m
-
 module _ (s : List Lexeme) (st : State) (h : IsSoundState st) where
   abbrev Outside : Method → Type 0
   Outside m = IsOutside s st.ctx.classes m
@@ -146,7 +140,7 @@ module _ (s : List Lexeme) (st : State) (h : IsSoundState st) where
   special_method at x kind d rest i = bind (IsSoundDeclared st.ctx.classes) Outside (declared_by s st.ctx st.work at (plain void) d) _
       (declarator_sound s st.ctx st.work at (plain void) d h.context refl) (λ r g. special_outside at x kind rest r g i)
 
-  methods_outside : (at : At) (x : Storage) (kind : FuncKind) (ts : syntax.Trees) → are_spelled s ts ≡ true → On Outside (outside_method s st at x kind ts)
+  pub methods_outside : (at : At) (x : Storage) (kind : FuncKind) (ts : syntax.Trees) → are_spelled s ts ≡ true → On Outside (outside_method s st at x kind ts)
   methods_outside at x Plain (syntax.more base (syntax.more d rest)) i =
       bind (IsDenoted st.ctx.classes) Outside (type_of_specifiers s st.ctx st.work base) _ (specifiers_sound s st.ctx st.work base h.context)
       (λ t j. bind (IsSoundDeclared st.ctx.classes) Outside (declared_by s st.ctx st.work at t d) _ (declarator_sound s st.ctx st.work at t d h.context j)
@@ -182,7 +176,7 @@ defined_after s st i h first last g =
     later true st y (record y { ctx = linked_definition y.ctx i h.storage }) a (linked_after y i h.storage a.sound)
 
 module _ (lams : Lambdas) (s : List Lexeme) (keeps : KeepsSound true s lams) where
-  body_after : (st : State) (n : ℕ) (kind : FuncKind) (first : ℕ) (m : Method) (body : syntax.Tree) → IsSoundState st → is_class st.ctx.classes n ≡ true
+  pub body_after : (st : State) (n : ℕ) (kind : FuncKind) (first : ℕ) (m : Method) (body : syntax.Tree) → IsSoundState st → is_class st.ctx.classes n ≡ true
       → IsRead s st.ctx.classes n m → is_spelled s body ≡ true → On (After st) (outside_body lams s st n kind first m body)
   body_after st n kind first m body h c r i =
       skip (After st) (text_sized m.header.at (outside_text s m.header.storage first (last_token (Some body)))) _

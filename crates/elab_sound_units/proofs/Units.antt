@@ -1,7 +1,5 @@
--- Declarations, and whole units, keep the types of the context sound; and units begin so.
-use Rattle.std.proofs.Common.{◌≡◌, refl, ap, ◌∙◌, ℕ, zero, suc, Bool, true, false, List, [], ◌∷◌, length, Some, None}
-use Rattle.std.specs.Prelude.{map, slice_get}
-use Rattle.std.proofs.Common.{unwrap_or}
+-- Declarations, and whole units, keep the types of the context sound.
+use Rattle.std.proofs.Common.{◌≡◌, refl, ap, ℕ, Bool, true, false, List, Some, None}
 use Rattle.elab_rules.specs.cpp_types.Typ.{Typ, Form, void, int, enum, null, ptr, ref, array, func, class, closure, tx_ex}
 use Rattle.elab_rules.specs.cpp_types.declared.classes.At.{At}
 use Rattle.elab_rules.specs.cpp_lex.Tokens.{Lexeme}
@@ -10,9 +8,7 @@ use Rattle.elab_rules.specs.cpp_ast.Trees as syntax
 use Rattle.elab_rules.specs.cpp_tree.Typing.{form_in}
 use Rattle.elab_rules.specs.cpp_tree.declared.faults.IllRule.TheVariants.{BadDeclaration, OutOfProfile}
 use Rattle.elab_rules.specs.cpp_tree.declared.program.FuncKind.TheVariants.{Plain, Constructor, Destructor}
-use Rattle.elab_rules.specs.elab_ctx.Ctx.{Ctx, Traits}
-use Rattle.elab_rules.specs.elab_ctx.Steps.{and_then, check, each_of, at_of, spelling}
-use Rattle.elab_rules.specs.Objects.{no_traits}
+use Rattle.elab_rules.specs.elab_ctx.Steps.{and_then, check, at_of, spelling}
 use Rattle.elab_rules.specs.Types.{Declared, is_function_form}
 use Rattle.elab_rules.specs.Strings.{string_bytes}
 use Rattle.elab_rules.specs.Expressions.{type_of_specifiers, declared_by}
@@ -21,21 +17,19 @@ use Rattle.elab_rules.specs.Functions.{Storage, Header, no_storage, with_specifi
 use Rattle.elab_rules.specs.Globals.{global_declared}
 use Rattle.elab_rules.specs.Implicit.{with_implied}
 use Rattle.elab_rules.specs.Lambdas.{lambdas_of}
-use Rattle.elab_rules.specs.Programs.{start_behind, with_unit}
-use Rattle.elab_rules.specs.Units.{start, header_of, declared_of_type, file_declarator, file_declarators, file_declaration, definition_text, closing_offset}
+use Rattle.elab_rules.specs.Units.{header_of, declared_of_type, file_declarator, file_declarators, file_declaration, definition_text, closing_offset}
 use Rattle.elab_rules.specs.Units.{is_qualified, defined_with, defined_by, function_defined, is_c, declaration_of, declarations_of, unit_from}
 use Rattle.elab_fits.specs.Standing.{On}
 use Rattle.elab_fits.proofs.Steps.{bind, skip}
 use Rattle.elab_sound_types.specs.Laws.{IsSoundDeclared}
-use Rattle.elab_sound_types.specs.Contexts.{HasSoundTypes, is_spelled, are_spelled}
-use Rattle.elab_sound_types.specs.States.{IsSoundState, IsSoundAfter}
+use Rattle.elab_sound_types.specs.Contexts.{is_spelled, are_spelled}
+use Rattle.elab_sound_types.specs.States.{IsSoundState}
 use Rattle.elab_sound_types.proofs.Growth.{sound_more}
 use Rattle.elab_sound_types.proofs.Closures.{parameters_more}
 use Rattle.elab_sound_types.proofs.Expressions.{first_spelled, rest_spelled, kids_spelled}
 use Rattle.elab_sound_types.proofs.States.{nothing, later}
 use Rattle.elab_sound_types.specs.Types.{denoted}
-use Rattle.elab_sound_units.specs.Headers.{IsSoundHeader}
-use Rattle.elab_sound_units.specs.Units.{StartsSound, LaterStartsSound, DeclarationsKeepSound, UnitsKeepSound}
+use Rattle.elab_sound_units.specs.Units.{DeclarationsKeepSound, UnitsKeepSound}
 use Rattle.elab_sound_units.proofs.Below.{After, IsDenoted, specifiers_sound, declarator_sound, function_sound, lambdas_keep}
 use Rattle.elab_sound_units.proofs.Headers.{free_header_sound, token_spelled}
 use Rattle.elab_sound_units.proofs.Bodies.{behind, definition_after}
@@ -97,7 +91,7 @@ declarators_after s x t st (syntax.more d ds) g h i =
     (λ y j. behind st y (file_declarators s x t y ds) j
     (declarators_after s x t y ds (sound_more st.ctx.classes y.ctx.classes j.grown.kept denoted t g) j.sound (rest_spelled s d ds i)))
 
-declaration_after : (s : List Lexeme) (st : State) (x : Storage) (at : At) (ts : syntax.Trees) → IsSoundState st → are_spelled s ts ≡ true
+pub declaration_after : (s : List Lexeme) (st : State) (x : Storage) (at : At) (ts : syntax.Trees) → IsSoundState st → are_spelled s ts ≡ true
     → On (After st) (file_declaration s st x at ts)
 declaration_after s st x at (syntax.more (syntax.node k.Attribute p token kids) ts) h i =
     declaration_after s st x at ts h (rest_spelled s (syntax.node k.Attribute p token kids) ts i)
@@ -111,7 +105,7 @@ declaration_after s st x at ts h i = tt
 
 -- Definitions
 
-with_after : (s : List Lexeme) (st : State) (x : Storage) (at : At) (first : ℕ) (d : Declared) (body : syntax.Tree) (f : Form) → form_in d.typ ≡ f
+pub with_after : (s : List Lexeme) (st : State) (x : Storage) (at : At) (first : ℕ) (d : Declared) (body : syntax.Tree) (f : Form) → form_in d.typ ≡ f
     → IsSoundDeclared st.ctx.classes d → IsSoundState st → is_spelled s body ≡ true → On (After st) (defined_with s st x at first d body f)
 with_after s st x at first d body (func sig) q g h i =
     let e : Header = header_of s at x d sig in
@@ -203,50 +197,3 @@ pub units_law : UnitsKeepSound
 units_law s st decls h i =
     bind (After st) (After st) (declarations_of s no_storage st decls) with_implied (all_declared s no_storage st decls h i)
     (λ y j. behind st y (with_implied y) j (implied_after y j.sound))
-
--- The start
-
-pub starts_law : StartsSound
-starts_law source = record {
-  context = record {
-    types = refl;
-    members = refl;
-    functions = refl;
-    enumerators = refl;
-    variables = refl;
-    this = refl;
-    captures = refl;
-    globals = refl;
-    many = refl;
-    copied = λ n h. absurd cc;
-  };
-  closures = refl;
-  returned = refl;
-}
-
-no_traits_at : (ts : List Traits) (n : ℕ) → unwrap_or (slice_get (map (λ (t : Traits). no_traits) ts) n) no_traits ≡ no_traits
-no_traits_at [] n = refl
-no_traits_at (t ∷ ts) zero = refl
-no_traits_at (t ∷ ts) (suc n) = no_traits_at ts n
-
-no_more_traits : (ts : List Traits) → length (map (λ (t : Traits). no_traits) ts) ≡ length ts
-no_more_traits [] = refl
-no_more_traits (t ∷ ts) = ap suc (no_more_traits ts)
-
-pub later_law : LaterStartsSound
-later_law source p x st h = record {
-  context = record {
-    types = refl;
-    members = h.context.members;
-    functions = refl;
-    enumerators = refl;
-    variables = refl;
-    this = refl;
-    captures = refl;
-    globals = refl;
-    many = no_more_traits st.ctx.traits ∙ h.context.many;
-    copied = λ n g. let e = ap (λ (t : Traits). t.is_trivially_copyable) (no_traits_at st.ctx.traits n) in absurd cc;
-  };
-  closures = refl;
-  returned = refl;
-}

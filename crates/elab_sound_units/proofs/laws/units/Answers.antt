@@ -1,4 +1,5 @@
-use Rattle.elab_sound_units.proofs.Units.{starts_law, later_law, declarations_law, units_law}
+use Rattle.elab_sound_units.proofs.Programs.{starts_law, later_law, programs_law}
+use Rattle.elab_sound_units.proofs.Units.{declarations_law, units_law}
 use Rattle.elab_sound_units.proofs.laws.units.Goals as goal
 
 pub returns-clause-starts : goal.returns-clause-starts
@@ -12,3 +13,6 @@ returns-clause-declarations c = declarations_law
 
 pub returns-clause-units : goal.returns-clause-units
 returns-clause-units c = units_law
+
+pub returns-clause-programs : goal.returns-clause-programs
+returns-clause-programs c = programs_law
