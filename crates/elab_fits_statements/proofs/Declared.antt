@@ -66,18 +66,18 @@ module _ (w : Words) (lams : Lambdas) (s : List Lexeme) (d : Discipline w lams s
   -- an initialiser that is one expression
   by_fits : (st v : State) (t : Typ) (at : At) (e : syntax.Tree) (b : Bool) (o : Option ℕ) (init : syntax.Trees)
       → ((c : Ctx) → may_be_skipped c t init ≡ false) → w.Good v → w.Object v t → HasItem (w.at v) (next_place st.work) t → w.Text e
-      → On (Inits w v t init) (by_expression lams s st v t at e b o)
-  by_fits st v t at e true (Some n) init kept g o i x = told (Inits w v t init) (string_object v.ctx t (syntax_place e) (string_bytes (spelling s n))) _
+      → is_char_array t ≡ b → On (Inits w v t init) (by_expression lams s st v t at e b o)
+  by_fits st v t at e true (Some n) init kept g o i x r = told (Inits w v t init) (string_object v.ctx t (syntax_place e) (string_bytes (spelling s n))) _
       (λ z h. record {
         goes = goes_still w lams s d v g;
         serve = (
           variable_fits (w.at v) v t at (syntax_place e) (variable_tree st t at) z (variable_stands (w.at v) st t at i) refl refl
-              (d.strings v t (syntax_place e) (string_bytes (spelling s n)) z g o h) (d.leaves v v t at g o g (d.stays v)),
+              (d.strings v t (syntax_place e) (string_bytes (spelling s n)) z g o r h) (d.leaves v v t at g o g (d.stays v)),
           tt,
         );
         skip = λ m q. clash _ (may_be_skipped v.ctx t init) (kept v.ctx) m;
       })
-  by_fits st v t at e b o init kept g j i x = told (Inits w v t init) (full_operand lams s v e) _ (λ f h.
+  by_fits st v t at e b o init kept g j i x c = told (Inits w v t init) (full_operand lams s v e) _ (λ f h.
       let r = d.reads v e f g x h in
       let u = d.object_still v f.state t r.goes.leads j in
       told (Inits w v t init) (copy_initialised f.state.ctx f.state.work t f.operand) _ (λ m l.
@@ -139,7 +139,7 @@ module _ (w : Words) (lams : Lambdas) (s : List Lexeme) (d : Discipline w lams s
   with_fits st v t at (syntax.more (syntax.node k.EqualInitializer p token (syntax.more e syntax.none)) syntax.none) g o i x =
       by_fits st v t at e (is_char_array t) (string_token e) (syntax.more (syntax.node k.EqualInitializer p token (syntax.more e syntax.none)) syntax.none)
       (λ c. refl) g o i (d.first e syntax.none (d.kids k.EqualInitializer p token (syntax.more e syntax.none)
-      (d.first (syntax.node k.EqualInitializer p token (syntax.more e syntax.none)) syntax.none x)))
+      (d.first (syntax.node k.EqualInitializer p token (syntax.more e syntax.none)) syntax.none x))) refl
   with_fits st v t at init g o i x = tt
 
   -- an array without a bound has that of its initialiser
@@ -175,12 +175,12 @@ module _ (w : Words) (lams : Lambdas) (s : List Lexeme) (d : Discipline w lams s
       told (λ (x : Deduction). Inits w st t init x.done) (full_operand lams s v e) _ (λ f h.
       let r = d.reads v e f named x h in
       told (λ (x : Deduction). Inits w st t init x.done) (deduced_type at t f.operand) _ (λ u c.
-      let o = d.deduces f.state at t u f.operand r.goes.good
-      (d.written_still st f.state t (d.goes_on st v f.state (d.names_leads st name) r.goes.leads) wr) auto r.operand c in
       checked (λ (x : Deduction). Inits w st t init x.done) at TypeDiffers (same_deduction before u) _ (λ y.
       bind (Inits w st t init) (λ (x : Deduction). Inits w st t init x.done)
       (auto_initialised f.state t at (length st.ctx.variables) (replaced u t) f.operand (auto_object f.state t at (replaced u t) f.operand)) _
       (told (Inits w st t init) (copy_initialised f.state.ctx f.state.work (replaced u t) f.operand) _ (λ m l.
+      let o = d.deduces f.state at t u f.operand m r.goes.good
+      (d.written_still st f.state t (d.goes_on st v f.state (d.names_leads st name) r.goes.leads) wr) auto r.operand c l in
       let q = d.copies f.state (replaced u t) f.operand m r.goes.good o r.operand l in
       let a = with_work f.state m.work in
       let p = d.autos a (length st.ctx.variables) (replaced u t) q.goes.good (d.object_still f.state a (replaced u t) q.goes.leads o) in
