@@ -12,6 +12,7 @@ use Rattle.elab_rules.specs.elab_ctx.Ctx.{Ctx, next_place}
 use Rattle.elab_rules.specs.elab_ctx.Steps.{at_of, spelling}
 use Rattle.elab_rules.specs.Braces.{item_of, string_token, is_char_array, syntax_place, string_object}
 use Rattle.elab_rules.specs.Expressions.{operands_of, declared_by, type_of_specifiers}
+use Rattle.elab_rules.specs.Operators.{within_if_sized}
 use Rattle.elab_rules.specs.Sizes.{typ_sized}
 use Rattle.elab_rules.specs.Strings.{string_bytes}
 use Rattle.elab_rules.specs.Types.{has_auto, is_bounded}
@@ -155,14 +156,15 @@ module _ (w : Words) (lams : Lambdas) (s : List Lexeme) (d : Discipline w lams s
   plain_fits st name t at init g wr n x = told (Inits w st t init) (declarable st.ctx at (bound_by_initialiser s t init)) _
       (λ a h. checked (Inits w st t init) at BadDeclaration (is_bounded (bound_by_initialiser s t init)) _
       (λ b. told (Inits w st t init) (typ_sized st.ctx.classes at (bound_by_initialiser s t init)) _ (λ c l.
-      let o = d.objects st at t init a c g wr n h b l in
+      told (Inits w st t init) (within_if_sized st.ctx at (bound_by_initialiser s t init)) _ (λ e k.
+      let o = d.objects st at t init a c e g wr n h b l k in
       let p = d.places st name (bound_by_initialiser s t init) g o in
       let v = placed_variable st name (bound_by_initialiser s t init) in
       mapped (Inits w v (bound_by_initialiser s t init) init) (Inits w st t init) (with_initialiser lams s st v (bound_by_initialiser s t init) at init)
       (with_fits st v (bound_by_initialiser s t init) at init p.good (d.object_still st v (bound_by_initialiser s t init) p.leads o) p.item x)
       (λ y i. behind_place st v t init
       (record { good = p.good; leads = p.leads; stands = record { label = refl; breaks = refl; continues = refl; typ = refl; past = λ z. z } }) y
-      (bound_as_written v t init y i)))))
+      (bound_as_written v t init y i))))))
 
   -- `auto`
   auto_fits : (st : State) (name : List ℕ) (t : Typ) (at : At) (before : Option Typ) (init : syntax.Trees) (e : syntax.Tree) → w.Good st → w.Written st t

@@ -25,7 +25,7 @@ use Rattle.elab_rules.specs.Braces.{item_of, string_object, is_char_array}
 use Rattle.elab_rules.specs.Expressions.{expression_of, operands_of, chosen_operand, type_of_specifiers, declared_by}
 use Rattle.elab_rules.specs.Initialising.{class_from, initial}
 use Rattle.elab_rules.specs.Objects.{destroys}
-use Rattle.elab_rules.specs.Operators.{dropped}
+use Rattle.elab_rules.specs.Operators.{dropped, within_if_sized}
 use Rattle.elab_rules.specs.Sizes.{typ_sized}
 use Rattle.elab_rules.specs.Types.{Declared, has_auto, is_bounded}
 use Rattle.elab_rules.specs.Statements.{State, Lambdas, Full, with_work, full_operand, declared_variable, placed_variable, auto_placed, with_labels, outer}
@@ -158,9 +158,10 @@ pub record Discipline (w : Words) (lams : Lambdas) (s : List Lexeme) : Type 0 wh
   pub specifiers : (a : State) (e : syntax.Tree) (t : Typ) → w.Good a → w.Text e → type_of_specifiers s a.ctx a.work e ≡ Ok t → w.Written a t
   pub declares : (a : State) (p : At) (t : Typ) (d : syntax.Tree) (r : Declared) → w.Good a → w.Text d → w.Written a t
       → declared_by s a.ctx a.work p t d ≡ Ok r → w.Written a r.typ
-  pub objects : (a : State) (p : At) (t : Typ) (init : syntax.Trees) (x y : Bool) → w.Good a → w.Written a t → has_auto t ≡ false
+  pub objects : (a : State) (p : At) (t : Typ) (init : syntax.Trees) (x y z : Bool) → w.Good a → w.Written a t → has_auto t ≡ false
       → declarable a.ctx p (bound_by_initialiser s t init) ≡ Ok x → is_bounded (bound_by_initialiser s t init) ≡ true
-      → typ_sized a.ctx.classes p (bound_by_initialiser s t init) ≡ Ok y → w.Object a (bound_by_initialiser s t init)
+      → typ_sized a.ctx.classes p (bound_by_initialiser s t init) ≡ Ok y → within_if_sized a.ctx p (bound_by_initialiser s t init) ≡ Ok z
+      → w.Object a (bound_by_initialiser s t init)
   pub deduces : (a : State) (p : At) (t u : Typ) (o : Operand) (m : Made) → w.Good a → w.Written a t → has_auto t ≡ true → w.Reads a o
       → deduced_type p t o ≡ Ok u → copy_initialised a.ctx a.work (replaced u t) o ≡ Ok m → w.Object a (replaced u t)
   -- variables
