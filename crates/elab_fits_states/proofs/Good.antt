@@ -62,7 +62,7 @@ pub unit_grows : (s x : Setting) → Grows s x → UnitGrows s x
 unit_grows s x g = record { classes = g.classes; slots = g.slots; funcs = g.funcs; globals = g.globals }
 
 -- a context with other names, variables and labels, of the same classes and functions
-abbrev other : Ctx → List Names → List Variable → (breaks continues : Bool) → Label → Labels → List Closure → Ctx
+abbrev pub other : Ctx → List Names → List Variable → (breaks continues : Bool) → Label → Labels → List Closure → Ctx
 other c names variables breaks continues label labels closures = record c {
   scopes = names;
   variables = variables;
@@ -77,7 +77,7 @@ abbrev Known : Ctx → Work → List Variable → Type 0
 Known c v variables = (i : ℕ) (x : Variable) (t : Typ) → is_outer i c.lambda ≡ None → slice_get variables i ≡ Some x → x.typ ≡ Some t → HasItemOf v.frame x.place t
 
 module _ (c : Ctx) (names : List Names) (variables : List Variable) (breaks continues : Bool) (label : Label) (labels : Labels) (closures : List Closure) where
-  unit_other : UnitHolds c → UnitHolds (other c names variables breaks continues label labels closures)
+  pub unit_other : UnitHolds c → UnitHolds (other c names variables breaks continues label labels closures)
   unit_other h = record {
     many = h.many;
     destructors = λ n k e. let x = h.destructors n k e in record { func = x.func; at = x.at; kind = x.kind; class = x.class };
@@ -98,13 +98,15 @@ module _ (c : Ctx) (names : List Names) (variables : List Variable) (breaks cont
     numbered = h.numbered;
     earlier = h.earlier;
     based = h.based;
+    bases = h.bases;
+    members = h.members;
     nameless = h.nameless;
     sized = h.sized;
     enumerators = h.enumerators;
     types = h.types;
   }
 
-  slots_other : HasSlots c → HasSlots (other c names variables breaks continues label labels closures)
+  pub slots_other : HasSlots c → HasSlots (other c names variables breaks continues label labels closures)
   slots_other h = λ k n f e o p v d. let x = h k n f e o p v d in record { slot = x.slot; pointer = x.pointer }
 
 module _ (b : ContextsHold) where

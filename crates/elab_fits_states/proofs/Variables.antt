@@ -1,5 +1,5 @@
 -- Types of variables, and what elaboration has checked of them.
-use Rattle.std.proofs.Common.{◌≡◌, refl, ap, ◌∙◌, subst, ℕ, zero, suc, Bool, true, false, not, nat_lt, nat_le, ◌&&◌, ◌||◌, cond, List, Option, Some, None, is_some}
+use Rattle.std.proofs.Common.{◌≡◌, refl, ap, ◌∙◌, subst, ℕ, zero, suc, Bool, true, false, not, nat_le, ◌&&◌, ◌||◌, cond, List, [], ◌∷◌, slice_get, Option, Some, None, is_some}
 use Rattle.std.proofs.Common.{Result, Ok, Err, if◌then◌else◌}
 use Rattle.std.specs.List.{list_all}
 use Rattle.std.proofs.lemmas.Bool.{and_parts}
@@ -13,6 +13,8 @@ use Rattle.elab_rules.specs.cpp_ast.declared.kinds.NodeKind.TheVariants as k
 use Rattle.elab_rules.specs.cpp_ast.Trees as syntax
 use Rattle.elab_rules.specs.cpp_layout.declared.extents.TheConstants.{GREATEST_SIZE}
 use Rattle.elab_rules.specs.cpp_tree.declared.faults.ElabFault.{ElabFault}
+use Rattle.elab_rules.specs.cpp_tree.declared.faults.ElabFault.TheVariants.{Limit}
+use Rattle.elab_rules.specs.cpp_tree.declared.faults.LimitKind.TheVariants.{Size}
 use Rattle.elab_rules.specs.cpp_tree.declared.faults.IllRule.{IllRule}
 use Rattle.elab_rules.specs.cpp_tree.declared.faults.IllRule.TheVariants.{Incomplete, AbstractObject}
 use Rattle.elab_rules.specs.cpp_tree.Notation.{plain}
@@ -36,7 +38,7 @@ use Rattle.elab_fits_forms.proofs.Readiness.{any_ready}
 use Rattle.elab_fits_forms.proofs.Sources as sources
 use Rattle.elab_fits_forms.proofs.Types.{target_no_void}
 use Rattle.elab_fits_forms.proofs.Wholes.{exception_whole}
-use Rattle.elab_sound_types.specs.Types.{Use, target, object, variable, denoted, is_sound, is_lambda}
+use Rattle.elab_sound_types.specs.Types.{Use, target, object, variable, denoted, may_be_array, is_sound}
 use Rattle.setting_growth.specs.Growth.{HeldEarlier}
 use Rattle.setting_growth.proofs.Sizes.{size_still}
 use Rattle.elab_sound_types.specs.Contexts.{HasSoundTypes, member_use, is_sound_member, has_sound_members}
@@ -87,7 +89,7 @@ qualified_closure c v (typ (closure n) d w) = refl
 qualified_closure c v (typ (tx_ex t) d w) = refl
 
 element_no_lambda : (classes : List Class) (t : Typ) → is_sound classes object t ≡ true → is_closure (form_in (element_of t)) ≡ false
-element_no_lambda classes (typ (array e n) c v) h = let a = and_parts (nat_lt 0 n) (not (c || v) && is_sound classes object e) h in
+element_no_lambda classes (typ (array e n) c v) h = let a = and_parts (may_be_array object n) (not (c || v) && is_sound classes object e) h in
     qualified_closure c v (element_of e) ∙ element_no_lambda classes e (and_parts (not (c || v)) (is_sound classes object e) a.1).1
 element_no_lambda classes (typ void c v) h = absurd cc
 element_no_lambda classes (typ (int k) c v) h = refl
@@ -132,7 +134,7 @@ module _ (s : Setting) (c : Ctx) (w : Work) (h : Holds s c w) where
   ready_object (typ null q v) i k = refl
   ready_object (typ (ptr t) q v) i k = refl
   ready_object (typ (ref t) q v) i k = absurd cc
-  ready_object (typ (array (typ f d y) n) q v) i k = let a = and_parts (nat_lt 0 n) (not (q || v) && is_sound c.classes object (typ f d y)) i in
+  ready_object (typ (array (typ f d y) n) q v) i k = let a = and_parts (may_be_array object n) (not (q || v) && is_sound c.classes object (typ f d y)) i in
       let b = and_parts (not (q || v)) (is_sound c.classes object (typ f d y)) a.1 in both b.0 (both a.0 (ready_object (typ f d y) b.1 k))
   ready_object (typ (func g) q v) i k = absurd cc
   ready_object (typ (class n) q v) i k = ((h.complete n k).whole (class n) q v refl (form_is c.classes object (q || v) (class n) i)).ready
@@ -177,7 +179,7 @@ module _ (s : Setting) (c : Ctx) (w : Work) (h : Holds s c w) where
     single = refl;
   }
   declares (typ (array (typ f d y) n) q v) i z = let e = typ f d y in
-      let a = and_parts (nat_lt 0 n) (not (q || v) && is_sound c.classes object (typ f d y)) i in
+      let a = and_parts (may_be_array variable n) (not (q || v) && is_sound c.classes object (typ f d y)) i in
       let b = and_parts (not (q || v)) (is_sound c.classes object (typ f d y)) a.1 in
       let k = sized_complete c.classes (typ (array (typ f d y) n) q v) z in
       let r : is_ready c.classes false (typ (array (typ f d y) n) q v) ≡ true = both b.0 (both a.0 (ready_object (typ f d y) b.1 k)) in record {
@@ -279,7 +281,7 @@ or_second false b h g = absurd cc
 pub sized_if : (c : Ctx) (at : At) (t : Typ) (x z : Bool) → is_sound c.classes variable t ≡ true → declarable c at t ≡ Ok x → within_if_sized c at t ≡ Ok z
     → is_some (size_in c.classes t) ≡ true
 sized_if c at t x z h d k = sized_by c.classes t (complete t (complete_by c at t x h d)) (or_second (is_sized c t) (limited c.classes t)
-    (if_ok (not (is_sized c t) || limited c.classes t) _ z k) (is_object t h (complete_by c at t x h d)))
+    (if_ok (not (is_sized c t) || limited c.classes t) (Limit at Size) z k) (is_object t h (complete_by c at t x h d)))
   where
     complete : (t : Typ) → is_complete c (held t) ≡ true → holds_complete c.classes (form_in t) ≡ true
     complete (typ f q v) i = held_complete c (held_form f) i
