@@ -1,8 +1,8 @@
 -- The state in which the body of a lambda begins is good.
-use Rattle.std.proofs.Common.{◌≡◌, refl, sym, ap, ◌∙◌, subst, ℕ, nat_le, Bool, true, false, List, [], ◌∷◌, ◌++◌, length, Option, Some, None, if◌then◌else◌}
+use Rattle.std.proofs.Common.{◌≡◌, refl, sym, ap, ◌∙◌, subst, ℕ, nat_le, Bool, true, false, not, List, [], ◌∷◌, ◌++◌, length, Option, Some, None, if◌then◌else◌}
 use Rattle.std.proofs.Math.Seq.{take-append_seam, take-length}
 use Rattle.std.proofs.lemmas.Bool.{and_parts}
-use Rattle.elab_rules.specs.cpp_types.Typ.{Typ, void, Signature, signature, ptr, none as no_typs}
+use Rattle.elab_rules.specs.cpp_types.Typ.{Typ, typ, void, closure, Signature, signature, ptr, none as no_typs}
 use Rattle.elab_rules.specs.cpp_types.Class.{Class}
 use Rattle.elab_rules.specs.cpp_layout.Layout.{class_extent}
 use Rattle.elab_rules.specs.cpp_layout.declared.extents.TheConstants.{GREATEST_SIZE}
@@ -28,6 +28,10 @@ use Rattle.elab_fits.proofs.Steps.{bind, skip}
 use Rattle.elab_contexts.specs.Holding.{UnitHolds}
 use Rattle.elab_contexts.specs.Steps.{view, Steps, none_yet, and_one, closure_added}
 use Rattle.elab_contexts.proofs.Captures.{AllWhole}
+use Rattle.elab_contexts.proofs.Going.{leaves_are}
+use Rattle.elab_contexts.proofs.Holding.{shown as shown_holds, taken}
+use Rattle.elab_contexts.proofs.Kept.{Holds, each_kept}
+use Rattle.elab_contexts.proofs.Walking.{Leaves, kept_by_steps}
 use Rattle.elab_holds.specs.Contexts.{HasSlots}
 use Rattle.elab_holds.specs.Locals.{LocalsHold}
 use Rattle.elab_sound_types.specs.Types.{is_sound, is_sound_signature, are_sound, result as a_result}
@@ -83,12 +87,15 @@ settings_begun f st x r sig = let u = grows_begun st x r sig in record {
   globals = u.globals;
 }
 
+unit_by : (a c : State) → Leaves a c → UnitHolds a.ctx → UnitHolds c.ctx
+unit_by a c l h = let g = leaves_are a c l in shown_holds c.ctx (kept_by_steps Holds each_kept l.walk (taken a.ctx h)) (g.enumerators h.enumerators) (g.types h.types)
+
 module _ (b : Below) (f : UnitFunc) (s : List Lexeme) where
   pub good_begun : (st : State) (x : Written) (r : Typ) (sig : Signature) → IsGood f st → AllWhole st.ctx x.captures
       → nat_le (class_extent (declared_closure st x sig).classes (length st.ctx.classes)).size GREATEST_SIZE ≡ true → IsSoundLambda s st.ctx.classes x
       → is_sound_signature (with_nothing st x) sig ≡ true → signature_result sig ≡ r → IsGood (called st x sig) (begun st x r sig)
   good_begun st x r sig g w z l j q = record {
-    unit = b.units st.ctx e.ctx steps refl refl g.unit;
+    unit = unit_by st e (record { walk = steps; same = refl }) g.unit;
     slots = b.slots st.ctx e.ctx steps g.unit g.slots;
     sound = entered s st x (known r) r sig g.sound l j refl;
     locals = b.entered st st x (known r) r sig g.locals;
@@ -98,7 +105,7 @@ module _ (b : Below) (f : UnitFunc) (s : List Lexeme) where
     typed = result_sound (with_lambda st x sig) sig (signature_more (with_nothing st x) (with_lambda st x sig)
         (call_known st x (signature no_typs (plain void) false) sig) sig j);
     result = λ k. subst (λ (u : Typ). HasItem (setting (called st x sig) e) 0 (plain (ptr u))) (sym given)
-        (item_first (is_class_typ r) (plain (ptr r)) _ (subst (λ (u : Typ). is_class_typ u ≡ true) given k));
+        (item_first (is_class_typ r) (plain (ptr r)) (plain (ptr (typ (closure (length st.ctx.classes)) (not x.is_mutable) false)) ∷ []) (subst (λ (u : Typ). is_class_typ u ≡ true) given k));
     bodies = bodies_stay st e (earlier_of b.contexts f st g) (grows_begun st x r sig) refl g.bodies;
     defaults = defaults_stay (setting f st) (setting (called st x sig) e) st.ctx.defaults (earlier_of b.contexts f st g) (settings_begun f st x r sig) g.defaults;
   }

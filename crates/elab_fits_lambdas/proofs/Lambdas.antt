@@ -28,7 +28,8 @@ use Rattle.elab_fits.proofs.Steps.{bind, skip}
 use Rattle.elab_fits_forms.specs.Types.{is_lambda}
 use Rattle.elab_fits_forms.specs.Expressions.{IsCapture, IsClosure, ClosuresHold}
 use Rattle.elab_fits_statements.proofs.States.{told, mapped}
-use Rattle.elab_contexts.specs.Walks.{Walks}
+use Rattle.elab_contexts.proofs.Bodies.{lambdas_lawful}
+use Rattle.elab_contexts.proofs.Walking.{Leaves}
 use Rattle.elab_contexts.proofs.Captures.{AllWhole, explicit_all, default_all}
 use Rattle.elab_sound_types.specs.States.{Kept}
 use Rattle.elab_sound_types.proofs.Closures.{one_nameless}
@@ -104,13 +105,13 @@ module _ (b : Below) (f : UnitFunc) (s : List Lexeme) (no : f.kind ≡ ClosureCa
       by (Some l) e = absurd (no (g.around l e))
 
   module _ (st : State) (x : Written) (r : Typ) (sig : Signature) (g : IsGood f st) (h : IsKnown s st x) (w : State) (y : IsLeftBy st x r sig w) where
-    grown : UnitGrows st y.done.state
+    abbrev grown : UnitGrows st y.done.state
     grown = units_on_law st (begun st x r sig) y.done.state (grows_begun st x r sig) y.body.comes.goes.grows.unit
 
-    kept : Kept st.ctx.classes y.done.state.ctx.classes
+    abbrev kept : Kept st.ctx.classes y.done.state.ctx.classes
     kept = kept_joined st.ctx.classes (with_lambda st x sig) y.done.state.ctx.classes (lambda_kept st x sig) y.body.comes.kept
 
-    z : State
+    abbrev z : State
     z = with_written (left st x r sig y.done) (length st.ctx.classes) x
 
     old_closure : (c : Closure) → IsClosure st.ctx c → IsClosure z.ctx c
@@ -122,7 +123,7 @@ module _ (b : Below) (f : UnitFunc) (s : List Lexeme) (no : f.kind ≡ ClosureCa
       captures = λ j d e. capture_still st.ctx d z.ctx refl refl (i.captures j d e);
     }
 
-    own_class : Class
+    abbrev own_class : Class
     own_class = class_named [] None false (capture_members x.captures) (call_record x.at sig x.qualifiers x.is_mutable ∷ [])
         (Some (count_by is_completed st.ctx.classes))
 
@@ -218,7 +219,7 @@ module _ (b : Below) (f : UnitFunc) (s : List Lexeme) (no : f.kind ≡ ClosureCa
 
   left_by : (a x : State) (e : syntax.Tree) → IsGood f a → lambdas_of s a e ≡ Ok x → IsBehind x → IsLeft x
   left_by a x e g h i = record {
-    slots = b.slots a.ctx x.ctx (answered (Walks a) (lambdas_of s a e) x (b.walks s a e) h) g.unit g.slots;
+    slots = b.slots a.ctx x.ctx (answered (Leaves a) (lambdas_of s a e) x (lambdas_lawful.each s a e) h).walk g.unit g.slots;
     closures = i.closures;
     bodies = i.bodies;
   }
@@ -234,8 +235,8 @@ module _ (b : Below) (f : UnitFunc) (s : List Lexeme) (no : f.kind ≡ ClosureCa
     among_behind a syntax.none g t = still_behind a g
     among_behind a (syntax.more e es) g t = told IsBehind (lambdas_of s a e) _ (λ x h.
         let i = answered IsBehind (lambdas_of s a e) x (each_behind a e g (Texts.first s e es t)) h in
-        among_behind x es (good_behind f s b.contexts b.lambdas a x e g (Texts.first s e es t) h (left_by a x e g h i)).good (Texts.rest s e es t))
+        among_behind x es (good_behind f s b.contexts a x e g (Texts.first s e es t) h (left_by a x e g h i)).good (Texts.rest s e es t))
 
 pub lambdas_are_good : LambdasAreGood
-lambdas_are_good f s b no a x e g t h = good_behind f s b.contexts b.lambdas a x e g t h
+lambdas_are_good f s b no a x e g t h = good_behind f s b.contexts a x e g t h
     (left_by b f s no a x e g h (answered IsBehind (lambdas_of s a e) x (each_behind b f s no a e g t) h))

@@ -5,9 +5,8 @@ use Rattle.elab_rules.specs.cpp_tree.declared.program.FuncKind.TheVariants.{Clos
 use Rattle.elab_rules.specs.cpp_tree.Units.{Func as UnitFunc}
 use Rattle.elab_rules.specs.elab_ctx.Ctx.{Ctx}
 use Rattle.elab_rules.specs.Lambdas.{lambdas_of}
-use Rattle.elab_contexts.specs.Holding.{UnitHolds, LambdasHold}
+use Rattle.elab_contexts.specs.Holding.{UnitHolds}
 use Rattle.elab_contexts.specs.Steps.{view, Steps}
-use Rattle.elab_contexts.specs.Walks.{LambdasWalk}
 use Rattle.elab_holds.specs.Contexts.{HasSlots, ContextsHold}
 use Rattle.elab_holds.specs.Locals.{LambdasEntered, ParametersPlaced}
 use Rattle.elab_fits_items.specs.Items.{BracesBuild}
@@ -15,15 +14,14 @@ use Rattle.elab_fits_states.specs.Premises.{KeepsGood}
 
 -- what crates below are to prove
 pub record Below : Type 0 where
+  -- what elaboration makes holds what the laws of expressions ask
   pub contexts : ContextsHold
-  pub lambdas : LambdasHold
-  pub walks : LambdasWalk
-  -- a unit goes on by steps, where no enumerator and no type is named
-  pub units : (a b : Ctx) → Steps (view a) (view b) → b.enumerators ≡ a.enumerators → b.types ≡ a.types → UnitHolds a → UnitHolds b
-  -- and virtual functions have their slots still
+  -- virtual functions have their slots still where a unit has gone on by steps
   pub slots : (a b : Ctx) → Steps (view a) (view b) → UnitHolds a → HasSlots a → HasSlots b
+  -- the function at hand is known where the body of a lambda begins, and behind parameters
   pub entered : LambdasEntered
   pub placed : ParametersPlaced
+  -- braces build the object that they initialise
   pub braces : BracesBuild
 
 -- in a function that is no lambda's call
