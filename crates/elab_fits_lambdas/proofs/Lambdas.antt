@@ -97,13 +97,13 @@ capture_still c y d v t h = record {
 lambda_still : (m n : List Class) (i : ℕ) → Kept m n → is_lambda m i ≡ true → is_lambda n i ≡ true
 lambda_still m n i h e = sym (lambda_same n i) ∙ lambda_more m n h i (lambda_same m i ∙ e)
 
-module _ (b : Below) (f : UnitFunc) (s : List Lexeme) (no : f.kind ≡ ClosureCall → ⊥) where
+module _ (b : Below) (f : UnitFunc) (s : List Lexeme) (apart : f.kind ≡ ClosureCall → ⊥) where
   outside : (st : State) → IsGood f st → st.ctx.lambda ≡ None
   outside st g = by st.ctx.lambda refl
     where
       by : (o : Option Lambda) → st.ctx.lambda ≡ o → st.ctx.lambda ≡ None
       by None e = e
-      by (Some l) e = absurd (no (g.around l e))
+      by (Some l) e = absurd (apart (g.around l e))
 
   module _ (st : State) (x : Written) (r : Typ) (sig : Signature) (g : IsGood f st) (h : IsKnown s st x) (w : State) (y : IsLeftBy st x r sig w) where
     abbrev grown : UnitGrows st y.done.state
@@ -239,5 +239,5 @@ module _ (b : Below) (f : UnitFunc) (s : List Lexeme) (no : f.kind ≡ ClosureCa
         among_behind x es (good_behind f s a x e g (Texts.first s e es t) h (left_by a x e g h i)).good (Texts.rest s e es t))
 
 pub lambdas_are_good : LambdasAreGood
-lambdas_are_good f s b no a x e g t h = good_behind f s a x e g t h
-    (left_by b f s no a x e g h (answered IsBehind (lambdas_of s a e) x (each_behind b f s no a e g t) h))
+lambdas_are_good f s b apart a x e g t h = good_behind f s a x e g t h
+    (left_by b f s apart a x e g h (answered IsBehind (lambdas_of s a e) x (each_behind b f s apart a e g t) h))
