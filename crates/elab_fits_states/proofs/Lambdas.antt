@@ -14,7 +14,7 @@ use Rattle.elab_rules.specs.Operators.{is_complete}
 use Rattle.elab_rules.specs.Functions.{within_frame}
 use Rattle.elab_rules.specs.Types.{qualifiers_from, no_qualifiers}
 use Rattle.elab_rules.specs.Lambdas.{Written, lambdas_of, lambdas_among, lambda_of, lambda_written, lambda_made, lambda_known, lambda_with, lambda_type, result_of}
-use Rattle.elab_rules.specs.Lambdas.{refused_at, first_lambda, inside, lambda_entered, declared_closure, body_statements, signature_in}
+use Rattle.elab_rules.specs.Lambdas.{refused_at, first_lambda, inside, lambda_entered, declared_closure, body_statements, closure_sized, signature_in}
 use Rattle.elab_rules.specs.Lambdas.{explicit_captures, default_in, parameters_among, not_dynamic, result_among, default_captures, used_in, has_mutable}
 use Rattle.elab_rules.specs.Lambdas.{kids_of, place_of_tree, closing}
 use Rattle.elab_rules.specs.Statements.{State}
@@ -22,9 +22,9 @@ use Rattle.elab_fits.specs.Standing.{On}
 use Rattle.elab_fits.proofs.Steps.{bind, skip}
 use Rattle.elab_fits_statements.specs.Discipline.{StandsAs}
 use Rattle.elab_fits_statements.proofs.States.{mapped, stands_then, stands_still}
-use Rattle.state_growth.proofs.Steps.{goes, stays}
 use Rattle.elab_fits_states.specs.Lambdas.{NoLambdasKeep, LambdasKeep}
 use Rattle.elab_fits_states.specs.Premises.{GoesWell}
+use Rattle.elab_fits_states.proofs.Good.{comes_still}
 use Rattle.elab_fits_states.proofs.Reading.{answered}
 
 refused_same : (st : State) (o : Option At) → On (λ (x : State). st ≡ x) (refused_at st o)
@@ -33,13 +33,14 @@ refused_same st None = refl
 
 pub no_lambdas_keep : NoLambdasKeep
 no_lambdas_keep f s a b e g t h = subst (λ (x : State). GoesWell f a x) (answered (λ (x : State). a ≡ x) (refused_at a (first_lambda e)) b
-    (refused_same a (first_lambda e)) h) (record { good = g; leads = record { goes = goes a a (stays a); names = λ n k e. refl }; stands = stands_still a })
+    (refused_same a (first_lambda e)) h) (record { good = g; leads = comes_still a; stands = stands_still a })
 
 with_stands : (s : List Lexeme) (st : State) (x : Written) (r : Typ) (sig : Signature) → On (StandsAs st) (lambda_with s st x r sig)
 with_stands s st x r sig = skip (StandsAs st) (check x.at Incomplete (is_complete st.ctx (held r))) _
-    (λ y. skip (StandsAs st) (body_statements s (inside st (lambda_entered st x (known r) r) (declared_closure st x sig)) x) _
+    (λ y. skip (StandsAs st) (closure_sized st x sig) _
+    (λ z. skip (StandsAs st) (body_statements s (inside st (lambda_entered st x (known r) r) (declared_closure st x sig)) x) _
     (λ d. skip (StandsAs st) (within_frame d.state.ctx x.at d.state.work.frame) _
-    (λ z. record { label = refl; breaks = refl; continues = refl; typ = refl; past = λ i. i })))
+    (λ i. record { label = refl; breaks = refl; continues = refl; typ = refl; past = λ i. i }))))
 
 made_stands : (s : List Lexeme) (st : State) (x : Written) → On (StandsAs st) (lambda_made s st x)
 made_stands s st x = skip (StandsAs st) (result_of s st x x.result) _
