@@ -1,5 +1,5 @@
 -- Initialisers of members can be moved.
-use Rattle.std.proofs.Common.{◌≡◌, refl, sym, ap, ◌∙◌, subst, ℕ, zero, suc, ◌+◌, ◌≤◌, ◌-◌, Bool, true, false, not, List, [], ◌∷◌, length, Option, Some, None}
+use Rattle.std.proofs.Common.{◌≡◌, refl, sym, ap, ◌∙◌, subst, ℕ, zero, suc, ◌+◌, ◌≤◌, ◌-◌, Bool, true, false, not, List, [], ◌∷◌, length, nat_lt, Option, Some, None}
 use Rattle.std.proofs.Common.{slice_get, Result, Ok, Err, arith}
 use Rattle.std.specs.Prelude.{if◌then◌else◌}
 use Rattle.elab_rules.specs.cpp_types.Typ.{Typ, typ, Form, void, int, enum, null, ptr, ref, array, func, class, closure, tx_ex}
@@ -54,7 +54,7 @@ module _ (g : Sought) where
   followed (more t ts) us = omega (arith, followed ts us)
 
   string_object : (c : Ctx) (t : Typ) (at : At) (bytes : List ℕ) → On (names.Bare g) (Braces.string_object c t at bytes)
-  string_object c (typ (array e n) d v) at bytes = skip (names.Bare g) (check at BadInit _) _
+  string_object c (typ (array e n) d v) at bytes = skip (names.Bare g) (check at BadInit (nat_lt (length bytes) n)) _
       (λ y. omega (
         arith,
         followed (Braces.byte_pieces e at 0 bytes) (Braces.zero_rest c e at (length bytes) (n - length bytes)),
