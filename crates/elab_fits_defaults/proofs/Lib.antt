@@ -1,0 +1,4 @@
+pub mod Exceptions
+pub mod Kept
+pub mod Movable
+pub mod Pliable
