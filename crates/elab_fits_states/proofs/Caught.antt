@@ -16,12 +16,12 @@ use Rattle.elab_rules.specs.Names.{is_const_typ}
 use Rattle.elab_rules.specs.Statements.{State, caught_form, caught_type}
 use Rattle.elab_sound_types.specs.Types.{is_sound, is_sound_form, target, variable, denoted}
 use Rattle.elab_fits_statements.specs.Discipline.{CanBeCaught}
-use Rattle.elab_fits_states.specs.Below.{Below}
+use Rattle.elab_holds.specs.Contexts.{ContextsHold}
 use Rattle.elab_fits_states.specs.States.{setting, IsGood, IsSettled, IsVariableType, words}
 use Rattle.elab_fits_states.proofs.Good.{holds_of, earlier_of, comes_still}
 use Rattle.elab_fits_states.proofs.Variables.{declares, sized, variable_type}
 
-module _ (b : Below) (f : UnitFunc) where
+module _ (b : ContextsHold) (f : UnitFunc) where
   checked_true : (at : At) (rule : IllRule) (c x : Bool) → check at rule c ≡ Ok x → c ≡ true
   checked_true at rule true x h = refl
   checked_true at rule false x h = absurd cc

@@ -16,7 +16,6 @@ use Rattle.elab_fits.proofs.Nodes.{clash, or_left}
 use Rattle.elab_fits.proofs.Equal.{typ_refl}
 use Rattle.elab_growth.proofs.Growth.{Behind}
 use Rattle.elab_contexts.specs.Holding.{UnitHolds}
-use Rattle.elab_contexts.specs.Steps.{none_yet}
 use Rattle.elab_sound_types.specs.Types.{is_sound, variable as a_variable, result as a_result}
 use Rattle.elab_sound_types.specs.Contexts.{HasSoundTypes}
 use Rattle.elab_sound_types.specs.States.{IsSoundState}
@@ -26,14 +25,15 @@ use Rattle.elab_fits_forms.specs.Context.{Holds}
 use Rattle.elab_fits_forms.specs.Expressions.{ClosuresHold}
 use Rattle.elab_fits_statements.specs.Discipline.{within}
 use Rattle.elab_fits_braces.specs.Defaults.{AllDefaultsFit, UnitGrows}
+use Rattle.elab_fits_braces.proofs.Staying.{defaults_stay}
 use Rattle.setting_growth.specs.Growth.{HeldEarlier, Grows}
 use Rattle.setting_growth.proofs.Trees.{order_law}
 use Rattle.state_growth.proofs.Lists.{behind, added}
 use Rattle.state_growth.proofs.Settings.{states_law}
 use Rattle.state_growth.proofs.Works.{one_item}
 use Rattle.state_growth.proofs.Steps.{seen, Steps, kept_refl, goes, stays}
-use Rattle.elab_fits_states.specs.Below.{Below}
-use Rattle.elab_fits_states.specs.Locals.{HasPlace, LocalsHold}
+use Rattle.elab_holds.specs.Contexts.{HasSlots, ContextsHold}
+use Rattle.elab_holds.specs.Locals.{HasItemOf, LocalsHold}
 use Rattle.elab_fits_states.specs.Made.{AllBodiesFit}
 use Rattle.elab_fits_states.specs.States.{setting, Comes, IsGood, IsSettled}
 use Rattle.elab_fits_states.proofs.Lists.{in_longer, in_changed, last_item}
@@ -55,14 +55,14 @@ pub none_hold : (c : Ctx) (l : List Closure) → l ≡ [] → ClosuresHold c l
 none_hold c [] h = record { closures = λ i x e. absurd cc }
 none_hold c (x ∷ l) h = absurd cc
 
-pub place_kept : (w v : Work) → Items w.frame v.frame → (place : ℕ) (t : Typ) → HasPlace w place t → HasPlace v place t
+place_kept : (w v : Work) → Items w.frame v.frame → (place : ℕ) (t : Typ) → HasItemOf w.frame place t → HasItemOf v.frame place t
 place_kept w v k place t h = record { item = h.item; at = k place h.item h.at; is = h.is }
 
-unit_grows : (s x : Setting) → Grows s x → UnitGrows s x
+pub unit_grows : (s x : Setting) → Grows s x → UnitGrows s x
 unit_grows s x g = record { classes = g.classes; slots = g.slots; funcs = g.funcs; globals = g.globals }
 
 -- a context with other names, variables and labels, of the same classes and functions
-abbrev other : Ctx → List Names → List Variable → (breaks continues : Bool) → Label → Labels → List Closure → Ctx
+abbrev pub other : Ctx → List Names → List Variable → (breaks continues : Bool) → Label → Labels → List Closure → Ctx
 other c names variables breaks continues label labels closures = record c {
   scopes = names;
   variables = variables;
@@ -74,21 +74,55 @@ other c names variables breaks continues label labels closures = record c {
 }
 
 abbrev Known : Ctx → Work → List Variable → Type 0
-Known c v variables = (i : ℕ) (x : Variable) (t : Typ) → is_outer i c.lambda ≡ None → slice_get variables i ≡ Some x → x.typ ≡ Some t → HasPlace v x.place t
+Known c v variables = (i : ℕ) (x : Variable) (t : Typ) → is_outer i c.lambda ≡ None → slice_get variables i ≡ Some x → x.typ ≡ Some t → HasItemOf v.frame x.place t
 
-module _ (b : Below) where
+module _ (c : Ctx) (names : List Names) (variables : List Variable) (breaks continues : Bool) (label : Label) (labels : Labels) (closures : List Closure) where
+  pub unit_other : UnitHolds c → UnitHolds (other c names variables breaks continues label labels closures)
+  unit_other h = record {
+    many = h.many;
+    destructors = λ n k e. let x = h.destructors n k e in record { func = x.func; at = x.at; kind = x.kind; class = x.class };
+    copies = λ n k e. let x = h.copies n k e in record {
+      maker = record { func = x.maker.func; at = x.maker.at; kind = x.maker.kind; class = x.maker.class };
+      takes = x.takes;
+    };
+    defaults = λ n k e. let x = h.defaults n k e in record {
+      maker = record { func = x.maker.func; at = x.maker.at; kind = x.maker.kind; class = x.maker.class };
+      takes = x.takes;
+    };
+    bare = h.bare;
+    builtins = h.builtins;
+    free = h.free;
+    owned = h.owned;
+    recorded = h.recorded;
+    objects = h.objects;
+    numbered = h.numbered;
+    earlier = h.earlier;
+    based = h.based;
+    bases = h.bases;
+    members = h.members;
+    nameless = h.nameless;
+    sized = h.sized;
+    enumerators = h.enumerators;
+    types = h.types;
+  }
+
+  pub slots_other : HasSlots c → HasSlots (other c names variables breaks continues label labels closures)
+  slots_other h = λ k n f e o p v d. let x = h k n f e o p v d in record { slot = x.slot; pointer = x.pointer }
+
+module _ (b : ContextsHold) where
   -- what the laws of expressions ask
   pub holds_of : (f : UnitFunc) (st : State) → IsGood f st → Holds (setting f st) st.ctx st.work
-  holds_of f st g = b.contexts f st.ctx st.work g.unit g.sound.context g.locals
+  holds_of f st g = b f st.ctx st.work g.unit g.slots g.sound.context g.locals
 
   pub earlier_of : (f : UnitFunc) (st : State) → IsGood f st → HeldEarlier st.ctx.classes
   earlier_of f st g = order_law st.ctx.classes (holds_of f st g).setting.ordered
 
   -- what holds of a state, holds of one that came of it, of the same function
-  pub carried : (f : UnitFunc) (a z : State) → IsGood f a → Comes a z → UnitHolds 0 z.ctx → IsSoundState z → LocalsHold z.ctx z.work
+  pub carried : (f : UnitFunc) (a z : State) → IsGood f a → Comes a z → UnitHolds z.ctx → HasSlots z.ctx → IsSoundState z → LocalsHold z.ctx z.work
       → ClosuresHold z.ctx z.ctx.closures → z.ctx.lambda ≡ a.ctx.lambda → z.ctx.returns ≡ a.ctx.returns → z.ctx.defaults ≡ a.ctx.defaults → AllBodiesFit z → IsGood f z
-  carried f a z g l u s v c q r d m = record {
+  carried f a z g l u w s v c q r d m = record {
     unit = u;
+    slots = w;
     sound = s;
     locals = v;
     around = λ x e. g.around x (sym q ∙ e);
@@ -97,7 +131,7 @@ module _ (b : Below) where
     typed = sound_more a.ctx.classes z.ctx.classes l.kept a_result (result_of f) g.typed;
     result = λ q. item_kept a.work.frame z.work.frame l.goes.grows.frame 0 (plain (ptr (result_of f))) (g.result q);
     bodies = m;
-    defaults = subst (λ (ds : List Default). AllDefaultsFit (setting f z) ds) (sym d) (b.defaults (setting f a) (setting f z) a.ctx.defaults (earlier_of f a g)
+    defaults = subst (λ (ds : List Default). AllDefaultsFit (setting f z) ds) (sym d) (defaults_stay (setting f a) (setting f z) a.ctx.defaults (earlier_of f a g)
         (unit_grows (setting f a) (setting f z) (states_law f f a z refl refl l.goes.grows)) g.defaults);
   }
 
@@ -113,7 +147,8 @@ module _ (b : Below) where
         → IsSettled f (record { ctx = other st.ctx names variables breaks continues label labels closures; work = v; bodies = st.bodies })
     good_other names variables breaks continues label labels closures v none l s known =
         let z : State = record { ctx = other st.ctx names variables breaks continues label labels closures; work = v; bodies = st.bodies } in record {
-          good = carried f st z h l (b.steps st.ctx z.ctx none_yet refl h.unit) s (record {
+          good = carried f st z h l (unit_other st.ctx names variables breaks continues label labels closures h.unit)
+          (slots_other st.ctx names variables breaks continues label labels closures h.slots) s (record {
             variables = known;
             this = λ t e. l.goes.grows.frame _ _ (h.locals.this t e);
             inside = h.locals.inside;
@@ -161,13 +196,13 @@ leads_auto a i t = record { goes = goes a (auto_placed a i t) (kept_work a (with
 pub item_there : (st : State) (t : Typ) → at_place (st.work.frame ++ t ∷ []) (length st.work.frame) t ≡ true
 item_there st t = ap (passes (typ_eq t)) (last_item st.work.frame t) ∙ typ_refl t
 
-new_place : (w : Work) (t u : Typ) → t ≡ u → HasPlace (with_item w t) (next_place w) u
-new_place w t u e = subst (λ (z : Typ). HasPlace (with_item w t) (next_place w) z) e
+new_place : (w : Work) (t u : Typ) → t ≡ u → HasItemOf (with_item w t).frame (next_place w) u
+new_place w t u e = subst (λ (z : Typ). HasItemOf (with_item w t).frame (next_place w) z) e
     (record { item = t; at = last_item w.frame t; is = or_left _ (typ_refl t) })
 
 -- States of a function
 
-module _ (b : Below) (f : UnitFunc) where
+module _ (b : ContextsHold) (f : UnitFunc) where
   -- behind an expression
   pub good_worked : (st : State) → IsGood f st → (v : Work) → Behind st.work v → HasSoundTypes st.ctx v → IsSettled f (with_work st v)
   good_worked st h v l s = good_other b f st h st.ctx.scopes st.ctx.variables st.ctx.breaks st.ctx.continues st.ctx.label st.ctx.labels [] v refl
@@ -198,7 +233,7 @@ module _ (b : Below) (f : UnitFunc) where
         st.ctx.closures st.work h.none
         (record { goes = goes st (declared_variable st name None) (stays st); kept = kept_same st.ctx.classes })
         (sound.declared_sound st name None refl h.good.sound)
-        (λ i x t o e. in_longer (λ (y : Variable). y.typ ≡ Some t → HasPlace st.work y.place t) st.ctx.variables
+        (λ i x t o e. in_longer (λ (y : Variable). y.typ ≡ Some t → HasItemOf st.work.frame y.place t) st.ctx.variables
         (record { typ = None; place = next_place st.work }) i x e (λ n. absurd cc) (λ k n. h.good.locals.variables i x t o k n))
 
     pub good_placed : (name : List ℕ) (t : Typ) → is_sound st.ctx.classes a_variable t ≡ true → IsSettled f (placed_variable st name t)
@@ -206,7 +241,7 @@ module _ (b : Below) (f : UnitFunc) where
         (st.ctx.variables ++ record { typ = Some t; place = next_place st.work } ∷ [])
         st.ctx.breaks st.ctx.continues st.ctx.label st.ctx.labels st.ctx.closures (with_item st.work t) h.none (leads_placed st name t)
         (sound.placed_sound st name t d h.good.sound)
-        (λ i x u o e. in_longer (λ (y : Variable). y.typ ≡ Some u → HasPlace (with_item st.work t) y.place u) st.ctx.variables
+        (λ i x u o e. in_longer (λ (y : Variable). y.typ ≡ Some u → HasItemOf (with_item st.work t).frame y.place u) st.ctx.variables
         (record { typ = Some t; place = next_place st.work }) i x e (λ n. new_place st.work t u (same_Some t u n))
         (λ k n. known_still b f st h.good (with_item st.work t) (longer t) i x u o k n))
 
@@ -214,6 +249,6 @@ module _ (b : Below) (f : UnitFunc) where
     good_auto i t d = good_other b f st h.good st.ctx.scopes (slice_set st.ctx.variables i (record { typ = Some t; place = next_place st.work }))
         st.ctx.breaks st.ctx.continues st.ctx.label st.ctx.labels st.ctx.closures (with_item st.work t) h.none (leads_auto st i t)
         (sound.auto_sound st i t d h.good.sound)
-        (λ n x u o e. in_changed (λ (y : Variable). y.typ ≡ Some u → HasPlace (with_item st.work t) y.place u) st.ctx.variables i
+        (λ n x u o e. in_changed (λ (y : Variable). y.typ ≡ Some u → HasItemOf (with_item st.work t).frame y.place u) st.ctx.variables i
         (record { typ = Some t; place = next_place st.work }) n x e (λ q. new_place st.work t u (same_Some t u q))
         (λ k q. known_still b f st h.good (with_item st.work t) (longer t) n x u o k q))

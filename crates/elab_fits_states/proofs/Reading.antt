@@ -104,7 +104,7 @@ zero_chosen c e t z h = record { kind = z.kind; place = z.place; is = ok t (sym 
 
 module _ (f : UnitFunc) (lams : Lambdas) (s : List Lexeme) (p : Premises f lams s) where
   holds : (x : State) → IsGood f x → Holds (setting_at f x.ctx x.work) x.ctx x.work
-  holds x g = holds_of p.below f x g
+  holds x g = holds_of p.contexts f x g
 
   -- in the setting of what was made with it
   pub read_one : (x : State) (e : syntax.Tree) (o : Typed) → IsGood f x → IsText s e → and_then (expression_of s x.ctx x.work e) (chosen_operand x.ctx) ≡ Ok o
@@ -143,7 +143,7 @@ module _ (f : UnitFunc) (lams : Lambdas) (s : List Lexeme) (p : Premises f lams 
       (operand_grows s x.ctx x.work e) k in
       let i = sound_one x e o l.good t k in record {
         goes = record {
-          good = good_worked p.below f x l.good o.work b i.1;
+          good = good_worked p.contexts f x l.good o.work b i.1;
           leads = comes_on a x (with_work x o.work) l.leads (leads_worked x o.work b);
           stands = stands_then a x (with_work x o.work) l.stands (record { label = refl; breaks = refl; continues = refl; typ = refl; past = λ i. i });
         };

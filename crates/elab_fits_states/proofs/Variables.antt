@@ -1,7 +1,9 @@
 -- Types of variables, and what elaboration has checked of them.
-use Rattle.std.proofs.Common.{◌≡◌, refl, ap, ◌∙◌, subst, ℕ, zero, suc, Bool, true, false, not, nat_lt, nat_le, ◌&&◌, ◌||◌, cond, List, Option, Some, None, is_some}
+use Rattle.std.proofs.Common.{◌≡◌, refl, ap, ◌∙◌, subst, ℕ, zero, suc, Bool, true, false, not, nat_le, ◌&&◌, ◌||◌, cond, List, [], ◌∷◌, slice_get, Option, Some, None, is_some}
 use Rattle.std.proofs.Common.{Result, Ok, Err, if◌then◌else◌}
+use Rattle.std.specs.List.{list_all}
 use Rattle.std.proofs.lemmas.Bool.{and_parts}
+use Rattle.std.proofs.lemmas.Option.{same_Some}
 use Rattle.elab_rules.specs.cpp_types.Typ.{Typ, typ, void, int, enum, null, ptr, ref, array, func, class, closure, tx_ex}
 use Rattle.elab_rules.specs.cpp_types.Class.{Class, completion_of, held, held_form}
 use Rattle.elab_rules.specs.cpp_types.Order.{each_passes}
@@ -11,6 +13,8 @@ use Rattle.elab_rules.specs.cpp_ast.declared.kinds.NodeKind.TheVariants as k
 use Rattle.elab_rules.specs.cpp_ast.Trees as syntax
 use Rattle.elab_rules.specs.cpp_layout.declared.extents.TheConstants.{GREATEST_SIZE}
 use Rattle.elab_rules.specs.cpp_tree.declared.faults.ElabFault.{ElabFault}
+use Rattle.elab_rules.specs.cpp_tree.declared.faults.ElabFault.TheVariants.{Limit}
+use Rattle.elab_rules.specs.cpp_tree.declared.faults.LimitKind.TheVariants.{Size}
 use Rattle.elab_rules.specs.cpp_tree.declared.faults.IllRule.{IllRule}
 use Rattle.elab_rules.specs.cpp_tree.declared.faults.IllRule.TheVariants.{Incomplete, AbstractObject}
 use Rattle.elab_rules.specs.cpp_tree.Notation.{plain}
@@ -23,20 +27,22 @@ use Rattle.elab_rules.specs.Objects.{is_array, element_of, size_of, traits_at}
 use Rattle.elab_rules.specs.Operators.{is_complete, is_sized, within_if_sized}
 use Rattle.elab_rules.specs.Braces.{string_token}
 use Rattle.elab_rules.specs.Initialising.{makeable}
-use Rattle.elab_rules.specs.Types.{is_bounded}
+use Rattle.elab_rules.specs.Types.{is_bounded, is_nothing}
 use Rattle.elab_rules.specs.Statements.{State, declarable, closed_bound, bound_by_initialiser, count, string_length, copy_initialised}
 use Rattle.elab_fits.specs.Objects.{is_ready, is_closure, has_lambdas}
 use Rattle.elab_fits.proofs.Nodes.{both, clash}
-use Rattle.elab_fits_objects.specs.Contexts.{IsParameter, IsInitialised, IsObjectTyp, is_whole, refers}
+use Rattle.elab_fits_objects.specs.Contexts.{IsParameter, IsInitialised, IsObjectTyp, refers}
 use Rattle.elab_fits_forms.specs.Context.{Holds}
 use Rattle.elab_fits_forms.specs.Types as forms
 use Rattle.elab_fits_forms.proofs.Readiness.{any_ready}
 use Rattle.elab_fits_forms.proofs.Sources as sources
 use Rattle.elab_fits_forms.proofs.Types.{target_no_void}
 use Rattle.elab_fits_forms.proofs.Wholes.{exception_whole}
-use Rattle.elab_sound_types.specs.Types.{target, object, variable, denoted, is_sound, is_lambda}
+use Rattle.elab_sound_types.specs.Types.{Use, target, object, variable, denoted, may_be_array, is_sound}
 use Rattle.setting_growth.specs.Growth.{HeldEarlier}
 use Rattle.setting_growth.proofs.Sizes.{size_still}
+use Rattle.elab_sound_types.specs.Contexts.{HasSoundTypes, member_use, is_sound_member, has_sound_members}
+use Rattle.elab_fits_items.specs.Items.{MembersSingle}
 use Rattle.elab_fits_states.specs.States.{IsVariableType}
 use Rattle.elab_fits_states.proofs.Types.{form_is, declared_is, sound_is}
 
@@ -83,7 +89,7 @@ qualified_closure c v (typ (closure n) d w) = refl
 qualified_closure c v (typ (tx_ex t) d w) = refl
 
 element_no_lambda : (classes : List Class) (t : Typ) → is_sound classes object t ≡ true → is_closure (form_in (element_of t)) ≡ false
-element_no_lambda classes (typ (array e n) c v) h = let a = and_parts (nat_lt 0 n) (not (c || v) && is_sound classes object e) h in
+element_no_lambda classes (typ (array e n) c v) h = let a = and_parts (may_be_array object n) (not (c || v) && is_sound classes object e) h in
     qualified_closure c v (element_of e) ∙ element_no_lambda classes e (and_parts (not (c || v)) (is_sound classes object e) a.1).1
 element_no_lambda classes (typ void c v) h = absurd cc
 element_no_lambda classes (typ (int k) c v) h = refl
@@ -96,10 +102,31 @@ element_no_lambda classes (typ (class n) c v) h = refl
 element_no_lambda classes (typ (closure n) c v) h = absurd cc
 element_no_lambda classes (typ (tx_ex t) c v) h = refl
 
-module _ (s : Setting) (c : Ctx) (w : Work) (h : Holds s c w) where
-  abbrev classes : List Class
-  classes = c.classes
+-- a type that is sound, however it is used, is no array of lambdas' objects
+pub single_typ : (classes : List Class) (way : Use) (t : Typ) → is_sound classes way t ≡ true → has_lambdas t ≡ false
+single_typ classes way (typ (array e n) c v) h = let a = and_parts (may_be_array way n) (not (c || v) && is_sound classes object e) h in
+    qualified_closure c v (element_of e) ∙ element_no_lambda classes e (and_parts (not (c || v)) (is_sound classes object e) a.1).1
+single_typ classes way (typ void c v) h = refl
+single_typ classes way (typ (int k) c v) h = refl
+single_typ classes way (typ (enum n s) c v) h = refl
+single_typ classes way (typ null c v) h = refl
+single_typ classes way (typ (ptr t) c v) h = refl
+single_typ classes way (typ (ref t) c v) h = refl
+single_typ classes way (typ (func s) c v) h = refl
+single_typ classes way (typ (class n) c v) h = refl
+single_typ classes way (typ (closure n) c v) h = refl
+single_typ classes way (typ (tx_ex t) c v) h = refl
 
+all_at : {A : Type 0} (p : A → Bool) (xs : List A) (i : ℕ) (x : A) → list_all p xs ≡ true → slice_get xs i ≡ Some x → p x ≡ true
+all_at p [] i x h e = absurd cc
+all_at p (y ∷ ys) zero x h e = subst (λ z. p z ≡ true) (same_Some y x e) (and_parts (p y) (list_all p ys) h).0
+all_at p (y ∷ ys) (suc i) x h e = all_at p ys i x (and_parts (p y) (list_all p ys) h).1 e
+
+pub members_single : (c : Ctx) (w : Work) → HasSoundTypes c w → MembersSingle c
+members_single c w h n i k m e g d = single_typ c.classes (member_use (is_nothing m.name)) m.typ
+    (all_at (is_sound_member c.classes) k.members i m (all_at (has_sound_members c.classes) c.classes n k h.members e) g)
+
+module _ (s : Setting) (c : Ctx) (w : Work) (h : Holds s c w) where
   ready_object : (t : Typ) → is_sound c.classes object t ≡ true → holds_complete c.classes (form_in t) ≡ true → is_ready c.classes false t ≡ true
   ready_object (typ void q v) i k = absurd cc
   ready_object (typ (int j) q v) i k = refl
@@ -107,7 +134,7 @@ module _ (s : Setting) (c : Ctx) (w : Work) (h : Holds s c w) where
   ready_object (typ null q v) i k = refl
   ready_object (typ (ptr t) q v) i k = refl
   ready_object (typ (ref t) q v) i k = absurd cc
-  ready_object (typ (array (typ f d y) n) q v) i k = let a = and_parts (nat_lt 0 n) (not (q || v) && is_sound c.classes object (typ f d y)) i in
+  ready_object (typ (array (typ f d y) n) q v) i k = let a = and_parts (may_be_array object n) (not (q || v) && is_sound c.classes object (typ f d y)) i in
       let b = and_parts (not (q || v)) (is_sound c.classes object (typ f d y)) a.1 in both b.0 (both a.0 (ready_object (typ f d y) b.1 k))
   ready_object (typ (func g) q v) i k = absurd cc
   ready_object (typ (class n) q v) i k = ((h.complete n k).whole (class n) q v refl (form_is c.classes object (q || v) (class n) i)).ready
@@ -129,10 +156,6 @@ module _ (s : Setting) (c : Ctx) (w : Work) (h : Holds s c w) where
     ready = any_ready c.classes (is_closure (form_in t)) t o.ready;
     single = n;
   }
-
-  plain_object : (t : Typ) → is_some (size_in c.classes t) ≡ true → is_ready c.classes (is_closure (form_in t)) t ≡ true
-      → (is_whole c.classes t ≡ true)
-  plain_object t z r = both z r
 
   pub declares : (t : Typ) → is_sound c.classes variable t ≡ true → is_some (size_in c.classes t) ≡ true → Declares c t
   declares (typ void q v) i z = absurd cc
@@ -156,7 +179,7 @@ module _ (s : Setting) (c : Ctx) (w : Work) (h : Holds s c w) where
     single = refl;
   }
   declares (typ (array (typ f d y) n) q v) i z = let e = typ f d y in
-      let a = and_parts (nat_lt 0 n) (not (q || v) && is_sound c.classes object (typ f d y)) i in
+      let a = and_parts (may_be_array variable n) (not (q || v) && is_sound c.classes object (typ f d y)) i in
       let b = and_parts (not (q || v)) (is_sound c.classes object (typ f d y)) a.1 in
       let k = sized_complete c.classes (typ (array (typ f d y) n) q v) z in
       let r : is_ready c.classes false (typ (array (typ f d y) n) q v) ≡ true = both b.0 (both a.0 (ready_object (typ f d y) b.1 k)) in record {
@@ -166,7 +189,7 @@ module _ (s : Setting) (c : Ctx) (w : Work) (h : Holds s c w) where
           object = λ e. record { sorted = refl; whole = λ x. both z r; complete = λ x. k };
         };
         ready = any_ready c.classes false (typ (array (typ f d y) n) q v) r;
-        single = qualified_closure q v (element_of (typ f d y)) ∙ element_no_lambda c.classes (typ f d y) b.1;
+        single = single_typ c.classes variable (typ (array (typ f d y) n) q v) i;
       }
   declares (typ (class n) q v) i z = let x = form_is c.classes variable (q || v) (class n) i in
       class_declares (typ (class n) q v) i x refl ((h.complete n (sized_complete c.classes (typ (class n) q v) z)).whole (class n) q v refl x) refl
@@ -258,7 +281,7 @@ or_second false b h g = absurd cc
 pub sized_if : (c : Ctx) (at : At) (t : Typ) (x z : Bool) → is_sound c.classes variable t ≡ true → declarable c at t ≡ Ok x → within_if_sized c at t ≡ Ok z
     → is_some (size_in c.classes t) ≡ true
 sized_if c at t x z h d k = sized_by c.classes t (complete t (complete_by c at t x h d)) (or_second (is_sized c t) (limited c.classes t)
-    (if_ok (not (is_sized c t) || limited c.classes t) _ z k) (is_object t h (complete_by c at t x h d)))
+    (if_ok (not (is_sized c t) || limited c.classes t) (Limit at Size) z k) (is_object t h (complete_by c at t x h d)))
   where
     complete : (t : Typ) → is_complete c (held t) ≡ true → holds_complete c.classes (form_in t) ≡ true
     complete (typ f q v) i = held_complete c (held_form f) i

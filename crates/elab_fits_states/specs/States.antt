@@ -25,7 +25,8 @@ use Rattle.elab_fits_statements.specs.Discipline.{Words}
 use Rattle.elab_fits_braces.specs.Defaults.{AllDefaultsFit}
 use Rattle.state_growth.specs.Settings.{setting_at}
 use Rattle.state_growth.specs.States.{Goes}
-use Rattle.elab_fits_states.specs.Locals.{LocalsHold}
+use Rattle.elab_holds.specs.Contexts.{HasSlots}
+use Rattle.elab_holds.specs.Locals.{LocalsHold}
 use Rattle.elab_fits_states.specs.Made.{AllBodiesFit}
 
 -- The text of a body
@@ -61,7 +62,9 @@ setting f st = setting_at f st.ctx st.work
 -- a state in the body of a function whose result is known
 pub record IsGood (f : UnitFunc) (st : State) : Type 0 where
   -- the classes and functions of the unit are as elaboration makes them
-  pub unit : UnitHolds 0 st.ctx
+  pub unit : UnitHolds st.ctx
+  -- virtual functions have their slots
+  pub slots : HasSlots st.ctx
   -- what is declared has types that can be declared
   pub sound : IsSoundState st
   -- variables and the object at hand have their items in the frame, and the classes around are complete
