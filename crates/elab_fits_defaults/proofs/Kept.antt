@@ -51,7 +51,7 @@ abbrev this_of : ℕ → Typ
 this_of n = plain (ptr (plain (class n)))
 
 -- an answer of which something holds
-held_by : {A : Type 0} (P : A → Type 0) (r : Result A ElabFault) (a : A) → On P r → r ≡ Ok a → P a
+pub held_by : {A : Type 0} (P : A → Type 0) (r : Result A ElabFault) (a : A) → On P r → r ≡ Ok a → P a
 held_by {A} P r a h e = subst (λ (z : Result A ElabFault). On P z) e h
 
 -- `this` stays the first item
@@ -192,12 +192,12 @@ string_made c (typ (class n) d v) at bytes = tt
 string_made c (typ (closure n) d v) at bytes = tt
 string_made c (typ (tx_ex u) d v) at bytes = tt
 
-pub strings_kept : StringsKept
-strings_kept s c st n i t at bytes x k z a h g =
-    let d : Default = kept n i x (in_object st n).work.frame in
-    let r : Setting = alone (record s { function = g }) d in
-    let set : IsSetting r c = record { classes = k.classes; ordered = k.ordered; slots = k.slots; funcs = λ j f e. let y = k.funcs j f e in record { func = y.func; at = y.at; is = y.is } } in
-    let b = held_by (BuildsOne r t) (string_object c t at bytes) x (strings_build r c t at bytes set z a) h in
+-- one that builds the member in the function of its own
+pub string_fits : (s : Setting) (c : Ctx) (st : State) (n i : ℕ) (t : Typ) (at : At) (bytes : List ℕ) (x : Tree) → string_object c t at bytes ≡ Ok x
+    → (g : Func) → BuildsOne (inside s g (in_object st n).work.frame) t x
+    → DefaultFits (record s { function = g }) t (kept n i x (in_object st n).work.frame)
+string_fits s c st n i t at bytes x h g b =
+    let r : Setting = alone (record s { function = g }) (kept n i x (in_object st n).work.frame) in
     let m = held_by IsMadeObject (string_object c t at bytes) x (string_made c t at bytes) h in
     record {
       one = b;
@@ -205,3 +205,9 @@ strings_kept s c st n i t at bytes x k z a h g =
       movable = movable (this_of n) x (strings_move (this_of n) c t at bytes x h);
       pliable = ap (is_pliable t) m.part ∙ ap (λ (y : Bool). if y then is_class_typ t && same_shape t (typ_in x) else is_made x) (ap goes_both_ways m.kind) ∙ m.made;
     }
+
+pub strings_kept : StringsKept
+strings_kept s c st n i t at bytes x k z a h g =
+    let r : Setting = inside s g (in_object st n).work.frame in
+    let set : IsSetting r c = record { classes = k.classes; ordered = k.ordered; slots = k.slots; funcs = λ j f e. let y = k.funcs j f e in record { func = y.func; at = y.at; is = y.is } } in
+    string_fits s c st n i t at bytes x h g (held_by (BuildsOne r t) (string_object c t at bytes) x (strings_build r c t at bytes set z a) h)

@@ -14,6 +14,7 @@ use Rattle.elab_rules.specs.elab_ctx.Ctx.{Ctx, Work, This, Closure}
 use Rattle.elab_rules.specs.elab_ctx.Steps.{Made, Typed}
 use Rattle.elab_rules.specs.Expressions.{expression_with}
 use Rattle.elab_rules.specs.Braces.{string_object}
+use Rattle.elab_rules.specs.Lambdas.{lambdas_of}
 use Rattle.elab_rules.specs.Members.{in_object}
 use Rattle.elab_fits_braces.specs.Qualified.{are_made}
 use Rattle.elab_rules.specs.Statements.{State, Full, Lambdas, full_operand, copy_initialised}
@@ -82,6 +83,9 @@ pub record LeavesThis (a b : State) : Type 0 where
 
 abbrev pub KeepsThis : Lambdas → Type 0
 KeepsThis lams = (s : List Lexeme) (st : State) (e : syntax.Tree) (x : State) → lams s st e ≡ Ok x → LeavesThis st x
+
+abbrev pub LambdasKeepThis : Type 0
+LambdasKeepThis = KeepsThis lambdas_of
 
 -- what initialises a member by an expression
 abbrev pub CopiesMove : Type 0
