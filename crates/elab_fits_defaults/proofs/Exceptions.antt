@@ -1,19 +1,18 @@
 -- What builds a `std::tx_exception` and keeps its own type is one.
-use Rattle.std.proofs.Common.{◌≡◌, refl, sym, ap, ◌∙◌, Bool, true, false, not, ◌&&◌, List, Option, Some, None}
+use Rattle.std.proofs.Common.{◌≡◌, refl, Bool, true, false, not, ◌&&◌, List}
 use Rattle.std.specs.Prelude.{if◌then◌else◌}
 use Rattle.elab_rules.specs.cpp_types.Typ.{Typ, typ, tx_ex}
 use Rattle.elab_rules.specs.cpp_types.Class.{Class}
 use Rattle.elab_rules.specs.cpp_types.Equal.{typ_eq, form_eq}
 use Rattle.elab_rules.specs.cpp_types.declared.classes.At.{At}
-use Rattle.elab_rules.specs.cpp_tree.declared.kinds.TKind.{TKind}
 use Rattle.elab_rules.specs.cpp_tree.declared.kinds.TKind.TheVariants.{Store, Construct, CopyFrom, Pieces, Conditional, Comma, FullExpression, Call, VirtualCall, PointerCall, Throw, Rethrow}
 use Rattle.elab_rules.specs.cpp_tree.declared.faults.IllRule.TheVariants.{NoConversion, NoCopy}
-use Rattle.elab_rules.specs.cpp_tree.Trees.{Tree, node, Trees, none, more, kind_of, typ_in, cat_of, kids_of}
+use Rattle.elab_rules.specs.cpp_tree.Trees.{Tree, node, Trees, none, more, kind_of, typ_in, cat_of}
 use Rattle.elab_rules.specs.cpp_tree.Typing.{form_in, is_volatile_typ, is_class_prvalue, without_exception, goes_both_ways}
 use Rattle.elab_rules.specs.cpp_tree.WellFormed.{is_zero}
 use Rattle.elab_rules.specs.elab_ctx.Ctx.{Ctx, Work}
-use Rattle.elab_rules.specs.elab_ctx.Steps.{and_then, check, Operand, Made}
-use Rattle.elab_rules.specs.Values.{place_of, builder, is_exception_form}
+use Rattle.elab_rules.specs.elab_ctx.Steps.{check, Operand, Made}
+use Rattle.elab_rules.specs.Values.{builder, is_exception_form}
 use Rattle.elab_rules.specs.Objects.{zeros}
 use Rattle.elab_rules.specs.Initialising.{class_from, exception_made, exception_copied, exception_built, is_given_value, building, rebuilt, copied_anew, with_tree, object_of}
 use Rattle.elab_fits.specs.Standing.{On}

@@ -1,9 +1,9 @@
 -- Initialisers of members, as they are kept.
-use Rattle.std.proofs.Common.{◌≡◌, refl, sym, ap, ◌∙◌, subst, ℕ, zero, suc, ◌+◌, ◌-◌, Bool, true, false, not, ◌&&◌, List, [], ◌∷◌, length, nat_lt, drop, Some, None, is_some}
+use Rattle.std.proofs.Common.{◌≡◌, refl, sym, ap, ◌∙◌, subst, ℕ, zero, suc, ◌-◌, Bool, true, false, ◌&&◌, List, [], ◌∷◌, length, nat_lt, drop, Some}
 use Rattle.std.proofs.Common.{slice_get, Result, Ok, Err}
 use Rattle.std.proofs.lemmas.Bool.{and_parts}
 use Rattle.std.specs.Prelude.{if◌then◌else◌}
-use Rattle.elab_rules.specs.cpp_types.Typ.{Typ, typ, Form, void, int, enum, null, ptr, ref, array, func, class, closure, tx_ex}
+use Rattle.elab_rules.specs.cpp_types.Typ.{Typ, typ, void, int, enum, null, ptr, ref, array, func, class, closure, tx_ex}
 use Rattle.elab_rules.specs.cpp_types.declared.classes.At.{At}
 use Rattle.elab_rules.specs.cpp_types.declared.ranks.Cat.TheVariants.{Prvalue}
 use Rattle.elab_rules.specs.cpp_lex.Tokens.{Lexeme}
@@ -11,7 +11,6 @@ use Rattle.elab_rules.specs.cpp_ast.Trees as syntax
 use Rattle.elab_rules.specs.cpp_tree.declared.faults.ElabFault.{ElabFault}
 use Rattle.elab_rules.specs.cpp_tree.declared.faults.IllRule.TheVariants.{BadInit, OutOfProfile}
 use Rattle.elab_rules.specs.cpp_tree.declared.kinds.TKind.TheVariants.{Literal, Store, Pieces, Piece, Elements}
-use Rattle.elab_rules.specs.cpp_tree.declared.program.FuncKind.TheVariants.{Constructor}
 use Rattle.elab_rules.specs.cpp_tree.Notation.{plain}
 use Rattle.elab_rules.specs.cpp_tree.Trees.{Tree, node, Trees, none, more, kind_of, typ_in}
 use Rattle.elab_rules.specs.cpp_tree.Typing.{form_in, kind_in, unqualified, is_class_typ, goes_both_ways, same_shape}
@@ -23,11 +22,11 @@ use Rattle.elab_rules.specs.elab_ctx.Steps.{and_then, check, Operand, Made, Type
 use Rattle.elab_rules.specs.Values.{place_of, stored}
 use Rattle.elab_rules.specs.Operators.{without_value}
 use Rattle.elab_rules.specs.Objects.{zeros}
-use Rattle.elab_rules.specs.Braces.{as_part, string_object, is_char_array, byte_pieces, byte_word, zero_rest, followed}
+use Rattle.elab_rules.specs.Braces.{as_part, string_object, byte_pieces, byte_word, zero_rest, followed}
 use Rattle.elab_rules.specs.Expressions.{expression_of, chosen_operand}
 use Rattle.elab_rules.specs.Initialising.{class_from, scalar_from}
 use Rattle.elab_rules.specs.Members.{in_object}
-use Rattle.elab_rules.specs.Statements.{State, Full, Lambdas, full, whole_of, whole_if, throws_object, holds_temporary, full_operand, copy_initialised, with_work}
+use Rattle.elab_rules.specs.Statements.{State, Full, Lambdas, full, whole_if, throws_object, holds_temporary, full_operand, copy_initialised, with_work}
 use Rattle.elab_fits.specs.Standing.{BuildsOne, IsSetting, On}
 use Rattle.elab_fits.proofs.Nodes.{both}
 use Rattle.elab_fits.proofs.AreZeros.{are_zero_law}
@@ -38,12 +37,12 @@ use Rattle.elab_fits_expressions.specs.Growing.{Behind}
 use Rattle.elab_fits_expressions.proofs.Behind as growing
 use Rattle.elab_fits_expressions.proofs.Behind.{made, after, behind, either}
 use Rattle.elab_fits_expressions.proofs.Growing.{chosen, expression}
-use Rattle.elab_fits_braces.specs.Moving.{DefaultFits, is_movable, this_typ, alone}
+use Rattle.elab_fits_braces.specs.Moving.{DefaultFits, is_movable, alone}
 use Rattle.elab_fits_braces.specs.Qualified.{is_made, are_made, is_pliable}
 use Rattle.elab_fits_braces.proofs.Strings.{strings_build}
-use Rattle.elab_movable.specs.Movable.{held, KeepsThis, LeavesThis}
+use Rattle.elab_movable.specs.Movable.{held, KeepsThis}
 use Rattle.elab_movable.proofs.Defaults.{copies_move, strings_move}
-use Rattle.elab_fits_defaults.specs.Kept.{inside, kept, is_member_typ, CopiesKept, StringsKept}
+use Rattle.elab_fits_defaults.specs.Kept.{inside, kept, CopiesKept, StringsKept}
 use Rattle.elab_fits_defaults.proofs.Movable.{movable, part_same}
 use Rattle.elab_fits_defaults.proofs.Pliable.{copy_pliable}
 

@@ -1,5 +1,5 @@
 -- Behind the initialiser of a member, all initialisers that the context has fit.
-use Rattle.std.proofs.Common.{◌≡◌, refl, sym, subst, ℕ, Bool, true, false, List, [], ◌∷◌, ◌++◌, Option, Some, None, slice_get, Result, Ok, Err}
+use Rattle.std.proofs.Common.{◌≡◌, refl, sym, subst, ℕ, Bool, true, false, List, Option, Some, None, Result, Ok, Err}
 use Rattle.elab_rules.specs.cpp_types.Typ.{Typ}
 use Rattle.elab_rules.specs.cpp_lex.Tokens.{Lexeme}
 use Rattle.elab_rules.specs.cpp_ast.Trees as syntax
@@ -7,7 +7,6 @@ use Rattle.elab_rules.specs.cpp_tree.declared.faults.ElabFault.{ElabFault}
 use Rattle.elab_rules.specs.cpp_tree.Trees.{Tree, one}
 use Rattle.elab_rules.specs.cpp_tree.Units.{Func}
 use Rattle.elab_rules.specs.cpp_tree.Rows.{Setting}
-use Rattle.elab_rules.specs.elab_ctx.Ctx.{Default}
 use Rattle.elab_rules.specs.elab_ctx.Steps.{and_then, spelling, Made}
 use Rattle.elab_rules.specs.Braces.{syntax_place, string_object, string_token, is_char_array}
 use Rattle.elab_rules.specs.Strings.{string_bytes}

@@ -1,10 +1,9 @@
 -- What initialises a member by a value can be made anew with more qualifiers.
-use Rattle.std.proofs.Common.{◌≡◌, refl, sym, ap, ◌∙◌, ℕ, Bool, true, false, not, ◌&&◌, ◌||◌, List, Result, Ok, Err, eq-eqb}
+use Rattle.std.proofs.Common.{◌≡◌, refl, sym, ap, ◌∙◌, ℕ, Bool, true, false, ◌&&◌, Result, Ok, Err, eq-eqb}
 use Rattle.elab_rules.specs.cpp_types.Typ.{Typ, typ, Form, void, int, enum, null, ptr, ref, array, func, class, closure, tx_ex}
-use Rattle.elab_rules.specs.cpp_types.Equal.{typ_eq}
 use Rattle.elab_rules.specs.cpp_tree.declared.faults.ElabFault.{ElabFault}
 use Rattle.elab_rules.specs.cpp_tree.Trees.{Tree, node, kind_of, typ_in}
-use Rattle.elab_rules.specs.cpp_tree.Typing.{head_of, builds, form_in, is_class_typ, same_shape, without_exception, goes_both_ways}
+use Rattle.elab_rules.specs.cpp_tree.Typing.{head_of, builds, form_in, same_shape, goes_both_ways}
 use Rattle.elab_rules.specs.cpp_tree.Rows.{Setting}
 use Rattle.elab_rules.specs.elab_ctx.Ctx.{Ctx, Work}
 use Rattle.elab_rules.specs.elab_ctx.Steps.{Operand, Made}

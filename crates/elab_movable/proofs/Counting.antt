@@ -1,13 +1,13 @@
 -- Nodes that hold a tree where it is: items of the frame but for the pointer `this` that is read, and nodes that say something of their function.
 -- A tree with `held` of them that is made of trees that hold `b`, behind a frame with an item, holds at most as many.
-use Rattle.std.proofs.Common.{◌≡◌, refl, ap, ℕ, ◌+◌, ◌≤◌, lt-ltb, le-ltb, Bool, true, false, not, cond, eqb, ltb, List, [], ◌∷◌}
+use Rattle.std.proofs.Common.{◌≡◌, ap, ℕ, ◌+◌, ◌≤◌, lt-ltb, le-ltb, Bool, true, false, cond, eqb, ltb, List, [], ◌∷◌}
 use Rattle.std.proofs.Common.{◌++◌, length, length-append, zero, suc, arith}
 use Rattle.std.proofs.lemmas.Bool.Decides.{nat_tests}
 use Rattle.elab_rules.specs.cpp_types.Typ.{Typ}
 use Rattle.elab_rules.specs.elab_ctx.Ctx.{Work, with_item, next_place}
 use Rattle.elab_rules.specs.elab_ctx.Steps.{Operand, Made, MadeAll}
 use Rattle.elab_rules.specs.cpp_tree.Trees.{Tree}
-use Rattle.elab_movable.specs.Movable.{Sought, one_if, at_place, own_count, held, all_held}
+use Rattle.elab_movable.specs.Movable.{Sought, one_if, at_place, held, all_held}
 
 unfoldable pub room : Sought → ℕ → ℕ
 room g n = one_if (ltb 0 n)

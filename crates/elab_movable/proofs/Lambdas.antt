@@ -1,5 +1,5 @@
 -- What makes lambdas leaves what the function has as it is.
-use Rattle.std.proofs.Common.{◌≡◌, refl, ◌∙◌, ℕ, false, List, length}
+use Rattle.std.proofs.Common.{refl, ◌∙◌, ℕ, false, List, length}
 use Rattle.elab_rules.specs.cpp_types.Typ.{Typ, Signature}
 use Rattle.elab_rules.specs.cpp_types.Class.{held as held_class}
 use Rattle.elab_rules.specs.cpp_types.declared.classes.At.{At}

@@ -1,5 +1,5 @@
 -- Trees that can be moved to another function: of the frame they have only the pointer `this`, which is read, and what they make themselves behind it.
-use Rattle.std.specs.Prelude.{◌≡◌, ℕ, zero, suc, ◌+◌, ◌≤◌, ◌==◌, Bool, true, false, not, ◌&&◌, List, length, Option, Some, None, slice_get, cond, Ok}
+use Rattle.std.specs.Prelude.{◌≡◌, ℕ, zero, ◌+◌, ◌≤◌, ◌==◌, Bool, true, false, not, ◌&&◌, List, length, Some, None, slice_get, cond, Ok}
 use Rattle.elab_rules.specs.cpp_types.Typ.{Typ, typ, ptr, class}
 use Rattle.elab_rules.specs.cpp_types.Equal.{typ_eq}
 use Rattle.elab_rules.specs.cpp_types.declared.classes.At.{At}
