@@ -28,8 +28,7 @@ use Rattle.elab_fits.proofs.Steps.{bind, skip}
 use Rattle.elab_fits_forms.specs.Types.{is_lambda}
 use Rattle.elab_fits_forms.specs.Expressions.{IsCapture, IsClosure, ClosuresHold}
 use Rattle.elab_fits_statements.proofs.States.{told, mapped}
-use Rattle.elab_contexts.proofs.Bodies.{lambdas_lawful}
-use Rattle.elab_contexts.proofs.Walking.{Leaves}
+use Rattle.elab_contexts.specs.Slots.{HasOverriders}
 use Rattle.elab_contexts.proofs.Captures.{AllWhole, explicit_all, default_all}
 use Rattle.elab_sound_types.specs.States.{Kept}
 use Rattle.elab_sound_types.proofs.Closures.{one_nameless}
@@ -50,7 +49,7 @@ use Rattle.elab_fits_states.proofs.Reading.{answered}
 use Rattle.elab_fits_states.proofs.Texts
 use Rattle.elab_fits_states.proofs.Spelled.{spelled}
 use Rattle.elab_holds.proofs.Sound.{lambda_same}
-use Rattle.elab_fits_lambdas.specs.Lambdas.{Below, LambdasAreGood}
+use Rattle.elab_fits_lambdas.specs.Lambdas.{LambdasAreGood}
 use Rattle.elab_fits_lambdas.proofs.Begun.{begun, grows_begun}
 use Rattle.elab_fits_lambdas.proofs.Bodies.{left, IsLeftBy, lambda_left}
 use Rattle.elab_fits_lambdas.proofs.Captured.{AllCaptured, explicit_captured, default_captured}
@@ -78,6 +77,7 @@ pub record IsKnown (s : List Lexeme) (st : State) (x : Written) : Type 0 where
 
 -- a state behind lambdas, whose bodies fit and whose lambdas hold
 pub record IsBehind (z : State) : Type 0 where
+  pub overriders : HasOverriders z.ctx.funcs
   pub closures : ClosuresHold z.ctx z.ctx.closures
   pub bodies : AllBodiesFit z
 
@@ -97,7 +97,7 @@ capture_still c y d v t h = record {
 lambda_still : (m n : List Class) (i : ℕ) → Kept m n → is_lambda m i ≡ true → is_lambda n i ≡ true
 lambda_still m n i h e = sym (lambda_same n i) ∙ lambda_more m n h i (lambda_same m i ∙ e)
 
-module _ (b : Below) (f : UnitFunc) (s : List Lexeme) (apart : f.kind ≡ ClosureCall → ⊥) where
+module _ (f : UnitFunc) (s : List Lexeme) (apart : f.kind ≡ ClosureCall → ⊥) where
   outside : (st : State) → IsGood f st → st.ctx.lambda ≡ None
   outside st g = by st.ctx.lambda refl
     where
@@ -141,6 +141,7 @@ module _ (b : Below) (f : UnitFunc) (s : List Lexeme) (apart : f.kind ≡ Closur
 
     behind_left : IsBehind z
     behind_left = record {
+      overriders = y.body.settled.good.overriders;
       closures = record {
         closures = λ j c e. in_longer (IsClosure z.ctx) st.ctx.closures (record { at = x.at; class = length st.ctx.classes; captures = x.captures }) j c e
             new_closure (λ k. old_closure c (g.closures.closures j c k));
@@ -159,7 +160,7 @@ module _ (b : Below) (f : UnitFunc) (s : List Lexeme) (apart : f.kind ≡ Closur
       (told (λ (w : State). IsBehind (with_written w (length st.ctx.classes) x)) (lambda_type st.ctx x r) _ (λ t j.
       mapped (IsLeftBy st x r (signature_in (form_in t))) (λ (w : State). IsBehind (with_written w (length st.ctx.classes) x))
       (lambda_with s st x r (signature_in (form_in t)))
-      (lambda_left b s f st x r (signature_in (form_in t)) g h.whole h.sound
+      (lambda_left s f st x r (signature_in (form_in t)) g h.whole h.sound
       (sound.signature_sound (with_nothing st x) t (answered (IsDenoted (with_nothing st x)) (lambda_type st.ctx x r) t
       (sound.lambda_type s st x r h.sound d) j))
       (answered (Gives r) (lambda_type st.ctx x r) t (type_gives st.ctx x r) j) h.texts)
@@ -216,11 +217,11 @@ module _ (b : Below) (f : UnitFunc) (s : List Lexeme) (apart : f.kind ≡ Closur
   one_behind st at kids g t = tt
 
   still_behind : (st : State) → IsGood f st → IsBehind st
-  still_behind st g = record { closures = g.closures; bodies = g.bodies }
+  still_behind st g = record { overriders = g.overriders; closures = g.closures; bodies = g.bodies }
 
   left_by : (a x : State) (e : syntax.Tree) → IsGood f a → lambdas_of s a e ≡ Ok x → IsBehind x → IsLeft x
   left_by a x e g h i = record {
-    slots = b.slots a.ctx x.ctx (answered (Leaves a) (lambdas_of s a e) x (lambdas_lawful.each s a e) h).walk g.unit g.slots;
+    overriders = i.overriders;
     closures = i.closures;
     bodies = i.bodies;
   }
@@ -239,5 +240,5 @@ module _ (b : Below) (f : UnitFunc) (s : List Lexeme) (apart : f.kind ≡ Closur
         among_behind x es (good_behind f s a x e g (Texts.first s e es t) h (left_by a x e g h i)).good (Texts.rest s e es t))
 
 pub lambdas_are_good : LambdasAreGood
-lambdas_are_good f s b apart a x e g t h = good_behind f s a x e g t h
-    (left_by b f s apart a x e g h (answered IsBehind (lambdas_of s a e) x (each_behind b f s apart a e g t) h))
+lambdas_are_good f s apart a x e g t h = good_behind f s a x e g t h
+    (left_by f s apart a x e g h (answered IsBehind (lambdas_of s a e) x (each_behind f s apart a e g t) h))
