@@ -1,10 +1,11 @@
 -- A lambda is at hand behind itself, and so are those before it.
 use Rattle.std.proofs.Common.{◌≡◌, refl, sym, ap, ◌∙◌, subst, ℕ, zero, suc, Bool, true, List, [], ◌∷◌, ◌++◌, map, length, slice_get, Option, Some, None}
 use Rattle.std.proofs.Common.{is_some}
-use Rattle.elab_rules.specs.cpp_types.Typ.{Typ, Signature}
+use Rattle.elab_rules.specs.cpp_types.Typ.{Typ, Signature, class}
 use Rattle.elab_rules.specs.cpp_types.Class.{Class, Member}
 use Rattle.elab_rules.specs.cpp_lex.Tokens.{Lexeme}
 use Rattle.elab_rules.specs.cpp_ast.Trees as syntax
+use Rattle.elab_rules.specs.cpp_tree.Notation.{plain}
 use Rattle.elab_rules.specs.cpp_tree.Trees.{Tree}
 use Rattle.elab_rules.specs.cpp_tree.Typing.{passes, form_in}
 use Rattle.elab_rules.specs.elab_ctx.Ctx.{Ctx, Capture, Closure, known}
@@ -22,7 +23,7 @@ use Rattle.state_growth.proofs.Bodies.{classes_added, no_lambda_lawful}
 use Rattle.state_growth.proofs.Statements.{statements_kept, parameters_kept}
 use Rattle.state_growth.proofs.Steps.{Ends, follow, of_state, of_done}
 use Rattle.elab_fits_lambdas.specs.Captured.{AreCaptures}
-use Rattle.elab_fits_lambdas.specs.Made.{lambda_inside, lambda_left, IsWritten, IsKnown, IsMade, IsLambda, AreComplete, OneAtHand}
+use Rattle.elab_fits_lambdas.specs.Made.{lambda_inside, lambda_block, lambda_left, IsWritten, IsKnown, IsMade, IsLambda, AreComplete, OneAtHand}
 use Rattle.elab_fits_lambdas.proofs.Captured.{one_more, explicit_all, default_all}
 use Rattle.elab_fits_lambdas.proofs.Made.{answered}
 
@@ -44,7 +45,7 @@ members_typed classes n k i (m ∷ ms) = ap (λ (ts : List Typ). m.typ ∷ ts) (
 
 behind_base : (b : Option ℕ) (ps : List Part) (ts : List Typ) → part_types ps ≡ ts → part_types (base_part b ++ ps) ≡ part_types (base_part b) ++ ts
 behind_base None ps ts h = h
-behind_base (Some b) ps ts h = ap (λ (us : List Typ). _ ∷ us) h
+behind_base (Some b) ps ts h = ap (λ (us : List Typ). plain (class b) ∷ us) h
 
 parts_typed : (classes : List Class) (n : ℕ) (o : Option Class) → part_types (parts_in classes n o) ≡ types_in o
 parts_typed classes n None = refl
@@ -146,13 +147,13 @@ left_at_hand st x sig tree y g complete outside captured h = record {
 abbrev AtHand : State → Type 0
 AtHand y = ClosuresHold y.ctx y.ctx.closures
 
-known_at_hand : (s : List Lexeme) (st : State) (x : Written) (r : _) (y : State) → IsKnown s st x r y → AreComplete st.ctx.classes → st.ctx.lambda ≡ None
+known_at_hand : (s : List Lexeme) (st : State) (x : Written) (r : Typ) (y : State) → IsKnown s st x r y → AreComplete st.ctx.classes → st.ctx.lambda ≡ None
     → AreCaptures st.ctx x.captures → AtHand st → AtHand (with_written y (length st.ctx.classes) x)
 known_at_hand s st x r y h complete outside captured held =
     let sig = signature_in (form_in h.typ) in
     let e = lambda_inside st x (known r) r sig in
     subst (λ (z : State). AtHand (with_written z (length st.ctx.classes) x)) (sym h.is)
-    (left_at_hand st x sig _ h.done.state (answered (Ends e) (body_statements s e x) h.done (body_kept s e x) h.read).kept.classes complete outside captured
+    (left_at_hand st x sig (lambda_block x r h.done) h.done.state (answered (Ends e) (body_statements s e x) h.done (body_kept s e x) h.read).kept.classes complete outside captured
     held)
 
 written_captures : (s : List Lexeme) (st : State) (intro parts : syntax.Trees) (body : syntax.Tree) (x : Written) → IsWritten s st intro parts body x

@@ -81,7 +81,7 @@ written_told s st at kids intro parts body h =
       body = body;
       has = h;
       text = x;
-      written = record { named = xs; explicit = a; params = b; result = c; defaults = d; body = refl };
+      written = record { named = xs; explicit = a; params = b; result = c; defaults = d; read = refl };
       made = m;
     }))))))
 

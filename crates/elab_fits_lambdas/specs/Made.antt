@@ -1,5 +1,5 @@
 -- One lambda: what its text says, and the state behind it.
-use Rattle.std.specs.Prelude.{◌≡◌, ℕ, Bool, true, List, [], ◌∷◌, ◌++◌, length, None, Some, is_some, slice_get, Ok}
+use Rattle.std.specs.Prelude.{◌≡◌, ℕ, Bool, true, false, List, [], ◌∷◌, ◌++◌, length, None, Some, is_some, slice_get, Ok}
 use Rattle.elab_rules.specs.cpp_types.Typ.{Typ, Signature}
 use Rattle.elab_rules.specs.cpp_types.Class.{Class, held}
 use Rattle.elab_rules.specs.cpp_types.declared.classes.At.{At}
@@ -33,7 +33,7 @@ pub record IsWritten (s : List Lexeme) (st : State) (intro parts : syntax.Trees)
   pub params : parameters_among s st.ctx st.work parts ≡ Ok x.params
   pub result : result_among s st.ctx st.work parts ≡ Ok x.result
   pub defaults : default_captures st.ctx (default_in s intro) named (used_in s st.ctx x.params body) ≡ Ok x.captures
-  pub body : x.body ≡ kids_of body
+  pub read : x.body ≡ kids_of body
 
 -- The state behind it
 
