@@ -1,2 +1,4 @@
 pub mod Captured
+pub mod Good
 pub mod Made
+pub mod Needs

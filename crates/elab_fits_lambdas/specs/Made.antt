@@ -1,19 +1,20 @@
 -- One lambda: what its text says, and the state behind it.
 use Rattle.std.specs.Prelude.{◌≡◌, ℕ, Bool, true, false, List, [], ◌∷◌, ◌++◌, length, None, Some, is_some, slice_get, Ok}
-use Rattle.elab_rules.specs.cpp_types.Typ.{Typ, Signature}
+use Rattle.elab_rules.specs.cpp_types.Typ.{Typ, Signature, signature, func}
 use Rattle.elab_rules.specs.cpp_types.Class.{Class, held}
 use Rattle.elab_rules.specs.cpp_types.declared.classes.At.{At}
 use Rattle.elab_rules.specs.cpp_lex.Tokens.{Lexeme}
 use Rattle.elab_rules.specs.cpp_ast.Trees as syntax
 use Rattle.elab_rules.specs.cpp_tree.declared.kinds.TKind.TheVariants as forms
 use Rattle.elab_rules.specs.cpp_tree.Trees.{Tree}
-use Rattle.elab_rules.specs.cpp_tree.Typing.{form_in}
+use Rattle.elab_rules.specs.cpp_tree.Notation.{plain}
 use Rattle.elab_rules.specs.elab_ctx.Ctx.{Capture, Returns, known}
 use Rattle.elab_rules.specs.Objects.{followed_by}
 use Rattle.elab_rules.specs.Operators.{is_complete}
+use Rattle.elab_rules.specs.Types.{types_of, is_declared_safe}
 use Rattle.elab_rules.specs.Statements.{State, Done, statement}
 use Rattle.elab_rules.specs.Functions.{leaving, within_frame, end_of}
-use Rattle.elab_rules.specs.Lambdas.{Written, lambda_of, lambda_entered, inside, declared_closure, closure_sized, lambda_type, signature_in, result_of}
+use Rattle.elab_rules.specs.Lambdas.{Written, lambda_of, lambda_entered, inside, declared_closure, closure_sized, lambda_type, result_of}
 use Rattle.elab_rules.specs.Lambdas.{body_statements, with_written, kids_of, explicit_captures, default_captures, default_in, used_in, parameters_among, result_among}
 use Rattle.elab_fits.specs.Standing.{On}
 use Rattle.elab_fits_forms.specs.Types.{is_empty}
@@ -37,6 +38,10 @@ pub record IsWritten (s : List Lexeme) (st : State) (intro parts : syntax.Trees)
 
 -- The state behind it
 
+-- the signature of its call
+abbrev pub call_signature : Written → Typ → Signature
+call_signature x r = signature (types_of x.params) r (is_declared_safe x.qualifiers)
+
 -- the tree of its body
 abbrev pub lambda_block : Written → Typ → Done → Tree
 lambda_block x r d = statement (forms.Block false) x.body_at (followed_by d.trees (end_of d.state.ctx r x.body_at))
@@ -47,18 +52,17 @@ lambda_left st x sig tree y = record (leaving (record st { ctx = declared_closur
   bodies = y.bodies ++ record { func = length st.ctx.funcs; tree = tree; frame = y.work.frame } ∷ [];
 }
 
--- a lambda whose result is known, its signature, and what its body left
+-- a lambda whose result is known, and what its body left
 pub record IsKnown (s : List Lexeme) (st : State) (x : Written) (r : Typ) (y : State) : Type 0 where
-  pub typ : Typ
-  pub typed : lambda_type st.ctx x r ≡ Ok typ
+  pub typed : lambda_type st.ctx x r ≡ Ok (plain (func (call_signature x r)))
   pub complete : is_complete st.ctx (held r) ≡ true
   pub size : Bool
-  pub sized : closure_sized st x (signature_in (form_in typ)) ≡ Ok size
+  pub sized : closure_sized st x (call_signature x r) ≡ Ok size
   pub done : Done
-  pub read : body_statements s (lambda_inside st x (known r) r (signature_in (form_in typ))) x ≡ Ok done
+  pub read : body_statements s (lambda_inside st x (known r) r (call_signature x r)) x ≡ Ok done
   pub room : Bool
   pub within : within_frame done.state.ctx x.at done.state.work.frame ≡ Ok room
-  pub is : y ≡ lambda_left st x (signature_in (form_in typ)) (lambda_block x r done) done.state
+  pub is : y ≡ lambda_left st x (call_signature x r) (lambda_block x r done) done.state
 
 -- and any lambda
 pub record IsMade (s : List Lexeme) (st : State) (x : Written) (y : State) : Type 0 where
