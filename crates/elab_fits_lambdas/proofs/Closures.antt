@@ -7,12 +7,12 @@ use Rattle.elab_rules.specs.cpp_lex.Tokens.{Lexeme}
 use Rattle.elab_rules.specs.cpp_ast.Trees as syntax
 use Rattle.elab_rules.specs.cpp_tree.Notation.{plain}
 use Rattle.elab_rules.specs.cpp_tree.Trees.{Tree}
-use Rattle.elab_rules.specs.cpp_tree.Typing.{passes, form_in}
+use Rattle.elab_rules.specs.cpp_tree.Typing.{passes}
 use Rattle.elab_rules.specs.elab_ctx.Ctx.{Ctx, Capture, Closure, known}
 use Rattle.elab_rules.specs.Objects.{Part, base_part, members_from, parts_in, parts_of}
 use Rattle.elab_rules.specs.Statements.{State, Done, statements_of}
 use Rattle.elab_rules.specs.Functions.{with_parameters}
-use Rattle.elab_rules.specs.Lambdas.{Written, no_lambda, body_statements, capture_members, declared_closure, with_written, signature_in, explicit_captures}
+use Rattle.elab_rules.specs.Lambdas.{Written, no_lambda, body_statements, capture_members, declared_closure, with_written, explicit_captures}
 use Rattle.elab_rules.specs.Lambdas.{default_captures, default_in, used_in}
 use Rattle.elab_fits.specs.Standing.{On}
 use Rattle.elab_fits_forms.specs.Types.{is_empty, is_lambda}
@@ -23,7 +23,7 @@ use Rattle.state_growth.proofs.Bodies.{classes_added, no_lambda_lawful}
 use Rattle.state_growth.proofs.Statements.{statements_kept, parameters_kept}
 use Rattle.state_growth.proofs.Steps.{Ends, follow, of_state, of_done}
 use Rattle.elab_fits_lambdas.specs.Captured.{AreCaptures}
-use Rattle.elab_fits_lambdas.specs.Made.{lambda_inside, lambda_block, lambda_left, IsWritten, IsKnown, IsMade, IsLambda, AreComplete, OneAtHand}
+use Rattle.elab_fits_lambdas.specs.Made.{lambda_inside, call_signature, lambda_block, lambda_left, IsWritten, IsKnown, IsMade, IsLambda, AreComplete, OneAtHand}
 use Rattle.elab_fits_lambdas.proofs.Captured.{one_more, explicit_all, default_all}
 use Rattle.elab_fits_lambdas.proofs.Made.{answered}
 
@@ -150,7 +150,7 @@ AtHand y = ClosuresHold y.ctx y.ctx.closures
 known_at_hand : (s : List Lexeme) (st : State) (x : Written) (r : Typ) (y : State) → IsKnown s st x r y → AreComplete st.ctx.classes → st.ctx.lambda ≡ None
     → AreCaptures st.ctx x.captures → AtHand st → AtHand (with_written y (length st.ctx.classes) x)
 known_at_hand s st x r y h complete outside captured held =
-    let sig = signature_in (form_in h.typ) in
+    let sig = call_signature x r in
     let e = lambda_inside st x (known r) r sig in
     subst (λ (z : State). AtHand (with_written z (length st.ctx.classes) x)) (sym h.is)
     (left_at_hand st x sig (lambda_block x r h.done) h.done.state (answered (Ends e) (body_statements s e x) h.done (body_kept s e x) h.read).kept.classes complete outside captured

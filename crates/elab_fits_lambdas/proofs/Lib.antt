@@ -1,3 +1,9 @@
+pub mod Bodies
 pub mod Captured
 pub mod Closures
+pub mod Entered
+pub mod Good
 pub mod Made
+pub mod Parameters
+pub mod Results
+pub mod Types

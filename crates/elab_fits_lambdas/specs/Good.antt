@@ -1,5 +1,5 @@
 -- The laws: the body of a lambda begins in a good state, and lambdas lead from good states to good ones.
-use Rattle.std.specs.Prelude.{◌≡◌, ⊥, List, Ok}
+use Rattle.std.specs.Prelude.{◌≡◌, List, Ok}
 use Rattle.elab_rules.specs.cpp_types.Typ.{Typ}
 use Rattle.elab_rules.specs.cpp_lex.Tokens.{Lexeme}
 use Rattle.elab_rules.specs.cpp_ast.Trees as syntax

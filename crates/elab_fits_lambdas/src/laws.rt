@@ -2,6 +2,7 @@
 
 ghost use Rattle.elab_fits_lambdas.specs.Captured.{ExplicitAreCaptures, DefaultsAreCaptures};
 ghost use Rattle.elab_fits_lambdas.specs.Made.{LambdasAreMade, OneAtHand};
+ghost use Rattle.elab_fits_lambdas.specs.Good.{BodiesBegin, LambdasKeepGood};
 
 /// What a lambda captures is at hand.
 pub fn captured()
@@ -13,4 +14,10 @@ pub fn captured()
 pub fn made()
     ensures made { LambdasAreMade }
     ensures hand { OneAtHand }
+{}
+
+/// The body of a lambda begins in a good state, and lambdas lead to good ones.
+pub fn good()
+    ensures begin { BodiesBegin }
+    ensures good { LambdasKeepGood }
 {}
