@@ -69,11 +69,11 @@ module _ (b : Needs) (f : UnitFunc) (s : List Lexeme) (st : State) (ts : syntax.
       h.made.known.complete)
 
   is_result : IsResult (setting call end.state) end.state.ctx h.made.result
-  is_result = subst (IsResult (setting call end.state) end.state.ctx) same (result_fits b.contexts call end.state done.settled.good complete)
+  is_result = subst (IsResult (setting call end.state) end.state.ctx) same (result_fits call end.state done.settled.good complete)
 
   is_body : IsBody (setting call end.state) (lambda_block h.text h.made.result end)
   is_body = function_fits (setting call end.state) end.state.ctx h.made.result h.text.body_at end.trees
-      (holds_of b.contexts call end.state done.settled.good).setting is_result (ap is_constructor is_call.kind) done.serve
+      (holds_of call end.state done.settled.good).setting is_result (ap is_constructor is_call.kind) done.serve
 
   -- the state behind the lambda
   abbrev pub behind : State

@@ -19,13 +19,15 @@ use Rattle.elab_rules.specs.Statements.{State, Done, statements_of, is_direct_la
 use Rattle.elab_fits.specs.Standing.{On}
 use Rattle.elab_fits.proofs.Equal.{typ_refl}
 use Rattle.elab_contexts.specs.Holding.{UnitHolds}
-use Rattle.elab_contexts.specs.Steps.{none_yet}
+use Rattle.elab_contexts.proofs.Statements.{parameters_kept}
+use Rattle.elab_contexts.proofs.Walking as units
 use Rattle.elab_fits_braces.proofs.Staying.{defaults_stay}
 use Rattle.elab_fits_braces.specs.Defaults.{AllDefaultsFit}
 use Rattle.elab_fits_statements.specs.Anywhere.{AllServe}
 use Rattle.elab_fits_statements.specs.Variables.{HasItem}
 use Rattle.elab_holds.specs.Contexts.{HasSlots}
 use Rattle.elab_holds.specs.Locals.{LocalsHold}
+use Rattle.elab_holds.proofs.Locals as locals
 use Rattle.elab_sound_types.specs.Types.{is_sound, result as a_result}
 use Rattle.elab_sound_types.specs.States.{Kept}
 use Rattle.elab_sound_types.proofs.Bodies as sound
@@ -41,17 +43,19 @@ use Rattle.state_growth.proofs.Settings.{left_law}
 use Rattle.elab_fits_states.specs.States.{IsText, AreTexts, setting, IsGood, IsSettled, Comes}
 use Rattle.elab_fits_states.specs.Made.{AllBodiesFit}
 use Rattle.elab_fits_states.specs.Bodies.{BodyFits, StandsAlone}
-use Rattle.elab_fits_states.specs.Premises.{Premises}
+use Rattle.elab_fits_states.proofs.Bodies.{bodies_fit}
 use Rattle.elab_fits_states.proofs.Good.{none_hold, earlier_of, carried}
+use Rattle.elab_fits_states.proofs.Lambdas.{no_lambdas_keep}
 use Rattle.elab_fits_states.proofs.Made.{bodies_stay}
 use Rattle.elab_fits_states.proofs.Texts.{kids, first, rest}
-use Rattle.elab_fits_states.proofs.Types.{all_spelled}
+use Rattle.elab_fits_states.proofs.Spelled.{all_spelled}
 use Rattle.elab_fits_lambdas.specs.Made.{lambda_inside, call_signature, HasParts, three, two, IsLambda}
 use Rattle.elab_fits_lambdas.specs.Needs.{Needs}
 use Rattle.elab_fits_lambdas.specs.Good.{IsCall, BodiesBegin}
 use Rattle.elab_fits_lambdas.proofs.Made.{told, mapped, answered}
-use Rattle.elab_fits_lambdas.proofs.Parameters.{renamed, OnlyNames, only_names}
+use Rattle.elab_fits_lambdas.proofs.Parameters.{OnlyNames, only_names}
 use Rattle.elab_fits_lambdas.proofs.Types.{IsSoundEntry, entry_sound}
+use Rattle.elab_fits_lambdas.proofs.Units.{unit_left, unit_inside}
 
 -- Texts
 
@@ -90,7 +94,7 @@ module _ (b : Needs) (f : UnitFunc) (s : List Lexeme) (st : State) (ts : syntax.
   entry = entry_sound s st ts y h g.sound (all_spelled s ts t.spelled)
 
   unit_at : UnitHolds e.ctx
-  unit_at = b.steps d e.ctx none_yet refl refl (b.steps st.ctx d (b.closures s st ts y h) refl refl g.unit)
+  unit_at = unit_inside s st ts y h g.unit
 
   slots_at : HasSlots e.ctx
   slots_at = λ k n z q o p v w. let i = b.slots st h.text (call_signature h.text h.made.result) g.unit g.slots k n z q o p v w in
@@ -105,7 +109,7 @@ module _ (b : Needs) (f : UnitFunc) (s : List Lexeme) (st : State) (ts : syntax.
   }
 
   ordered : HeldEarlier st.ctx.classes
-  ordered = earlier_of b.contexts f st g
+  ordered = earlier_of f st g
 
   defaults_at : AllDefaultsFit (setting call e) st.ctx.defaults
   defaults_at = let l : Grows (setting_at f st.ctx st.work) (setting_at f e.ctx (record e.work { frame = st.work.frame })) = left_law f f st e refl refl unit_grown in
@@ -121,7 +125,7 @@ module _ (b : Needs) (f : UnitFunc) (s : List Lexeme) (st : State) (ts : syntax.
     unit = unit_at;
     slots = slots_at;
     sound = entry.state;
-    locals = b.entered st st h.text (known h.made.result) h.made.result (call_signature h.text h.made.result) g.locals;
+    locals = locals.lambdas_law st st h.text (known h.made.result) h.made.result (call_signature h.text h.made.result) g.locals;
     around = λ l q. c.kind;
     closures = none_hold e.ctx [] refl;
     returns = ap known (sym result_same);
@@ -142,22 +146,22 @@ module _ (b : Needs) (f : UnitFunc) (s : List Lexeme) (st : State) (ts : syntax.
     comes_with = record { goes = answered (Goes e) (with_parameters s e h.text.params) z (parameters_law s e h.text.params) q; kept = after.grown.kept }
 
     unit_with : UnitHolds z.ctx
-    unit_with = subst UnitHolds (sym named.ctx) (b.steps e.ctx (renamed e.ctx z.ctx.scopes z.ctx.variables) none_yet refl refl unit_at)
+    unit_with = unit_left e z unit_at (answered (units.Leaves e) (with_parameters s e h.text.params) z (parameters_kept s e h.text.params) q)
 
     slots_with : HasSlots z.ctx
     slots_with = subst HasSlots (sym named.ctx) (λ k n w p o i v u. let j = slots_at k n w p o i v u in record { slot = j.slot; pointer = j.pointer })
 
     locals_with : LocalsHold z.ctx z.work
-    locals_with = answered (λ (u : State). LocalsHold u.ctx u.work) (with_parameters s e h.text.params) z (b.placed s e h.text.params begins.locals) q
+    locals_with = answered (λ (u : State). LocalsHold u.ctx u.work) (with_parameters s e h.text.params) z (locals.parameters_law s e h.text.params begins.locals) q
 
     none_with : z.ctx.closures ≡ []
     none_with = ap (λ (u : Ctx). u.closures) named.ctx
 
     pub settled_with : IsSettled call z
     settled_with = record {
-      good = carried b.contexts call e z begins comes_with unit_with slots_with after.sound locals_with (none_hold z.ctx z.ctx.closures none_with)
+      good = carried call e z begins comes_with unit_with slots_with after.sound locals_with (none_hold z.ctx z.ctx.closures none_with)
           (ap (λ (u : Ctx). u.lambda) named.ctx) (ap (λ (u : Ctx). u.returns) named.ctx) (ap (λ (u : Ctx). u.defaults) named.ctx)
-          (bodies_stay e z (earlier_of b.contexts call e begins) comes_with.goes.grows.unit named.bodies begins.bodies);
+          (bodies_stay e z (earlier_of call e begins) comes_with.goes.grows.unit named.bodies begins.bodies);
       none = none_with;
     }
 
@@ -170,7 +174,7 @@ module _ (b : Needs) (f : UnitFunc) (s : List Lexeme) (st : State) (ts : syntax.
 
     pub statements_with : On (IsDone call e) (statements_of no_lambda s z h.text.body)
     statements_with = mapped (BodyFits call z) (IsDone call e) (statements_of no_lambda s z h.text.body)
-        (b.bodies call no_lambda s z h.text.body (record { contexts = b.contexts; lambdas = b.none call s; braces = b.braces }) settled_with alone_with
+        (bodies_fit call no_lambda s z h.text.body (record { lambdas = no_lambdas_keep call s; braces = b.braces }) settled_with alone_with
         (subst (AreTexts s) (sym h.written.read) (kids_text s h.body (body_text s ts h.intro h.parts h.body h.has t))))
         (λ n w. record {
           settled = w.settled;

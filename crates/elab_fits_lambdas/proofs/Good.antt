@@ -14,6 +14,7 @@ use Rattle.elab_fits.specs.Standing.{On}
 use Rattle.elab_fits.proofs.Steps.{bind}
 use Rattle.elab_contexts.specs.Holding.{StateHolds}
 use Rattle.elab_contexts.specs.Texts.{is_no_name}
+use Rattle.elab_contexts.proofs.Holding as units
 use Rattle.elab_fits_forms.specs.Types.{is_empty}
 use Rattle.elab_holds.specs.Contexts.{HasSlots}
 use Rattle.elab_holds.specs.Locals.{LocalsHold}
@@ -25,8 +26,9 @@ use Rattle.state_growth.proofs.Going as growth
 use Rattle.elab_fits_states.specs.States.{IsText, AreTexts, IsGood, Comes}
 use Rattle.elab_fits_states.specs.Made.{AllBodiesFit}
 use Rattle.elab_fits_states.proofs.Good.{carried}
+use Rattle.elab_fits_states.proofs.Lambdas.{lambdas_keep}
 use Rattle.elab_fits_states.proofs.Texts.{kids, first, rest}
-use Rattle.elab_fits_states.proofs.Types.{spelled}
+use Rattle.elab_fits_states.proofs.Spelled.{spelled}
 use Rattle.elab_fits_lambdas.specs.Made.{IsLambda, AreComplete}
 use Rattle.elab_fits_lambdas.specs.Needs.{Needs}
 use Rattle.elab_fits_lambdas.specs.Good.{LambdasKeepGood}
@@ -68,7 +70,8 @@ module _ (b : Needs) (f : UnitFunc) (s : List Lexeme) (n : f.kind ≡ ClosureCal
     same = behind_is b f s st ts y g texts made
 
     slots_behind : HasSlots now.ctx
-    slots_behind = λ i m w o c v u. let z = (done b f s st ts y g texts made).settled.good.slots i m w o c v u in record { slot = z.slot; pointer = z.pointer }
+    slots_behind = λ i m w o c v u x. let z = (done b f s st ts y g texts made).settled.good.slots i m w o c v u x in
+        record { slot = z.slot; pointer = z.pointer }
 
     kept : Kept st.ctx.classes now.ctx.classes
     kept = subst (λ (z : State). Kept st.ctx.classes z.ctx.classes) same (comes st y one g t q).kept
@@ -85,7 +88,7 @@ module _ (b : Needs) (f : UnitFunc) (s : List Lexeme) (n : f.kind ≡ ClosureCal
     complete = λ m c o v. g.unit.nameless m c o (empty_is c.name v)
 
     good : IsGood f y
-    good = carried b.contexts f st y g (comes st y one g t q) (answered StateHolds (lambdas_of s st one) y (b.units s st one g.unit) q)
+    good = carried f st y g (comes st y one g t q) (answered StateHolds (lambdas_of s st one) y (units.lambdas_law s st one g.unit) q)
         (subst (λ (z : State). HasSlots z.ctx) (sym same) slots_behind) (after st y one g t q).sound
         (subst (λ (z : State). LocalsHold z.ctx z.work) (sym same) locals_behind)
         (one_at_hand s st ts y made complete (none_around (f.kind ≡ ClosureCall) st.ctx.lambda g.around n) g.closures)
@@ -105,4 +108,5 @@ module _ (b : Needs) (f : UnitFunc) (s : List Lexeme) (n : f.kind ≡ ClosureCal
         (λ x h. among_good x ts h (rest s e ts t))
 
 pub lambdas_keep_good : LambdasKeepGood
-lambdas_keep_good b f s n = b.stands f s (λ a z e g t q. (answered (IsGood f) (lambdas_of s a e) z (each_good b f s n a e g t) q, comes b f s n a z e g t q))
+lambdas_keep_good b f s n = lambdas_keep f s (λ a z e g t q.
+    let i = answered (IsGood f) (lambdas_of s a e) z (each_good b f s n a e g t) q in record { slots = i.slots; closures = i.closures; bodies = i.bodies })

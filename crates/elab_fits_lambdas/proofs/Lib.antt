@@ -7,3 +7,4 @@ pub mod Made
 pub mod Parameters
 pub mod Results
 pub mod Types
+pub mod Units

@@ -15,12 +15,11 @@ use Rattle.elab_fits_bodies.specs.Functions.{IsResult}
 use Rattle.elab_fits_forms.specs.Types as forms
 use Rattle.elab_fits_forms.proofs.Readiness.{any_ready}
 use Rattle.elab_fits_forms.proofs.Wholes.{class_whole}
-use Rattle.elab_holds.specs.Contexts.{ContextsHold}
 use Rattle.elab_sound_types.specs.Types.{is_sound, result}
 use Rattle.elab_sound_types.specs.States.{Kept}
 use Rattle.elab_fits_states.specs.States.{setting, IsGood}
 use Rattle.elab_fits_states.proofs.Good.{holds_of}
-use Rattle.elab_fits_states.proofs.Types.{sound_is}
+use Rattle.elab_holds.proofs.Sound.{form_sound}
 
 -- nothing, an object of a class, a reference or a scalar
 abbrev is_formed : Typ → Bool
@@ -39,13 +38,16 @@ formed classes (typ (class n) c v) h = refl
 formed classes (typ (closure n) c v) h = refl
 formed classes (typ (tx_ex t) c v) h = refl
 
+typ_sound : (classes : List Class) (t : Typ) → is_sound classes result t ≡ true → forms.is_sound classes t ≡ true
+typ_sound classes (typ q c v) h = form_sound classes result (c || v) q h
+
 pub complete_kept : (c d : Ctx) (o : Option ℕ) → Kept c.classes d.classes → is_complete c o ≡ true → is_complete d o ≡ true
 complete_kept c d (Some n) k h = k.complete n h
 complete_kept c d None k h = refl
 
-module _ (b : ContextsHold) (f : UnitFunc) (st : State) (g : IsGood f st) where
+module _ (f : UnitFunc) (st : State) (g : IsGood f st) where
   whole : (t : Typ) → is_sound st.ctx.classes result t ≡ true → is_complete st.ctx (held t) ≡ true → is_class_typ t ≡ true → forms.IsWhole st.ctx.classes t
-  whole t i k e = class_whole (setting f st) st.ctx st.work t (holds_of b f st g) (sound_is st.ctx.classes result t i) e
+  whole t i k e = class_whole (setting f st) st.ctx st.work t (holds_of f st g) (typ_sound st.ctx.classes t i) e
       (λ n q v x. subst (λ (u : Typ). is_complete st.ctx (held u) ≡ true) x k)
 
   pub result_fits : is_complete st.ctx (held (result_of f)) ≡ true → IsResult (setting f st) st.ctx (result_of f)
