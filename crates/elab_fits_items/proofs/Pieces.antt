@@ -1,36 +1,33 @@
 -- The parts of objects that braces initialise.
-use Rattle.std.proofs.Common.{◌≡◌, refl, sym, ap, ◌∙◌, subst, ℕ, zero, suc, ◌+◌, ◌*◌, ◌-◌, ◌<◌, ◌≤◌, ◌==◌, Bool, true, false, not, ◌&&◌, ◌||◌, nat_lt, List, [], ◌∷◌, length}
-use Rattle.std.proofs.Common.{slice_get, Option, Some, None, is_some, is_none, option_map, arith, ltb-true, lt-ltb, eq-eqb, eqb-true}
+use Rattle.std.proofs.Common.{◌≡◌, refl, sym, ap, ◌∙◌, subst, ℕ, suc, ◌*◌, ◌<◌, ◌≤◌, Bool, true, false, not, ◌&&◌, nat_lt, List, [], ◌∷◌, length}
+use Rattle.std.proofs.Common.{slice_get, Option, Some, None, is_some, is_none, option_map, arith, ltb-true, lt-ltb, eq-eqb}
 use Rattle.std.proofs.lemmas.Bool.{and_parts}
 use Rattle.std.proofs.lemmas.Option.{slice_get_within}
 use Rattle.std.specs.Prelude.{if◌then◌else◌}
 use Rattle.elab_rules.specs.tx_ints.declared.kinds.IntKind.TheVariants.{ULong}
-use Rattle.elab_rules.specs.cpp_types.Typ.{Typ, typ, Form, void, int, enum, null, ptr, ref, array, func, class, closure, tx_ex}
+use Rattle.elab_rules.specs.cpp_types.Typ.{Typ, typ, void, int, enum, null, ptr, ref, array, func, class, closure, tx_ex}
 use Rattle.elab_rules.specs.cpp_types.Class.{Class, Member, completion_of}
 use Rattle.elab_rules.specs.cpp_types.Equal.{typ_eq}
 use Rattle.elab_rules.specs.cpp_types.declared.classes.At.{At}
 use Rattle.elab_rules.specs.cpp_types.declared.ranks.Cat.TheVariants.{Prvalue}
-use Rattle.elab_rules.specs.cpp_tree.declared.faults.ElabFault.{ElabFault}
 use Rattle.elab_rules.specs.cpp_tree.declared.faults.IllRule.{IllRule}
 use Rattle.elab_rules.specs.cpp_tree.declared.faults.IllRule.TheVariants.{Incomplete, OutOfProfile}
 use Rattle.elab_rules.specs.cpp_tree.declared.kinds.TKind.TheVariants.{Pieces, Piece}
 use Rattle.elab_rules.specs.cpp_tree.declared.roles.Position.{Position}
 use Rattle.elab_rules.specs.cpp_tree.declared.roles.Role.TheVariants.{Initialiser, Part as PartRole, Destruction}
-use Rattle.elab_rules.specs.cpp_tree.Notation.{plain}
-use Rattle.elab_rules.specs.cpp_tree.Trees.{Tree, node, Trees, none, more}
+use Rattle.elab_rules.specs.cpp_tree.Trees.{Tree, node, Trees, more}
 use Rattle.elab_rules.specs.cpp_tree.Typing.{Head, head_of, passes, form_in, qualified, is_word_of}
-use Rattle.elab_rules.specs.cpp_tree.Parts.{size_in, sized_class, part_of, count_of_parts, are_part_pieces, are_element_pieces, are_pieces, is_piece_at, is_piece_of, is_last}
+use Rattle.elab_rules.specs.cpp_tree.Parts.{count_of_parts, are_part_pieces, are_element_pieces, are_pieces, is_piece_of}
 use Rattle.elab_rules.specs.cpp_tree.Roles.{and_any}
 use Rattle.elab_rules.specs.cpp_tree.Rows.{Setting}
 use Rattle.elab_rules.specs.cpp_tree.WellFormed.{fits, kids_fit, heads_of}
 use Rattle.elab_rules.specs.elab_ctx.Ctx.{Ctx, Work}
-use Rattle.elab_rules.specs.elab_ctx.Steps.{and_then, check}
+use Rattle.elab_rules.specs.elab_ctx.Steps.{check}
 use Rattle.elab_rules.specs.Objects.{Part, size_of, destroys}
 use Rattle.elab_rules.specs.Names.{members_in, offset_at}
 use Rattle.elab_rules.specs.Braces.{part_in, piece, braceable, is_aggregate_class, has_no_base, is_empty, is_virtual_member, is_written_constructor}
 use Rattle.elab_rules.specs.Initialising.{places_from}
 use Rattle.elab_fits.specs.Standing.{BuildsOne, On}
-use Rattle.elab_fits.specs.Objects.{AllFit}
 use Rattle.elab_fits.proofs.Equal.{typ_refl}
 use Rattle.elab_fits.proofs.Nodes.{both, or_left, or_right, node_fits}
 use Rattle.elab_fits.proofs.Objects.{laid_from, sized_class_is, size_is}
@@ -41,7 +38,7 @@ use Rattle.elab_fits_objects.proofs.Fits.{object_kids, at_least_one, any_many}
 use Rattle.elab_fits_forms.specs.Types.{is_lambda}
 use Rattle.elab_fits_forms.specs.Context.{Holds}
 use Rattle.elab_fits_items.specs.Items.{MembersSingle}
-use Rattle.elab_fits_items.proofs.Types.{IsItem, element_item, fewer_item, offset_small, destroyed, IsAggregate, IsMember, member_is, count_members, no_flags}
+use Rattle.elab_fits_items.proofs.Types.{IsItem, element_item, offset_small, destroyed, IsAggregate, IsMember, member_is, count_members}
 
 -- what is said of the pieces from one on
 abbrev pub Agree : List Class → Typ → ℕ → List Head → Type 0
@@ -79,9 +76,10 @@ none_is (Some n) h = absurd cc
 
 module _ (s : Setting) (c : Ctx) (w : Work) (h : Holds s c w) (single : MembersSingle c) where
   -- the types that braces initialise
-  pub data Taken : Typ → Type 0 where
-    of_array : {e : Typ} {n : ℕ} → IsItem c (typ (array e n) false false) → Taken (typ (array e n) false false)
-    of_class : {n : ℕ} {q v : Bool} → IsItem c (typ (class n) q v) → IsAggregate s c w h n → Taken (typ (class n) q v)
+  abbrev pub Taken : Typ → Type 0
+  Taken (typ (array e n) false false) = IsItem c (typ (array e n) false false)
+  Taken (typ (class n) q v) = IsAggregate s c w h n
+  Taken t = ⊥
 
   class_taken : (n : ℕ) (q v : Bool) → IsItem c (typ (class n) q v) → is_some (completion_of c.classes n) ≡ true → is_aggregate_class c n ≡ true
       → Taken (typ (class n) q v)
@@ -96,18 +94,18 @@ module _ (s : Setting) (c : Ctx) (w : Work) (h : Holds s c w) (single : MembersS
       named false e = refl
 
       by : (o : Option Class) → slice_get c.classes n ≡ o → has_no_base o ≡ true → Taken (typ (class n) q v)
-      by (Some k) e f = of_class i (record {
+      by (Some k) e f = record {
         owner = k;
         found = e;
         base = none_is k.base f;
         complete = d;
         named = named (is_lambda c.classes n) i.target;
         laid = laid_from c.classes n q v i.sized;
-      })
+      }
       by None e f = absurd cc
 
   pub taken_is : (t : Typ) (at : At) → IsItem c t → On (λ (b : Bool). Taken t) (braceable c at (form_in t))
-  taken_is (typ (array e n) false false) at i = of_array i
+  taken_is (typ (array e n) false false) at i = i
   taken_is (typ (array e n) true v) at i = let a = i.ready in absurd cc
   taken_is (typ (array e n) false true) at i = let a = i.ready in absurd cc
   taken_is (typ (class n) q v) at i = checked (λ (b : Bool). Taken (typ (class n) q v)) at Incomplete (is_some (completion_of c.classes n)) _
@@ -174,8 +172,9 @@ module _ (s : Setting) (c : Ctx) (w : Work) (h : Holds s c w) (single : MembersS
       by None k f = absurd cc
 
   pub placed : (t : Typ) (i : ℕ) (p : Part) → Taken t → part_in c t (form_in t) i ≡ Some p → IsPlaced c t i p
-  placed (typ (array e n) false false) i p (of_array x) g = element_placed e n i p x g
-  placed (typ (class n) q v) i p (of_class x a) g = member_placed n i q v p a g
+  placed (typ (array e n) false false) i p x g = element_placed e n i p x g
+  placed (typ (class n) q v) i p x g = member_placed n i q v p x g
+  placed t i p x g = absurd x
 
   -- Pieces
 
@@ -197,9 +196,10 @@ module _ (s : Setting) (c : Ctx) (w : Work) (h : Holds s c w) (single : MembersS
   -- The object of all pieces
 
   are_pieces_of : (t : Typ) (hs : List Head) → Taken t → Agree c.classes t 0 hs → are_pieces c.classes t hs ≡ true
-  are_pieces_of (typ (array e n) false false) hs (of_array x) r =
+  are_pieces_of (typ (array e n) false false) hs x r =
       ap (passes (λ (size : ℕ). are_element_pieces e size n 0 hs)) (size_is c.classes e (element_item c e n false false x).item.sized) ∙ r
-  are_pieces_of (typ (class n) q v) hs (of_class x a) r = both (ap is_some (sized_class_is c.classes n a.laid)) r
+  are_pieces_of (typ (class n) q v) hs x r = both (ap is_some (sized_class_is c.classes n x.laid)) r
+  are_pieces_of t hs x r = absurd x
 
   pub object_made : (t : Typ) (at : At) (ts : Trees) → Taken t → PiecesFrom s c.classes t 0 ts → BuildsOne s t (node Pieces t Prvalue at ts)
   object_made t at ts x r = record {
