@@ -20,7 +20,6 @@ use Rattle.elab_fits_states.specs.States.{AreTexts, setting, IsGood}
 use Rattle.elab_fits_states.specs.Made.{MadeFits, AllBodiesFit}
 use Rattle.elab_fits_states.proofs.Good.{holds_of}
 use Rattle.elab_fits_lambdas.specs.Made.{lambda_inside, call_signature, lambda_block, lambda_left, IsLambda}
-use Rattle.elab_fits_lambdas.specs.Needs.{Needs}
 use Rattle.elab_fits_lambdas.specs.Good.{IsCall}
 use Rattle.elab_fits_lambdas.proofs.Captured.{one_more}
 use Rattle.elab_fits_lambdas.proofs.Closures.{body_kept}
@@ -33,7 +32,7 @@ pub last_func : (fs : List Func) (f : Func) → slice_get (fs ++ f ∷ []) (leng
 last_func [] f = refl
 last_func (g ∷ fs) f = last_func fs f
 
-module _ (b : Needs) (f : UnitFunc) (s : List Lexeme) (st : State) (ts : syntax.Trees) (y : State) (g : IsGood f st) (t : AreTexts s ts)
+module _ (f : UnitFunc) (s : List Lexeme) (st : State) (ts : syntax.Trees) (y : State) (g : IsGood f st) (t : AreTexts s ts)
     (h : IsLambda s st ts y) where
   abbrev e : State
   e = lambda_inside st h.text (known h.made.result) h.made.result (call_signature h.text h.made.result)
@@ -57,10 +56,10 @@ module _ (b : Needs) (f : UnitFunc) (s : List Lexeme) (st : State) (ts : syntax.
   is_call = record { kind = found.same.kind; signature = ap (λ (d : Function). d.signature) found.same.declared }
 
   pub done : IsDone call e end
-  done = answered (IsDone call e) (body_statements s e h.text) end (statements_fit b f s st ts y g t h call is_call) h.made.known.read
+  done = answered (IsDone call e) (body_statements s e h.text) end (statements_fit f s st ts y g t h call is_call) h.made.known.read
 
   same : result_of call ≡ h.made.result
-  same = result_same b f s st ts y g t h call is_call
+  same = result_same f s st ts y g t h call is_call
 
   complete : is_complete end.state.ctx (held (result_of call)) ≡ true
   complete = subst (λ (u : Typ). is_complete end.state.ctx (held u) ≡ true) (sym same)

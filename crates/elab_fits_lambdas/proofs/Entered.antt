@@ -12,20 +12,20 @@ use Rattle.elab_rules.specs.cpp_tree.Notation.{plain}
 use Rattle.elab_rules.specs.cpp_tree.Typing.{is_class_typ}
 use Rattle.elab_rules.specs.cpp_tree.Units.{Func as UnitFunc}
 use Rattle.elab_rules.specs.cpp_tree.Rows.{at_place, result_in, result_of}
-use Rattle.elab_rules.specs.elab_ctx.Ctx.{Ctx, Work, Closure, known}
+use Rattle.elab_rules.specs.elab_ctx.Ctx.{Ctx, Work, Func, Closure, known}
 use Rattle.elab_rules.specs.Functions.{result_items, with_parameters}
 use Rattle.elab_rules.specs.Lambdas.{Written, declared_closure, body_statements, no_lambda, kids_of}
 use Rattle.elab_rules.specs.Statements.{State, Done, statements_of, is_direct_label}
 use Rattle.elab_fits.specs.Standing.{On}
 use Rattle.elab_fits.proofs.Equal.{typ_refl}
 use Rattle.elab_contexts.specs.Holding.{UnitHolds}
+use Rattle.elab_contexts.specs.Slots.{is_overrider, HasOverriders}
 use Rattle.elab_contexts.proofs.Statements.{parameters_kept}
 use Rattle.elab_contexts.proofs.Walking as units
 use Rattle.elab_fits_braces.proofs.Staying.{defaults_stay}
 use Rattle.elab_fits_braces.specs.Defaults.{AllDefaultsFit}
 use Rattle.elab_fits_statements.specs.Anywhere.{AllServe}
 use Rattle.elab_fits_statements.specs.Variables.{HasItem}
-use Rattle.elab_holds.specs.Contexts.{HasSlots}
 use Rattle.elab_holds.specs.Locals.{LocalsHold}
 use Rattle.elab_holds.proofs.Locals as locals
 use Rattle.elab_sound_types.specs.Types.{is_sound, result as a_result}
@@ -50,8 +50,8 @@ use Rattle.elab_fits_states.proofs.Made.{bodies_stay}
 use Rattle.elab_fits_states.proofs.Texts.{kids, first, rest}
 use Rattle.elab_fits_states.proofs.Spelled.{all_spelled}
 use Rattle.elab_fits_lambdas.specs.Made.{lambda_inside, call_signature, HasParts, three, two, IsLambda}
-use Rattle.elab_fits_lambdas.specs.Needs.{Needs}
 use Rattle.elab_fits_lambdas.specs.Good.{IsCall, BodiesBegin}
+use Rattle.elab_fits_lambdas.proofs.Captured.{one_more}
 use Rattle.elab_fits_lambdas.proofs.Made.{told, mapped, answered}
 use Rattle.elab_fits_lambdas.proofs.Parameters.{OnlyNames, only_names}
 use Rattle.elab_fits_lambdas.proofs.Types.{IsSoundEntry, entry_sound}
@@ -79,7 +79,7 @@ pub record IsDone (call : UnitFunc) (e : State) (d : Done) : Type 0 where
   pub serve : AllServe (setting call d.state) false false BlockItem d.trees
   pub kept : Kept e.ctx.classes d.state.ctx.classes
 
-module _ (b : Needs) (f : UnitFunc) (s : List Lexeme) (st : State) (ts : syntax.Trees) (y : State) (g : IsGood f st) (t : AreTexts s ts)
+module _ (f : UnitFunc) (s : List Lexeme) (st : State) (ts : syntax.Trees) (y : State) (g : IsGood f st) (t : AreTexts s ts)
     (h : IsLambda s st ts y) (call : UnitFunc) (c : IsCall call h.text h.made.result) where
   abbrev d : Ctx
   d = declared_closure st h.text (call_signature h.text h.made.result)
@@ -96,9 +96,8 @@ module _ (b : Needs) (f : UnitFunc) (s : List Lexeme) (st : State) (ts : syntax.
   unit_at : UnitHolds e.ctx
   unit_at = unit_inside s st ts y h g.unit
 
-  slots_at : HasSlots e.ctx
-  slots_at = λ k n z q o p v w. let i = b.slots st h.text (call_signature h.text h.made.result) g.unit g.slots k n z q o p v w in
-      record { slot = i.slot; pointer = i.pointer }
+  overriders_at : HasOverriders e.ctx.funcs
+  overriders_at = one_more (λ (z : Func). is_overrider z ≡ true) st.ctx.funcs _ g.overriders refl
 
   pub unit_grown : UnitGrows st e
   unit_grown = record {
@@ -123,7 +122,7 @@ module _ (b : Needs) (f : UnitFunc) (s : List Lexeme) (st : State) (ts : syntax.
   begins : IsGood call e
   begins = record {
     unit = unit_at;
-    slots = slots_at;
+    overriders = overriders_at;
     sound = entry.state;
     locals = locals.lambdas_law st st h.text (known h.made.result) h.made.result (call_signature h.text h.made.result) g.locals;
     around = λ l q. c.kind;
@@ -148,8 +147,8 @@ module _ (b : Needs) (f : UnitFunc) (s : List Lexeme) (st : State) (ts : syntax.
     unit_with : UnitHolds z.ctx
     unit_with = unit_left e z unit_at (answered (units.Leaves e) (with_parameters s e h.text.params) z (parameters_kept s e h.text.params) q)
 
-    slots_with : HasSlots z.ctx
-    slots_with = subst HasSlots (sym named.ctx) (λ k n w p o i v u. let j = slots_at k n w p o i v u in record { slot = j.slot; pointer = j.pointer })
+    overriders_with : HasOverriders z.ctx.funcs
+    overriders_with = subst (λ (u : Ctx). HasOverriders u.funcs) (sym named.ctx) overriders_at
 
     locals_with : LocalsHold z.ctx z.work
     locals_with = answered (λ (u : State). LocalsHold u.ctx u.work) (with_parameters s e h.text.params) z (locals.parameters_law s e h.text.params begins.locals) q
@@ -159,7 +158,7 @@ module _ (b : Needs) (f : UnitFunc) (s : List Lexeme) (st : State) (ts : syntax.
 
     pub settled_with : IsSettled call z
     settled_with = record {
-      good = carried call e z begins comes_with unit_with slots_with after.sound locals_with (none_hold z.ctx z.ctx.closures none_with)
+      good = carried call e z begins comes_with unit_with overriders_with after.sound locals_with (none_hold z.ctx z.ctx.closures none_with)
           (ap (λ (u : Ctx). u.lambda) named.ctx) (ap (λ (u : Ctx). u.returns) named.ctx) (ap (λ (u : Ctx). u.defaults) named.ctx)
           (bodies_stay e z (earlier_of call e begins) comes_with.goes.grows.unit named.bodies begins.bodies);
       none = none_with;
@@ -174,7 +173,7 @@ module _ (b : Needs) (f : UnitFunc) (s : List Lexeme) (st : State) (ts : syntax.
 
     pub statements_with : On (IsDone call e) (statements_of no_lambda s z h.text.body)
     statements_with = mapped (BodyFits call z) (IsDone call e) (statements_of no_lambda s z h.text.body)
-        (bodies_fit call no_lambda s z h.text.body (record { lambdas = no_lambdas_keep call s; braces = b.braces }) settled_with alone_with
+        (bodies_fit call no_lambda s z h.text.body (no_lambdas_keep call s) settled_with alone_with
         (subst (AreTexts s) (sym h.written.read) (kids_text s h.body (body_text s ts h.intro h.parts h.body h.has t))))
         (λ n w. record {
           settled = w.settled;
@@ -186,4 +185,4 @@ module _ (b : Needs) (f : UnitFunc) (s : List Lexeme) (st : State) (ts : syntax.
   statements_fit = told (IsDone call e) (with_parameters s e h.text.params) _ (λ z q. statements_with z q)
 
 pub bodies_begin : BodiesBegin
-bodies_begin b f s st ts y g t h call c = on_all (IsSettled call) _ (λ z q. settled_with b f s st ts y g t h call c z q)
+bodies_begin f s st ts y g t h call c = on_all (IsSettled call) _ (λ z q. settled_with f s st ts y g t h call c z q)

@@ -13,10 +13,10 @@ use Rattle.elab_rules.specs.Statements.{State}
 use Rattle.elab_fits.specs.Standing.{On}
 use Rattle.elab_fits.proofs.Steps.{bind}
 use Rattle.elab_contexts.specs.Holding.{StateHolds}
+use Rattle.elab_contexts.specs.Slots.{HasOverriders}
 use Rattle.elab_contexts.specs.Texts.{is_no_name}
 use Rattle.elab_contexts.proofs.Holding as units
 use Rattle.elab_fits_forms.specs.Types.{is_empty}
-use Rattle.elab_holds.specs.Contexts.{HasSlots}
 use Rattle.elab_holds.specs.Locals.{LocalsHold}
 use Rattle.elab_sound_types.specs.States.{Kept, IsSoundAfter}
 use Rattle.elab_sound_types.proofs.Bodies as sound
@@ -30,7 +30,6 @@ use Rattle.elab_fits_states.proofs.Lambdas.{lambdas_keep}
 use Rattle.elab_fits_states.proofs.Texts.{kids, first, rest}
 use Rattle.elab_fits_states.proofs.Spelled.{spelled}
 use Rattle.elab_fits_lambdas.specs.Made.{IsLambda, AreComplete}
-use Rattle.elab_fits_lambdas.specs.Needs.{Needs}
 use Rattle.elab_fits_lambdas.specs.Good.{LambdasKeepGood}
 use Rattle.elab_fits_lambdas.proofs.Bodies.{done, behind, behind_is, bodies_behind}
 use Rattle.elab_fits_lambdas.proofs.Closures.{one_at_hand}
@@ -44,7 +43,7 @@ none_around : (A : Type 0) (o : Option Lambda) → ((l : Lambda) → o ≡ Some 
 none_around A (Some l) h n = absurd (n (h l refl))
 none_around A None h n = refl
 
-module _ (b : Needs) (f : UnitFunc) (s : List Lexeme) (n : f.kind ≡ ClosureCall → ⊥) where
+module _ (f : UnitFunc) (s : List Lexeme) (n : f.kind ≡ ClosureCall → ⊥) where
   -- states behind all lambdas of a tree come of the one before
   after : (a z : State) (e : syntax.Tree) → IsGood f a → IsText s e → lambdas_of s a e ≡ Ok z → IsSoundAfter true a z
   after a z e g t q = sound.lambdas_law s a e z g.sound (spelled s e t.spelled) q
@@ -64,14 +63,10 @@ module _ (b : Needs) (f : UnitFunc) (s : List Lexeme) (n : f.kind ≡ ClosureCal
     made = answered (IsLambda s st ts) (lambda_of s st (at_of p) ts) y (lambdas_are_made s st (at_of p) ts) q
 
     abbrev now : State
-    now = behind b f s st ts y g texts made
+    now = behind f s st ts y g texts made
 
     same : y ≡ now
-    same = behind_is b f s st ts y g texts made
-
-    slots_behind : HasSlots now.ctx
-    slots_behind = λ i m w o c v u x. let z = (done b f s st ts y g texts made).settled.good.slots i m w o c v u x in
-        record { slot = z.slot; pointer = z.pointer }
+    same = behind_is f s st ts y g texts made
 
     kept : Kept st.ctx.classes now.ctx.classes
     kept = subst (λ (z : State). Kept st.ctx.classes z.ctx.classes) same (comes st y one g t q).kept
@@ -89,11 +84,11 @@ module _ (b : Needs) (f : UnitFunc) (s : List Lexeme) (n : f.kind ≡ ClosureCal
 
     good : IsGood f y
     good = carried f st y g (comes st y one g t q) (answered StateHolds (lambdas_of s st one) y (units.lambdas_law s st one g.unit) q)
-        (subst (λ (z : State). HasSlots z.ctx) (sym same) slots_behind) (after st y one g t q).sound
+        (subst (λ (z : State). HasOverriders z.ctx.funcs) (sym same) (done f s st ts y g texts made).settled.good.overriders) (after st y one g t q).sound
         (subst (λ (z : State). LocalsHold z.ctx z.work) (sym same) locals_behind)
         (one_at_hand s st ts y made complete (none_around (f.kind ≡ ClosureCall) st.ctx.lambda g.around n) g.closures)
         (ap (λ (z : State). z.ctx.lambda) same) (ap (λ (z : State). z.ctx.returns) same) (ap (λ (z : State). z.ctx.defaults) same)
-        (subst AllBodiesFit (sym same) (bodies_behind b f s st ts y g texts made))
+        (subst AllBodiesFit (sym same) (bodies_behind f s st ts y g texts made))
 
   mutual
     each_good : (st : State) (e : syntax.Tree) → IsGood f st → IsText s e → On (IsGood f) (lambdas_of s st e)
@@ -108,5 +103,5 @@ module _ (b : Needs) (f : UnitFunc) (s : List Lexeme) (n : f.kind ≡ ClosureCal
         (λ x h. among_good x ts h (rest s e ts t))
 
 pub lambdas_keep_good : LambdasKeepGood
-lambdas_keep_good b f s n = lambdas_keep f s (λ a z e g t q.
-    let i = answered (IsGood f) (lambdas_of s a e) z (each_good b f s n a e g t) q in record { slots = i.slots; closures = i.closures; bodies = i.bodies })
+lambdas_keep_good f s n = lambdas_keep f s (λ a z e g t q.
+    let i = answered (IsGood f) (lambdas_of s a e) z (each_good f s n a e g t) q in record { overriders = i.overriders; closures = i.closures; bodies = i.bodies })

@@ -13,7 +13,6 @@ use Rattle.elab_fits.specs.Standing.{On}
 use Rattle.elab_fits_states.specs.States.{IsGood, IsSettled, AreTexts}
 use Rattle.elab_fits_states.specs.Premises.{KeepsGood}
 use Rattle.elab_fits_lambdas.specs.Made.{lambda_inside, call_signature, IsLambda}
-use Rattle.elab_fits_lambdas.specs.Needs.{Needs}
 
 -- the call of a lambda with this result
 pub record IsCall (g : UnitFunc) (x : Written) (r : Typ) : Type 0 where
@@ -22,10 +21,10 @@ pub record IsCall (g : UnitFunc) (x : Written) (r : Typ) : Type 0 where
 
 -- the state in which the statements of a lambda's body begin is a good one of its call
 abbrev pub BodiesBegin : Type 0
-BodiesBegin = Needs → (f : UnitFunc) (s : List Lexeme) (st : State) (kids : syntax.Trees) (y : State) → IsGood f st → AreTexts s kids
+BodiesBegin = (f : UnitFunc) (s : List Lexeme) (st : State) (kids : syntax.Trees) (y : State) → IsGood f st → AreTexts s kids
     → (h : IsLambda s st kids y) → (g : UnitFunc) → IsCall g h.text h.made.result
     → On (IsSettled g) (with_parameters s (lambda_inside st h.text (known h.made.result) h.made.result (call_signature h.text h.made.result)) h.text.params)
 
 -- in the body of a function that is no call of a lambda
 abbrev pub LambdasKeepGood : Type 0
-LambdasKeepGood = Needs → (f : UnitFunc) (s : List Lexeme) → (f.kind ≡ ClosureCall → ⊥) → KeepsGood f lambdas_of s
+LambdasKeepGood = (f : UnitFunc) (s : List Lexeme) → (f.kind ≡ ClosureCall → ⊥) → KeepsGood f lambdas_of s

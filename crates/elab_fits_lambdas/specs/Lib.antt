@@ -1,4 +1,3 @@
 pub mod Captured
 pub mod Good
 pub mod Made
-pub mod Needs
