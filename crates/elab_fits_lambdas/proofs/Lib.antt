@@ -1,0 +1,10 @@
+pub mod Bodies
+pub mod Captured
+pub mod Closures
+pub mod Entered
+pub mod Good
+pub mod Made
+pub mod Parameters
+pub mod Results
+pub mod Types
+pub mod Units
