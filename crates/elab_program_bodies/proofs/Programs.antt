@@ -1,0 +1,72 @@
+-- The units of a program.
+use Rattle.std.proofs.Common.{◌≡◌, refl, sym, ap, ◌∙◌, subst, ℕ, zero, suc, ◌+◌, List, [], ◌∷◌, ◌++◌, length, length-append, slice_get, Option, Some, None}
+use Rattle.std.proofs.Common.{Result, Ok, Err, arith}
+use Rattle.std.proofs.lemmas.Option.{same_Some}
+use Rattle.elab_rules.specs.cpp_tree.Units.{Func, Unit, TypedProgram}
+use Rattle.elab_rules.specs.cpp_tree.Trees.{Tree}
+use Rattle.elab_rules.specs.cpp_tree.declared.faults.ElabFault.{ElabFault}
+use Rattle.elab_rules.specs.elab_ctx.Ctx.{Traits}
+use Rattle.elab_rules.specs.elab_ctx.Steps.{and_then}
+use Rattle.elab_rules.specs.Statements.{State}
+use Rattle.elab_rules.specs.Units.{unit_from}
+use Rattle.elab_rules.specs.Programs.{Source, unit_shown, start_behind, with_unit, program_from, program_of}
+use Rattle.elab_bodies.specs.Bodies.{FitsFunction}
+use Rattle.elab_program_bodies.specs.Units.{IsUnit, HasPlaces}
+use Rattle.elab_program_bodies.specs.Programs.{ComesFrom, UnitsCome, ProgramsHavePlaces, ProgramsFit}
+use Rattle.elab_program_bodies.proofs.Shown as shown
+
+same_Ok : {A : Type 0} (P : A → Type 0) (x y : A) → Ok {E = ElabFault} x ≡ Ok y → P x → P y
+same_Ok P x y e h = subst (λ (r : Result _ ElabFault). OkOf r) e h
+  where
+    OkOf : Result _ ElabFault → Type 0
+    OkOf (Ok z) = P z
+    OkOf (Err f) = Unit {0}
+
+-- one unit more
+unit_more : (C : ℕ → Unit → Type 0) (us : List Unit) (v : Unit) (n : ℕ) → ((i : ℕ) (u : Unit) → slice_get us i ≡ Some u → C (n + i) u)
+    → C (n + length us) v → (i : ℕ) (u : Unit) → slice_get (us ++ v ∷ []) i ≡ Some u → C (n + i) u
+unit_more C [] v n h c zero u e = subst (C (n + 0)) (same_Some v u e) c
+unit_more C [] v n h c (suc i) u e = absurd cc
+unit_more C (x ∷ us) v n h c zero u e = h 0 u e
+unit_more C (x ∷ us) v n h c (suc i) u e = subst (λ (m : ℕ). C m u) (omega arith)
+    (unit_more C us v (suc n) (λ j w q. subst (λ (m : ℕ). C m w) (omega arith) (h (suc j) w q)) (subst (λ (m : ℕ). C m v) (omega arith) c) i u e)
+
+behind_one : (x : Source) (xs : List Source) (j : ℕ) (u : Unit) → ComesFrom xs j u → ComesFrom (x ∷ xs) (suc j) u
+behind_one x xs j u c = record { source = c.source; at = c.at; state = c.state; is = c.is; shown = c.shown }
+
+mutual
+  come : (n : ℕ) (p : TypedProgram) (traits : List Traits) (xs : List Source) (q : TypedProgram) → program_from n p traits xs ≡ Ok q → (C : ℕ → Unit → Type 0)
+      → ((i : ℕ) (u : Unit) → slice_get p.units i ≡ Some u → C i u) → ((j : ℕ) (u : Unit) → ComesFrom xs j u → C (length p.units + j) u)
+      → (i : ℕ) (u : Unit) → slice_get q.units i ≡ Some u → C i u
+  come n p traits [] q e C h c i u g = h i u (same_Ok (λ (z : TypedProgram). slice_get z.units i ≡ Some u) q p (sym e) g)
+  come n p traits (x ∷ xs) q e C h c i u g = come_by n p traits x xs q (unit_from x.tokens (start_behind n p traits) x.decls) refl e C h c i u g
+
+  come_by : (n : ℕ) (p : TypedProgram) (traits : List Traits) (x : Source) (xs : List Source) (q : TypedProgram) (r : Result State ElabFault)
+      → unit_from x.tokens (start_behind n p traits) x.decls ≡ r
+      → and_then r (λ (st : State). program_from (suc n) (with_unit p x st) st.ctx.traits xs) ≡ Ok q → (C : ℕ → Unit → Type 0)
+      → ((i : ℕ) (u : Unit) → slice_get p.units i ≡ Some u → C i u) → ((j : ℕ) (u : Unit) → ComesFrom (x ∷ xs) j u → C (length p.units + j) u)
+      → (i : ℕ) (u : Unit) → slice_get q.units i ≡ Some u → C i u
+  come_by n p traits x xs q (Err f) m e C h c i u g = absurd cc
+  come_by n p traits x xs q (Ok st) m e C h c i u g = come (suc n) (with_unit p x st) st.ctx.traits xs q e C
+      (unit_more C p.units (unit_shown x.tokens x.decls st) 0 h (subst (λ (k : ℕ). C k (unit_shown x.tokens x.decls st)) (omega arith)
+      (c 0 (unit_shown x.tokens x.decls st) (record {
+        source = x;
+        at = refl;
+        state = st;
+        is = record { source = n; before = p; traits = traits; made = m };
+        shown = refl;
+      }))))
+      (λ j v w. let l = length-append p.units (unit_shown x.tokens x.decls st ∷ []) in
+      subst (λ (k : ℕ). C k v) (omega arith) (c (suc j) v (behind_one x xs j v w)))
+      i u g
+
+pub come_law : UnitsCome
+come_law sources p e i u g = come 0 (record { units = []; classes = []; slots = [] }) [] sources p e (ComesFrom sources) (λ j v q. absurd cc) (λ j v c. c) i u g
+
+pub places_law : ProgramsHavePlaces
+places_law sources p e i k u f tree g q t = let c = come_law sources p e i u g in
+    shown.places_law c.source.tokens c.source.decls c.state c.is k f tree (ap (λ (z : Unit). slice_get z.funcs k) (sym c.shown) ∙ q) t
+
+pub functions_law : ProgramsFit
+functions_law sources p e i k u f tree g c l q t =
+    shown.functions_law c.source.tokens c.source.decls c.state c.is k f tree l (ap (λ (z : Unit). slice_get z.funcs k) (sym c.shown) ∙ q) t
