@@ -38,19 +38,18 @@ use Rattle.elab_rules.specs.Members.{outside_linkage, outside_text, linked_defin
 use Rattle.elab_rules.specs.Units
 use Rattle.elab_rules.specs.Units.{header_of, definition_text, closing_offset}
 use Rattle.elab_rules.specs.Lambdas.{lambdas_of}
-use Rattle.elab_fits.proofs.Equal.{typ_same, typs_same}
+use Rattle.elab_fits.proofs.Equal.{typ_same}
 use Rattle.elab_bodies.specs.Bodies.{number_of}
 use Rattle.elab_bodies.proofs.Closures.{at_end}
-use Rattle.elab_bodies.proofs.Implicits.{not_both}
 use Rattle.elab_places.specs.Functions.{copy_words}
 use Rattle.elab_places.specs.Round.{Round, round_of}
 use Rattle.elab_places.proofs.Steps.{On, bind, skip}
 use Rattle.elab_places.proofs.Rounds.{bodies_more}
 use Rattle.elab_places.proofs.Walks.{checked, IsHeader, HasKind, header_in, special_header, Method_is, method_of, with_func, round_with}
 use Rattle.elab_program_bodies.specs.Known.{IsKnown, HoldsOf, Holds}
-use Rattle.elab_program_bodies.proofs.Lists.{at_func, set_at, set_again}
+use Rattle.elab_program_bodies.proofs.Lists.{not_both, at_func, set_at, set_again}
 use Rattle.elab_program_bodies.proofs.Known.{stand_more, Redefined}
-use Rattle.elab_program_bodies.proofs.Special.{special_result, special_params, same_function}
+use Rattle.elab_program_bodies.proofs.Special.{typs_same, special_result, special_params, same_function}
 use Rattle.elab_program_bodies.proofs.Defining.{Finds, Becomes, becomes, ready, Ready, function_holds, method_holds}
 
 -- A function that is declared

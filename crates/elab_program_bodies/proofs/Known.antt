@@ -22,14 +22,14 @@ use Rattle.elab_bodies.specs.Bodies.{result_of, number_of, WellSigned, times_mad
 use Rattle.elab_bodies.specs.Keeping.{StandsImplicit, HasSource, ImplicitsStand}
 use Rattle.elab_bodies.proofs.Frames.{result_kept, no_result}
 use Rattle.elab_bodies.proofs.Closures.{IsCall, function_more, body_more, each_more, at_end}
-use Rattle.elab_bodies.proofs.Implicits.{Implied, further_stands, call_stands, body_stands, last_stands, stand_due, fits_due, not_both, implied_stands}
+use Rattle.elab_bodies.proofs.Implicits.{Implied, further_stands, call_stands, body_stands, last_stands, stand_due, fits_due, implied_stands}
 use Rattle.elab_bodies.proofs.Keeping.{Follows, MayFit, fits_follow}
 use Rattle.state_growth.proofs.Lists.{added}
 use Rattle.elab_places.specs.Places.{Owned}
 use Rattle.elab_places.specs.Round.{Round, BodyOwns, BodiesOwn, AllOwned}
 use Rattle.elab_places.proofs.Rounds.{bodies_more}
 use Rattle.elab_program_bodies.specs.Known.{IsKnown, AllKnown, BodyCounts, AllCount, Stand, HoldsOf}
-use Rattle.elab_program_bodies.proofs.Lists.{at_func, is_within, set_at, set_apart, set_each, FuncAt, set_kept, made_once}
+use Rattle.elab_program_bodies.proofs.Lists.{not_both, apart, at_func, is_within, set_at, set_apart, set_each, FuncAt, set_kept, made_once}
 
 -- A function that has as many parameters as its signature is well signed
 
@@ -146,7 +146,7 @@ known_again f g r k = record {
 }
 
 own_due : (i : ℕ) (bs : List Body) (A : Type 0) → times_made i bs + due_to (Some i) i ≡ 0 → A
-own_due i bs A h = let o : one_if (i == i) ≡ 1 = ap one_if (eq-eqb i i refl) in let z : 1 ≡ 0 = omega arith in absurd cc
+own_due i bs A h = let o : one_if (i == i) ≡ 1 = ap one_if (eq-eqb i i refl) in absurd (omega arith)
 
 pub stand_set : (fs : List Func) (bs : List Body) (i : ℕ) (f g : Func) → slice_get fs i ≡ Some f → Redefined f g → Stand None fs bs
     → Stand (Some i) (slice_set fs i g) bs
@@ -154,7 +154,7 @@ stand_set fs bs i f g e r h = record {
   fit = record {
     each = λ j b q l. let m = made_once bs j b q in let x = h.fit.each j b q (omega arith) in record {
       func = x.func;
-      at = set_apart fs i b.func g (omega arith) ∙ x.at;
+      at = set_apart fs i b.func g (apart i b.func (omega arith)) ∙ x.at;
       defined = x.defined;
       signed = x.signed;
       fits = x.fits;

@@ -28,13 +28,20 @@ set_again [] i g f = refl
 set_again (x ∷ fs) zero g f = refl
 set_again (x ∷ fs) (suc i) g f = ap (λ (ys : List Func). x ∷ ys) (set_again fs i g f)
 
+pub not_both : (A : Type 0) (b : Bool) → b ≡ false → b ≡ true → A
+not_both A b f t = let k : false ≡ true = sym f ∙ t in absurd cc
+
+-- numbers that are not counted as the same are apart
+pub apart : (i j : ℕ) → one_if (i == j) ≡ 0 → i ≡ j → ⊥
+apart i j h e = let o : one_if (i == j) ≡ 1 = ap one_if (eq-eqb i j e) in omega arith
+
 -- another function stays
-pub set_apart : (fs : List Func) (i j : ℕ) (g : Func) → one_if (i == j) ≡ 0 → slice_get (slice_set fs i g) j ≡ slice_get fs j
+pub set_apart : (fs : List Func) (i j : ℕ) (g : Func) → (i ≡ j → ⊥) → slice_get (slice_set fs i g) j ≡ slice_get fs j
 set_apart [] i j g h = refl
-set_apart (x ∷ fs) zero zero g h = absurd cc
+set_apart (x ∷ fs) zero zero g h = absurd (h refl)
 set_apart (x ∷ fs) zero (suc j) g h = refl
 set_apart (x ∷ fs) (suc i) zero g h = refl
-set_apart (x ∷ fs) (suc i) (suc j) g h = set_apart fs i j g h
+set_apart (x ∷ fs) (suc i) (suc j) g h = set_apart fs i j g (λ e. h (ap suc e))
 
 -- each function is one from before or the one that is set
 pub set_each : (P : ℕ → Func → Type 0) (fs : List Func) (i : ℕ) (g : Func) → P i g → ((j : ℕ) (x : Func) → slice_get fs j ≡ Some x → P j x)

@@ -11,16 +11,16 @@ use Rattle.elab_rules.specs.Statements.{State}
 use Rattle.elab_rules.specs.Units.{unit_from}
 use Rattle.elab_rules.specs.Programs.{Source, unit_shown, start_behind, with_unit, program_from, program_of}
 use Rattle.elab_bodies.specs.Bodies.{FitsFunction}
+use Rattle.elab_places.proofs.Steps.{held_by}
 use Rattle.elab_program_bodies.specs.Units.{IsUnit, HasPlaces}
 use Rattle.elab_program_bodies.specs.Programs.{ComesFrom, UnitsCome, ProgramsHavePlaces, ProgramsFit}
 use Rattle.elab_program_bodies.proofs.Shown as shown
 
-same_Ok : {A : Type 0} (P : A → Type 0) (x y : A) → Ok {E = ElabFault} x ≡ Ok y → P x → P y
-same_Ok P x y e h = subst (λ (r : Result _ ElabFault). OkOf r) e h
-  where
-    OkOf : Result _ ElabFault → Type 0
-    OkOf (Ok z) = P z
-    OkOf (Err f) = Unit {0}
+-- behind a step that answers
+behind : {A B : Type 0} (D : Type 0) (r : Result A ElabFault) (f : A → Result B ElabFault) (q : B) → and_then r f ≡ Ok q
+    → ((a : A) → r ≡ Ok a → f a ≡ Ok q → D) → D
+behind D (Ok a) f q e h = h a refl e
+behind D (Err x) f q e h = absurd cc
 
 -- one unit more
 unit_more : (C : ℕ → Unit → Type 0) (us : List Unit) (v : Unit) (n : ℕ) → ((i : ℕ) (u : Unit) → slice_get us i ≡ Some u → C (n + i) u)
@@ -34,34 +34,29 @@ unit_more C (x ∷ us) v n h c (suc i) u e = subst (λ (m : ℕ). C m u) (omega 
 behind_one : (x : Source) (xs : List Source) (j : ℕ) (u : Unit) → ComesFrom xs j u → ComesFrom (x ∷ xs) (suc j) u
 behind_one x xs j u c = record { source = c.source; at = c.at; state = c.state; is = c.is; shown = c.shown }
 
-mutual
-  come : (n : ℕ) (p : TypedProgram) (traits : List Traits) (xs : List Source) (q : TypedProgram) → program_from n p traits xs ≡ Ok q → (C : ℕ → Unit → Type 0)
-      → ((i : ℕ) (u : Unit) → slice_get p.units i ≡ Some u → C i u) → ((j : ℕ) (u : Unit) → ComesFrom xs j u → C (length p.units + j) u)
-      → (i : ℕ) (u : Unit) → slice_get q.units i ≡ Some u → C i u
-  come n p traits [] q e C h c i u g = h i u (same_Ok (λ (z : TypedProgram). slice_get z.units i ≡ Some u) q p (sym e) g)
-  come n p traits (x ∷ xs) q e C h c i u g = come_by n p traits x xs q (unit_from x.tokens (start_behind n p traits) x.decls) refl e C h c i u g
-
-  come_by : (n : ℕ) (p : TypedProgram) (traits : List Traits) (x : Source) (xs : List Source) (q : TypedProgram) (r : Result State ElabFault)
-      → unit_from x.tokens (start_behind n p traits) x.decls ≡ r
-      → and_then r (λ (st : State). program_from (suc n) (with_unit p x st) st.ctx.traits xs) ≡ Ok q → (C : ℕ → Unit → Type 0)
-      → ((i : ℕ) (u : Unit) → slice_get p.units i ≡ Some u → C i u) → ((j : ℕ) (u : Unit) → ComesFrom (x ∷ xs) j u → C (length p.units + j) u)
-      → (i : ℕ) (u : Unit) → slice_get q.units i ≡ Some u → C i u
-  come_by n p traits x xs q (Err f) m e C h c i u g = absurd cc
-  come_by n p traits x xs q (Ok st) m e C h c i u g = come (suc n) (with_unit p x st) st.ctx.traits xs q e C
-      (unit_more C p.units (unit_shown x.tokens x.decls st) 0 h (subst (λ (k : ℕ). C k (unit_shown x.tokens x.decls st)) (omega arith)
-      (c 0 (unit_shown x.tokens x.decls st) (record {
-        source = x;
-        at = refl;
-        state = st;
-        is = record { source = n; before = p; traits = traits; made = m };
-        shown = refl;
-      }))))
-      (λ j v w. let l = length-append p.units (unit_shown x.tokens x.decls st ∷ []) in
-      subst (λ (k : ℕ). C k v) (omega arith) (c (suc j) v (behind_one x xs j v w)))
-      i u g
+come : (n : ℕ) (p : TypedProgram) (traits : List Traits) (xs : List Source) (q : TypedProgram) → program_from n p traits xs ≡ Ok q → (C : ℕ → Unit → Type 0)
+    → ((i : ℕ) (u : Unit) → slice_get p.units i ≡ Some u → C i u) → ((j : ℕ) (u : Unit) → ComesFrom xs j u → C (length p.units + j) u)
+    → (i : ℕ) (u : Unit) → slice_get q.units i ≡ Some u → C i u
+come n p traits [] q e C h c i u g = held_by (λ (z : TypedProgram). (k : ℕ) (v : Unit) → slice_get z.units k ≡ Some v → C k v) (Ok p) q h e i u g
+come n p traits (x ∷ xs) q e C h c i u g = behind (C i u) (unit_from x.tokens (start_behind n p traits) x.decls)
+    (λ (st : State). program_from (suc n) (with_unit p x st) st.ctx.traits xs) q e
+    (λ st m f. come (suc n) (with_unit p x st) st.ctx.traits xs q f C
+    (λ a v w. subst (λ (k : ℕ). C k v) (omega arith)
+    (unit_more C p.units (unit_shown x.tokens x.decls st) 0 (λ b y z. subst (λ (k : ℕ). C k y) (omega arith) (h b y z))
+    (subst (λ (k : ℕ). C k (unit_shown x.tokens x.decls st)) (omega arith)
+    (c 0 (unit_shown x.tokens x.decls st) (record {
+      source = x;
+      at = refl;
+      state = st;
+      is = record { source = n; before = p; traits = traits; made = m };
+      shown = refl;
+    }))) a v w))
+    (λ j v w. let l = length-append p.units (unit_shown x.tokens x.decls st ∷ []) in
+    subst (λ (k : ℕ). C k v) (omega arith) (c (suc j) v (behind_one x xs j v w)))
+    i u g)
 
 pub come_law : UnitsCome
-come_law sources p e i u g = come 0 (record { units = []; classes = []; slots = [] }) [] sources p e (ComesFrom sources) (λ j v q. absurd cc) (λ j v c. c) i u g
+come_law sources p e i u g = come 0 (record { units = []; classes = []; slots = [] }) [] sources p e (ComesFrom sources) (λ j v q. absurd cc) (λ j v c. subst (λ (k : ℕ). ComesFrom sources k v) (omega arith) c) i u g
 
 pub places_law : ProgramsHavePlaces
 places_law sources p e i k u f tree g q t = let c = come_law sources p e i u g in

@@ -13,7 +13,7 @@ use Rattle.elab_rules.specs.Initialising.{func_at}
 use Rattle.elab_rules.specs.Statements.{State, Body}
 use Rattle.elab_rules.specs.Units.{builtin, builtins, unit_from}
 use Rattle.elab_rules.specs.Programs.{start_behind, typed_func, body_of, tree_in, words_of}
-use Rattle.elab_bodies.proofs.Implicits.{not_both}
+use Rattle.elab_bodies.specs.Keeping.{StandsImplicit, HasSource}
 use Rattle.elab_bodies.proofs.Shown as shown
 use Rattle.elab_bodies.proofs.Shown.{shown_at, found}
 use Rattle.elab_places.specs.Places.{Owned}
@@ -23,7 +23,7 @@ use Rattle.elab_places.proofs.Words.{free_law}
 use Rattle.elab_places.proofs.Declarations as declarations
 use Rattle.elab_program_bodies.specs.Known.{IsKnown, HoldsOf, Holds}
 use Rattle.elab_program_bodies.specs.Units.{UnitsHold, HasPlaces, PlacesShown, FunctionsShown}
-use Rattle.elab_program_bodies.proofs.Lists.{at_func}
+use Rattle.elab_program_bodies.proofs.Lists.{not_both, at_func}
 use Rattle.elab_program_bodies.proofs.Walk.{walks}
 
 -- Where a unit begins
@@ -39,16 +39,16 @@ each_builtin P h (suc (suc (suc (suc i)))) f e = absurd cc
 builtin_known : (b : Builtin) (name : List ℕ) (ps : Typs) (r : Typ) → IsKnown (builtin b name ps r)
 builtin_known b name ps r = record { inside = λ e. refl; result = λ t. absurd cc; params = λ e. absurd cc; source = λ t e. absurd cc }
 
-no_implicit : (A : Func → Type 0) (b : Builtin) (name : List ℕ) (ps : Typs) (r : Typ) → (builtin b name ps r).implicit ≡ true → A (builtin b name ps r)
-no_implicit A b name ps r t = absurd cc
+written : (i : ℕ) (f : Func) → slice_get builtins i ≡ Some f → f.implicit ≡ false
+written = each_builtin (λ f. f.implicit ≡ false) (λ b name ps r. refl)
 
 begins : (source : ℕ) (p : TypedProgram) (traits : List Traits) → Holds (start_behind source p traits)
 begins source p traits = record {
   stand = record {
     fit = record { each = λ i b e l. absurd cc };
     implicits = record {
-      each = each_builtin (λ f. f.implicit ≡ true → _) (λ b name ps r. no_implicit _ b name ps r);
-      source = λ i f e t z. each_builtin (λ g. g.implicit ≡ true → _) (λ b name ps r. no_implicit _ b name ps r) i f e t;
+      each = λ i f e t. not_both (StandsImplicit f) f.implicit (written i f e) t;
+      source = λ i f e t z. not_both (HasSource f) f.implicit (written i f e) t;
     };
     known = record { each = each_builtin IsKnown builtin_known };
     counts = record { each = λ i b e. absurd cc };

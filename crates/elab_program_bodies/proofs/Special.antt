@@ -5,7 +5,7 @@ use Rattle.std.specs.Str.{bytes_eq}
 use Rattle.std.proofs.lemmas.Bool.{and_parts}
 use Rattle.elab_rules.specs.cpp_types.Typ.{Typ, typ, void, int, enum, null, ptr, ref, array, func, class, closure, tx_ex, Signature, signature, Typs, none as no_typs}
 use Rattle.elab_rules.specs.cpp_types.Typ.{more as and_typ}
-use Rattle.elab_rules.specs.cpp_types.Equal.{typs_eq, flag_eq}
+use Rattle.elab_rules.specs.cpp_types.Equal.{typ_eq, typs_eq, flag_eq}
 use Rattle.elab_rules.specs.cpp_tree.Typing.{is_void, is_class_typ}
 use Rattle.elab_rules.specs.cpp_tree.declared.program.FuncKind.{FuncKind}
 use Rattle.elab_rules.specs.cpp_tree.declared.program.FuncKind.TheVariants.{Plain, Constructor, Destructor, ClosureCall}
@@ -14,7 +14,7 @@ use Rattle.elab_rules.specs.Initialising.{makes, signature_parameters, signature
 use Rattle.elab_rules.specs.Names.{same_variable}
 use Rattle.elab_rules.specs.Functions.{Header, same_kind, is_same_function, is_none_typs}
 use Rattle.elab_rules.specs.Classes.{is_special, takes_own_value}
-use Rattle.elab_fits.proofs.Equal.{typs_same}
+use Rattle.elab_fits.proofs.Equal.{typ_same}
 
 void_no_class : (t : Typ) → is_void t ≡ true → is_class_typ t ≡ false
 void_no_class (typ void c v) h = refl
@@ -41,6 +41,13 @@ pub special_params : (n : ℕ) (g : Signature) → is_special Destructor n g ≡
 special_params n (signature ps r safe) h = none_typs ps (and_parts (is_void r) (is_none_typs ps) h).1
 
 -- The same function
+
+pub typs_same : (s t : Typs) → typs_eq s t ≡ true → s ≡ t
+typs_same no_typs no_typs h = refl
+typs_same no_typs (and_typ t ts) h = absurd cc
+typs_same (and_typ s ss) no_typs h = absurd cc
+typs_same (and_typ s ss) (and_typ t ts) h = let p = and_parts (typ_eq s t) (typs_eq ss ts) h in let e = typ_same s t p.0 in
+    let i = typs_same ss ts p.1 in cc
 
 kinds_same : (a b : FuncKind) → same_kind a b ≡ true → a ≡ b
 kinds_same Plain Plain h = refl

@@ -66,8 +66,8 @@ member_words f n t k s c = let a : one_if (is_class_typ (signature_result f.decl
 words_by : (f : Func) (n : ℕ) (kind : FuncKind) → f.kind ≡ kind → is_special kind ≡ true → IsKnown f → f.implicit ≡ true
     → number_of (signature_parameters f.declared.signature) ≡ length f.params → f.class ≡ Some n
     → words_of f ≡ implied_words kind (signature_parameters f.declared.signature)
-words_by f n Constructor e t k i s c = member_words f n (ap is_special e ∙ t) k s c ∙ ap suc (k.source i e)
-words_by f n Destructor e t k i s c = member_words f n (ap is_special e ∙ t) k s c ∙ ap (λ (ps : Typs). suc (number_of ps)) (k.params e)
+words_by f n Constructor e t k i s c = member_words f n (ap is_special e ∙ t) k s c ∙ ap (λ (m : ℕ). 1 + m) (k.source i e)
+words_by f n Destructor e t k i s c = member_words f n (ap is_special e ∙ t) k s c ∙ ap (λ (ps : Typs). 1 + number_of ps) (k.params e)
 words_by f n Plain e t k i s c = absurd cc
 words_by f n ClosureCall e t k i s c = absurd cc
 
