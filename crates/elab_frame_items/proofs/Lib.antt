@@ -1,0 +1,5 @@
+pub use Rattle.elab_rules.proofs as elab_rules
+pub mod Braces
+pub mod Conversions
+pub mod Expressions
+pub mod Objects

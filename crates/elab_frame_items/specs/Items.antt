@@ -1,0 +1,58 @@
+-- Items of the frame whose sizes are known: whatever class one holds is complete. This is the field `items` of `WellFormedBody`.
+use Rattle.std.specs.Prelude.{◌≡◌, ℕ, Bool, true, false, List, [], ◌∷◌, slice_get, Some, Ok}
+use Rattle.std.specs.List.{list_all}
+use Rattle.elab_rules.specs.cpp_types.Typ.{Typ, Form, Typs, closure, tx_ex, none as no_typs, more as and_typ}
+use Rattle.elab_rules.specs.cpp_types.declared.classes.At.{At}
+use Rattle.elab_rules.specs.cpp_tree.Trees.{Tree, typ_in, cat_of}
+use Rattle.elab_rules.specs.cpp_tree.Typing.{is_class_prvalue, form_in}
+use Rattle.elab_rules.specs.cpp_tree.WellFormed.{is_item}
+use Rattle.elab_rules.specs.elab_ctx.Ctx.{Ctx, Work, Func, Default}
+use Rattle.elab_rules.specs.elab_ctx.Steps.{Operand, Made, MadeAll}
+use Rattle.elab_rules.specs.Initialising.{initial, class_from, from_values, words, signature_parameters}
+
+abbrev pub AreWhole : Ctx → Work → Type 0
+AreWhole c w = list_all (is_item c.classes) w.frame ≡ true
+
+-- What is asked of operands, and of parameters
+
+-- the class of which an operand stands for an object in a temporary is complete
+pub record IsWhole (c : Ctx) (e : Tree) : Type 0 where
+  pub object : is_class_prvalue (typ_in e) (cat_of e) ≡ true → is_item c.classes (typ_in e) ≡ true
+
+abbrev pub AllWhole : Ctx → List Operand → Type 0
+AllWhole c [] = Unit {0}
+AllWhole c (o ∷ os) = IsWhole c o.tree × AllWhole c os
+
+abbrev pub is_unnamed : Form → Bool
+is_unnamed (closure n) = true
+is_unnamed (tx_ex t) = true
+is_unnamed f = false
+
+-- the class of a lambda that is passed is complete, and so is that of the value in a `std::tx_exception`
+abbrev pub AreParameters : Ctx → Typs → Type 0
+AreParameters c no_typs = Unit {0}
+AreParameters c (and_typ p ps) = (is_unnamed (form_in p) ≡ true → is_item c.classes p ≡ true) × AreParameters c ps
+
+pub record FunctionsWhole (c : Ctx) : Type 0 where
+  pub each : (i : ℕ) (f : Func) → slice_get c.funcs i ≡ Some f → AreParameters c (signature_parameters f.declared.signature)
+
+-- the initialisers that are kept for members have whole items
+abbrev pub DefaultsWhole : Ctx → List Default → Type 0
+DefaultsWhole c [] = Unit {0}
+DefaultsWhole c (d ∷ ds) = (list_all (is_item c.classes) d.frame ≡ true) × DefaultsWhole c ds
+
+-- What is made of operands: behind it all items are whole still
+
+abbrev pub InitialsWhole : Type 0
+InitialsWhole = (c : Ctx) (w : Work) (t : Typ) (o : Operand) (m : Made) → IsWhole c o.tree → AreWhole c w → initial c w t o ≡ Ok m → AreWhole c m.work
+
+abbrev pub ClassObjectsWhole : Type 0
+ClassObjectsWhole = (c : Ctx) (w : Work) (t : Typ) (at : At) (o : Operand) (m : Made) → IsWhole c o.tree → AreWhole c w → class_from c w t at o ≡ Ok m
+    → AreWhole c m.work
+
+abbrev pub ValuesWhole : Type 0
+ValuesWhole = (c : Ctx) (w : Work) (t : Typ) (at : At) (os : List Operand) (m : Made) → FunctionsWhole c → AllWhole c os → AreWhole c w → from_values c w t at os ≡ Ok m
+    → AreWhole c m.work
+
+abbrev pub WordsWhole : Type 0
+WordsWhole = (c : Ctx) (w : Work) (ps : Typs) (os : List Operand) (m : MadeAll) → AreParameters c ps → AllWhole c os → AreWhole c w → words c w ps os ≡ Ok m → AreWhole c m.work

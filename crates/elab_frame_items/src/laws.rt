@@ -1,0 +1,11 @@
+//! Laws of the items of frames. A function here does nothing: its clauses are the laws.
+
+ghost use Rattle.elab_frame_items.specs.Items.{InitialsWhole, ClassObjectsWhole, ValuesWhole, WordsWhole};
+
+/// What is made of operands adds whole items alone.
+pub fn objects()
+    ensures initials { InitialsWhole }
+    ensures objects { ClassObjectsWhole }
+    ensures values { ValuesWhole }
+    ensures words { WordsWhole }
+{}
