@@ -21,13 +21,12 @@ use Rattle.elab_rules.specs.cpp_tree.declared.faults.ElabFault.{ElabFault}
 use Rattle.elab_rules.specs.cpp_tree.declared.faults.IllRule.TheVariants.{NoConversion, NoCopy, OutOfProfile, NoViable, BadInit, BadMain, BadOperand, NotCallable}
 use Rattle.elab_rules.specs.cpp_tree.declared.faults.IllRule.TheVariants.{NotTriviallyCopyable, BadThrow}
 use Rattle.elab_rules.specs.cpp_tree.Trees.{Tree, node, Trees, none, more, one, typ_in, cat_of}
-use Rattle.elab_rules.specs.cpp_tree.Typing.{unqualified, is_class_typ, is_class_prvalue, form_in, is_volatile_typ, is_void, kind_in}
-use Rattle.elab_rules.specs.cpp_tree.Parts.{Part}
+use Rattle.elab_rules.specs.cpp_tree.Typing.{unqualified, is_class_typ, is_class_prvalue, form_in, is_volatile_typ, is_void, is_reference, kind_in}
 use Rattle.elab_rules.specs.elab_ctx.Ctx.{Ctx, Work, Closure, Capture}
 use Rattle.elab_rules.specs.elab_ctx.Steps.{and_then, expect, check, Operand, Made, MadeAll, Typed, TypedAll, at_of, spelling, value_at, token_place}
 use Rattle.elab_rules.specs.Values
 use Rattle.elab_rules.specs.Objects
-use Rattle.elab_rules.specs.Objects.{traits_at, parts_of}
+use Rattle.elab_rules.specs.Objects.{Part, traits_at, parts_of}
 use Rattle.elab_rules.specs.Initialising
 use Rattle.elab_rules.specs.Initialising.{func_at, places_from, class_number, arguments, meant, signature_parameters, signature_result}
 use Rattle.elab_rules.specs.Operators
@@ -156,13 +155,13 @@ called c w at kind sig self os p h = skip (Mades c w) (Calls.complete_result c a
 
 call_free : (c : Ctx) (w : Work) (at : At) (f : ℕ) (os : List Operand) → FunctionsWhole c → AllWhole c os → On (Mades c w) (Calls.call_free c w at f os)
 call_free c w at f os q h = skip (Mades c w) (check at BadMain (not (Calls.is_main (func_at c.funcs f)))) _
-    (λ y. skip (Mades c w) (Calls.best_of c at (places_from (Calls.is_free (func_at c.funcs f).declared.name) 0 c.funcs) os) _
+    (λ y. skip (Mades c w) (Calls.best_of c at (places_from (Names.is_free (func_at c.funcs f).declared.name) 0 c.funcs) os) _
     (λ i. called c w at (Calls.call_kind (func_at c.funcs i).builtin i) (func_at c.funcs i).declared.signature none os (at_function c i q) h))
 
 call_method_of : (c : Ctx) (w : Work) (at : At) (n f : ℕ) (self : Tree) (os : List Operand) → FunctionsWhole c → AllWhole c os
     → On (Mades c w) (Calls.call_method_of c w at n f self os)
 call_method_of c w at n f self os q h =
-    skip (Mades c w) (Calls.best_of c at (places_from (Calls.is_method n (func_at c.funcs f).declared.name) 0 c.funcs)
+    skip (Mades c w) (Calls.best_of c at (places_from (Names.is_method n (func_at c.funcs f).declared.name) 0 c.funcs)
     (record { tree = self; at = at; zero = false } ∷ os)) _
     (λ i. called c w at (Calls.member_kind c n i) (func_at c.funcs i).declared.signature (one (Calls.as_object at n self)) os (at_function c i q) h)
 
@@ -380,7 +379,7 @@ module _ (P : Work → Type 0) (s : List Lexeme) (c : Ctx) (supplies : Supplies 
   leaf_of w k.PointerLiteral at t = same c w
   leaf_of w k.StringLiteral at t = one_text w at (Strings.string_bytes (spelling s t))
   leaf_of w k.This at t = a_tree at w (Names.this_tree c at)
-  leaf_of w k.UnqualifiedId at t = a_tree at w (Expressions.named c w at (spelling s t))
+  leaf_of w k.UnqualifiedId at t = a_tree at w (Names.named c w at (spelling s t))
   leaf_of w k.StdAbort at t = same c w
   leaf_of w kind at t = tt
 

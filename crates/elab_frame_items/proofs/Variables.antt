@@ -1,0 +1,123 @@
+-- Variables, results and handlers add whole items alone.
+use Rattle.std.proofs.Common.{◌≡◌, refl, ℕ, Bool, true, false, not, ◌&&◌, List, [], ◌∷◌, ◌++◌, Option, Some, None, is_some, Result, Ok, Err}
+use Rattle.std.specs.Prelude.{if◌then◌else◌}
+use Rattle.std.specs.List.{list_all}
+use Rattle.std.proofs.lemmas.Bool.{and_parts, and_from}
+use Rattle.elab_rules.specs.cpp_types.Typ.{Typ, typ, Form, void, int, enum, null, ptr, ref, array, func, class, closure, tx_ex}
+use Rattle.elab_rules.specs.cpp_types.Class.{Class, completion_of, held, held_form}
+use Rattle.elab_rules.specs.cpp_types.declared.classes.At.{At}
+use Rattle.elab_rules.specs.cpp_lex.Tokens.{Lexeme}
+use Rattle.elab_rules.specs.cpp_tree.declared.faults.ElabFault.{ElabFault}
+use Rattle.elab_rules.specs.cpp_tree.declared.faults.IllRule.{IllRule}
+use Rattle.elab_rules.specs.cpp_tree.declared.faults.IllRule.TheVariants.{OutOfProfile, BadInit, Incomplete, BadReturn}
+use Rattle.elab_rules.specs.cpp_tree.Typing.{is_class_typ, form_in, is_void}
+use Rattle.elab_rules.specs.cpp_tree.WellFormed.{is_item}
+use Rattle.elab_rules.specs.cpp_tree.Trees.{typ_in}
+use Rattle.elab_rules.specs.elab_ctx.Ctx.{Ctx, Work}
+use Rattle.elab_rules.specs.elab_ctx.Steps.{and_then, check, Operand, Made}
+use Rattle.elab_rules.specs.Initialising
+use Rattle.elab_rules.specs.Initialising.{conversion}
+use Rattle.elab_rules.specs.Operators.{is_complete}
+use Rattle.elab_rules.specs.Statements
+use Rattle.elab_rules.specs.Statements.{State, Done, Full, Caught}
+use Rattle.elab_places.proofs.Steps.{On, bind, skip, either}
+use Rattle.elab_frame_items.specs.Items.{AreWhole, is_unnamed, IsWhole, AllWhole, FunctionsWhole}
+use Rattle.elab_frame_items.proofs.Objects.{Adds, same, after, one_item, Mades, initial, class_from, scalar_from, from_values, class_item}
+
+-- Items stay whole where classes that are complete stay so
+
+pub record StayComplete (old new : List Class) : Type 0 where
+  pub each : (n : ℕ) → is_some (completion_of old n) ≡ true → is_some (completion_of new n) ≡ true
+
+item_by : (old new : List Class) (f : Form) (o : Option ℕ) → held_form f ≡ o → StayComplete old new → is_item old (typ f false false) ≡ true
+    → is_item new (typ f false false) ≡ true
+item_by old new void o e h i = refl
+item_by old new (int k) o e h i = refl
+item_by old new (enum n b) o e h i = refl
+item_by old new null o e h i = refl
+item_by old new (ptr t) o e h i = refl
+item_by old new (ref t) o e h i = refl
+item_by old new (func g) o e h i = refl
+item_by old new (class n) o e h i = h.each n i
+item_by old new (closure n) o e h i = h.each n i
+item_by old new (array (typ f c v) n) o e h i = item_by old new f (held_form f) refl h i
+item_by old new (tx_ex (typ f c v)) o e h i = item_by old new f (held_form f) refl h i
+
+one_stays : (old new : List Class) (t : Typ) → StayComplete old new → is_item old t ≡ true → is_item new t ≡ true
+one_stays old new (typ f c v) h i = item_by old new f (held_form f) refl h i
+
+pub all_stay : (old new : List Class) (ts : List Typ) → StayComplete old new → list_all (is_item old) ts ≡ true → list_all (is_item new) ts ≡ true
+all_stay old new [] h i = refl
+all_stay old new (t ∷ ts) h i = let p = and_parts (is_item old t) (list_all (is_item old) ts) i in
+    and_from (is_item new t) (list_all (is_item new) ts) (one_stays old new t h p.0) (all_stay old new ts h p.1)
+
+-- Initialisers
+
+bound_reference : (c : Ctx) (w : Work) (t : Typ) (o : Operand) → IsWhole c o.tree → On (Mades c w) (Statements.bound_reference c w t o)
+bound_reference c w t o h = skip (Mades c w) (check o.at OutOfProfile (Statements.is_lasting (conversion c t o) o)) _ (λ y. scalar_from c w t o h)
+
+by_value : (c : Ctx) (w : Work) (t : Typ) (o : Operand) → IsWhole c o.tree
+    → On (Mades c w) (if is_class_typ t then Initialising.class_from c w t o.at o else Initialising.scalar_from c w t o)
+by_value c w t o h = either (Mades c w) (is_class_typ t) _ _ (class_from c w t o.at o h) (scalar_from c w t o h)
+
+pub copy_initialised : (c : Ctx) (w : Work) (t : Typ) (o : Operand) → IsWhole c o.tree → On (Mades c w) (Statements.copy_initialised c w t o)
+copy_initialised c w (typ (ref t) d v) o h = bound_reference c w (typ (ref t) d v) o h
+copy_initialised c w (typ (array e n) d v) o h = tt
+copy_initialised c w t o h = by_value c w t o h
+
+pub directly_initialised : (c : Ctx) (w : Work) (t : Typ) (at : At) (os : List Operand) → FunctionsWhole c → AllWhole c os
+    → On (Mades c w) (Statements.directly_initialised c w t at os)
+directly_initialised c w (typ (ref t) d v) at (o ∷ []) q h = bound_reference c w (typ (ref t) d v) o h.0
+directly_initialised c w t at os q h = from_values c w t at os q h
+
+-- Variables
+
+complete_held : (c : Ctx) (f : Form) → is_complete c (held_form f) ≡ true → is_item c.classes (typ f false false) ≡ true
+complete_held c void h = refl
+complete_held c (int k) h = refl
+complete_held c (enum n b) h = refl
+complete_held c null h = refl
+complete_held c (ptr t) h = refl
+complete_held c (ref t) h = refl
+complete_held c (func g) h = refl
+complete_held c (class n) h = h
+complete_held c (closure n) h = h
+complete_held c (array (typ f d v) n) h = complete_held c f h
+complete_held c (tx_ex (typ f d v)) h = complete_held c f h
+
+saying : (P : Type 0) (at : At) (rule : IllRule) (b : Bool) → (b ≡ true → P) → On (λ (y : Bool). P) (check at rule b)
+saying P at rule true f = f refl
+saying P at rule false f = tt
+
+other : (c : Ctx) (at : At) (f : Form) (d v : Bool) → On (λ (b : Bool). is_item c.classes (typ f d v) ≡ true) (check at Incomplete (is_complete c (held (typ f d v))))
+other c at f d v = saying (is_item c.classes (typ f d v) ≡ true) at Incomplete (is_complete c (held_form f)) (λ e. complete_held c f e)
+
+-- a type of which a variable may be declared
+pub declarable : (c : Ctx) (at : At) (t : Typ) → On (λ (b : Bool). is_item c.classes t ≡ true) (Statements.declarable c at t)
+declarable c at (typ void d v) = tt
+declarable c at (typ (func g) d v) = tt
+declarable c at (typ f d v) = other c at f d v
+
+pub placed : (st : State) (name : List ℕ) (t : Typ) → is_item st.ctx.classes t ≡ true → Adds st.ctx st.work (Statements.placed_variable st name t).work
+placed st name t h = one_item st.ctx st.work t h
+
+-- Results
+
+abbrev Ends : Ctx → Work → Done → Type 0
+Ends c w d = Adds c w d.state.work
+
+pub return_value : (at : At) (t : Typ) (f : Full) → IsWhole f.state.ctx f.operand.tree → On (Ends f.state.ctx f.state.work) (Statements.return_value at t f)
+return_value at (typ void d v) f h = skip (Ends f.state.ctx f.state.work) (check at BadReturn (is_void (typ_in f.operand.tree))) _
+    (λ y. same f.state.ctx f.state.work)
+return_value at t f h = either (Ends f.state.ctx f.state.work) (is_class_typ t) _ _
+    (bind (Mades f.state.ctx f.state.work) (Ends f.state.ctx f.state.work) (Initialising.class_from f.state.ctx f.state.work t f.operand.at f.operand) _
+    (class_from f.state.ctx f.state.work t f.operand.at f.operand h) (λ m g. g))
+    (bind (Mades f.state.ctx f.state.work) (Ends f.state.ctx f.state.work) (Initialising.initial f.state.ctx f.state.work t f.operand) _
+    (initial f.state.ctx f.state.work t f.operand h) (λ m g. g))
+
+-- Handlers: what is caught is whole
+
+pub named_handler : (s : List Lexeme) (st : State) (at p : At) (t u : Typ) (o : Option ℕ) → is_item st.ctx.classes u ≡ true
+    → On (λ (h : Caught). Adds st.ctx st.work h.state.work) (Statements.named_handler s st at p t u o)
+named_handler s st at p t u (Some n) h = skip (λ (x : Caught). Adds st.ctx st.work x.state.work) _ _ (λ y. one_item st.ctx st.work u h)
+named_handler s st at p t u None h = same st.ctx st.work
