@@ -33,7 +33,7 @@ use Rattle.elab_frame_items.proofs.Expressions.{Types, Supplies, expression, cho
 
 -- Initialisers of members
 
-all_more : (test : Typ → Bool) (ts us : List Typ) → list_all test ts ≡ true → list_all test us ≡ true → list_all test (ts ++ us) ≡ true
+pub all_more : (test : Typ → Bool) (ts us : List Typ) → list_all test ts ≡ true → list_all test us ≡ true → list_all test (ts ++ us) ≡ true
 all_more test [] us h i = i
 all_more test (t ∷ ts) us h i = let p = and_parts (test t) (list_all test ts) h in and_from (test t) (list_all test (ts ++ us)) p.0 (all_more test ts us p.1 i)
 

@@ -3,3 +3,5 @@ pub mod Braces
 pub mod Conversions
 pub mod Expressions
 pub mod Objects
+pub mod Parameters
+pub mod Variables

@@ -43,7 +43,7 @@ same c w = record { whole = λ h. h }
 pub after : (c : Ctx) (a b d : Work) → Adds c a b → Adds c b d → Adds c a d
 after c a b d f g = record { whole = λ h. g.whole (f.whole h) }
 
-one_more : (test : Typ → Bool) (ts : List Typ) (t : Typ) → list_all test ts ≡ true → test t ≡ true → list_all test (ts ++ t ∷ []) ≡ true
+pub one_more : (test : Typ → Bool) (ts : List Typ) (t : Typ) → list_all test ts ≡ true → test t ≡ true → list_all test (ts ++ t ∷ []) ≡ true
 one_more test [] t h p = and_from (test t) true p refl
 one_more test (u ∷ ts) t h p = let q = and_parts (test u) (list_all test ts) h in and_from (test u) (list_all test (ts ++ t ∷ [])) q.0 (one_more test ts t q.1 p)
 

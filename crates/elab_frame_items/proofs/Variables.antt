@@ -12,17 +12,18 @@ use Rattle.elab_rules.specs.cpp_tree.declared.faults.IllRule.{IllRule}
 use Rattle.elab_rules.specs.cpp_tree.declared.faults.IllRule.TheVariants.{OutOfProfile, BadInit, Incomplete, BadReturn}
 use Rattle.elab_rules.specs.cpp_tree.Typing.{is_class_typ, form_in, is_void}
 use Rattle.elab_rules.specs.cpp_tree.WellFormed.{is_item}
-use Rattle.elab_rules.specs.cpp_tree.Trees.{typ_in}
+use Rattle.elab_rules.specs.cpp_tree.Trees.{typ_in, one}
 use Rattle.elab_rules.specs.elab_ctx.Ctx.{Ctx, Work}
 use Rattle.elab_rules.specs.elab_ctx.Steps.{and_then, check, Operand, Made}
 use Rattle.elab_rules.specs.Initialising
 use Rattle.elab_rules.specs.Initialising.{conversion}
 use Rattle.elab_rules.specs.Operators.{is_complete}
+use Rattle.elab_rules.specs.Casts.{within_exception}
 use Rattle.elab_rules.specs.Statements
-use Rattle.elab_rules.specs.Statements.{State, Done, Full, Caught}
+use Rattle.elab_rules.specs.Statements.{State, Done, done, Full, Caught, full, with_work, class_returned, return_node, result_of}
 use Rattle.elab_places.proofs.Steps.{On, bind, skip, either}
 use Rattle.elab_frame_items.specs.Items.{AreWhole, is_unnamed, IsWhole, AllWhole, FunctionsWhole}
-use Rattle.elab_frame_items.proofs.Objects.{Adds, same, after, one_item, Mades, initial, class_from, scalar_from, from_values, class_item}
+use Rattle.elab_frame_items.proofs.Objects.{Adds, same, after, one_item, Mades, initial, class_from, scalar_from, from_values}
 
 -- Items stay whole where classes that are complete stay so
 
@@ -85,6 +86,9 @@ complete_held c (closure n) h = h
 complete_held c (array (typ f d v) n) h = complete_held c f h
 complete_held c (tx_ex (typ f d v)) h = complete_held c f h
 
+pub complete_typ : (c : Ctx) (t : Typ) → is_complete c (held t) ≡ true → is_item c.classes t ≡ true
+complete_typ c (typ f d v) h = complete_held c f h
+
 saying : (P : Type 0) (at : At) (rule : IllRule) (b : Bool) → (b ≡ true → P) → On (λ (y : Bool). P) (check at rule b)
 saying P at rule true f = f refl
 saying P at rule false f = tt
@@ -103,21 +107,28 @@ placed st name t h = one_item st.ctx st.work t h
 
 -- Results
 
-abbrev Ends : Ctx → Work → Done → Type 0
-Ends c w d = Adds c w d.state.work
+abbrev Given : Full → Made → Type 0
+Given f m = Adds f.state.ctx f.state.work m.work
 
-pub return_value : (at : At) (t : Typ) (f : Full) → IsWhole f.state.ctx f.operand.tree → On (Ends f.state.ctx f.state.work) (Statements.return_value at t f)
-return_value at (typ void d v) f h = skip (Ends f.state.ctx f.state.work) (check at BadReturn (is_void (typ_in f.operand.tree))) _
-    (λ y. same f.state.ctx f.state.work)
-return_value at t f h = either (Ends f.state.ctx f.state.work) (is_class_typ t) _ _
-    (bind (Mades f.state.ctx f.state.work) (Ends f.state.ctx f.state.work) (Initialising.class_from f.state.ctx f.state.work t f.operand.at f.operand) _
+abbrev Returned : Full → Done → Type 0
+Returned f d = Adds f.state.ctx f.state.work d.state.work
+
+class_or_value : (at : At) (t : Typ) (f : Full) → IsWhole f.state.ctx f.operand.tree → On (Returned f)
+    (if is_class_typ t then and_then (Initialising.class_from f.state.ctx f.state.work t f.operand.at f.operand)
+    (λ (m : Made). done (one (class_returned at t f m)) (with_work f.state m.work)) else and_then (Initialising.initial f.state.ctx f.state.work t f.operand)
+    (λ (m : Made). done (one (return_node at (one (full f.operand.at (result_of t f.operand.at m.tree))))) (with_work f.state m.work)))
+class_or_value at t f h = either (Returned f) (is_class_typ t) _ _
+    (bind (Given f) (Returned f) (Initialising.class_from f.state.ctx f.state.work t f.operand.at f.operand) _
     (class_from f.state.ctx f.state.work t f.operand.at f.operand h) (λ m g. g))
-    (bind (Mades f.state.ctx f.state.work) (Ends f.state.ctx f.state.work) (Initialising.initial f.state.ctx f.state.work t f.operand) _
-    (initial f.state.ctx f.state.work t f.operand h) (λ m g. g))
+    (bind (Given f) (Returned f) (Initialising.initial f.state.ctx f.state.work t f.operand) _ (initial f.state.ctx f.state.work t f.operand h) (λ m g. g))
+
+pub return_value : (at : At) (t : Typ) (f : Full) → IsWhole f.state.ctx f.operand.tree → On (Returned f) (Statements.return_value at t f)
+return_value at (typ void d v) f h = skip (Returned f) (check at BadReturn (is_void (typ_in f.operand.tree))) _ (λ y. same f.state.ctx f.state.work)
+return_value at t f h = class_or_value at t f h
 
 -- Handlers: what is caught is whole
 
 pub named_handler : (s : List Lexeme) (st : State) (at p : At) (t u : Typ) (o : Option ℕ) → is_item st.ctx.classes u ≡ true
     → On (λ (h : Caught). Adds st.ctx st.work h.state.work) (Statements.named_handler s st at p t u o)
-named_handler s st at p t u (Some n) h = skip (λ (x : Caught). Adds st.ctx st.work x.state.work) _ _ (λ y. one_item st.ctx st.work u h)
+named_handler s st at p t u (Some n) h = skip (λ (x : Caught). Adds st.ctx st.work x.state.work) (within_exception st.ctx p u) _ (λ y. one_item st.ctx st.work u h)
 named_handler s st at p t u None h = same st.ctx st.work
