@@ -28,7 +28,7 @@ use Rattle.elab_rules.specs.Lambdas.{explicit_captures, default_in, parameters_a
 use Rattle.elab_rules.specs.Lambdas.{call_func, call_record, closure_sized}
 use Rattle.elab_fits.specs.Standing.{On}
 use Rattle.state_growth.proofs.Lists.{added}
-use Rattle.state_growth.proofs.Steps.{bind, skip, weaken, Ends}
+use Rattle.state_growth.proofs.Steps.{bind, skip, Ends}
 use Rattle.state_growth.proofs.Statements.{statements_kept}
 use Rattle.state_growth.proofs.Bodies.{no_lambda_lawful}
 use Rattle.elab_bodies.specs.Bodies.{number_of, WellSigned, param_items, Begin, BodyFits, times_made, due_to, AllFit, BodiesFit}

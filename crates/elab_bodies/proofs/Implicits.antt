@@ -1,9 +1,9 @@
 -- The implicit members that a class gets.
 use Rattle.std.proofs.Common.{◌≡◌, refl, sym, ap, ◌∙◌, subst, ℕ, zero, suc, ◌+◌, arith, Bool, true, false, ◌&&◌, not, List, [], ◌∷◌, ◌++◌, length, slice_get}
 use Rattle.std.proofs.Common.{Option, Some, None}
-use Rattle.std.specs.Prelude.{if◌then◌else◌, ◌≤◌}
+use Rattle.std.specs.Prelude.{if◌then◌else◌}
 use Rattle.std.proofs.lemmas.Option.{same_Some}
-use Rattle.elab_rules.specs.cpp_types.Typ.{Signature, signature, Typs, none as no_typs, more as and_typ}
+use Rattle.elab_rules.specs.cpp_types.Typ.{Signature, signature, none as no_typs, more as and_typ}
 use Rattle.elab_rules.specs.cpp_types.Class.{Member, Function}
 use Rattle.elab_rules.specs.cpp_types.declared.classes.At.{At}
 use Rattle.elab_rules.specs.cpp_tree.declared.program.FuncKind.{FuncKind}
@@ -11,7 +11,7 @@ use Rattle.elab_rules.specs.cpp_tree.declared.program.FuncKind.TheVariants.{Plai
 use Rattle.elab_rules.specs.cpp_tree.Notation.{plain}
 use Rattle.elab_rules.specs.cpp_tree.Rows.{is_special}
 use Rattle.elab_rules.specs.cpp_tree.Typing.{is_class_typ}
-use Rattle.elab_rules.specs.cpp_types.Typ.{Typ, void}
+use Rattle.elab_rules.specs.cpp_types.Typ.{void}
 use Rattle.elab_rules.specs.elab_ctx.Ctx.{Ctx, Func}
 use Rattle.elab_rules.specs.Objects.{traits_at}
 use Rattle.elab_rules.specs.Initialising.{is_constructor, places_from, signature_parameters, signature_result}

@@ -1,6 +1,6 @@
 -- Behind the body of a function all bodies fit still.
 use Rattle.std.proofs.Common.{◌≡◌, refl, sym, ap, ◌∙◌, subst, ℕ, zero, suc, Bool, true, false, ◌&&◌, List, [], ◌∷◌, ◌++◌, map, length, slice_get, Option, Some, None}
-use Rattle.std.proofs.Common.{Result, Ok, Err, unwrap_or, ◌+◌, arith}
+use Rattle.std.proofs.Common.{Result, Ok, Err, unwrap_or, arith}
 use Rattle.std.specs.Prelude.{if◌then◌else◌}
 use Rattle.std.proofs.lemmas.Bool.{and_parts}
 use Rattle.elab_rules.specs.cpp_types.Typ.{Typ, Typs}

@@ -1,11 +1,11 @@
 -- What a reference is bound to in a temporary is no object of a class: an object that converts to it is bound itself.
-use Rattle.std.proofs.Common.{◌≡◌, refl, sym, ap, ◌∙◌, ℕ, Bool, true, false, ◌&&◌, ◌||◌, List, Option, Some, None}
-use Rattle.std.specs.Prelude.{cond, not}
+use Rattle.std.proofs.Common.{◌≡◌, refl, sym, ap, ◌∙◌, Bool, true, false, ◌&&◌, ◌||◌, List, Option, Some, None}
+use Rattle.std.specs.Prelude.{cond}
 use Rattle.std.proofs.lemmas.Option.{same_Some}
-use Rattle.elab_rules.specs.cpp_types.Typ.{Typ, typ, Form, void, int, enum, null, ptr, ref, array, func, class, closure, tx_ex}
+use Rattle.elab_rules.specs.cpp_types.Typ.{Typ, typ, void, int, enum, null, ptr, ref, array, func, class, closure, tx_ex}
 use Rattle.elab_rules.specs.cpp_types.Class.{Class}
 use Rattle.elab_rules.specs.cpp_types.Equal.{form_eq}
-use Rattle.elab_rules.specs.cpp_types.Conversion.{conversion_of, conversion_to, reference_conversion, object_binding, direct, temporary, bound, step_of, decayed}
+use Rattle.elab_rules.specs.cpp_types.Conversion.{conversion_of, conversion_to, object_binding, temporary, bound, step_of, decayed}
 use Rattle.elab_rules.specs.cpp_types.Conversion.{related_step, to_base, form_of, only_const, keeps, const_of, volatile_of, has_value, is_object, is_object_form, is_lvalue, referred}
 use Rattle.elab_rules.specs.cpp_types.declared.ranks.Cat.{Cat}
 use Rattle.elab_rules.specs.cpp_types.declared.ranks.Cat.TheVariants.{Lvalue, Prvalue}

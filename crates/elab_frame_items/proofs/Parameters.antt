@@ -1,11 +1,10 @@
 -- A body begins with whole items: the words of its call.
-use Rattle.std.proofs.Common.{◌≡◌, refl, ℕ, Bool, true, false, List, [], ◌∷◌, ◌++◌, Option, Some, None, Result, Ok, Err}
+use Rattle.std.proofs.Common.{◌≡◌, refl, ℕ, Bool, true, false, List, [], ◌∷◌, Option, Some, None}
 use Rattle.std.specs.Prelude.{if◌then◌else◌}
 use Rattle.std.specs.List.{list_all}
-use Rattle.elab_rules.specs.cpp_types.Typ.{Typ, typ, ptr}
+use Rattle.elab_rules.specs.cpp_types.Typ.{Typ, ptr}
 use Rattle.elab_rules.specs.cpp_types.Class.{Class, held}
 use Rattle.elab_rules.specs.cpp_lex.Tokens.{Lexeme}
-use Rattle.elab_rules.specs.cpp_tree.declared.faults.ElabFault.{ElabFault}
 use Rattle.elab_rules.specs.cpp_tree.declared.faults.IllRule.TheVariants.{Incomplete, Redeclared}
 use Rattle.elab_rules.specs.cpp_tree.Notation.{plain}
 use Rattle.elab_rules.specs.cpp_tree.Typing.{is_class_typ}
@@ -14,7 +13,6 @@ use Rattle.elab_rules.specs.elab_ctx.Steps.{check, spelling}
 use Rattle.elab_rules.specs.Types.{Parameter}
 use Rattle.elab_rules.specs.Operators.{is_complete}
 use Rattle.elab_rules.specs.Statements.{State, is_fresh}
-use Rattle.elab_rules.specs.Functions
 use Rattle.elab_rules.specs.Functions.{word_item, result_items, this_items, entered, with_parameters, parameter_named}
 use Rattle.elab_places.proofs.Steps.{On, bind, skip}
 use Rattle.elab_places.proofs.Walks.{checked}
@@ -24,7 +22,7 @@ use Rattle.elab_frame_items.proofs.Braces.{all_more}
 use Rattle.elab_frame_items.proofs.Variables.{complete_typ}
 
 abbrev pub StateWhole : State → Type 0
-StateWhole st = AreWhole st.ctx st.work
+StateWhole st = AreWhole st.ctx.classes st.work
 
 -- Into a body
 

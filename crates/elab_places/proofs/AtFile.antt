@@ -1,5 +1,5 @@
 -- Declarations at file scope keep what a walk carries.
-use Rattle.std.proofs.Common.{◌≡◌, refl, ℕ, Bool, true, false, not, ◌||◌, List, length, Option, Some, None, is_none, slice_get, Result, ℤ, pos}
+use Rattle.std.proofs.Common.{◌≡◌, refl, ℕ, Bool, true, false, not, ◌||◌, List, Option, Some, None, is_none, slice_get, Result, ℤ, pos}
 use Rattle.std.specs.Prelude.{if◌then◌else◌}
 use Rattle.elab_rules.specs.tx_ints.declared.kinds.IntKind.TheVariants.{Int}
 use Rattle.elab_rules.specs.tx_ints.Integers.{is_in_range}
@@ -55,7 +55,8 @@ module _ (K : Round → Type 0) (w : Walks K) where
   abbrev PlacedKnown : List Body → Placed → Type 0
   PlacedKnown bodies p = K (round_with bodies p.ctx)
 
-  function_named : (bodies : List Body) (c : Ctx) (at : At) (name : List ℕ) (o : Option Entity) → Known bodies c → On (Known bodies) (Functions.function_named c at name o)
+  function_named : (bodies : List Body) (c : Ctx) (at : At) (name : List ℕ) (o : Option Entity) → Known bodies c
+      → On (Known bodies) (Functions.function_named c at name o)
   function_named bodies c at name None own = own
   function_named bodies c at name (Some e) own = skip (Known bodies) (check at Redeclared (Functions.is_function_entity e.kind)) _ (λ y. own)
 
@@ -63,13 +64,18 @@ module _ (K : Round → Type 0) (w : Walks K) where
   name_declared bodies c h (Some n) own = own
   name_declared bodies c h None own = function_named bodies c h.at h.name (innermost_of c.scopes h.name) own
 
-  declared_in : (bodies : List Body) (c : Ctx) (h : Header) (b : Bool) (o : Option ℕ) → h.kind ≡ Plain → h.class ≡ None → Known bodies c → On (PlacedKnown bodies) (Functions.declared_in c h b o)
+  declared_in : (bodies : List Body) (c : Ctx) (h : Header) (b : Bool) (o : Option ℕ) → h.kind ≡ Plain → h.class ≡ None → Known bodies c
+      → On (PlacedKnown bodies) (Functions.declared_in c h b o)
   declared_in bodies c h b (Some i) e f own = skip (PlacedKnown bodies) (Functions.agrees h (func_at c.funcs i) b) _ (λ y. own)
-  declared_in bodies c h b None e f own = bind (Known bodies) (PlacedKnown bodies) (Functions.name_declared c h h.class) _ (name_declared bodies c h h.class own) (λ d i. w.declared (round_with bodies d) h e f i)
+  declared_in bodies c h b None e f own = bind (Known bodies) (PlacedKnown bodies) (Functions.name_declared c h h.class) _
+      (name_declared bodies c h h.class own) (λ d i. w.declared (round_with bodies d) h e f i)
 
-  pub function_declared : (bodies : List Body) (c : Ctx) (h : Header) (b : Bool) → h.kind ≡ Plain → h.class ≡ None → Known bodies c → On (PlacedKnown bodies) (Functions.function_declared c h b)
-  function_declared bodies c h b e f own = skip (PlacedKnown bodies) (Functions.main_fits h) _ (λ z1. skip (PlacedKnown bodies) (check h.at BadDeclaration (not h.qualifiers.is_const)) _ (λ z2. skip (PlacedKnown bodies) (Functions.dynamic_fits h) _
-      (λ z3. skip (PlacedKnown bodies) (check h.at OutOfProfile (not h.storage.is_c || Functions.may_be_c h)) _ (λ z4. skip (PlacedKnown bodies) (Functions.header_sized c h) _
+  pub function_declared : (bodies : List Body) (c : Ctx) (h : Header) (b : Bool) → h.kind ≡ Plain → h.class ≡ None → Known bodies c
+      → On (PlacedKnown bodies) (Functions.function_declared c h b)
+  function_declared bodies c h b e f own = skip (PlacedKnown bodies) (Functions.main_fits h) _
+      (λ z1. skip (PlacedKnown bodies) (check h.at BadDeclaration (not h.qualifiers.is_const)) _ (λ z2. skip (PlacedKnown bodies) (Functions.dynamic_fits h) _
+      (λ z3. skip (PlacedKnown bodies) (check h.at OutOfProfile (not h.storage.is_c || Functions.may_be_c h)) _
+      (λ z4. skip (PlacedKnown bodies) (Functions.header_sized c h) _
       (λ z5. declared_in bodies c h b (Functions.first_from (Functions.is_same_function h) 0 c.funcs) e f own)))))
 
   -- Globals and types

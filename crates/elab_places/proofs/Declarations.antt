@@ -1,10 +1,8 @@
 -- Declarations keep what a walk carries.
-use Rattle.std.proofs.Common.{refl, ℕ, zero, suc, ◌+◌, Bool, true, false, not, ◌&&◌, ◌||◌, List, [], length, Option, Some, None, is_none, is_some}
-use Rattle.std.proofs.Common.{slice_get}
+use Rattle.std.proofs.Common.{ℕ, zero, suc, Bool, true, false, not, ◌&&◌, ◌||◌, List, [], length, Option, Some, None, is_none, is_some}
 use Rattle.std.specs.Prelude.{nat_le}
-use Rattle.std.specs.List.{list_any}
 use Rattle.elab_rules.specs.cpp_types.Typ.{Typ, typ, Form, func, class, Signature}
-use Rattle.elab_rules.specs.cpp_types.Class.{Member, held, completion_of}
+use Rattle.elab_rules.specs.cpp_types.Class.{held, completion_of}
 use Rattle.elab_rules.specs.cpp_types.declared.classes.At.{At}
 use Rattle.elab_rules.specs.cpp_lex.Tokens.{Lexeme}
 use Rattle.elab_rules.specs.cpp_layout.Layout.{class_extent}
@@ -13,20 +11,17 @@ use Rattle.elab_rules.specs.cpp_ast.declared.kinds.NodeKind.TheVariants as k
 use Rattle.elab_rules.specs.cpp_ast.Trees as syntax
 use Rattle.elab_rules.specs.cpp_tree.declared.program.FuncKind.{FuncKind}
 use Rattle.elab_rules.specs.cpp_tree.declared.program.FuncKind.TheVariants.{Plain, Constructor, Destructor}
-use Rattle.elab_rules.specs.cpp_tree.declared.faults.IllRule.TheVariants.{Redeclared, TypeDiffers, BadDeclaration, Incomplete, AbstractObject, OutOfProfile, NoMember}
+use Rattle.elab_rules.specs.cpp_tree.declared.faults.IllRule.TheVariants.{Redeclared, BadDeclaration, Incomplete, AbstractObject, OutOfProfile}
 use Rattle.elab_rules.specs.cpp_tree.Typing.{form_in}
-use Rattle.elab_rules.specs.elab_ctx.Ctx.{Ctx, Func}
-use Rattle.elab_rules.specs.elab_ctx.Steps.{and_then, expect, check, at_of, spelling}
-use Rattle.elab_rules.specs.Objects.{element_of, traits_at}
-use Rattle.elab_rules.specs.Initialising.{func_at, signature_parameters, signature_result, places_from, is_constructor}
-use Rattle.elab_rules.specs.cpp_types.Equal.{typ_eq}
+use Rattle.elab_rules.specs.elab_ctx.Ctx.{Ctx}
+use Rattle.elab_rules.specs.elab_ctx.Steps.{and_then, check, at_of, spelling}
+use Rattle.elab_rules.specs.Objects.{element_of}
 use Rattle.elab_rules.specs.Operators.{is_complete}
-use Rattle.elab_rules.specs.Names.{members_in}
 use Rattle.elab_rules.specs.Sizes.{typ_sized}
 use Rattle.elab_rules.specs.Strings.{string_bytes}
 use Rattle.elab_rules.specs.Types.{Declared, has_auto, is_abstract_type, is_bounded, type_named}
 use Rattle.elab_rules.specs.Expressions.{type_of_specifiers, declared_by}
-use Rattle.elab_rules.specs.Statements.{State, Body, is_own_name, name_of, is_trivial}
+use Rattle.elab_rules.specs.Statements.{State, Body, is_own_name, name_of}
 use Rattle.elab_rules.specs.Functions
 use Rattle.elab_rules.specs.Functions.{Storage, Header}
 use Rattle.elab_rules.specs.Classes
@@ -83,7 +78,8 @@ module _ (K : Round → Type 0) (w : Walks K) where
       (λ y. skip MembersSound (Classes.overrides_well h (Classes.overridden r.state.ctx home.base (Functions.new_function h).declared)) _
       (λ z. skip MembersSound (Classes.marks_fit h m (is_some (Classes.overridden r.state.ctx home.base (Functions.new_function h).declared))
       (h.storage.is_virtual || is_some (Classes.overridden r.state.ctx home.base (Functions.new_function h).declared))) _
-      (λ x. skip MembersSound (Functions.header_sized r.state.ctx h) _ (λ q. skip MembersSound (Classes.definition_sized h.at d) _ (λ v. w.member (round_of r.state) home.number of h m (Classes.overridden r.state.ctx home.base (Functions.new_function h).declared) d i own)))))
+      (λ x. skip MembersSound (Functions.header_sized r.state.ctx h) _ (λ q. skip MembersSound (Classes.definition_sized h.at d) _
+      (λ v. w.member (round_of r.state) home.number of h m (Classes.overridden r.state.ctx home.base (Functions.new_function h).declared) d i own)))))
 
   declared_method : (s : List Lexeme) (home : Home) (r : Classes.Members) (kind : FuncKind) (at : At) (d : Option Definition) (kids : syntax.Trees)
       → MembersSound r → On MembersSound (Classes.declared_method s home r kind at d kids)

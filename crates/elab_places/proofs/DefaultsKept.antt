@@ -1,36 +1,28 @@
 -- Declarations leave the initialisers of members that own their places, and add such.
-use Rattle.std.proofs.Common.{sym, subst, ℕ, zero, suc, ◌+◌, Bool, true, false, not, ◌&&◌, ◌||◌, List, [], length, Option, Some, None, is_none, is_some}
+use Rattle.std.proofs.Common.{sym, subst, ℕ, ◌+◌, Bool, true, false, not, ◌&&◌, ◌||◌, List, length, Option, Some, None}
 use Rattle.std.proofs.Common.{slice_get}
-use Rattle.std.specs.Prelude.{nat_le}
 use Rattle.std.specs.List.{list_any}
-use Rattle.elab_rules.specs.cpp_types.Typ.{Typ, typ, Form, func, class, Signature}
-use Rattle.elab_rules.specs.cpp_types.Class.{Member, held, completion_of}
+use Rattle.elab_rules.specs.cpp_types.Typ.{Typ, Form, func}
+use Rattle.elab_rules.specs.cpp_types.Class.{Member}
 use Rattle.elab_rules.specs.cpp_types.declared.classes.At.{At}
 use Rattle.elab_rules.specs.cpp_lex.Tokens.{Lexeme}
-use Rattle.elab_rules.specs.cpp_layout.Layout.{class_extent}
-use Rattle.elab_rules.specs.cpp_layout.declared.extents.TheConstants.{GREATEST_SIZE}
 use Rattle.elab_rules.specs.cpp_ast.declared.kinds.NodeKind.TheVariants as k
 use Rattle.elab_rules.specs.cpp_ast.Trees as syntax
 use Rattle.elab_rules.specs.cpp_tree.declared.program.FuncKind.{FuncKind}
 use Rattle.elab_rules.specs.cpp_tree.declared.program.FuncKind.TheVariants.{Plain, Constructor, Destructor}
-use Rattle.elab_rules.specs.cpp_tree.declared.faults.IllRule.TheVariants.{Redeclared, TypeDiffers, BadDeclaration, Incomplete, AbstractObject, OutOfProfile, NoMember}
-use Rattle.elab_rules.specs.cpp_tree.Typing.{form_in}
+use Rattle.elab_rules.specs.cpp_tree.declared.faults.IllRule.TheVariants.{Redeclared, TypeDiffers, BadDeclaration, OutOfProfile, NoMember}
 use Rattle.elab_rules.specs.cpp_names.Names.{innermost_of}
 use Rattle.elab_rules.specs.cpp_names.declared.entity.Entity.{Entity}
 use Rattle.elab_rules.specs.cpp_tree.declared.faults.ElabFault.{ElabFault}
 use Rattle.std.proofs.Common.{Result}
 use Rattle.elab_rules.specs.elab_ctx.Ctx.{Ctx, Func}
-use Rattle.elab_rules.specs.elab_ctx.Steps.{and_then, expect, check, at_of, spelling}
-use Rattle.elab_rules.specs.Objects.{element_of, traits_at}
+use Rattle.elab_rules.specs.elab_ctx.Steps.{expect, check, at_of, spelling}
+use Rattle.elab_rules.specs.Objects.{traits_at}
 use Rattle.elab_rules.specs.Initialising.{func_at, signature_parameters, signature_result, places_from, is_constructor}
 use Rattle.elab_rules.specs.cpp_types.Equal.{typ_eq}
-use Rattle.elab_rules.specs.Operators.{is_complete}
 use Rattle.elab_rules.specs.Names.{members_in}
-use Rattle.elab_rules.specs.Sizes.{typ_sized}
-use Rattle.elab_rules.specs.Strings.{string_bytes}
-use Rattle.elab_rules.specs.Types.{Declared, has_auto, is_abstract_type, is_bounded, type_named}
-use Rattle.elab_rules.specs.Expressions.{type_of_specifiers, declared_by}
-use Rattle.elab_rules.specs.Statements.{State, Lambdas, is_own_name, name_of, is_trivial}
+use Rattle.elab_rules.specs.Types.{Declared}
+use Rattle.elab_rules.specs.Statements.{State, Lambdas, is_trivial}
 use Rattle.elab_rules.specs.Functions
 use Rattle.elab_rules.specs.Functions.{Storage, Header, Placed}
 use Rattle.elab_rules.specs.Classes
@@ -41,7 +33,6 @@ use Rattle.elab_rules.specs.Lambdas.{lambdas_of}
 use Rattle.elab_rules.specs.Units
 use Rattle.elab_places.specs.Bodies.{DefaultsOwn, LeavesFrame}
 use Rattle.elab_places.specs.Functions.{MakesBody, call_words, implied_words}
-use Rattle.elab_places.specs.Round.{Round, round_of}
 use Rattle.elab_places.specs.Declared.{Sound, DeclarationsKeep, AllDeclarationsKeep, UnitsKeep, UnitsBegin, AllDefaultsOwn}
 use Rattle.elab_places.proofs.Steps.{On, bind, skip, turn, either, choose, held_by}
 use Rattle.elab_places.proofs.Bodies.{function_made}

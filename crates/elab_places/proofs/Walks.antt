@@ -17,7 +17,7 @@ use Rattle.elab_rules.specs.cpp_tree.Rows.{is_special}
 use Rattle.std.specs.Str.{bytes_eq}
 use Rattle.std.specs.Prelude.{◌&&◌, not, Some}
 use Rattle.elab_rules.specs.elab_ctx.Ctx.{Ctx, Func}
-use Rattle.elab_rules.specs.elab_ctx.Steps.{and_then, check, at_of}
+use Rattle.elab_rules.specs.elab_ctx.Steps.{and_then, check}
 use Rattle.elab_rules.specs.Types.{Declared}
 use Rattle.elab_rules.specs.Expressions.{type_of_specifiers, declared_by}
 use Rattle.elab_rules.specs.Statements.{State, Body, name_of}

@@ -1,10 +1,10 @@
 -- Functions that are declared and defined: at file scope, behind the brace of their class, and outside it.
-use Rattle.std.proofs.Common.{◌≡◌, refl, sym, ap, ◌∙◌, subst, ℕ, zero, suc, ◌+◌, Bool, true, false, not, ◌&&◌, ◌||◌, List, [], ◌∷◌, ◌++◌, map, length, slice_get}
+use Rattle.std.proofs.Common.{◌≡◌, refl, sym, ap, ◌∙◌, subst, ℕ, suc, ◌+◌, Bool, true, false, not, ◌&&◌, ◌||◌, List, [], ◌∷◌, length, slice_get}
 use Rattle.std.proofs.Common.{Option, Some, None, is_some, Result, Ok, Err, arith}
 use Rattle.std.specs.Prelude.{slice_set, if◌then◌else◌}
 use Rattle.std.specs.List.{list_any}
 use Rattle.std.proofs.lemmas.Option.{same_Some}
-use Rattle.elab_rules.specs.cpp_types.Typ.{Typ, Form, void, func, Typs, none as no_typs, more as and_typ}
+use Rattle.elab_rules.specs.cpp_types.Typ.{Form, void, func, none as no_typs}
 use Rattle.elab_rules.specs.cpp_tree.Notation.{plain}
 use Rattle.elab_rules.specs.cpp_types.Class.{Function}
 use Rattle.elab_rules.specs.cpp_types.Equal.{typ_eq, typs_eq, flag_eq}
@@ -23,7 +23,7 @@ use Rattle.elab_rules.specs.cpp_tree.declared.faults.IllRule.TheVariants.{BadDec
 use Rattle.elab_rules.specs.cpp_tree.Rows.{is_special}
 use Rattle.elab_rules.specs.cpp_tree.Typing.{is_class_typ, form_in}
 use Rattle.elab_rules.specs.elab_ctx.Ctx.{Ctx, Func}
-use Rattle.elab_rules.specs.elab_ctx.Steps.{and_then, check, expect, at_of}
+use Rattle.elab_rules.specs.elab_ctx.Steps.{check, expect, at_of}
 use Rattle.elab_rules.specs.Initialising.{func_at, signature_parameters, signature_result}
 use Rattle.elab_rules.specs.Types.{Declared, Parameter, types_of}
 use Rattle.elab_rules.specs.Expressions.{type_of_specifiers, declared_by}
@@ -42,13 +42,13 @@ use Rattle.elab_fits.proofs.Equal.{typ_same}
 use Rattle.elab_bodies.specs.Bodies.{number_of}
 use Rattle.elab_bodies.proofs.Closures.{at_end}
 use Rattle.elab_places.specs.Functions.{copy_words}
-use Rattle.elab_places.specs.Round.{Round, round_of}
+use Rattle.elab_places.specs.Round.{Round}
 use Rattle.elab_places.proofs.Steps.{On, bind, skip}
 use Rattle.elab_places.proofs.Rounds.{bodies_more}
 use Rattle.elab_places.proofs.Walks.{checked, IsHeader, HasKind, header_in, special_header, Method_is, method_of, with_func, round_with}
 use Rattle.elab_program_bodies.specs.Known.{IsKnown, HoldsOf, Holds}
 use Rattle.elab_program_bodies.proofs.Lists.{not_both, at_func, set_at, set_again}
-use Rattle.elab_program_bodies.proofs.Known.{stand_more, Redefined}
+use Rattle.elab_program_bodies.proofs.Known.{stand_more}
 use Rattle.elab_program_bodies.proofs.Special.{typs_same, special_result, special_params, same_function}
 use Rattle.elab_program_bodies.proofs.Defining.{Finds, Becomes, becomes, ready, Ready, function_holds, method_holds}
 

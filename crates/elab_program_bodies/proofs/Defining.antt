@@ -1,9 +1,9 @@
 -- The body of a function that is known, and has the parameters with which it is made.
-use Rattle.std.proofs.Common.{◌≡◌, refl, sym, ap, ◌∙◌, subst, ℕ, zero, suc, ◌+◌, Bool, true, false, List, [], ◌∷◌, map, length, slice_get, arith}
+use Rattle.std.proofs.Common.{◌≡◌, refl, sym, ap, ◌∙◌, subst, ℕ, ◌+◌, true, false, List, [], ◌∷◌, map, length, slice_get, arith}
 use Rattle.std.proofs.Common.{Option, Some, None, is_some, eq-eqb}
-use Rattle.std.specs.Prelude.{slice_set, ◌<◌}
+use Rattle.std.specs.Prelude.{slice_set}
 use Rattle.std.proofs.lemmas.List.{length-map}
-use Rattle.elab_rules.specs.cpp_types.Typ.{Typ, none as no_typs}
+use Rattle.elab_rules.specs.cpp_types.Typ.{Typ}
 use Rattle.elab_rules.specs.cpp_lex.Tokens.{Lexeme}
 use Rattle.elab_rules.specs.cpp_ast.Trees as syntax
 use Rattle.elab_rules.specs.cpp_tree.Units.{Param}
@@ -11,16 +11,15 @@ use Rattle.elab_rules.specs.cpp_tree.declared.program.FuncKind.{FuncKind}
 use Rattle.elab_rules.specs.cpp_tree.declared.program.FuncKind.TheVariants.{Plain, Constructor, Destructor, ClosureCall}
 use Rattle.elab_rules.specs.cpp_tree.Rows.{is_special}
 use Rattle.elab_rules.specs.cpp_tree.Typing.{is_class_typ}
-use Rattle.elab_rules.specs.elab_ctx.Ctx.{Ctx, Func, Default}
+use Rattle.elab_rules.specs.elab_ctx.Ctx.{Ctx, Func}
 use Rattle.elab_rules.specs.Initialising.{func_at, signature_parameters, signature_result}
 use Rattle.elab_rules.specs.Programs.{one_if, words_of}
-use Rattle.elab_rules.specs.Statements.{State, Body}
+use Rattle.elab_rules.specs.Statements.{State}
 use Rattle.elab_rules.specs.Functions.{Header, param_of, function_body, defined_function}
 use Rattle.elab_rules.specs.Classes.{Method}
 use Rattle.elab_rules.specs.Members.{constructor_body, destructor_body, body_by_kind, this_type}
 use Rattle.elab_rules.specs.Lambdas.{lambdas_of}
 use Rattle.elab_bodies.specs.Bodies.{number_of, is_object_of}
-use Rattle.elab_bodies.specs.Making.{Defines}
 use Rattle.elab_bodies.specs.Keeping.{HasFunction}
 use Rattle.elab_bodies.proofs.Making as making
 use Rattle.elab_bodies.proofs.Keeping as keeping
@@ -32,7 +31,7 @@ use Rattle.elab_places.proofs.Declaring.{on}
 use Rattle.elab_places.proofs.Words.{words_law}
 use Rattle.elab_places.proofs.Rounds.{functions_bodies_law}
 use Rattle.elab_places.proofs.MemberRounds.{constructors_bodies_law, destructors_bodies_law}
-use Rattle.elab_program_bodies.specs.Known.{IsKnown, Stand, HoldsOf, Holds}
+use Rattle.elab_program_bodies.specs.Known.{IsKnown, Stand, Holds}
 use Rattle.elab_program_bodies.proofs.Lists.{at_func, is_within, set_at}
 use Rattle.elab_program_bodies.proofs.Known.{well_signed, stand_follows, Redefined, known_again, stand_set, bodies_set}
 

@@ -1,8 +1,8 @@
 -- Functions and bodies that are more, and a function that is defined.
-use Rattle.std.proofs.Common.{◌≡◌, refl, sym, ap, ◌∙◌, subst, ℕ, zero, suc, ◌+◌, Bool, true, false, List, [], ◌∷◌, ◌++◌, map, length, slice_get, arith}
+use Rattle.std.proofs.Common.{◌≡◌, refl, sym, ap, ◌∙◌, subst, ℕ, zero, suc, ◌+◌, Bool, true, false, List, [], ◌∷◌, ◌++◌, length, slice_get, arith}
 use Rattle.std.proofs.Common.{Option, Some, None, is_some, eq-eqb}
-use Rattle.std.specs.Prelude.{slice_set, ◌==◌, ◌<◌, ◌≤◌, if◌then◌else◌}
-use Rattle.std.proofs.lemmas.List.{length-set, length-map}
+use Rattle.std.specs.Prelude.{slice_set, ◌==◌}
+use Rattle.std.proofs.lemmas.List.{length-map}
 use Rattle.std.proofs.lemmas.Option.{same_Some}
 use Rattle.elab_rules.specs.cpp_types.Typ.{Typs, none as no_typs, more as and_typ}
 use Rattle.elab_rules.specs.cpp_tree.Units.{Param}
@@ -15,21 +15,20 @@ use Rattle.elab_rules.specs.cpp_tree.declared.program.FuncKind.TheVariants.{Cons
 use Rattle.elab_rules.specs.cpp_tree.Rows.{is_special}
 use Rattle.elab_rules.specs.cpp_tree.Typing.{is_class_typ}
 use Rattle.elab_rules.specs.elab_ctx.Ctx.{Func}
-use Rattle.elab_rules.specs.Initialising.{func_at, signature_parameters, signature_result}
+use Rattle.elab_rules.specs.Initialising.{signature_parameters, signature_result}
 use Rattle.elab_rules.specs.Programs.{one_if, words_of}
 use Rattle.elab_rules.specs.Statements.{Body}
-use Rattle.elab_bodies.specs.Bodies.{result_of, number_of, WellSigned, times_made, due_to, AllFit}
-use Rattle.elab_bodies.specs.Keeping.{StandsImplicit, HasSource, ImplicitsStand}
+use Rattle.elab_bodies.specs.Bodies.{result_of, number_of, WellSigned, times_made, due_to}
+use Rattle.elab_bodies.specs.Keeping.{StandsImplicit, HasSource}
 use Rattle.elab_bodies.proofs.Frames.{result_kept, no_result}
-use Rattle.elab_bodies.proofs.Closures.{IsCall, function_more, body_more, each_more, at_end}
-use Rattle.elab_bodies.proofs.Implicits.{Implied, further_stands, call_stands, body_stands, last_stands, stand_due, fits_due, implied_stands}
-use Rattle.elab_bodies.proofs.Keeping.{Follows, MayFit, fits_follow}
+use Rattle.elab_bodies.proofs.Closures.{IsCall, function_more, body_more, each_more}
+use Rattle.elab_bodies.proofs.Implicits.{Implied, further_stands, body_stands, last_stands, stand_due, fits_due, implied_stands}
+use Rattle.elab_bodies.proofs.Keeping.{Follows, fits_follow}
 use Rattle.state_growth.proofs.Lists.{added}
 use Rattle.elab_places.specs.Places.{Owned}
-use Rattle.elab_places.specs.Round.{Round, BodyOwns, BodiesOwn, AllOwned}
-use Rattle.elab_places.proofs.Rounds.{bodies_more}
-use Rattle.elab_program_bodies.specs.Known.{IsKnown, AllKnown, BodyCounts, AllCount, Stand, HoldsOf}
-use Rattle.elab_program_bodies.proofs.Lists.{not_both, apart, at_func, is_within, set_at, set_apart, set_each, FuncAt, set_kept, made_once}
+use Rattle.elab_places.specs.Round.{BodyOwns, BodiesOwn}
+use Rattle.elab_program_bodies.specs.Known.{IsKnown, AllKnown, BodyCounts, AllCount, Stand}
+use Rattle.elab_program_bodies.proofs.Lists.{not_both, apart, at_func, is_within, set_apart, set_each, set_kept, made_once}
 
 -- A function that has as many parameters as its signature is well signed
 

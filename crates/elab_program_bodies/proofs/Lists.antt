@@ -1,6 +1,6 @@
 -- Functions in lists, where one is set.
-use Rattle.std.proofs.Common.{◌≡◌, refl, sym, ap, ◌∙◌, subst, ℕ, zero, suc, ◌+◌, Bool, true, false, List, [], ◌∷◌, ◌++◌, length, slice_get, arith}
-use Rattle.std.proofs.Common.{Option, Some, None, unwrap_or, eq-eqb}
+use Rattle.std.proofs.Common.{◌≡◌, refl, sym, ap, ◌∙◌, subst, ℕ, zero, suc, Bool, true, false, List, [], ◌∷◌, length, slice_get, arith}
+use Rattle.std.proofs.Common.{Option, Some, unwrap_or, eq-eqb}
 use Rattle.std.specs.Prelude.{slice_set, ◌==◌, ◌<◌, ◌≤◌}
 use Rattle.std.proofs.lemmas.Option.{same_Some}
 use Rattle.elab_rules.specs.elab_ctx.Ctx.{Func}

@@ -1,18 +1,15 @@
 -- The units of a program.
-use Rattle.std.proofs.Common.{◌≡◌, refl, sym, ap, ◌∙◌, subst, ℕ, zero, suc, ◌+◌, List, [], ◌∷◌, ◌++◌, length, length-append, slice_get, Option, Some, None}
+use Rattle.std.proofs.Common.{◌≡◌, refl, sym, ap, ◌∙◌, subst, ℕ, zero, suc, ◌+◌, List, [], ◌∷◌, ◌++◌, length, length-append, slice_get, Some}
 use Rattle.std.proofs.Common.{Result, Ok, Err, arith}
 use Rattle.std.proofs.lemmas.Option.{same_Some}
-use Rattle.elab_rules.specs.cpp_tree.Units.{Func, Unit, TypedProgram}
-use Rattle.elab_rules.specs.cpp_tree.Trees.{Tree}
+use Rattle.elab_rules.specs.cpp_tree.Units.{Unit, TypedProgram}
 use Rattle.elab_rules.specs.cpp_tree.declared.faults.ElabFault.{ElabFault}
 use Rattle.elab_rules.specs.elab_ctx.Ctx.{Traits}
 use Rattle.elab_rules.specs.elab_ctx.Steps.{and_then}
 use Rattle.elab_rules.specs.Statements.{State}
 use Rattle.elab_rules.specs.Units.{unit_from}
-use Rattle.elab_rules.specs.Programs.{Source, unit_shown, start_behind, with_unit, program_from, program_of}
-use Rattle.elab_bodies.specs.Bodies.{FitsFunction}
+use Rattle.elab_rules.specs.Programs.{Source, unit_shown, start_behind, with_unit, program_from}
 use Rattle.elab_places.proofs.Steps.{held_by}
-use Rattle.elab_program_bodies.specs.Units.{IsUnit, HasPlaces}
 use Rattle.elab_program_bodies.specs.Programs.{ComesFrom, UnitsCome, ProgramsHavePlaces, ProgramsFit}
 use Rattle.elab_program_bodies.proofs.Shown as shown
 

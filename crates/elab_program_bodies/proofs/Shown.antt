@@ -1,5 +1,5 @@
 -- What a unit shows behind its last declaration.
-use Rattle.std.proofs.Common.{◌≡◌, refl, sym, ap, ◌∙◌, subst, ℕ, zero, suc, ◌+◌, true, false, List, [], ◌∷◌, length, slice_get, Option, Some, None, Ok, arith}
+use Rattle.std.proofs.Common.{◌≡◌, refl, ap, ◌∙◌, subst, ℕ, zero, suc, false, List, [], ◌∷◌, length, slice_get, Option, Some, None, arith}
 use Rattle.std.proofs.lemmas.Option.{same_Some}
 use Rattle.elab_rules.specs.cpp_types.Typ.{Typ, Typs}
 use Rattle.elab_rules.specs.cpp_types.Class.{Class}
@@ -17,7 +17,7 @@ use Rattle.elab_bodies.specs.Keeping.{StandsImplicit, HasSource}
 use Rattle.elab_bodies.proofs.Shown as shown
 use Rattle.elab_bodies.proofs.Shown.{shown_at, found}
 use Rattle.elab_places.specs.Places.{Owned}
-use Rattle.elab_places.specs.Round.{round_of, BodyOwns, BodiesOwn}
+use Rattle.elab_places.specs.Round.{BodyOwns, BodiesOwn}
 use Rattle.elab_places.proofs.Steps.{held_by}
 use Rattle.elab_places.proofs.Words.{free_law}
 use Rattle.elab_places.proofs.Declarations as declarations

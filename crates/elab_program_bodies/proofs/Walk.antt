@@ -1,7 +1,7 @@
 -- Behind each declaration of a unit all of it holds.
-use Rattle.std.proofs.Common.{◌≡◌, refl, sym, ap, ◌∙◌, subst, ℕ, zero, suc, ◌+◌, Bool, true, false, ◌&&◌, List, length, slice_get, arith}
+use Rattle.std.proofs.Common.{◌≡◌, refl, ap, ◌∙◌, ℕ, ◌+◌, Bool, true, false, ◌&&◌, List, length, slice_get, arith}
 use Rattle.std.proofs.Common.{Option, Some, None, is_some, Result, Ok, unwrap_or}
-use Rattle.std.specs.Prelude.{if◌then◌else◌, ◌<◌}
+use Rattle.std.specs.Prelude.{if◌then◌else◌}
 use Rattle.std.proofs.lemmas.Bool.{and_parts}
 use Rattle.elab_rules.specs.cpp_types.Typ.{Typs}
 use Rattle.elab_rules.specs.cpp_types.Class.{Member}
@@ -27,7 +27,7 @@ use Rattle.elab_bodies.specs.Keeping.{StandsImplicit}
 use Rattle.elab_bodies.proofs.Making as making
 use Rattle.elab_bodies.proofs.Keeping as keeping
 use Rattle.elab_bodies.proofs.Implicits.{completed_holds}
-use Rattle.elab_places.specs.Functions.{copy_words, implied_words}
+use Rattle.elab_places.specs.Functions.{implied_words}
 use Rattle.elab_places.specs.Round.{BodiesOwn}
 use Rattle.elab_places.proofs.Steps.{On}
 use Rattle.elab_places.proofs.Declaring.{on}
