@@ -24,33 +24,6 @@ use Rattle.elab_places.proofs.Steps.{On, bind, skip, either}
 use Rattle.elab_frame_items.specs.Items.{IsWhole, AllWhole, FunctionsWhole}
 use Rattle.elab_frame_items.proofs.Objects.{Adds, same, one_item, Mades, initial, class_from, scalar_from, from_values}
 
--- Items stay whole where classes that are complete stay so
-
-pub record StayComplete (old new : List Class) : Type 0 where
-  pub each : (n : ℕ) → is_some (completion_of old n) ≡ true → is_some (completion_of new n) ≡ true
-
-item_by : (old new : List Class) (f : Form) (o : Option ℕ) → held_form f ≡ o → StayComplete old new → is_item old (typ f false false) ≡ true
-    → is_item new (typ f false false) ≡ true
-item_by old new void o e h i = refl
-item_by old new (int k) o e h i = refl
-item_by old new (enum n b) o e h i = refl
-item_by old new null o e h i = refl
-item_by old new (ptr t) o e h i = refl
-item_by old new (ref t) o e h i = refl
-item_by old new (func g) o e h i = refl
-item_by old new (class n) o e h i = h.each n i
-item_by old new (closure n) o e h i = h.each n i
-item_by old new (array (typ f c v) n) o e h i = item_by old new f (held_form f) refl h i
-item_by old new (tx_ex (typ f c v)) o e h i = item_by old new f (held_form f) refl h i
-
-one_stays : (old new : List Class) (t : Typ) → StayComplete old new → is_item old t ≡ true → is_item new t ≡ true
-one_stays old new (typ f c v) h i = item_by old new f (held_form f) refl h i
-
-pub all_stay : (old new : List Class) (ts : List Typ) → StayComplete old new → list_all (is_item old) ts ≡ true → list_all (is_item new) ts ≡ true
-all_stay old new [] h i = refl
-all_stay old new (t ∷ ts) h i = let p = and_parts (is_item old t) (list_all (is_item old) ts) i in
-    and_from (is_item new t) (list_all (is_item new) ts) (one_stays old new t h p.0) (all_stay old new ts h p.1)
-
 -- Initialisers
 
 bound_reference : (c : Ctx) (w : Work) (t : Typ) (o : Operand) → IsWhole c.classes o.tree → On (Mades c.classes w) (Statements.bound_reference c w t o)
