@@ -28,7 +28,8 @@ use Rattle.elab_rules.specs.Braces.{ThisAt, default_at, string_token, syntax_pla
 use Rattle.elab_places.proofs.Steps.{On, bind, skip, either}
 use Rattle.elab_frame_items.specs.Items.{IsWhole, FunctionsWhole, DefaultsWhole}
 use Rattle.elab_frame_items.proofs.Objects.{Adds, same, after, Mades, AllMades, later, class_from, scalar_from, both}
-use Rattle.elab_frame_items.proofs.Expressions.{Types, Supplies, expression, chosen_adds}
+use Rattle.elab_frame_items.specs.Supplies.{Supplies, SuppliesItems}
+use Rattle.elab_frame_items.proofs.Expressions.{Types, expression, chosen_adds}
 
 -- Initialisers of members
 
@@ -96,10 +97,6 @@ item_in : (c : Ctx) (w : Work) (t : Typ) (f : Form) (o : Operand) → IsWhole c.
 item_in c w t (array e n) o h = tt
 item_in c w t (class n) o h = either (Mades c.classes w) (Braces.is_aggregate_class c n && not (Braces.is_object_of c n o)) _ _ tt (class_from c w t o.at o h)
 item_in c w t f o h = plain_item c w t o h
-
--- What others say of what items leave, beside what they say of expressions
-pub record SuppliesItems (P : Work → Type 0) (s : List Lexeme) (c : Ctx) : Type 0 where
-  pub item : (w : Work) (object : Tree) (t : Typ) (x : syntax.Tree) → P w → On (λ (m : Made). P m.work) (Braces.item_of s c w object t x)
 
 module _ (P : Work → Type 0) (s : List Lexeme) (c : Ctx) (supplies : Supplies P s c) (leaves : SuppliesItems P s c) (functions : FunctionsWhole c.classes c.funcs)
     (defaults : DefaultsWhole c.classes c.defaults) where

@@ -36,6 +36,7 @@ use Rattle.elab_rules.specs.Types.{no_specifiers, specified_type}
 use Rattle.elab_rules.specs.Strings
 use Rattle.elab_rules.specs.Expressions
 use Rattle.elab_places.proofs.Steps.{On, bind, skip, either}
+use Rattle.elab_frame_items.specs.Supplies.{IsCallee, Supplies}
 use Rattle.elab_frame_items.specs.Items.{IsWhole, AllWhole, AreParameters, FunctionsWhole}
 use Rattle.elab_frame_items.proofs.Objects.{Adds, same, after, Mades, AllMades, later, object, initial, class_from, words, at_function, exact_object, from_values, both}
 
@@ -44,23 +45,6 @@ Types classes w x = Adds classes w x.work
 
 abbrev pub AllTypes : List Class → Work → TypedAll → Type 0
 AllTypes classes w x = Adds classes w x.work
-
--- what is called: the parameters of a function to which it points are whole
-pub record IsCallee (classes : List Class) (o : Operand) : Type 0 where
-  pub whole : IsWhole classes o.tree
-  pub pointer : (sig : Signature) (d v : Bool) → form_in (typ_in (Values.valued o.at o.tree)) ≡ ptr (typ (func sig) d v)
-      → AreParameters classes (signature_parameters sig)
-
--- What others say of the expressions of a context, where something holds of the work that they keep: their operands are whole
-pub record Supplies (P : Work → Type 0) (s : List Lexeme) (c : Ctx) : Type 0 where
-  pub callee : (l : List Closure) (w : Work) (e : syntax.Tree) → P w
-      → On (λ (x : Typed). IsCallee c.classes x.operand × P x.work) (Expressions.expression_with s c l w e)
-  pub operand : (l : List Closure) (w : Work) (e : syntax.Tree) → P w
-      → On (λ (x : Typed). IsWhole c.classes x.operand.tree × P x.work) (and_then (Expressions.expression_with s c l w e) (Expressions.chosen_operand c))
-  pub operands : (l : List Closure) (w : Work) (es : syntax.Trees) → P w
-      → On (λ (x : TypedAll). AllWhole c.classes x.operands × P x.work) (Expressions.operands_with s c l w es)
-  -- what a lambda captures
-  pub captured : (w : Work) (x : Capture) → On (IsWhole c.classes) (Expressions.capture_source c w x x.variable)
 
 -- Operators
 

@@ -13,10 +13,11 @@ use Rattle.elab_rules.specs.Statements.{State, Done, Full, full_operand, full_ma
 use Rattle.elab_rules.specs.Lambdas.{lambdas_of}
 use Rattle.elab_places.proofs.Steps.{On, bind, skip}
 use Rattle.elab_places.proofs.Declaring.{on}
-use Rattle.elab_frame_items.specs.Items.{AreWhole, IsWhole, FunctionsWhole}
+use Rattle.elab_frame_items.specs.Items.{AreWhole, IsWhole}
+use Rattle.elab_frame_items.specs.Supplies.{Reads}
 use Rattle.elab_frame_items.proofs.Growing.{lambdas_law}
 use Rattle.elab_frame_items.proofs.Objects.{both}
-use Rattle.elab_frame_items.proofs.Expressions.{Types, AllTypes, Supplies, expression, operands, chosen_adds, dropped}
+use Rattle.elab_frame_items.proofs.Expressions.{Types, AllTypes, expression, operands, chosen_adds, dropped}
 use Rattle.elab_frame_items.proofs.Parameters.{StateWhole}
 
 -- Lambdas
@@ -27,12 +28,6 @@ lambdas_whole s st t h = on StateWhole (lambdas_of s st t) (λ x e. lambdas_law 
 pub all_whole : (s : List Lexeme) (st : State) (es : syntax.Trees) → StateWhole st → On StateWhole (all_lambdas lambdas_of s st es)
 all_whole s st syntax.none h = h
 all_whole s st (syntax.more e es) h = bind StateWhole StateWhole (lambdas_of s st e) _ (lambdas_whole s st e h) (λ x i. all_whole s x es i)
-
--- What others say of a state in which an expression is read; `P` holds of its work, and goes on with expressions
-pub record Reads (P : State → Work → Type 0) (s : List Lexeme) (x : State) : Type 0 where
-  pub here : P x x.work
-  pub supplies : Supplies (P x) s x.ctx
-  pub functions : FunctionsWhole x.ctx.classes x.ctx.funcs
 
 module _ (P : State → Work → Type 0) (s : List Lexeme) where
   -- a state in which it is read
