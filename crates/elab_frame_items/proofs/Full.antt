@@ -1,15 +1,14 @@
 -- Expressions that are no parts of others, behind their lambdas, add whole items alone.
-use Rattle.std.proofs.Common.{◌≡◌, refl, ℕ, Bool, true, false, List, [], ◌∷◌, Option, Some, None, Result, Ok, Err}
+use Rattle.std.proofs.Common.{◌≡◌, List, Result, Ok, Err}
 use Rattle.elab_rules.specs.cpp_lex.Tokens.{Lexeme}
 use Rattle.elab_rules.specs.cpp_ast.Trees as syntax
 use Rattle.elab_rules.specs.cpp_tree.Trees.{Tree}
 use Rattle.elab_rules.specs.cpp_tree.declared.faults.ElabFault.{ElabFault}
-use Rattle.elab_rules.specs.elab_ctx.Ctx.{Ctx, Work}
-use Rattle.elab_rules.specs.elab_ctx.Steps.{and_then, Operand, Made, Typed, TypedAll}
+use Rattle.elab_rules.specs.elab_ctx.Ctx.{Work}
+use Rattle.elab_rules.specs.elab_ctx.Steps.{and_then, Made, TypedAll}
 use Rattle.elab_rules.specs.Operators
 use Rattle.elab_rules.specs.Expressions.{expression_of, operands_of, chosen_operand}
-use Rattle.elab_rules.specs.Statements
-use Rattle.elab_rules.specs.Statements.{State, Done, Full, full_operand, full_made, expression_statement, condition, all_lambdas}
+use Rattle.elab_rules.specs.Statements.{State, Done, Full, full_operand, full_made, all_lambdas}
 use Rattle.elab_rules.specs.Lambdas.{lambdas_of}
 use Rattle.elab_places.proofs.Steps.{On, bind, skip}
 use Rattle.elab_places.proofs.Declaring.{on}

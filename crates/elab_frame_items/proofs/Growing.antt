@@ -1,17 +1,15 @@
 -- Items stay whole where classes grow: behind lambdas, in bodies that are made, and in what the unit shows.
-use Rattle.std.proofs.Common.{◌≡◌, refl, sym, ap, subst, ℕ, zero, suc, Bool, true, false, ◌&&◌, List, [], ◌∷◌, slice_get, Option, Some, None, Result, Ok}
+use Rattle.std.proofs.Common.{◌≡◌, refl, sym, subst, ℕ, zero, suc, Bool, true, false, List, [], ◌∷◌, slice_get, Option, Some, Result, Ok}
 use Rattle.std.specs.Prelude.{cond}
 use Rattle.std.specs.List.{list_all}
 use Rattle.std.proofs.lemmas.Bool.{and_parts, and_from}
 use Rattle.std.proofs.lemmas.Option.{same_Some}
 use Rattle.elab_rules.specs.cpp_types.Typ.{Typ}
 use Rattle.elab_rules.specs.cpp_types.Class.{Class}
-use Rattle.elab_rules.specs.cpp_lex.Tokens.{Lexeme}
-use Rattle.elab_rules.specs.cpp_ast.Trees as syntax
 use Rattle.elab_rules.specs.cpp_tree.Units.{Func as UnitFunc}
 use Rattle.elab_rules.specs.cpp_tree.WellFormed.{is_item}
 use Rattle.elab_rules.specs.cpp_tree.declared.faults.ElabFault.{ElabFault}
-use Rattle.elab_rules.specs.elab_ctx.Ctx.{Func, Work}
+use Rattle.elab_rules.specs.elab_ctx.Ctx.{Func}
 use Rattle.elab_rules.specs.Statements.{State, Body}
 use Rattle.elab_rules.specs.Lambdas.{lambdas_of}
 use Rattle.elab_rules.specs.Programs.{typed_func, typed_funcs, body_of, is_body_of, frame_in}
@@ -21,7 +19,6 @@ use Rattle.setting_growth.proofs.Trees.{items_law}
 use Rattle.state_growth.proofs.Steps.{Leaves}
 use Rattle.state_growth.proofs.Bodies.{lambdas_lawful}
 use Rattle.elab_places.proofs.Lambdas as places
-use Rattle.elab_frame_items.specs.Items.{AreWhole}
 use Rattle.elab_frame_items.specs.Frames.{LambdasWhole, FramesWhole, FramesGrow, FramesShown}
 
 pub all_stay : (old new : List Class) → ClassesGrow old new → (ts : List Typ) → list_all (is_item old) ts ≡ true → list_all (is_item new) ts ≡ true

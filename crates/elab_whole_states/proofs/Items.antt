@@ -1,5 +1,5 @@
 -- A discipline of statements is one with whole items, where its operands and objects are whole.
-use Rattle.std.proofs.Common.{◌≡◌, refl, ℕ, Bool, true, false, List, [], ◌∷◌, Option, Some, None, Result, Ok, Err}
+use Rattle.std.proofs.Common.{◌≡◌, List, Ok}
 use Rattle.elab_rules.specs.cpp_types.Typ.{Typ}
 use Rattle.elab_rules.specs.cpp_types.declared.classes.At.{At}
 use Rattle.elab_rules.specs.cpp_lex.Tokens.{Lexeme}
@@ -8,15 +8,14 @@ use Rattle.elab_rules.specs.cpp_ast.Trees as syntax
 use Rattle.elab_rules.specs.cpp_tree.Trees.{Tree}
 use Rattle.elab_rules.specs.cpp_tree.Rows.{Setting}
 use Rattle.elab_rules.specs.elab_ctx.Ctx.{Work}
-use Rattle.elab_rules.specs.elab_ctx.Steps.{Operand, Made, TypedAll}
+use Rattle.elab_rules.specs.elab_ctx.Steps.{Made, TypedAll}
 use Rattle.elab_rules.specs.Initialising
 use Rattle.elab_rules.specs.Braces.{item_of}
 use Rattle.elab_rules.specs.Expressions.{operands_of}
-use Rattle.elab_rules.specs.Operators
 use Rattle.elab_rules.specs.Statements
 use Rattle.elab_rules.specs.Statements.{State, Full, full_operand, all_lambdas, with_work}
 use Rattle.elab_rules.specs.Lambdas.{lambdas_of}
-use Rattle.elab_places.proofs.Steps.{On, held_by}
+use Rattle.elab_places.proofs.Steps.{held_by}
 use Rattle.elab_fits_statements.specs.Discipline.{Words, Goes, Gains, Discipline}
 use Rattle.elab_frame_items.specs.Items.{AreWhole, AllWhole}
 use Rattle.elab_frame_items.proofs.Objects.{Mades, initial, class_from, one_item}
