@@ -1,8 +1,8 @@
 -- The state in which the body of a lambda begins is good.
-use Rattle.std.proofs.Common.{◌≡◌, refl, sym, ap, ◌∙◌, subst, ℕ, nat_le, Bool, true, false, List, [], ◌∷◌, ◌++◌, length, Option, Some, None, if◌then◌else◌}
+use Rattle.std.proofs.Common.{◌≡◌, refl, sym, ap, ◌∙◌, subst, ℕ, nat_le, Bool, true, false, not, List, [], ◌∷◌, ◌++◌, length, Option, Some, None, if◌then◌else◌}
 use Rattle.std.proofs.Math.Seq.{take-append_seam, take-length}
 use Rattle.std.proofs.lemmas.Bool.{and_parts}
-use Rattle.elab_rules.specs.cpp_types.Typ.{Typ, void, Signature, signature, ptr, none as no_typs}
+use Rattle.elab_rules.specs.cpp_types.Typ.{Typ, typ, void, closure, Signature, signature, ptr, none as no_typs}
 use Rattle.elab_rules.specs.cpp_types.Class.{Class}
 use Rattle.elab_rules.specs.cpp_layout.Layout.{class_extent}
 use Rattle.elab_rules.specs.cpp_layout.declared.extents.TheConstants.{GREATEST_SIZE}
@@ -28,8 +28,13 @@ use Rattle.elab_fits.proofs.Steps.{bind, skip}
 use Rattle.elab_contexts.specs.Holding.{UnitHolds}
 use Rattle.elab_contexts.specs.Steps.{view, Steps, none_yet, and_one, closure_added}
 use Rattle.elab_contexts.proofs.Captures.{AllWhole}
-use Rattle.elab_holds.specs.Contexts.{HasSlots}
+use Rattle.elab_contexts.proofs.Going.{leaves_are}
+use Rattle.elab_contexts.proofs.Holding.{shown as shown_holds, taken}
+use Rattle.elab_contexts.proofs.Kept.{Holds, each_kept}
+use Rattle.elab_contexts.proofs.Walking.{Leaves, kept_by_steps}
+use Rattle.elab_contexts.specs.Slots.{HasOverriders, is_overrider}
 use Rattle.elab_holds.specs.Locals.{LocalsHold}
+use Rattle.elab_holds.proofs.Locals.{lambdas_law}
 use Rattle.elab_sound_types.specs.Types.{is_sound, is_sound_signature, are_sound, result as a_result}
 use Rattle.elab_sound_types.specs.States.{IsSoundState, Kept}
 use Rattle.elab_sound_types.proofs.Growth.{signature_more, kept_same}
@@ -41,9 +46,9 @@ use Rattle.state_growth.specs.Settings.{shown, UnitGrows}
 use Rattle.state_growth.specs.States.{Goes}
 use Rattle.state_growth.proofs.Settings.{begun_law, funcs_grow}
 use Rattle.elab_fits_states.specs.States.{setting, Comes, IsGood, IsSettled}
-use Rattle.elab_fits_states.proofs.Good.{earlier_of, carried, none_hold, unit_other, slots_other}
+use Rattle.elab_fits_states.proofs.Good.{earlier_of, carried, none_hold, unit_other}
+use Rattle.elab_fits_states.proofs.Lists.{in_longer}
 use Rattle.elab_fits_states.proofs.Made.{bodies_stay}
-use Rattle.elab_fits_lambdas.specs.Lambdas.{Below}
 use Rattle.elab_fits_lambdas.proofs.Sound.{IsSoundLambda, with_lambda, with_nothing, call_known, entered}
 
 -- the call of a lambda, as its unit shows it
@@ -83,24 +88,27 @@ settings_begun f st x r sig = let u = grows_begun st x r sig in record {
   globals = u.globals;
 }
 
-module _ (b : Below) (f : UnitFunc) (s : List Lexeme) where
+unit_by : (a c : State) → Leaves a c → UnitHolds a.ctx → UnitHolds c.ctx
+unit_by a c l h = let g = leaves_are a c l in shown_holds c.ctx (kept_by_steps Holds each_kept l.walk (taken a.ctx h)) (g.enumerators h.enumerators) (g.types h.types)
+
+module _ (f : UnitFunc) (s : List Lexeme) where
   pub good_begun : (st : State) (x : Written) (r : Typ) (sig : Signature) → IsGood f st → AllWhole st.ctx x.captures
       → nat_le (class_extent (declared_closure st x sig).classes (length st.ctx.classes)).size GREATEST_SIZE ≡ true → IsSoundLambda s st.ctx.classes x
       → is_sound_signature (with_nothing st x) sig ≡ true → signature_result sig ≡ r → IsGood (called st x sig) (begun st x r sig)
   good_begun st x r sig g w z l j q = record {
-    unit = b.units st.ctx e.ctx steps refl refl g.unit;
-    slots = b.slots st.ctx e.ctx steps g.unit g.slots;
+    unit = unit_by st e (record { walk = steps; same = refl }) g.unit;
+    overriders = λ i h k. in_longer (λ (u : Func). is_overrider u ≡ true) st.ctx.funcs (call st x sig) i h k refl (g.overriders i h);
     sound = entered s st x (known r) r sig g.sound l j refl;
-    locals = b.entered st st x (known r) r sig g.locals;
+    locals = lambdas_law st st x (known r) r sig g.locals;
     around = λ y h. refl;
     closures = none_hold e.ctx [] refl;
     returns = ap known (sym given);
     typed = result_sound (with_lambda st x sig) sig (signature_more (with_nothing st x) (with_lambda st x sig)
         (call_known st x (signature no_typs (plain void) false) sig) sig j);
     result = λ k. subst (λ (u : Typ). HasItem (setting (called st x sig) e) 0 (plain (ptr u))) (sym given)
-        (item_first (is_class_typ r) (plain (ptr r)) _ (subst (λ (u : Typ). is_class_typ u ≡ true) given k));
-    bodies = bodies_stay st e (earlier_of b.contexts f st g) (grows_begun st x r sig) refl g.bodies;
-    defaults = defaults_stay (setting f st) (setting (called st x sig) e) st.ctx.defaults (earlier_of b.contexts f st g) (settings_begun f st x r sig) g.defaults;
+        (item_first (is_class_typ r) (plain (ptr r)) (plain (ptr (typ (closure (length st.ctx.classes)) (not x.is_mutable) false)) ∷ []) (subst (λ (u : Typ). is_class_typ u ≡ true) given k));
+    bodies = bodies_stay st e (earlier_of f st g) (grows_begun st x r sig) refl g.bodies;
+    defaults = defaults_stay (setting f st) (setting (called st x sig) e) st.ctx.defaults (earlier_of f st g) (settings_begun f st x r sig) g.defaults;
   }
     where
       e : State
@@ -150,16 +158,15 @@ comes_placed e y i g = record {
   kept = subst (λ (ks : List Class). Kept e.ctx.classes ks) (sym (ap (λ (c : Ctx). c.classes) i.ctx)) (kept_same e.ctx.classes);
 }
 
-pub good_placed : (b : Below) (g : UnitFunc) (e y : State) → IsGood g e → e.ctx.closures ≡ [] → IsPlaced e y → Comes e y → IsSoundState y
+pub good_placed : (g : UnitFunc) (e y : State) → IsGood g e → e.ctx.closures ≡ [] → IsPlaced e y → Comes e y → IsSoundState y
     → LocalsHold y.ctx y.work → IsSettled g y
-good_placed b g e y h n i l s v = record {
-  good = carried b.contexts g e y h l
+good_placed g e y h n i l s v = record {
+  good = carried g e y h l
       (subst (λ (c : Ctx). UnitHolds c) (sym i.ctx)
       (unit_other e.ctx y.ctx.scopes y.ctx.variables e.ctx.breaks e.ctx.continues e.ctx.label e.ctx.labels e.ctx.closures h.unit))
-      (subst (λ (c : Ctx). HasSlots c) (sym i.ctx)
-      (slots_other e.ctx y.ctx.scopes y.ctx.variables e.ctx.breaks e.ctx.continues e.ctx.label e.ctx.labels e.ctx.closures h.slots))
+      (subst (λ (c : Ctx). HasOverriders c.funcs) (sym i.ctx) h.overriders)
       s v (none_hold y.ctx y.ctx.closures none) (ap (λ (c : Ctx). c.lambda) i.ctx) (ap (λ (c : Ctx). c.returns) i.ctx) (ap (λ (c : Ctx). c.defaults) i.ctx)
-      (bodies_stay e y (earlier_of b.contexts g e h) l.goes.grows.unit i.bodies h.bodies);
+      (bodies_stay e y (earlier_of g e h) l.goes.grows.unit i.bodies h.bodies);
   none = none;
 }
   where

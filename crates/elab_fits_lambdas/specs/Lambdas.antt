@@ -3,29 +3,9 @@ use Rattle.std.specs.Prelude.{◌≡◌, List}
 use Rattle.elab_rules.specs.cpp_lex.Tokens.{Lexeme}
 use Rattle.elab_rules.specs.cpp_tree.declared.program.FuncKind.TheVariants.{ClosureCall}
 use Rattle.elab_rules.specs.cpp_tree.Units.{Func as UnitFunc}
-use Rattle.elab_rules.specs.elab_ctx.Ctx.{Ctx}
 use Rattle.elab_rules.specs.Lambdas.{lambdas_of}
-use Rattle.elab_contexts.specs.Holding.{UnitHolds, LambdasHold}
-use Rattle.elab_contexts.specs.Steps.{view, Steps}
-use Rattle.elab_contexts.specs.Walks.{LambdasWalk}
-use Rattle.elab_holds.specs.Contexts.{HasSlots, ContextsHold}
-use Rattle.elab_holds.specs.Locals.{LambdasEntered, ParametersPlaced}
-use Rattle.elab_fits_items.specs.Items.{BracesBuild}
 use Rattle.elab_fits_states.specs.Premises.{KeepsGood}
-
--- what crates below are to prove
-pub record Below : Type 0 where
-  pub contexts : ContextsHold
-  pub lambdas : LambdasHold
-  pub walks : LambdasWalk
-  -- a unit goes on by steps, where no enumerator and no type is named
-  pub units : (a b : Ctx) → Steps (view a) (view b) → b.enumerators ≡ a.enumerators → b.types ≡ a.types → UnitHolds a → UnitHolds b
-  -- and virtual functions have their slots still
-  pub slots : (a b : Ctx) → Steps (view a) (view b) → UnitHolds a → HasSlots a → HasSlots b
-  pub entered : LambdasEntered
-  pub placed : ParametersPlaced
-  pub braces : BracesBuild
 
 -- in a function that is no lambda's call
 abbrev pub LambdasAreGood : Type 0
-LambdasAreGood = (f : UnitFunc) (s : List Lexeme) → Below → (f.kind ≡ ClosureCall → ⊥) → KeepsGood f lambdas_of s
+LambdasAreGood = (f : UnitFunc) (s : List Lexeme) → (f.kind ≡ ClosureCall → ⊥) → KeepsGood f lambdas_of s
