@@ -6,17 +6,18 @@ ghost use Rattle.elab_entry.specs.cpp_types.Class.{classes_of};
 ghost use Rattle.elab_entry.specs.elab_ctx.cpp_names.Names.{with_name};
 ghost use Rattle.elab_entry.specs.elab_ctx.cpp_names.declared.entity.EntityKind.TheVariants as entities;
 ghost use Rattle.elab_entry.specs.cpp_tree.Notation.{plain};
-ghost use Rattle.elab_entry.specs.elab_ctx.Ctx.{func_of, labels_of};
+ghost use Rattle.elab_entry.specs.elab_ctx.Ctx.{func_of, labels_of, traits_of};
 ghost use Rattle.elab_entry.specs.elab_rules.Statements.{no_labels as no_labels_of};
 ghost use Rattle.elab_entry.specs.elab_rules.Units.{int_typ, thread_function, builtin as builtin_of, builtins as builtins_of, start};
 ghost use Rattle.elab_entry.specs.elab_scopes.States.{state_of, made};
-ghost use Rattle.elab_units.specs.Begun.{one_or_two, long_typ, program_with, traits_known, begun_behind};
+ghost use Rattle.elab_units.specs.Begun.{one_or_two, long_typ, program_with, traits_known, bare, begun_with, begun_behind};
 
 pub use crate::known::Classes;
+use class_records::no_traits;
 use elab_entry::below::{
     At, Builtin, Entity, EntityKind, Env, FnTy, FuncDecl, FuncKind, FuncRec, Functions, IntKind,
-    Label, Labels, Linkage, Returns, Safety, Scopes, Shape, State, Ty, TypeNames, Work, plain_type,
-    pointer_to,
+    Label, Labels, Linkage, Returns, Safety, Scopes, Shape, State, Traits, Ty, TypeNames, Work,
+    plain_type, pointer_to,
 };
 use std::alloc::{AllocError, Global};
 
@@ -184,9 +185,32 @@ fn no_labels(alloc: Global) -> Labels
     }
 }
 
-/// The beginning of a unit behind others: their classes stay, their names are gone.
-pub fn start_behind(alloc: Global, source: u32, known: Classes) -> Result<State, AllocError>
-    ensures state { IfOk result (λ st. state_of st ≡ begun_behind source known) }
+// Nothing is known of the special members of these classes.
+fn bare_traits(alloc: Global, known: &[Traits]) -> Result<Vec<Traits>, AllocError>
+    ensures { IfOk result (λ v. map traits_of v.items ≡ bare (map traits_of known.now)) }
+{
+    let mut traits = Vec::new(alloc);
+    for _ in known {
+        traits.push(no_traits())?;
+    }
+    Ok(traits)
+}
+
+fn bare_classes(alloc: Global, known: Classes) -> Result<Classes, AllocError>
+    ensures program { IfOk result (λ k. program_with [] k ≡ program_with [] known) }
+    ensures traits { IfOk result (λ k. traits_known k ≡ bare (traits_known known)) }
+{
+    let traits = bare_traits(alloc, &known.traits)?;
+    Ok(Classes {
+        classes: known.classes,
+        traits,
+        slots: known.slots,
+    })
+}
+
+// The beginning of a unit with these classes.
+fn start_with(alloc: Global, source: u32, known: Classes) -> Result<State, AllocError>
+    ensures state { IfOk result (λ st. state_of st ≡ begun_with source (program_with [] known) (traits_known known)) }
     ensures nodes { IfOk result (λ st. made st ≡ []) }
 {
     let scopes = unit_scopes(alloc)?;
@@ -222,4 +246,14 @@ pub fn start_behind(alloc: Global, source: u32, known: Classes) -> Result<State,
         },
         bodies: Vec::new(alloc),
     })
+}
+
+/// The beginning of a unit behind others: their classes stay; their names are gone, and their special members, which are
+/// functions of those units.
+pub fn start_behind(alloc: Global, source: u32, known: Classes) -> Result<State, AllocError>
+    ensures state { IfOk result (λ st. state_of st ≡ begun_behind source known) }
+    ensures nodes { IfOk result (λ st. made st ≡ []) }
+{
+    let bare = bare_classes(alloc, known)?;
+    start_with(alloc, source, bare)
 }
