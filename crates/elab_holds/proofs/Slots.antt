@@ -33,7 +33,7 @@ use Rattle.elab_contexts.specs.Holding.{UnitHolds}
 use Rattle.elab_contexts.specs.Overriders.{is_overrider, HasOverriders}
 use Rattle.elab_contexts.specs.Slots.{HasOwnSlot, IsAlone}
 use Rattle.elab_contexts.proofs.Functions.{alike_says, bytes_same, typs_same, kind_same}
-use Rattle.elab_holds.specs.Contexts.{SlotsHold}
+use Rattle.elab_holds.specs.Contexts.{SlotsWhereAlone, SlotsHold}
 use Rattle.elab_holds.proofs.Order.{order_law}
 use Rattle.elab_holds.proofs.Sound.{complete_found}
 use Rattle.elab_holds.proofs.Complete.{class_sized, class_at}
@@ -275,9 +275,12 @@ pointer_is c w u h n i g d e v =
     virtual_by None q = absurd cc
     virtual_by (Some k) q = any_at is_virtual_function k.functions i g q v
 
-pub slots_law : SlotsHold
-slots_law c w u h o k n f e d p v z =
-    let s = u.slotted.own k n f e d p v z (alone c u o n k f e d p v) in record {
+pub alone_law : SlotsWhereAlone
+alone_law c w u h o k n f e d p v z =
+    let s = u.slotted.own k n f e d p v z (o k n f e d p v) in record {
       slot = slot_is c n k f s;
       pointer = pointer_is c w u h n (index_in_class n k c.funcs) f.declared z s.recorded v;
     }
+
+pub slots_law : SlotsHold
+slots_law c w u h o = alone_law c w u h (λ k n f e d p v. alone c u o n k f e d p v)

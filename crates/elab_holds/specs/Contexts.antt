@@ -14,6 +14,7 @@ use Rattle.elab_fits_forms.specs.Expressions.{are_spelled}
 use Rattle.elab_sound_types.specs.Contexts.{HasSoundTypes}
 use Rattle.elab_contexts.specs.Holding.{UnitHolds, HasListedFunctions}
 use Rattle.elab_contexts.specs.Overriders.{HasOverriders}
+use Rattle.elab_contexts.specs.Slots.{IsAlone}
 use Rattle.elab_contexts.specs.Texts.{have_class_names}
 use Rattle.state_growth.specs.Settings.{setting_at}
 use Rattle.elab_holds.specs.Locals.{LocalsHold}
@@ -37,7 +38,14 @@ MakersHold = (c : Ctx) (w : Work) → UnitHolds c → HasSoundTypes c w → HasM
 abbrev pub ClassesComplete : Type 0
 ClassesComplete = (c : Ctx) (w : Work) (n : ℕ) → UnitHolds c → HasSoundTypes c w → is_some (completion_of c.classes n) ≡ true → IsComplete c.classes n
 
--- where what overrides is a plain function or a destructor, by its name
+-- where no other virtual function of the class overrides what a plain one overrides
+abbrev pub AreAlone : List Func → Type 0
+AreAlone funcs = (k n : ℕ) (f : Func) → slice_get funcs k ≡ Some f → f.class ≡ Some n → f.kind ≡ Plain → f.declared.is_virtual ≡ true → IsAlone funcs n k f
+
+abbrev pub SlotsWhereAlone : Type 0
+SlotsWhereAlone = (c : Ctx) (w : Work) → UnitHolds c → HasSoundTypes c w → AreAlone c.funcs → HasSlots c
+
+-- so it is where what overrides is a plain function or a destructor, by its name
 abbrev pub SlotsHold : Type 0
 SlotsHold = (c : Ctx) (w : Work) → UnitHolds c → HasSoundTypes c w → HasOverriders c.funcs → HasSlots c
 
