@@ -32,8 +32,8 @@ use Rattle.elab_sound_types.specs.Contexts.{HasSoundTypes}
 use Rattle.elab_contexts.specs.Holding.{UnitHolds}
 use Rattle.elab_contexts.specs.Overriders.{is_overrider, HasOverriders}
 use Rattle.elab_contexts.specs.Slots.{HasOwnSlot, IsAlone}
-use Rattle.elab_contexts.proofs.Functions.{alike_says, bytes_same, typs_same, kind_same}
-use Rattle.elab_holds.specs.Contexts.{SlotsWhereAlone, SlotsHold}
+use Rattle.elab_contexts.proofs.Functions.{alike_says, bytes_same, bytes_itself, typs_same, kind_same}
+use Rattle.elab_holds.specs.Contexts.{IsApart, AloneByNames, SlotsWhereAlone, SlotsHold}
 use Rattle.elab_holds.proofs.Order.{order_law}
 use Rattle.elab_holds.proofs.Sound.{complete_found}
 use Rattle.elab_holds.proofs.Complete.{class_sized, class_at}
@@ -107,6 +107,29 @@ alone_by c u n j k f g o e q d x p m (plain_one s t) (named a b i) (named h l r)
 alone : (c : Ctx) → UnitHolds c → HasOverriders c.funcs → (n k : ℕ) (f : Func) → slice_get c.funcs k ≡ Some f → f.class ≡ Some n → f.kind ≡ Plain
     → f.declared.is_virtual ≡ true → IsAlone c.funcs n k f
 alone c u h n k f e d p v j g o q x w a b = alone_by c u n j k f g o e q d x p (plain_name f p (kinds_are f v (h k n f e d))) (kinds_are g w (h j n g q x))
+    (overrides_is f.declared o b) (overrides_is g.declared o a)
+
+-- and by names that are apart
+apart_by : (c : Ctx) → UnitHolds c → (n j k : ℕ) (f g : Func) (o : Function) → slice_get c.funcs k ≡ Some f → slice_get c.funcs j ≡ Some g
+    → f.class ≡ Some n → g.class ≡ Some n → f.kind ≡ Plain → IsApart c.funcs n f → (b : Bool) → same_kind g.kind Plain ≡ b
+    → Overrides f.declared o → Overrides g.declared o → j ≡ k
+apart_by c u n j k f g o e q d x p m y t (destroys a b) w = no_way (j ≡ k) (is_destructor_name f.declared.name) m.plain a
+apart_by c u n j k f g o e q d x p m y t (named a b i) (destroys s z) =
+    no_way (j ≡ k) (is_destructor_name f.declared.name) m.plain (ap is_destructor_name a ∙ z)
+apart_by c u n j k f g o e q d x p m false t (named a b i) (named h l r) =
+    no_way (j ≡ k) (bytes_eq g.declared.name f.declared.name) (m.apart j g q x t)
+    (subst (λ (y : List ℕ). bytes_eq g.declared.name y ≡ true) (h ∙ sym a) (bytes_itself g.declared.name))
+apart_by c u n j k f g o e q d x p m true t (named a b i) (named h l r) =
+    let s = kind_same g.kind Plain t in u.slotted.distinct j k g f q e s (alike_says g f (record {
+      name = a ∙ sym h;
+      class = d ∙ sym x;
+      params = b ∙ sym l;
+      const = i ∙ sym r;
+      kind = p ∙ sym s;
+    }))
+
+pub names_alone : AloneByNames
+names_alone c u h k n f e d p v j g o q x w a b = apart_by c u n j k f g o e q d x p (h k n f e d p v) (same_kind g.kind Plain) refl
     (overrides_is f.declared o b) (overrides_is g.declared o a)
 
 -- Its slot
