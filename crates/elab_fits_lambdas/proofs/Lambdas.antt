@@ -13,7 +13,7 @@ use Rattle.elab_rules.specs.Statements.{State}
 use Rattle.elab_fits.specs.Standing.{On}
 use Rattle.elab_fits.proofs.Steps.{bind}
 use Rattle.elab_contexts.specs.Holding.{StateHolds}
-use Rattle.elab_contexts.specs.Slots.{HasOverriders}
+use Rattle.elab_contexts.specs.Overriders.{HasOverriders}
 use Rattle.elab_contexts.proofs.Holding as units
 use Rattle.elab_holds.specs.Locals.{LocalsHold}
 use Rattle.elab_sound_types.specs.States.{Kept, IsSoundAfter}
