@@ -49,8 +49,9 @@ use Rattle.elab_fits_states.proofs.Texts.{kids, first, rest}
 use Rattle.elab_fits_states.proofs.Spelled.{all_spelled}
 use Rattle.elab_fits_lambdas.specs.Made.{lambda_inside, call_signature, HasParts, three, two, IsLambda}
 use Rattle.elab_fits_lambdas.specs.Lambdas.{IsCall, BodiesBegin}
-use Rattle.elab_fits_lambdas.proofs.Captured.{one_more}
-use Rattle.elab_fits_lambdas.proofs.Made.{told, mapped, answered}
+use Rattle.elab_contexts.proofs.Lists.{one_more}
+use Rattle.elab_fits_statements.proofs.States.{told, mapped}
+use Rattle.elab_fits_states.proofs.Reading.{answered}
 use Rattle.elab_fits_lambdas.proofs.Parameters.{OnlyNames, only_names}
 use Rattle.elab_fits_lambdas.proofs.Types.{IsSoundEntry, entry_sound}
 use Rattle.elab_fits_lambdas.proofs.Units.{unit_left, unit_inside}

@@ -32,7 +32,8 @@ use Rattle.elab_fits_lambdas.specs.Lambdas.{LambdasAreGood}
 use Rattle.elab_fits_lambdas.proofs.Bodies.{done, behind, behind_is, bodies_behind}
 use Rattle.elab_fits_lambdas.proofs.Closures.{one_at_hand}
 use Rattle.elab_fits_lambdas.proofs.Hand.{are_complete}
-use Rattle.elab_fits_lambdas.proofs.Made.{answered, lambdas_are_made}
+use Rattle.elab_fits_states.proofs.Reading.{answered}
+use Rattle.elab_fits_lambdas.proofs.Made.{lambdas_are_made}
 
 none_around : (A : Type 0) (o : Option Lambda) → ((l : Lambda) → o ≡ Some l → A) → (A → ⊥) → o ≡ None
 none_around A (Some l) h n = absurd (n (h l refl))

@@ -19,7 +19,7 @@ use Rattle.elab_contexts.proofs.Holding.{shown, taken}
 use Rattle.elab_contexts.proofs.Kept.{Holds, each_kept}
 use Rattle.elab_contexts.proofs.Walking.{Leaves, kept_by_steps, one_step}
 use Rattle.elab_fits_lambdas.specs.Made.{lambda_inside, call_signature, IsWritten, IsLambda}
-use Rattle.elab_fits_lambdas.proofs.Made.{answered}
+use Rattle.elab_fits_states.proofs.Reading.{answered}
 
 -- a unit that goes on by steps
 unit_gone : (st y : State) → UnitHolds st.ctx → From st y → UnitHolds y.ctx
