@@ -8,14 +8,8 @@ use Rattle.elab_fits_states.specs.States.{AreTexts}
 use Rattle.elab_holds.proofs.Texts.{texts_law}
 use Rattle.elab_read_texts.specs.Texts.{IsRead, ReadUnitsAreTexts, ReadUnitsHaveClassNames}
 use Rattle.elab_read_texts.proofs.Lexemes.{tokens_filled, spelled_at}
+use Rattle.elab_read_texts.proofs.Tokens.{terminals_long}
 use Rattle.elab_read_texts.proofs.Reading.{read}
-
-pub each_long : {A : Type 0} (f : ℕ → A) (n : ℕ) → length (each_below f n) ≡ n
-each_long f zero = refl
-each_long f (suc n) = let rest = each_long f n in let more = length-append (each_below f n) (f n ∷ []) in omega (arith, rest, more)
-
-pub terminals_long : (tokens : List Lexeme) → length (terminals_of tokens) ≡ length tokens
-terminals_long tokens = each_long (class_at tokens) (length tokens)
 
 pub read_texts : ReadUnitsAreTexts
 read_texts number text tokens decls x =
