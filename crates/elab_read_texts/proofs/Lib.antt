@@ -17,3 +17,5 @@ pub mod Named
 pub mod Members
 pub mod Declared
 pub mod Overriding
+pub mod Methods
+pub mod ReadMembers
