@@ -12,10 +12,10 @@ pub mod CalmRules
 pub mod CalmTables
 pub mod Calm
 pub mod Plain
-pub mod Virtual
 pub mod Named
 pub mod Members
 pub mod Declared
 pub mod Overriding
 pub mod Methods
 pub mod ReadMembers
+pub mod Alone

@@ -25,9 +25,7 @@ use Rattle.elab_rules.specs.Classes.{method_started, method_of}
 use Rattle.elab_fits.specs.Standing.{On}
 use Rattle.elab_fits_forms.specs.Types.{is_empty}
 use Rattle.elab_contexts.proofs.Walking.{bind, skip}
-use Rattle.elab_read_texts.specs.Names.{is_type_name, is_plain_name, is_plain_token, is_declarator, is_declared_plainly, declares_plainly, declare_plainly}
-use Rattle.elab_read_texts.specs.Names.{is_not_virtual, are_not_virtual}
-use Rattle.elab_read_texts.specs.Overriding.{is_virtual_name}
+use Rattle.elab_read_texts.specs.Names.{is_type_name, is_class_name, is_plain_name, is_plain_token, is_declarator, is_declared_plainly, declares_plainly, declare_plainly}
 use Rattle.elab_read_texts.proofs.Declared.{declared_plainly}
 use Rattle.elab_read_texts.proofs.Overriding.{IsFit, plain, destructor, constructor}
 
@@ -40,38 +38,16 @@ started_plainly s x (syntax.more (syntax.node k.DeclSpecifier p (Some t) kids) t
     started_plainly s (with_specifier x (spelling s t)) ts (and_parts (declares_plainly s (syntax.node k.DeclSpecifier p (Some t) kids)) (declare_plainly s ts) h).1
 started_plainly s x ts h = h
 
-if_storage : (b : Bool) (x y : Storage) → x.is_virtual ≡ false → y.is_virtual ≡ false → (if b then x else y).is_virtual ≡ false
-if_storage true x y h i = h
-if_storage false x y h i = i
-
-not_storage : (b : Bool) (x y : Storage) → b ≡ false → y.is_virtual ≡ false → (if b then x else y).is_virtual ≡ false
-not_storage true x y e i = absurd (true≢false e)
-not_storage false x y e i = i
-
-specifier_kept : (x : Storage) (name : List ℕ) → bytes_eq name (codes "virtual") ≡ false → x.is_virtual ≡ false → (with_specifier x name).is_virtual ≡ false
-specifier_kept x name e h = if_storage (bytes_eq name (codes "static")) _ _ h (if_storage (bytes_eq name (codes "extern")) _ _ h
-    (if_storage (bytes_eq name (codes "inline")) _ _ h (not_storage (bytes_eq name (codes "virtual")) _ x e h)))
-
-started_still : (s : List Lexeme) (x : Storage) (ts : syntax.Trees) → are_not_virtual s ts ≡ true → x.is_virtual ≡ false
-    → (started_from s x ts).storage.is_virtual ≡ false
-started_still s x (syntax.more (syntax.node k.Attribute p token kids) ts) h e =
-    started_still s x ts (and_parts (is_not_virtual s (syntax.node k.Attribute p token kids)) (are_not_virtual s ts) h).1 e
-started_still s x (syntax.more (syntax.node k.DeclSpecifier p (Some t) kids) ts) h e =
-    let m = and_parts (not (bytes_eq (spelling s t) (codes "virtual"))) (are_not_virtual s ts) h in
-    started_still s (with_specifier x (spelling s t)) ts m.1
-    (specifier_kept x (spelling s t) (not-true (bytes_eq (spelling s t) (codes "virtual")) m.0) e)
-started_still s x ts h e = e
-
 -- Names
 
 pub record IsPlainly (s : List Lexeme) (name : List ℕ) : Type 0 where
   pub plain : is_destructor_name name ≡ false
-  pub named : is_virtual_name s name ≡ true
+  pub named : is_class_name s name ≡ false
 
-or_three : (a b c : Bool) → c ≡ true → (a || (b || c)) ≡ true
-or_three true b c e = refl
-or_three false true c e = refl
-or_three false false c e = e
+no_class : (a b c : Bool) → c ≡ false → (a && (b && c)) ≡ false
+no_class false b c e = refl
+no_class true false c e = refl
+no_class true true c e = e
 
 pub name_plainly : (s : List Lexeme) (o : Option ℕ) → is_plain_token s o ≡ true → IsPlainly s (name_of s o)
 name_plainly s None h = record { plain = refl; named = refl }
@@ -79,7 +55,8 @@ name_plainly s (Some t) h =
     let m = and_parts (not (is_destructor_name (spelling s t))) (not (is_type_name s (spelling s t))) h in
     record {
       plain = not-true (is_destructor_name (spelling s t)) m.0;
-      named = or_three (is_empty (spelling s t)) (is_destructor_name (spelling s t)) (not (is_type_name s (spelling s t))) m.1;
+      named = no_class (not (is_empty (spelling s t))) (not (is_destructor_name (spelling s t))) (is_type_name s (spelling s t))
+          (not-true (is_type_name s (spelling s t)) m.1);
     }
 
 -- Headers
@@ -97,7 +74,7 @@ pub plain_header : (s : List Lexeme) (home : Home) (x : Storage) (o : Option ℕ
     → IsFit s home h
 plain_header s home x o h e i =
     let p = name_plainly s o e in
-    plain i.kind_is (ap is_destructor_name i.named ∙ p.plain) (ap (is_virtual_name s) i.named ∙ p.named)
+    plain i.kind_is (ap is_destructor_name i.named ∙ p.plain) (ap (is_class_name s) i.named ∙ p.named)
 
 abbrev Fits : List Lexeme → Home → Method → Type 0
 Fits s home m = IsFit s home m.header
@@ -139,12 +116,11 @@ pub function_fits : (s : List Lexeme) (st : State) (home : Home) (at : At) (kids
 function_fits s st home at kids h =
     plain_fits s st home at (started_from s no_storage kids).storage (started_from s no_storage kids).rest (started_plainly s no_storage kids h)
 
-pub constructor_fits : (s : List Lexeme) (st : State) (home : Home) (at : At) (kids : syntax.Trees) → are_not_virtual s kids ≡ true
+pub constructor_fits : (s : List Lexeme) (st : State) (home : Home) (at : At) (kids : syntax.Trees)
     → On (Fits s home) (method_of s st home.number home.name at Constructor kids)
-constructor_fits s st home at kids h =
+constructor_fits s st home at kids =
     let x = started_from s no_storage kids in
-    special_fits s st home at x.storage Constructor x.rest
-    (λ g i. constructor i.kind_is i.named (ap (λ (z : Storage). z.is_virtual) i.storage ∙ started_still s no_storage kids h refl))
+    special_fits s st home at x.storage Constructor x.rest (λ g i. constructor i.kind_is i.named)
 
 pub destructor_fits : (s : List Lexeme) (st : State) (home : Home) (at : At) (kids : syntax.Trees)
     → On (Fits s home) (method_of s st home.number home.name at Destructor kids)

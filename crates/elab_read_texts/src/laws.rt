@@ -2,7 +2,7 @@
 
 ghost use Rattle.elab_read_texts.specs.Texts.{ReadUnitsAreTexts, ReadUnitsHaveClassNames};
 ghost use Rattle.elab_read_texts.specs.Names.{ReadUnitsAreNamed};
-ghost use Rattle.elab_read_texts.specs.Overriding.{DeclaratorsNamed, MembersNamed};
+ghost use Rattle.elab_read_texts.specs.Overriding.{DeclaratorsNamed, MembersOverride, AloneByKinds};
 
 /// Each token of a unit is spelled, each `try` has a handler, and each class has a name.
 pub fn texts()
@@ -10,13 +10,14 @@ pub fn texts()
     ensures names { ReadUnitsHaveClassNames }
 {}
 
-/// Names of members and functions are those of no type, and constructors are not virtual.
+/// Names of members and functions are those of no type, and classes have names of types.
 pub fn names()
     ensures named { ReadUnitsAreNamed }
 {}
 
-/// Members that a text declares: what overrides is a plain function or a destructor, by its name.
+/// Members that a text declares: what overrides has a name that goes with its kind.
 pub fn members()
     ensures declarators { DeclaratorsNamed }
-    ensures members { MembersNamed }
+    ensures members { MembersOverride }
+    ensures alone { AloneByKinds }
 {}

@@ -1,9 +1,13 @@
 use Rattle.elab_read_texts.proofs.Declared.{declarators_named}
-use Rattle.elab_read_texts.proofs.ReadMembers.{members_named}
+use Rattle.elab_read_texts.proofs.ReadMembers.{members_override}
+use Rattle.elab_read_texts.proofs.Alone.{alone}
 use Rattle.elab_read_texts.proofs.laws.members.Goals as goal
 
 pub returns-clause-declarators : goal.returns-clause-declarators
 returns-clause-declarators c = declarators_named
 
 pub returns-clause-members : goal.returns-clause-members
-returns-clause-members c = members_named
+returns-clause-members c = members_override
+
+pub returns-clause-alone : goal.returns-clause-alone
+returns-clause-alone c = alone
