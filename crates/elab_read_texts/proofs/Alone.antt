@@ -1,5 +1,5 @@
 -- Where what overrides has a name that goes with its kind, no two functions of a class override the same one.
-use Rattle.std.proofs.Common.{◌≡◌, refl, sym, ap, ◌∙◌, ℕ, Bool, true, false, not, ◌&&◌, ◌||◌, List, Option, Some, slice_get, true≢false}
+use Rattle.std.proofs.Common.{◌≡◌, refl, sym, ap, ◌∙◌, ℕ, Bool, true, false, not, ◌&&◌, ◌||◌, List, Some, slice_get, true≢false}
 use Rattle.std.specs.Str.{bytes_eq}
 use Rattle.std.proofs.lemmas.Bool.{and_parts}
 use Rattle.cpp_types.specs.Class.{Function}
@@ -14,7 +14,7 @@ use Rattle.elab_rules.specs.Initialising.{signature_parameters}
 use Rattle.elab_fits.proofs.Equal.{flag_same}
 use Rattle.elab_contexts.specs.Holding.{UnitHolds}
 use Rattle.elab_contexts.proofs.Functions.{alike_says, bytes_same, typs_same, kind_same}
-use Rattle.elab_read_texts.specs.Overriding.{is_overrider_by, HasOverridersBy, AloneByKinds}
+use Rattle.elab_read_texts.specs.Overriding.{is_overrider_by, AloneByKinds}
 
 -- by its kind, or by its name alone
 data Kinds (classes : List ℕ → Bool) (f : Func) : Type 0 where
@@ -57,10 +57,10 @@ plain_is : (classes : List ℕ → Bool) (f : Func) → f.kind ≡ Plain → f.d
 plain_is classes f k v h =
     let b = asked f.declared.is_virtual _ v h in
     let c : (true && (not (is_destructor_name f.declared.name) && not (classes f.declared.name))
-        || (false && (not (is_destructor_name f.declared.name) && classes f.declared.name) || false && is_destructor_name f.declared.name)) ≡ true =
-        sym (ap (λ (x : FuncKind). same_kind x Plain && (not (is_destructor_name f.declared.name) && not (classes f.declared.name))
-        || (same_kind x Constructor && (not (is_destructor_name f.declared.name) && classes f.declared.name)
-        || same_kind x Destructor && is_destructor_name f.declared.name)) k) ∙ b in
+    || (false && (not (is_destructor_name f.declared.name) && classes f.declared.name) || false && is_destructor_name f.declared.name)) ≡ true =
+    sym (ap (λ (x : FuncKind). same_kind x Plain && (not (is_destructor_name f.declared.name) && not (classes f.declared.name))
+    || (same_kind x Constructor && (not (is_destructor_name f.declared.name) && classes f.declared.name)
+    || same_kind x Destructor && is_destructor_name f.declared.name)) k) ∙ b in
     let p = plain_by (is_destructor_name f.declared.name) (classes f.declared.name) c in
     record { plain = p.0; other = p.1 }
 
@@ -70,11 +70,12 @@ record SameNamed (g o : Function) : Type 0 where
   params : signature_parameters g.signature ≡ signature_parameters o.signature
   const : g.is_const ≡ o.is_const
 
-named_by : (a b c : Bool) → a ≡ false → ((a && b) || c) ≡ true → c ≡ true
+named_by : (a b c : Bool) → (a && b) ≡ false → ((a && b) || c) ≡ true → c ≡ true
+named_by true false c e h = h
 named_by false b c e h = h
-named_by true b c e h = absurd (true≢false e)
+named_by true true c e h = absurd (true≢false e)
 
-same_named : (g o : Function) → is_destructor_name g.name ≡ false → same_virtual g o ≡ true → SameNamed g o
+same_named : (g o : Function) → (is_destructor_name g.name && is_destructor_name o.name) ≡ false → same_virtual g o ≡ true → SameNamed g o
 same_named g o d h =
     let n : Bool = bytes_eq g.name o.name in
     let t : Bool = typs_eq (signature_parameters g.signature) (signature_parameters o.signature) in
@@ -87,24 +88,13 @@ same_named g o d h =
       const = flag_same g.is_const o.is_const p.1;
     }
 
--- or as a destructor, which a function that is named like no destructor does not
-both_named : (g o : Function) → is_destructor_name o.name ≡ false → same_virtual g o ≡ true → SameNamed g o
-both_named g o d h = by (is_destructor_name g.name) refl
-  where
-    by : (b : Bool) → is_destructor_name g.name ≡ b → SameNamed g o
-    by false e = same_named g o e h
-    by true e =
-        let n : Bool = bytes_eq g.name o.name in
-        let t : Bool = typs_eq (signature_parameters g.signature) (signature_parameters o.signature) in
-        let m = or_second (is_destructor_name g.name) (is_destructor_name o.name) (n && t && flag_eq g.is_const o.is_const) d h in
-        let p = and_parts (n && t) (flag_eq g.is_const o.is_const) m in
-        let q = and_parts n t p.0 in
-        absurd (true≢false (sym e ∙ ap is_destructor_name (bytes_same g.name o.name q.0) ∙ d))
-      where
-        or_second : (a b c : Bool) → b ≡ false → ((a && b) || c) ≡ true → c ≡ true
-        or_second true true c e h = absurd (true≢false e)
-        or_second true false c e h = h
-        or_second false b c e h = h
+first_false : (a b : Bool) → a ≡ false → (a && b) ≡ false
+first_false false b e = refl
+first_false true b e = absurd (true≢false e)
+
+second_false : (a b : Bool) → b ≡ false → (a && b) ≡ false
+second_false true b e = e
+second_false false b e = refl
 
 alone_by : (classes : List ℕ → Bool) (c : Ctx) → UnitHolds c → (n j k : ℕ) (f g : Func) (o : Function) → slice_get c.funcs k ≡ Some f
     → slice_get c.funcs j ≡ Some g → f.class ≡ Some n → g.class ≡ Some n → f.kind ≡ Plain → IsPlainOne classes f → Kinds classes g
@@ -124,6 +114,7 @@ alone_by classes c u n j k f g o e q d x p m (plain_one s) a b = u.slotted.disti
 pub alone : AloneByKinds
 alone classes c u h k n f e d p v j g o q x w a b =
     let m = plain_is classes f p v (h k n f e d) in
-    let first = same_named f.declared o m.plain b in
+    let first = same_named f.declared o (first_false (is_destructor_name f.declared.name) (is_destructor_name o.name) m.plain) b in
+    let other : is_destructor_name o.name ≡ false = sym (ap is_destructor_name first.name) ∙ m.plain in
     alone_by classes c u n j k f g o e q d x p m (kinds_are classes g w (h j n g q x)) first
-    (both_named g.declared o (sym (ap is_destructor_name first.name) ∙ m.plain) a)
+    (same_named g.declared o (second_false (is_destructor_name g.declared.name) (is_destructor_name o.name) other) a)

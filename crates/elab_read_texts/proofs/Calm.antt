@@ -1,11 +1,11 @@
 -- Behind what derives from a rule, nothing is introduced: the next token stands behind no `class`, `struct`, `enum` or `using`.
-use Rattle.std.proofs.Common.{◌≡◌, ℕ, ◌+◌, Bool, true, false, not, ◌&&◌, refl, sym as back, ◌∙◌, subst, ap, List, Option, true≢false}
+use Rattle.std.proofs.Common.{◌≡◌, ℕ, ◌+◌, Bool, true, false, not, ◌&&◌, refl, sym as back, ◌∙◌, List, Option, true≢false}
 use Rattle.std.proofs.lemmas.Bool.{and_parts, not-true}
 use Rattle.cpp_lex.specs.Tokens.{Lexeme}
 use Rattle.cpp_syntax.specs.declared.terminal.Terminal.{Terminal}
 use Rattle.cpp_syntax.specs.declared.terminal.Terminal.TheVariants as terminal
 use Rattle.cpp_syntax.specs.Source.{Source, terminal_at}
-use Rattle.cpp_syntax.specs.Rules.{Lookahead, Rule, Nonterminal, compound_statement}
+use Rattle.cpp_syntax.specs.Rules.{Lookahead, Rule}
 use Rattle.cpp_syntax.specs.Grammar.{production}
 use Rattle.cpp_syntax.specs.Derivations.{Read, in_trees, Derives, is_nothing, is_word, is_mark, is_mark_next, is_mark_name, is_both, is_left, is_right}
 use Rattle.cpp_syntax.specs.Derivations.{is_last, is_more, is_form, is_node, is_wrap, is_kept_apart, is_in_tree, is_where, is_before, is_if, is_unless}

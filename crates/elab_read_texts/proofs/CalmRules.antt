@@ -1,5 +1,5 @@
 -- Tests on rules of the grammar: no name that a declarator has stands directly behind `class`, `struct`, `enum` or `using`.
-use Rattle.std.specs.Prelude.{ℕ, Bool, true, false, not, ◌&&◌, ◌||◌, if◌then◌else◌}
+use Rattle.std.specs.Prelude.{Bool, true, false, not, ◌&&◌, if◌then◌else◌}
 use Rattle.cpp_ast.specs.declared.kinds.NodeKind.{NodeKind}
 use Rattle.cpp_ast.specs.declared.kinds.NodeKind.TheVariants as k
 use Rattle.cpp_syntax.specs.declared.terminal.Terminal.{Terminal}

@@ -1,12 +1,11 @@
 -- How many trees a rule adds at least.
-use Rattle.std.proofs.Common.{◌≡◌, ℕ, zero, suc, ◌+◌, ◌≤◌, Bool, true, false, ◌&&◌, nat_le, refl, sym as back, ◌∙◌, subst, ap, arith, Option, true≢false}
+use Rattle.std.proofs.Common.{◌≡◌, ℕ, suc, ◌+◌, ◌≤◌, true, false, refl, sym as back, arith, Option, true≢false}
 use Rattle.std.proofs.lemmas.Bool.{and_parts}
-use Rattle.std.proofs.lemmas.Bool.Decides.{nat_tests}
 use Rattle.cpp_ast.specs.declared.kinds.NodeKind.{NodeKind}
 use Rattle.cpp_ast.specs.declared.kinds.NodeKind.TheVariants as k
-use Rattle.cpp_ast.specs.Trees.{Tree, Trees, none, more}
+use Rattle.cpp_ast.specs.Trees.{Trees, none, more}
 use Rattle.cpp_syntax.specs.Source.{Source}
-use Rattle.cpp_syntax.specs.Rules.{Nonterminal, compound_statement, handler, Lookahead, Rule, form}
+use Rattle.cpp_syntax.specs.Rules.{Nonterminal, compound_statement, handler, Lookahead, Rule}
 use Rattle.cpp_syntax.specs.Grammar.{production}
 use Rattle.cpp_syntax.specs.Derivations.{Read, join, no_read, in_trees, Derives, is_nothing, is_word, is_mark, is_mark_next, is_mark_name, is_both}
 use Rattle.cpp_syntax.specs.Derivations.{is_left, is_right, is_last, is_more, is_form, is_node, is_wrap, is_kept_apart, is_in_tree, is_where, is_before}

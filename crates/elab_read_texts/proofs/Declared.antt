@@ -1,7 +1,6 @@
 -- What a declarator declares has the name of a node in it.
-use Rattle.std.proofs.Common.{◌≡◌, refl, ℕ, Bool, true, false, not, ◌&&◌, List, Option, Some, None, codes, if◌then◌else◌}
-use Rattle.std.specs.Str.{bytes_eq}
-use Rattle.std.proofs.lemmas.Bool.{and_parts, and_from}
+use Rattle.std.proofs.Common.{◌≡◌, refl, Bool, true, false, not, ◌&&◌, List, Some}
+use Rattle.std.proofs.lemmas.Bool.{and_parts}
 use Rattle.elab_rules.specs.cpp_types.Typ.{Typ}
 use Rattle.elab_rules.specs.cpp_types.declared.classes.At.{At}
 use Rattle.elab_rules.specs.cpp_tree.declared.faults.IllRule.TheVariants.{BadDeclaration}
@@ -9,13 +8,13 @@ use Rattle.cpp_lex.specs.Tokens.{Lexeme}
 use Rattle.cpp_ast.specs.declared.kinds.NodeKind.TheVariants as k
 use Rattle.cpp_ast.specs.Trees as syntax
 use Rattle.elab_rules.specs.elab_ctx.Ctx.{Ctx, Work, Closure}
-use Rattle.elab_rules.specs.elab_ctx.Steps.{and_then, check, at_of, spelling}
+use Rattle.elab_rules.specs.elab_ctx.Steps.{and_then, check}
 use Rattle.elab_rules.specs.Types.{Declared, Parameter, Qualifiers, is_name, pointer_to, reference_to, open_array, function_of, with_function, qualifiers_of}
 use Rattle.elab_rules.specs.Types.{is_declared_safe}
 use Rattle.elab_rules.specs.Expressions.{declared_with, pointed_with, parameters_in_with, expression_with, chosen_operand, bounded}
 use Rattle.elab_fits.specs.Standing.{On}
 use Rattle.elab_contexts.proofs.Walking.{bind, skip}
-use Rattle.elab_read_texts.specs.Names.{is_plain_token, is_declarator, is_declared_plainly, declares_plainly, declare_plainly}
+use Rattle.elab_read_texts.specs.Names.{is_plain_token, declares_plainly, declare_plainly}
 use Rattle.elab_read_texts.specs.Overriding.{DeclaratorsNamed}
 
 abbrev Plainly : List Lexeme → Declared → Type 0

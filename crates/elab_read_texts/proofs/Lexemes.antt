@@ -1,11 +1,9 @@
 -- The tokens of a text are spelled with something, and a name does not begin with `~`.
-use Rattle.std.proofs.Common.{List, [], ◌∷◌, ◌++◌, ◌≡◌, ℕ, zero, suc, ◌+◌, ◌<◌, ◌≤◌, Bool, true, false, not, length, Option, Some, None, if◌then◌else◌, ◌&&◌}
-use Rattle.std.proofs.Common.{refl, sym, ◌∙◌, subst, ap, arith, slice_range, slice_index}
+use Rattle.std.proofs.Common.{List, [], ◌∷◌, ◌++◌, ◌≡◌, ℕ, zero, suc, ◌<◌, Bool, true, false, not, length, Option, Some, None, if◌then◌else◌, ◌&&◌}
+use Rattle.std.proofs.Common.{refl, sym, subst, ap, arith, slice_range}
 use Rattle.std.specs.Prelude.{All}
 use Rattle.std.proofs.lemmas.List.Elements.{All-nil, All-cons, All-head, All-tail, All-append}
 use Rattle.cpp_lex.specs.declared.piece.PieceKind.{PieceKind}
-use Rattle.cpp_lex.specs.declared.piece.PieceKind.TheVariants.{Blank, LineComment, BlockComment, HashLine, Word, IntegerLiteral, CharacterLiteral}
-use Rattle.cpp_lex.specs.declared.piece.PieceKind.TheVariants.{StringLiteral, Punctuator}
 use Rattle.cpp_lex.specs.declared.TokKind.{TokKind}
 use Rattle.cpp_lex.specs.Pieces.{PieceAt, Piece, Pieces, done, next}
 use Rattle.cpp_lex.specs.Tokens.{Lexeme, token_kind, piece_value, token_of, token_at, kept, is_str, as_one, joined_to, joined, IsTokens}

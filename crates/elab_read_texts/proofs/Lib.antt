@@ -19,3 +19,4 @@ pub mod Overriding
 pub mod Methods
 pub mod ReadMembers
 pub mod Alone
+pub mod Parts

@@ -1,12 +1,11 @@
 -- Units that are read are named as the grammar has it.
-use Rattle.std.proofs.Common.{◌≡◌, ℕ, ◌+◌, Bool, true, false, refl, List}
-use Rattle.cpp_lex.specs.Tokens.{Lexeme}
+use Rattle.std.proofs.Common.{true, refl}
 use Rattle.cpp_syntax.specs.Classes.{source_of}
 use Rattle.elab_read_texts.specs.Names.{ReadUnitsAreNamed}
 use Rattle.elab_read_texts.proofs.Tokens.{calm, typed, plain}
 use Rattle.elab_read_texts.proofs.Words.{words_of}
 use Rattle.elab_read_texts.proofs.Plain.{AreKnown}
-use Rattle.elab_read_texts.proofs.Named.{AreAllKnown, named}
+use Rattle.elab_read_texts.proofs.Named.{named}
 
 pub read_named : ReadUnitsAreNamed
 read_named number text tokens decls x =

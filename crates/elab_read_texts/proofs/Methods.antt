@@ -1,13 +1,12 @@
 -- Headers of the members that a text declares.
-use Rattle.std.proofs.Common.{◌≡◌, refl, sym, ap, ◌∙◌, ℕ, Bool, true, false, not, ◌&&◌, ◌||◌, List, [], ◌∷◌, Option, Some, None, codes, if◌then◌else◌, true≢false}
+use Rattle.std.proofs.Common.{◌≡◌, refl, ap, ◌∙◌, ℕ, Bool, true, false, not, ◌&&◌, List, Option, Some, None}
 use Rattle.std.specs.Str.{bytes_eq}
-use Rattle.std.proofs.lemmas.Bool.{and_parts, and_from, not-true}
+use Rattle.std.proofs.lemmas.Bool.{and_parts, not-true}
 use Rattle.cpp_types.specs.Trivial.{is_destructor_name}
 use Rattle.cpp_lex.specs.Tokens.{Lexeme}
-use Rattle.cpp_ast.specs.declared.kinds.NodeKind.{NodeKind}
 use Rattle.cpp_ast.specs.declared.kinds.NodeKind.TheVariants as k
 use Rattle.cpp_ast.specs.Trees as syntax
-use Rattle.elab_rules.specs.cpp_types.Typ.{Typ, Form, func}
+use Rattle.elab_rules.specs.cpp_types.Typ.{Form, func}
 use Rattle.elab_rules.specs.cpp_types.declared.classes.At.{At}
 use Rattle.elab_rules.specs.cpp_tree.Notation.{plain as plain_typ}
 use Rattle.elab_rules.specs.cpp_tree.Typing.{form_in}
@@ -15,17 +14,17 @@ use Rattle.elab_rules.specs.cpp_types.Typ.{void}
 use Rattle.elab_rules.specs.cpp_tree.declared.program.FuncKind.{FuncKind}
 use Rattle.elab_rules.specs.cpp_tree.declared.program.FuncKind.TheVariants.{Plain, Constructor, Destructor}
 use Rattle.elab_rules.specs.cpp_tree.declared.faults.IllRule.TheVariants.{BadDeclaration}
-use Rattle.elab_rules.specs.elab_ctx.Steps.{and_then, check, spelling}
+use Rattle.elab_rules.specs.elab_ctx.Steps.{check, spelling}
 use Rattle.elab_rules.specs.Types.{Declared}
 use Rattle.elab_rules.specs.Statements.{State, name_of}
 use Rattle.elab_rules.specs.Functions.{Header, Storage, no_storage, with_specifier}
 use Rattle.elab_rules.specs.Expressions.{declared_by, type_of_specifiers}
-use Rattle.elab_rules.specs.Classes.{Home, Method, Started, started_from, header_in, plain_method, special_name, special_header, special_method, is_special}
-use Rattle.elab_rules.specs.Classes.{method_started, method_of}
+use Rattle.elab_rules.specs.Classes.{Home, Method, started_from, header_in, plain_method, special_name, special_header, special_method, is_special}
+use Rattle.elab_rules.specs.Classes.{method_of}
 use Rattle.elab_fits.specs.Standing.{On}
 use Rattle.elab_fits_forms.specs.Types.{is_empty}
 use Rattle.elab_contexts.proofs.Walking.{bind, skip}
-use Rattle.elab_read_texts.specs.Names.{is_type_name, is_class_name, is_plain_name, is_plain_token, is_declarator, is_declared_plainly, declares_plainly, declare_plainly}
+use Rattle.elab_read_texts.specs.Names.{is_type_name, is_class_name, is_plain_token, declares_plainly, declare_plainly}
 use Rattle.elab_read_texts.proofs.Declared.{declared_plainly}
 use Rattle.elab_read_texts.proofs.Overriding.{IsFit, plain, destructor, constructor}
 

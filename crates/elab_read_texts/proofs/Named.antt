@@ -1,14 +1,14 @@
 -- What a unit declares is named as the grammar has it.
-use Rattle.std.proofs.Common.{◌≡◌, ℕ, ◌+◌, Bool, true, false, not, ◌&&◌, refl, sym as back, ◌∙◌, subst, ap, List, Option, Some, None, true≢false}
-use Rattle.std.proofs.lemmas.Bool.{and_parts, and_from, not-true}
+use Rattle.std.proofs.Common.{◌≡◌, ℕ, ◌+◌, Bool, true, false, ◌&&◌, refl, sym as back, subst, List, Option, Some, None, true≢false}
+use Rattle.std.proofs.lemmas.Bool.{and_parts, and_from}
 use Rattle.cpp_lex.specs.Tokens.{Lexeme}
 use Rattle.cpp_ast.specs.declared.arena.At.{At}
 use Rattle.cpp_ast.specs.declared.kinds.NodeKind.{NodeKind}
 use Rattle.cpp_ast.specs.declared.kinds.NodeKind.TheVariants as k
-use Rattle.cpp_ast.specs.Trees.{Tree, node, Trees, none, more}
+use Rattle.cpp_ast.specs.Trees.{node, Trees, none, more}
 use Rattle.cpp_syntax.specs.Source.{Source, terminal_at, position_at}
 use Rattle.cpp_syntax.specs.Terminals.{is_name}
-use Rattle.cpp_syntax.specs.Rules.{Lookahead, Rule, Nonterminal, mark, ◌·◌, node_at}
+use Rattle.cpp_syntax.specs.Rules.{Lookahead, Rule, mark, ◌·◌, node_at}
 use Rattle.cpp_syntax.specs.Grammar.{production}
 use Rattle.cpp_syntax.specs.Derivations.{Read, join, one_tree, no_read, in_trees, Derives, is_nothing, is_word, is_mark, is_mark_next}
 use Rattle.cpp_syntax.specs.Derivations.{is_mark_name, is_both, is_left, is_right, is_last, is_more, is_form, is_node, is_wrap, is_kept_apart, is_in_tree}
@@ -17,7 +17,7 @@ use Rattle.cpp_syntax.specs.Classes.{is_introduced, is_introducer}
 use Rattle.cpp_syntax.proofs.TerminalTables.{implied}
 use Rattle.elab_rules.specs.elab_ctx.Steps.{spelling}
 use Rattle.elab_read_texts.specs.Names.{is_class_name, is_node_named, is_named, are_named}
-use Rattle.elab_read_texts.proofs.CalmRules.{follows, calms, is_read, reads_plainly, introduces_first, names_first, introduces_name}
+use Rattle.elab_read_texts.proofs.CalmRules.{calms, is_read, introduces_first, names_first, introduces_name}
 use Rattle.elab_read_texts.proofs.CalmRules.{node_named, is_free_node, reads_named}
 use Rattle.elab_read_texts.proofs.CalmTables.{named_holds}
 use Rattle.elab_read_texts.proofs.Calm.{calmed}

@@ -1,5 +1,5 @@
 -- The name that some trees declare is a token that one of them has.
-use Rattle.std.proofs.Common.{◌≡◌, ℕ, Bool, true, false, refl, ◌&&◌, List, Option, Some, None, if◌then◌else◌}
+use Rattle.std.proofs.Common.{◌≡◌, ℕ, Bool, true, false, refl, List, Option, Some, if◌then◌else◌}
 use Rattle.std.proofs.lemmas.Bool.{and_parts}
 use Rattle.cpp_lex.specs.Tokens.{Lexeme}
 use Rattle.cpp_ast.specs.declared.kinds.NodeKind.{NodeKind}

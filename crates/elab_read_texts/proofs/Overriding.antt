@@ -1,5 +1,5 @@
 -- A member that a text declares is named as overriding asks.
-use Rattle.std.proofs.Common.{◌≡◌, refl, sym, ap, ◌∙◌, ℕ, Bool, true, false, not, ◌&&◌, ◌||◌, List, [], ◌∷◌, ◌++◌, slice_get, Option, Some, None, true≢false}
+use Rattle.std.proofs.Common.{◌≡◌, refl, sym, ap, ◌∙◌, ℕ, Bool, true, false, not, ◌&&◌, ◌||◌, List, Option, Some, None, true≢false}
 use Rattle.cpp_types.specs.Class.{Function}
 use Rattle.cpp_types.specs.Trivial.{is_destructor_name}
 use Rattle.cpp_lex.specs.Tokens.{Lexeme}

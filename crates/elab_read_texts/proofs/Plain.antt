@@ -1,17 +1,17 @@
 -- Each name that a declarator has is one of no type, but for constructors.
-use Rattle.std.proofs.Common.{◌≡◌, ℕ, ◌+◌, Bool, true, false, not, ◌&&◌, refl, sym as back, ◌∙◌, subst, ap, List, Option, Some, None, true≢false}
+use Rattle.std.proofs.Common.{◌≡◌, ℕ, Bool, true, false, not, ◌&&◌, refl, sym as back, List, Option, None, true≢false}
 use Rattle.std.proofs.Common.{if◌then◌else◌}
-use Rattle.std.proofs.lemmas.Bool.{and_parts, and_from, not-true}
+use Rattle.std.proofs.lemmas.Bool.{and_parts, and_from}
 use Rattle.cpp_lex.specs.Tokens.{Lexeme}
 use Rattle.cpp_ast.specs.declared.arena.At.{At}
 use Rattle.cpp_ast.specs.declared.kinds.NodeKind.{NodeKind}
-use Rattle.cpp_ast.specs.Trees.{Tree, node, Trees, none, more}
+use Rattle.cpp_ast.specs.Trees.{node, Trees, none, more}
 use Rattle.cpp_syntax.specs.declared.terminal.Terminal.{Terminal}
 use Rattle.cpp_syntax.specs.Source.{Source, terminal_at, position_at}
 use Rattle.cpp_syntax.specs.Terminals.{is_name}
-use Rattle.cpp_syntax.specs.Rules.{Lookahead, Rule, Nonterminal, mark, ◌·◌}
+use Rattle.cpp_syntax.specs.Rules.{Lookahead, Rule}
 use Rattle.cpp_syntax.specs.Grammar.{production}
-use Rattle.cpp_syntax.specs.Derivations.{Read, join, one_tree, no_read, first_or, in_trees, Derives, is_nothing, is_word, is_mark, is_mark_next}
+use Rattle.cpp_syntax.specs.Derivations.{Read, join, one_tree, in_trees, Derives, is_nothing, is_word, is_mark, is_mark_next}
 use Rattle.cpp_syntax.specs.Derivations.{is_mark_name, is_both, is_left, is_right, is_last, is_more, is_form, is_node, is_wrap, is_kept_apart, is_in_tree}
 use Rattle.cpp_syntax.specs.Derivations.{is_where, is_before, is_if, is_unless, positioned, position_of_first}
 use Rattle.cpp_syntax.specs.Classes.{is_introduced}

@@ -1,5 +1,5 @@
 -- The members of a class, in the order of the text.
-use Rattle.std.proofs.Common.{◌≡◌, refl, sym, ap, ◌∙◌, ℕ, Bool, true, false, not, ◌&&◌, ◌||◌, List, [], ◌∷◌, Option, Some, None, Result, Ok, Err, is_some, is_none}
+use Rattle.std.proofs.Common.{◌≡◌, refl, sym, ◌∙◌, ℕ, Bool, true, not, ◌&&◌, ◌||◌, List, Option, Some, None, Result, is_some, is_none}
 use Rattle.std.proofs.lemmas.Bool.{and_parts}
 use Rattle.cpp_lex.specs.Tokens.{Lexeme}
 use Rattle.cpp_ast.specs.declared.kinds.NodeKind.TheVariants as k
@@ -12,7 +12,7 @@ use Rattle.elab_rules.specs.cpp_tree.declared.faults.ElabFault.{ElabFault}
 use Rattle.elab_rules.specs.cpp_tree.declared.program.FuncKind.{FuncKind}
 use Rattle.elab_rules.specs.cpp_tree.declared.program.FuncKind.TheVariants.{Plain, Constructor, Destructor}
 use Rattle.elab_rules.specs.cpp_tree.declared.faults.IllRule.TheVariants.{AbstractObject, BadDeclaration, Incomplete, OutOfProfile, Redeclared}
-use Rattle.elab_rules.specs.elab_ctx.Steps.{and_then, at_of, check, each_of}
+use Rattle.elab_rules.specs.elab_ctx.Steps.{at_of, check, each_of}
 use Rattle.elab_rules.specs.Types.{Declared, has_auto, is_bounded, is_abstract_type}
 use Rattle.elab_rules.specs.Objects.{element_of}
 use Rattle.elab_rules.specs.Operators.{is_complete}
@@ -21,13 +21,13 @@ use Rattle.elab_rules.specs.Expressions.{declared_by, type_of_specifiers}
 use Rattle.elab_rules.specs.Statements.{name_of, is_own_name}
 use Rattle.elab_rules.specs.Functions.{Header, Storage, no_storage, first_from, header_sized, is_same_function, new_function}
 use Rattle.elab_rules.specs.Classes.{Home, Members, Marks, Definition, Method, Started, started_from, header_in, method_of, member_function, data_member}
-use Rattle.elab_rules.specs.Classes.{declared_method, declared_member, member_declarator, member_declarators, member_of, members_of, member_form, member_named}
+use Rattle.elab_rules.specs.Classes.{declared_method, declared_member, member_declarator, member_declarators, member_of, member_form, member_named}
 use Rattle.elab_rules.specs.Classes.{has_member, has_function, overridden, overrides_well, marks_fit, definition_sized, within_bounds, declarator_among, marks_from}
 use Rattle.elab_rules.specs.Classes.{no_marks, no_function_words, has_equal, has_initialiser, definition_between, last_token, body_in}
 use Rattle.elab_fits.specs.Standing.{On}
 use Rattle.elab_contexts.proofs.Walking.{bind, skip}
 use Rattle.elab_read_texts.specs.Names.{is_class_name, is_plain_token, is_declarator, is_declared_plainly, declares_plainly, declare_plainly}
-use Rattle.elab_read_texts.specs.Names.{is_node_named, is_named, are_named}
+use Rattle.elab_read_texts.specs.Names.{is_named, are_named}
 use Rattle.elab_read_texts.specs.Overriding.{HasOverridersBy, MembersOverride}
 use Rattle.elab_read_texts.proofs.Declared.{declared_plainly}
 use Rattle.elab_read_texts.proofs.Overriding.{IsFit, function_added}

@@ -1,14 +1,14 @@
 -- What is read is a text: by induction over what derives.
-use Rattle.std.proofs.Common.{◌≡◌, ℕ, ◌<◌, ◌≤◌, ◌⊎◌, inl, inr, Bool, true, false, not, ◌&&◌, nat_le, refl, sym as back, ◌∙◌, subst, ap, arith}
+use Rattle.std.proofs.Common.{◌≡◌, ℕ, ◌<◌, ◌≤◌, ◌⊎◌, inl, inr, Bool, true, false, not, ◌&&◌, nat_le, refl, sym as back, arith}
 use Rattle.std.proofs.Common.{if◌then◌else◌, List, length, Option, Some, None, true≢false}
 use Rattle.std.proofs.lemmas.Bool.{and_parts, and_from, not-true}
 use Rattle.std.proofs.lemmas.Bool.Decides.{nat_tests}
 use Rattle.cpp_lex.specs.Tokens.{Lexeme}
 use Rattle.cpp_ast.specs.declared.arena.At.{At}
 use Rattle.cpp_ast.specs.declared.kinds.NodeKind.{NodeKind}
-use Rattle.cpp_ast.specs.Trees.{Tree, node, Trees, none, more}
-use Rattle.cpp_syntax.specs.Source.{Source, terminal_at}
-use Rattle.cpp_syntax.specs.Rules.{Lookahead, Rule, ◌·◌, form}
+use Rattle.cpp_ast.specs.Trees.{node, Trees, none, more}
+use Rattle.cpp_syntax.specs.Source.{Source}
+use Rattle.cpp_syntax.specs.Rules.{Lookahead, Rule}
 use Rattle.cpp_syntax.specs.Derivations.{Read, join, one_tree, no_read, first_or, in_trees, Derives, is_nothing, is_word, is_mark, is_mark_next}
 use Rattle.cpp_syntax.specs.Derivations.{is_mark_name, is_both, is_left, is_right, is_last, is_more, is_form, is_node, is_wrap, is_kept_apart, is_in_tree}
 use Rattle.cpp_syntax.specs.Derivations.{is_where, is_before, is_if, is_unless}
@@ -20,7 +20,7 @@ use Rattle.elab_fits_states.specs.States.{AreTexts, is_handled, has_handlers, ha
 use Rattle.elab_read_texts.proofs.Rules.{marks_next, keeps, adds, is_try, is_tried, reads_well}
 use Rattle.elab_read_texts.proofs.Tables.{ends_holds, reads_holds}
 use Rattle.elab_read_texts.proofs.Names.{names_spelled}
-use Rattle.elab_read_texts.proofs.Counts.{count, counted, two_handled, other_handled}
+use Rattle.elab_read_texts.proofs.Counts.{counted, two_handled, other_handled}
 
 -- each token of the source is spelled
 abbrev pub AreSpelled : List Lexeme → Source → Type 0

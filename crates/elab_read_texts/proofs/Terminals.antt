@@ -1,19 +1,18 @@
 -- Which tokens are names and keywords to the grammar.
-use Rattle.std.proofs.Common.{◌≡◌, ℕ, zero, suc, ◌+◌, ◌<◌, Bool, true, false, not, ◌&&◌, ◌||◌, nat_lt, refl, sym as back, ◌∙◌, ap, arith, List, [], ◌∷◌, codes}
-use Rattle.std.proofs.Common.{Option, Some, None, is_some, if◌then◌else◌, true≢false, length}
+use Rattle.std.proofs.Common.{◌≡◌, ℕ, Bool, true, false, not, ◌&&◌, nat_lt, refl, sym as back, ◌∙◌, List, [], ◌∷◌, codes}
+use Rattle.std.proofs.Common.{Option, Some, None, is_some, if◌then◌else◌, true≢false}
 use Rattle.std.specs.List.{list_all}
 use Rattle.std.specs.Str.{bytes_eq}
 use Rattle.std.proofs.lemmas.Bool.{and_parts, not-true}
-use Rattle.std.proofs.lemmas.Slice.Eq.{bytes_eq-Decides}
 use Rattle.cpp_lex.specs.Tokens.{Lexeme}
 use Rattle.cpp_lex.specs.declared.TokKind.{TokKind}
 use Rattle.cpp_lex.specs.declared.TokKind.TheVariants as token
 use Rattle.cpp_syntax.specs.declared.terminal.Terminal.{Terminal}
 use Rattle.cpp_syntax.specs.declared.terminal.Terminal.TheVariants as terminal
-use Rattle.cpp_syntax.specs.Terminals.{is_name, as_type_name, before_type_name, explicit_word, inline_word}
+use Rattle.cpp_syntax.specs.Terminals.{is_name, as_type_name, before_type_name}
 use Rattle.cpp_syntax.specs.Classes.{Spelled, keys, puncts, special_names, terminal_by, key_terminal, punct_terminal, integer_terminal, name_terminal}
 use Rattle.cpp_syntax.specs.Classes.{is_introducer, is_key, name_class, class_by}
-use Rattle.cpp_syntax.proofs.TerminalTables.{passes, at_each, implies, implied}
+use Rattle.cpp_syntax.proofs.TerminalTables.{passes, at_each}
 
 -- no row of a table, nor what is not in it, passes the test
 no_row : (test : Terminal → Bool) (rows : List Spelled) (word : List ℕ) (otherwise : Terminal) → list_all (λ (r : Spelled). not (test r.terminal)) rows ≡ true
@@ -23,10 +22,10 @@ no_row test (row ∷ rows) word otherwise h e =
     let p = and_parts (not (test row.terminal)) (list_all (λ (r : Spelled). not (test r.terminal)) rows) h in
     by_row (bytes_eq row.word word) (not-true (test row.terminal) p.0) (no_row test rows word otherwise p.1 e)
   where
-  by_row : (b : Bool) → test row.terminal ≡ false → test (terminal_by rows word otherwise) ≡ false
-      → test (if b then row.terminal else terminal_by rows word otherwise) ≡ false
-  by_row true f g = f
-  by_row false f g = g
+    by_row : (b : Bool) → test row.terminal ≡ false → test (terminal_by rows word otherwise) ≡ false
+        → test (if b then row.terminal else terminal_by rows word otherwise) ≡ false
+    by_row true f g = f
+    by_row false f g = g
 
 choice : (test : Terminal → Bool) (b : Bool) (s t : Terminal) → test s ≡ false → test t ≡ false → test (if b then s else t) ≡ false
 choice test true s t e f = e

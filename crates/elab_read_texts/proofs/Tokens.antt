@@ -1,12 +1,9 @@
 -- What the tokens of a source are to the grammar, by their places.
 use Rattle.std.proofs.Common.{◌≡◌, ℕ, zero, suc, ◌+◌, ◌<◌, ◌≤◌, inl, inr, Bool, true, false, not, ◌&&◌, refl, sym as back, ◌∙◌, ap, subst, arith}
-use Rattle.std.proofs.Common.{List, [], ◌∷◌, ◌++◌, length, get_or, slice_get, slice_index_or, codes, Option, Some, None, is_some, if◌then◌else◌, true≢false}
+use Rattle.std.proofs.Common.{List, [], ◌∷◌, ◌++◌, length, get_or, slice_get, Option, Some, None, is_some, true≢false}
 use Rattle.std.proofs.Common.{length-append}
 use Rattle.std.specs.Str.{bytes_eq}
-use Rattle.std.specs.Prelude.{All}
-use Rattle.std.proofs.lemmas.Bool.{cases_lt, and_parts, and_from, not-true}
-use Rattle.std.proofs.lemmas.List.{get_or_past}
-use Rattle.std.proofs.lemmas.List.Elements.{All-head, All-tail}
+use Rattle.std.proofs.lemmas.Bool.{cases_lt, and_from}
 use Rattle.std.proofs.lemmas.Slice.Eq.{bytes_eq-Decides}
 use Rattle.cpp_types.specs.Trivial.{is_destructor_name}
 use Rattle.cpp_lex.specs.Tokens.{Lexeme}
@@ -14,15 +11,14 @@ use Rattle.cpp_lex.specs.declared.TokKind.{TokKind}
 use Rattle.cpp_lex.specs.declared.TokKind.TheVariants as token
 use Rattle.cpp_syntax.specs.declared.terminal.Terminal.{Terminal}
 use Rattle.cpp_syntax.specs.declared.terminal.Terminal.TheVariants as terminal
-use Rattle.cpp_syntax.specs.Source.{Source, terminal_at}
+use Rattle.cpp_syntax.specs.Source.{terminal_at}
 use Rattle.cpp_syntax.specs.Terminals.{is_name}
-use Rattle.cpp_syntax.specs.Classes.{each_below, class_at, class_by, terminals_of, source_of, is_introducer, is_introduced, introduces, names_type, or_here}
+use Rattle.cpp_syntax.specs.Classes.{each_below, class_at, class_by, terminals_of, source_of, is_introducer, is_introduced, names_type, or_here}
 use Rattle.cpp_syntax.specs.Classes.{type_index}
 use Rattle.cpp_syntax.proofs.WithinTokens.{token_inside}
 use Rattle.elab_rules.specs.elab_ctx.Steps.{spelling}
 use Rattle.elab_fits_forms.specs.Types.{is_empty}
 use Rattle.elab_read_texts.specs.Names.{is_type_name, is_plain_name, is_class_name}
-use Rattle.elab_read_texts.proofs.Lexemes.{IsFilled}
 use Rattle.elab_read_texts.proofs.Terminals.{calm_by, introduced_by, name_kind, no_index}
 
 pub each_long : {A : Type 0} (f : ℕ → A) (n : ℕ) → length (each_below f n) ≡ n
@@ -138,9 +134,9 @@ typed number tokens k w h i =
     let before : is_introduced tokens (k + 1) ≡ true = subst (λ (z : ℕ). is_introduced tokens z ≡ true) next (rw x.at introduced) in
     let filled : not (is_empty y.token.bytes) ≡ true = ap (λ (z : List ℕ). not (is_empty z)) (back y.spelled) ∙ w.filled (k + 1) y.inside in
     rw y.spelled (and_from (not (is_empty y.token.bytes)) (not (is_destructor_name y.token.bytes) && is_type_name tokens y.token.bytes) filled
-      (and_from (not (is_destructor_name y.token.bytes)) (is_type_name tokens y.token.bytes) (ap not (w.word (k + 1) y.token y.at kind))
-      (index_found tokens y.token.bytes (length tokens) (k + 1) y.inside
-      (and_from (is_introduced tokens (k + 1)) _ before (rw y.at (rw kind (same_bytes y.token.bytes)))))))
+    (and_from (not (is_destructor_name y.token.bytes)) (is_type_name tokens y.token.bytes) (ap not (w.word (k + 1) y.token y.at kind))
+    (index_found tokens y.token.bytes (length tokens) (k + 1) y.inside
+    (and_from (is_introduced tokens (k + 1)) _ before (rw y.at (rw kind (same_bytes y.token.bytes)))))))
 
 -- a name that is not introduced where it stands is that of no type
 not_typed : (tokens : List Lexeme) (k : ℕ) (kind : TokKind) (word : List ℕ) → kind ≡ token.Name → is_name (class_by tokens k kind word) ≡ true
@@ -159,4 +155,4 @@ plain number tokens k w h i =
     let is = ap is_name (back x.is) ∙ h in
     let kind = name_kind tokens k x.token.kind x.token.bytes is in
     rw x.spelled (and_from (not (is_destructor_name x.token.bytes)) (not (is_type_name tokens x.token.bytes)) (ap not (w.word k x.token x.at kind))
-      (ap not (not_typed tokens k x.token.kind x.token.bytes kind is i)))
+    (ap not (not_typed tokens k x.token.kind x.token.bytes kind is i)))

@@ -1,5 +1,5 @@
 -- A name does not begin with `~`.
-use Rattle.std.proofs.Common.{List, [], ◌∷◌, ◌++◌, ◌≡◌, ◌≢◌, ℕ, zero, suc, ◌+◌, ◌<◌, ◌≤◌, Bool, true, false, not, length, Option, Some, None, if◌then◌else◌, ◌&&◌}
+use Rattle.std.proofs.Common.{List, [], ◌∷◌, ◌≡◌, ◌≢◌, ℕ, zero, suc, ◌+◌, Bool, true, false, Some, if◌then◌else◌, ◌&&◌}
 use Rattle.std.proofs.Common.{refl, sym, ◌∙◌, subst, ap, arith, slice_range, slice_index, slice_get, true≢false}
 use Rattle.std.specs.Prelude.{All}
 use Rattle.std.proofs.lemmas.Bool.Decides.{nat_tests}
@@ -13,9 +13,8 @@ use Rattle.cpp_lex.specs.declared.TokKind.TheVariants as token
 use Rattle.cpp_lex.specs.Bytes.{is_letter}
 use Rattle.cpp_lex.specs.Words.{IsWord}
 use Rattle.cpp_lex.specs.Pieces.{PieceAt, Piece, Pieces, done, next}
-use Rattle.cpp_lex.specs.Tokens.{Lexeme, token_kind, piece_value, token_of, token_at, kept, is_str, as_one, joined_to, joined, IsTokens, word_kind}
-use Rattle.cpp_lex.proofs.Ends.{spelled_within}
-use Rattle.cpp_lex.proofs.Values.{range_length, range_at}
+use Rattle.cpp_lex.specs.Tokens.{Lexeme, token_at, kept, is_str, as_one, joined_to, joined, IsTokens}
+use Rattle.cpp_lex.proofs.Values.{range_at}
 use Rattle.elab_read_texts.proofs.Lexemes.{tokens_filled, spelled_at}
 use Rattle.elab_read_texts.proofs.Tokens.{AreWords}
 

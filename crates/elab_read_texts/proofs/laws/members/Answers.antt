@@ -1,6 +1,7 @@
 use Rattle.elab_read_texts.proofs.Declared.{declarators_named}
 use Rattle.elab_read_texts.proofs.ReadMembers.{members_override}
 use Rattle.elab_read_texts.proofs.Alone.{alone}
+use Rattle.elab_read_texts.proofs.Parts.{class_members}
 use Rattle.elab_read_texts.proofs.laws.members.Goals as goal
 
 pub returns-clause-declarators : goal.returns-clause-declarators
@@ -11,3 +12,6 @@ returns-clause-members c = members_override
 
 pub returns-clause-alone : goal.returns-clause-alone
 returns-clause-alone c = alone
+
+pub returns-clause-classes : goal.returns-clause-classes
+returns-clause-classes c = class_members
