@@ -1,6 +1,6 @@
 -- Functions that are declared and defined, in their class or outside: what stood before stands behind them.
-use Rattle.std.proofs.Common.{◌≡◌, refl, ap, subst, ℕ, Bool, true, false, List, [], ◌∷◌, ◌++◌, Option, Some, None, unwrap_or}
-use Rattle.std.specs.Prelude.{slice_get, slice_set, not, ◌||◌, if◌then◌else◌}
+use Rattle.std.proofs.Common.{refl, ℕ, Bool, true, false, List, [], ◌∷◌, ◌++◌, Option, Some, None}
+use Rattle.std.specs.Prelude.{slice_get, not, ◌||◌, if◌then◌else◌}
 use Rattle.std.specs.List.{list_any}
 use Rattle.elab_rules.specs.cpp_types.declared.classes.At.{At}
 use Rattle.elab_rules.specs.cpp_lex.Tokens.{Lexeme}
@@ -11,11 +11,11 @@ use Rattle.elab_rules.specs.cpp_tree.declared.faults.IllRule.TheVariants.{BadDec
 use Rattle.elab_rules.specs.cpp_tree.declared.program.FuncKind.{FuncKind}
 use Rattle.elab_rules.specs.elab_ctx.Ctx.{Ctx, Func}
 use Rattle.elab_rules.specs.elab_ctx.Steps.{check, expect}
-use Rattle.elab_rules.specs.Initialising.{func_at, no_function}
+use Rattle.elab_rules.specs.Initialising.{func_at}
 use Rattle.elab_rules.specs.Statements.{State, Lambdas}
 use Rattle.elab_rules.specs.Functions.{Storage, Header, Placed, new_function, is_same_function, first_from, agrees, is_function_entity, function_named}
 use Rattle.elab_rules.specs.Functions.{name_declared, declared_in, main_fits, may_be_c, dynamic_fits, header_sized, text_sized, function_declared}
-use Rattle.elab_rules.specs.Functions.{defined_function, with_definition}
+use Rattle.elab_rules.specs.Functions.{with_definition}
 use Rattle.elab_rules.specs.Classes.{Method, Started, started_from, body_in, last_token, token_end}
 use Rattle.elab_rules.specs.Members.{outside_linkage, outside_text, linked_definition, outside_defined, outside_body, outside_words, is_member_named}
 use Rattle.elab_rules.specs.Members.{outside_agrees, outside_method, outside_with, member_defined, method_body}
@@ -25,22 +25,9 @@ use Rattle.state_growth.proofs.Steps.{Leaves, funcs_stay, funcs_go_on, bind, ski
 use Rattle.state_growth.proofs.Items.{Lawful}
 use Rattle.state_growth.proofs.Bodies.{funcs_added}
 use Rattle.state_growth.proofs.Members.{method_kept}
-use Rattle.state_growth.proofs.Changing.{funcs_set, Further, no_further, further_on, further_leaves}
+use Rattle.state_growth.proofs.Changing.{Further, no_further, further_on, further_leaves, set_further, definition_further}
 
 -- A definition
-
-at_func : (fs : List Func) (i : ℕ) (f : Func) → slice_get fs i ≡ Some f → func_at fs i ≡ f
-at_func fs i f h = ap (λ (o : Option Func). unwrap_or o no_function) h
-
-same_at : (fs : List Func) (i : ℕ) (g : Func) → SameDeclared (func_at fs i) g → (f : Func) → slice_get fs i ≡ Some f → SameDeclared f g
-same_at fs i g s f h = subst (λ (z : Func). SameDeclared z g) (at_func fs i f h) s
-
-set_further : (c : Ctx) (i : ℕ) (g : Func) → SameDeclared (func_at c.funcs i) g → Further c (record c { funcs = slice_set c.funcs i g })
-set_further c i g s = record { classes = refl; slots = refl; funcs = funcs_set c.funcs i g (same_at c.funcs i g s) }
-
-pub definition_further : (c : Ctx) (i : ℕ) (h : Header) (text : List ℕ) (closed : ℕ) → Further c (with_definition c i h text closed)
-definition_further c i h text closed = set_further c i (defined_function (func_at c.funcs i) h text closed)
-    (record { declared = refl; kind = refl; class = refl })
 
 linkage_same : (b : Bool) (f g : Func) → SameDeclared f f → SameDeclared f g → SameDeclared f (if b then g else f)
 linkage_same true f g s t = t
