@@ -1,8 +1,11 @@
+pub mod Below
 pub mod Bodies
 pub mod Captures
 pub mod Classes
 pub mod Declared
+pub mod Defined
 pub mod Found
+pub mod Functions
 pub mod Going
 pub mod Holding
 pub mod Implied
@@ -11,9 +14,13 @@ pub mod Kept
 pub mod Lists
 pub mod Makers
 pub mod Members
+pub mod Names
 pub mod Order
 pub mod Outside
+pub mod Overriding
+pub mod Owned
 pub mod Sized
+pub mod Slots
 pub mod Statements
 pub mod Units
 pub mod Walking

@@ -1,6 +1,7 @@
 -- Initialisers of members that are made once, and stand in the functions that build the objects (C++14 9.2 p5, 12.6.2 p9).
-use Rattle.std.specs.Prelude.{◌≡◌, ℕ, zero, ◌<◌, Bool, true, false, ◌&&◌, List, ◌∷◌, Some, slice_get}
+use Rattle.std.specs.Prelude.{◌≡◌, ℕ, zero, ◌<◌, Bool, true, false, ◌&&◌, List, ◌∷◌, Some, is_some, slice_get}
 use Rattle.elab_rules.specs.cpp_types.Typ.{Typ, ptr, class}
+use Rattle.elab_rules.specs.cpp_types.Class.{InOrder}
 use Rattle.elab_rules.specs.cpp_types.Equal.{typ_eq}
 use Rattle.elab_rules.specs.cpp_types.declared.classes.At.{At}
 use Rattle.elab_rules.specs.cpp_types.declared.ranks.Cat.TheVariants.{Lvalue, Prvalue}
@@ -11,14 +12,17 @@ use Rattle.elab_rules.specs.cpp_tree.declared.roles.Role.{Role}
 use Rattle.elab_rules.specs.cpp_tree.declared.roles.Role.TheVariants.{Value}
 use Rattle.elab_rules.specs.cpp_tree.Trees.{Tree, node, Trees, none, more, kind_of, typ_in, cat_of}
 use Rattle.elab_rules.specs.cpp_tree.Notation.{plain}
-use Rattle.elab_rules.specs.cpp_tree.Typing.{is_class_typ, unqualified}
+use Rattle.elab_rules.specs.cpp_tree.Typing.{is_class_typ, unqualified, qualified}
+use Rattle.elab_rules.specs.cpp_tree.Parts.{size_in}
 use Rattle.elab_rules.specs.cpp_tree.Units.{Func}
 use Rattle.elab_rules.specs.cpp_tree.Rows.{Setting, result_of}
 use Rattle.elab_rules.specs.elab_ctx.Ctx.{Work, Default}
 use Rattle.elab_rules.specs.Names.{this_pointer}
 use Rattle.elab_rules.specs.Members.{own_this}
-use Rattle.elab_rules.specs.Braces.{ThisAt, this_of, moved_place, relocated, as_part, default_whole, default_made}
+use Rattle.elab_rules.specs.Braces.{ThisAt, this_of, moved_place, relocated, as_part, default_whole, default_made, requalified}
 use Rattle.elab_fits.specs.Standing.{FitsAs, BuildsOne, Reaches}
+use Rattle.elab_fits.specs.Objects.{is_ready}
+use Rattle.elab_fits_braces.specs.Qualified.{is_pliable}
 
 -- a node that says nothing of its function
 abbrev pub is_free : TKind → Bool
@@ -72,16 +76,23 @@ this_typ d = plain (ptr (plain (class d.class)))
 abbrev pub alone : Setting → Default → Setting
 alone s d = record s { function = record s.function { kind = Constructor; frame = this_typ d ∷ d.frame } }
 
--- it builds the member, as a whole and as a part of one
+-- it builds the member, as a whole and as a part of one, which can have the qualifiers of the object
 pub record DefaultFits (s : Setting) (t : Typ) (d : Default) : Type 0 where
   pub one : BuildsOne (alone s d) t d.init
   pub part : BuildsOne (alone s d) t (as_part d.init)
   pub movable : is_movable (this_typ d) d.init ≡ true
+  pub pliable : is_pliable t (as_part d.init) ≡ true
 
 -- it does so in the function at hand, where its temporaries have their places
 abbrev pub DefaultsBuild : Type 0
 DefaultsBuild = (s : Setting) (w : Work) (t : Typ) (this : ThisAt) (d : Default) → IsThis s (this_typ d) this → DefaultFits s t d
     → Reaches s (default_whole w this d).work → BuildsOne s t (default_whole w this d).tree × BuildsOne s t (default_made w this d).tree
+
+-- and as a part of an object with more qualifiers, which has no references
+abbrev pub DefaultsQualified : Type 0
+DefaultsQualified = (s : Setting) (q v : Bool) (w : Work) (t : Typ) (this : ThisAt) (d : Default) → InOrder s.classes → is_some (size_in s.classes t) ≡ true
+    → is_ready s.classes false t ≡ true → IsThis s (this_typ d) this → DefaultFits s t d → Reaches s (default_whole w this d).work
+    → BuildsOne s (qualified q v t) (requalified q v (default_made w this d).tree)
 
 -- The pointer `this` where an object is built
 

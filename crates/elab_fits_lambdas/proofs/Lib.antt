@@ -1,0 +1,11 @@
+pub mod Bodies
+pub mod Captured
+pub mod Closures
+pub mod Entered
+pub mod Hand
+pub mod Lambdas
+pub mod Made
+pub mod Parameters
+pub mod Results
+pub mod Types
+pub mod Units
