@@ -12,9 +12,9 @@ use Rattle.elab_rules.specs.Statements.{State, Done, Full, full_operand, full_ma
 use Rattle.elab_rules.specs.Lambdas.{lambdas_of}
 use Rattle.elab_places.proofs.Steps.{On, bind, skip}
 use Rattle.elab_places.proofs.Declaring.{on}
-use Rattle.elab_frame_items.specs.Items.{AreWhole, IsWhole}
+use Rattle.elab_frame_items.specs.Items.{AreWhole, IsWhole, DefaultsWhole}
 use Rattle.elab_frame_items.specs.Supplies.{Reads}
-use Rattle.elab_frame_items.proofs.Growing.{lambdas_law}
+use Rattle.elab_frame_items.proofs.Growing.{lambdas_law, lambdas_defaults}
 use Rattle.elab_frame_items.proofs.Objects.{both}
 use Rattle.elab_frame_items.proofs.Expressions.{Types, AllTypes, expression, operands, chosen_adds, dropped}
 use Rattle.elab_frame_items.proofs.Parameters.{StateWhole}
@@ -28,15 +28,31 @@ pub all_whole : (s : List Lexeme) (st : State) (es : syntax.Trees) → StateWhol
 all_whole s st syntax.none h = h
 all_whole s st (syntax.more e es) h = bind StateWhole StateWhole (lambdas_of s st e) _ (lambdas_whole s st e h) (λ x i. all_whole s x es i)
 
-module _ (P : State → Work → Type 0) (s : List Lexeme) where
-  -- a state in which it is read
-  read : (x : State) (e : syntax.Tree) → Reads P s x → On (Types x.ctx.classes x.work) (and_then (expression_of s x.ctx x.work e) (chosen_operand x.ctx))
-  read x e r = chosen_adds (P x) s x.ctx r.supplies r.functions x.work (expression_of s x.ctx x.work e)
-      (expression (P x) s x.ctx r.supplies r.functions x.ctx.closures x.work e r.here)
+-- what is kept for members behind them
 
-  pub operands_whole : (x : State) (es : syntax.Trees) → Reads P s x → StateWhole x
+abbrev pub DefaultsIn : State → Type 0
+DefaultsIn st = DefaultsWhole st.ctx.classes st.ctx.defaults
+
+pub lambdas_kept : (s : List Lexeme) (st : State) (t : syntax.Tree) → DefaultsIn st → On DefaultsIn (lambdas_of s st t)
+lambdas_kept s st t h = on DefaultsIn (lambdas_of s st t) (λ x e. lambdas_defaults s st t x h e)
+
+pub all_kept : (s : List Lexeme) (st : State) (es : syntax.Trees) → DefaultsIn st → On DefaultsIn (all_lambdas lambdas_of s st es)
+all_kept s st syntax.none h = h
+all_kept s st (syntax.more e es) h = bind DefaultsIn DefaultsIn (lambdas_of s st e) _ (lambdas_kept s st e h) (λ x i. all_kept s x es i)
+
+pub full_kept : (s : List Lexeme) (st : State) (e : syntax.Tree) → DefaultsIn st → On (λ (f : Full). DefaultsIn f.state) (full_operand lambdas_of s st e)
+full_kept s st e h = bind DefaultsIn (λ (f : Full). DefaultsIn f.state) (lambdas_of s st e) _ (lambdas_kept s st e h)
+    (λ x g. skip (λ (f : Full). DefaultsIn f.state) (and_then (expression_of s x.ctx x.work e) (chosen_operand x.ctx)) _ (λ o. g))
+
+module _ (P : State → Work → Type 0) (T : syntax.Tree → Type 0) (Ts : syntax.Trees → Type 0) (s : List Lexeme) where
+  -- a state in which it is read
+  read : (x : State) (e : syntax.Tree) → Reads P T Ts s x → T e → On (Types x.ctx.classes x.work) (and_then (expression_of s x.ctx x.work e) (chosen_operand x.ctx))
+  read x e r y = chosen_adds (P x) T Ts s x.ctx r.supplies r.functions x.work (expression_of s x.ctx x.work e)
+      (expression (P x) T Ts s x.ctx r.supplies r.functions x.work e r.here y)
+
+  pub operands_whole : (x : State) (es : syntax.Trees) → Reads P T Ts s x → Ts es → StateWhole x
       → On (λ (xs : TypedAll). AreWhole x.ctx.classes xs.work) (operands_of s x.ctx x.work es)
-  operands_whole x es r h = bind_last (operands_of s x.ctx x.work es) (operands (P x) s x.ctx r.supplies r.functions x.ctx.closures x.work es r.here)
+  operands_whole x es r y h = bind_last (operands_of s x.ctx x.work es) (operands (P x) T Ts s x.ctx r.supplies r.functions x.work es r.here y)
     where
       bind_last : (z : Result TypedAll ElabFault) → On (AllTypes x.ctx.classes x.work) z → On (λ (xs : TypedAll). AreWhole x.ctx.classes xs.work) z
       bind_last (Ok xs) g = g.whole h
@@ -45,11 +61,11 @@ module _ (P : State → Work → Type 0) (s : List Lexeme) where
   abbrev FullWhole : Full → Type 0
   FullWhole f = StateWhole f.state
 
-  pub full_whole : (st : State) (e : syntax.Tree) → ((x : State) → lambdas_of s st e ≡ Ok x → Reads P s x) → StateWhole st
+  pub full_whole : (st : State) (e : syntax.Tree) → ((x : State) → lambdas_of s st e ≡ Ok x → Reads P T Ts s x) → T e → StateWhole st
       → On FullWhole (full_operand lambdas_of s st e)
-  full_whole st e r h = bind (λ (x : State). StateWhole x × Reads P s x) FullWhole (lambdas_of s st e) _
-      (both StateWhole (Reads P s) (lambdas_of s st e) (lambdas_whole s st e h) (on (Reads P s) (lambdas_of s st e) r))
-      (λ x g. bind (Types x.ctx.classes x.work) FullWhole (and_then (expression_of s x.ctx x.work e) (chosen_operand x.ctx)) _ (read x e g.1)
+  full_whole st e r y h = bind (λ (x : State). StateWhole x × Reads P T Ts s x) FullWhole (lambdas_of s st e) _
+      (both StateWhole (Reads P T Ts s) (lambdas_of s st e) (lambdas_whole s st e h) (on (Reads P T Ts s) (lambdas_of s st e) r))
+      (λ x g. bind (Types x.ctx.classes x.work) FullWhole (and_then (expression_of s x.ctx x.work e) (chosen_operand x.ctx)) _ (read x e g.1 y)
       (λ o i. i.whole g.0))
 
 -- what is made of it
