@@ -8,13 +8,14 @@ use Rattle.elab_rules.specs.elab_ctx.Ctx.{Work}
 use Rattle.elab_rules.specs.elab_ctx.Steps.{and_then, Made, TypedAll}
 use Rattle.elab_rules.specs.Operators
 use Rattle.elab_rules.specs.Expressions.{expression_of, operands_of, chosen_operand}
-use Rattle.elab_rules.specs.Statements.{State, Done, Full, full_operand, full_made, all_lambdas}
+use Rattle.elab_rules.specs.Statements.{State, Done, Lambdas, Full, full_operand, full_made, all_lambdas}
 use Rattle.elab_rules.specs.Lambdas.{lambdas_of}
 use Rattle.elab_places.proofs.Steps.{On, bind, skip}
 use Rattle.elab_places.proofs.Declaring.{on}
-use Rattle.elab_frame_items.specs.Items.{AreWhole, IsWhole, DefaultsWhole}
+use Rattle.elab_frame_items.specs.Frames.{IsWholeState}
+use Rattle.elab_frame_items.specs.Items.{AreWhole, IsWhole}
 use Rattle.elab_frame_items.specs.Supplies.{Reads}
-use Rattle.elab_frame_items.proofs.Growing.{lambdas_law, lambdas_defaults}
+use Rattle.elab_frame_items.proofs.Growing.{lambdas_law}
 use Rattle.elab_frame_items.proofs.Objects.{both}
 use Rattle.elab_frame_items.proofs.Expressions.{Types, AllTypes, expression, operands, chosen_adds, dropped}
 use Rattle.elab_frame_items.proofs.Parameters.{StateWhole}
@@ -27,22 +28,6 @@ lambdas_whole s st t h = on StateWhole (lambdas_of s st t) (λ x e. lambdas_law 
 pub all_whole : (s : List Lexeme) (st : State) (es : syntax.Trees) → StateWhole st → On StateWhole (all_lambdas lambdas_of s st es)
 all_whole s st syntax.none h = h
 all_whole s st (syntax.more e es) h = bind StateWhole StateWhole (lambdas_of s st e) _ (lambdas_whole s st e h) (λ x i. all_whole s x es i)
-
--- what is kept for members behind them
-
-abbrev pub DefaultsIn : State → Type 0
-DefaultsIn st = DefaultsWhole st.ctx.classes st.ctx.defaults
-
-pub lambdas_kept : (s : List Lexeme) (st : State) (t : syntax.Tree) → DefaultsIn st → On DefaultsIn (lambdas_of s st t)
-lambdas_kept s st t h = on DefaultsIn (lambdas_of s st t) (λ x e. lambdas_defaults s st t x h e)
-
-pub all_kept : (s : List Lexeme) (st : State) (es : syntax.Trees) → DefaultsIn st → On DefaultsIn (all_lambdas lambdas_of s st es)
-all_kept s st syntax.none h = h
-all_kept s st (syntax.more e es) h = bind DefaultsIn DefaultsIn (lambdas_of s st e) _ (lambdas_kept s st e h) (λ x i. all_kept s x es i)
-
-pub full_kept : (s : List Lexeme) (st : State) (e : syntax.Tree) → DefaultsIn st → On (λ (f : Full). DefaultsIn f.state) (full_operand lambdas_of s st e)
-full_kept s st e h = bind DefaultsIn (λ (f : Full). DefaultsIn f.state) (lambdas_of s st e) _ (lambdas_kept s st e h)
-    (λ x g. skip (λ (f : Full). DefaultsIn f.state) (and_then (expression_of s x.ctx x.work e) (chosen_operand x.ctx)) _ (λ o. g))
 
 module _ (P : State → Work → Type 0) (T : syntax.Tree → Type 0) (Ts : syntax.Trees → Type 0) (s : List Lexeme) where
   -- a state in which it is read
@@ -59,14 +44,15 @@ module _ (P : State → Work → Type 0) (T : syntax.Tree → Type 0) (Ts : synt
       bind_last (Err f) g = tt
 
   abbrev FullWhole : Full → Type 0
-  FullWhole f = StateWhole f.state
+  FullWhole f = IsWholeState f.state
 
-  pub full_whole : (st : State) (e : syntax.Tree) → ((x : State) → lambdas_of s st e ≡ Ok x → Reads P T Ts s x) → T e → StateWhole st
-      → On FullWhole (full_operand lambdas_of s st e)
-  full_whole st e r y h = bind (λ (x : State). StateWhole x × Reads P T Ts s x) FullWhole (lambdas_of s st e) _
-      (both StateWhole (Reads P T Ts s) (lambdas_of s st e) (lambdas_whole s st e h) (on (Reads P T Ts s) (lambdas_of s st e) r))
-      (λ x g. bind (Types x.ctx.classes x.work) FullWhole (and_then (expression_of s x.ctx x.work e) (chosen_operand x.ctx)) _ (read x e g.1 y)
-      (λ o i. i.whole g.0))
+  -- where what makes its lambdas leaves whole items
+  pub full_whole : (lams : Lambdas) (st : State) (e : syntax.Tree) → ((x : State) → lams s st e ≡ Ok x → Reads P T Ts s x × IsWholeState x) → T e
+      → On FullWhole (full_operand lams s st e)
+  full_whole lams st e r y = bind (λ (x : State). Reads P T Ts s x × IsWholeState x) FullWhole (lams s st e) _
+      (on (λ (x : State). Reads P T Ts s x × IsWholeState x) (lams s st e) r)
+      (λ x g. bind (Types x.ctx.classes x.work) FullWhole (and_then (expression_of s x.ctx x.work e) (chosen_operand x.ctx)) _ (read x e g.0 y)
+      (λ o i. record { items = i.whole g.1.items; defaults = g.1.defaults; bodies = g.1.bodies }))
 
 -- what is made of it
 pub made_whole : (f : Full) (r : Result Made ElabFault) → On (λ (m : Made). AreWhole f.state.ctx.classes m.work) r

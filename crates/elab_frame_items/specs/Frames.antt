@@ -6,7 +6,7 @@ use Rattle.elab_rules.specs.cpp_lex.Tokens.{Lexeme}
 use Rattle.elab_rules.specs.cpp_ast.Trees as syntax
 use Rattle.elab_rules.specs.cpp_tree.Units.{Func}
 use Rattle.elab_rules.specs.cpp_tree.WellFormed.{is_item}
-use Rattle.elab_rules.specs.elab_ctx.Ctx.{Default}
+use Rattle.elab_rules.specs.elab_ctx.Ctx.{Work, Default}
 use Rattle.elab_rules.specs.Statements.{State, Body}
 use Rattle.elab_rules.specs.Lambdas.{lambdas_of}
 use Rattle.elab_rules.specs.Programs.{unit_shown}
@@ -20,6 +20,15 @@ LambdasWhole = (s : List Lexeme) (st : State) (t : syntax.Tree) (x : State) → 
 
 pub record FramesWhole (classes : List Class) (bodies : List Body) : Type 0 where
   pub each : (i : ℕ) (b : Body) → slice_get bodies i ≡ Some b → list_all (is_item classes) b.frame ≡ true
+
+-- all items of a state are whole: of the frame at hand, of the bodies that were made, and of initialisers that are kept for members
+pub record HasWholeItems (classes : List Class) (w : Work) (ds : List Default) (made : List Body) : Type 0 where
+  pub items : AreWhole classes w
+  pub defaults : DefaultsWhole classes ds
+  pub bodies : FramesWhole classes made
+
+abbrev pub IsWholeState : State → Type 0
+IsWholeState st = HasWholeItems st.ctx.classes st.work st.ctx.defaults st.bodies
 
 abbrev pub FramesGrow : Type 0
 FramesGrow = (old new : List Class) (bodies : List Body) → ClassesGrow old new → FramesWhole old bodies → FramesWhole new bodies

@@ -14,18 +14,17 @@ use Rattle.elab_rules.specs.Initialising
 use Rattle.elab_rules.specs.Braces.{item_of}
 use Rattle.elab_rules.specs.Expressions.{operands_of}
 use Rattle.elab_rules.specs.Statements
-use Rattle.elab_rules.specs.Statements.{State, Full, full_operand, all_lambdas, with_work}
-use Rattle.elab_rules.specs.Lambdas.{lambdas_of}
+use Rattle.elab_rules.specs.Statements.{State, Lambdas, Full, full_operand, all_lambdas, with_work}
 use Rattle.elab_places.proofs.Steps.{held_by}
 use Rattle.elab_fits_statements.specs.Discipline.{Words, Goes, Gains, Discipline}
+use Rattle.elab_frame_items.specs.Frames.{IsWholeState}
 use Rattle.elab_frame_items.specs.Items.{AreWhole, AllWhole}
 use Rattle.elab_frame_items.proofs.Objects.{Mades, initial, class_from, one_item}
 use Rattle.elab_frame_items.proofs.Expressions.{dropped}
 use Rattle.elab_frame_items.proofs.Braces.{braced}
 use Rattle.elab_frame_items.proofs.Variables.{copy_initialised, directly_initialised, placed}
-use Rattle.elab_frame_items.proofs.Parameters.{StateWhole}
-use Rattle.elab_frame_items.proofs.Full.{DefaultsIn, full_whole, full_kept, all_whole, all_kept, operands_whole}
-use Rattle.elab_whole_states.specs.States.{IsWholeState, with_items, ReadsItems, GivesItems, StaysWhole}
+use Rattle.elab_frame_items.proofs.Full.{full_whole, operands_whole}
+use Rattle.elab_whole_states.specs.States.{with_items, ReadsItems, GivesItems, StaysWhole}
 
 goes_with : (w : Words) (a b : State) → Goes w a b → IsWholeState b → Goes (with_items w) a b
 goes_with w a b g h = record { good = (g.good, h); leads = g.leads; stands = g.stands }
@@ -35,28 +34,18 @@ gains_with w a b Q g h = record { goes = goes_with w a b g.goes h; fits = g.fits
 
 -- where more is made in the same context
 made_whole : (a : State) (v : Work) → IsWholeState a → AreWhole a.ctx.classes v → IsWholeState (with_work a v)
-made_whole a v h i = record { items = i; defaults = h.defaults }
+made_whole a v h i = record { items = i; defaults = h.defaults; bodies = h.bodies }
 
-module _ (w : Words) (P : State → Work → Type 0) (s : List Lexeme) (d : Discipline w lambdas_of s) (i : GivesItems w P s) where
+module _ (w : Words) (lams : Lambdas) (P : State → Work → Type 0) (s : List Lexeme) (d : Discipline w lams s) (i : GivesItems w lams P s) where
   abbrev Good : State → Type 0
   Good a = w.Good a × IsWholeState a
 
-  read_whole : (a : State) (e : syntax.Tree) (f : Full) → Good a → w.Text e → full_operand lambdas_of s a e ≡ Ok f → IsWholeState f.state
-  read_whole a e f g t q = record {
-    items = held_by (λ (z : Full). StateWhole z.state) (full_operand lambdas_of s a e) f
-        (full_whole P w.Text w.Texts s a e (λ x y. i.behind a x e g.0 t y) t g.1.items) q;
-    defaults = held_by (λ (z : Full). DefaultsIn z.state) (full_operand lambdas_of s a e) f (full_kept s a e g.1.defaults) q;
-  }
-
-  -- behind the lambdas of several expressions
-  behind_whole : (a x : State) (es : syntax.Trees) → Good a → all_lambdas lambdas_of s a es ≡ Ok x → IsWholeState x
-  behind_whole a x es g y = record {
-    items = held_by StateWhole (all_lambdas lambdas_of s a es) x (all_whole s a es g.1.items) y;
-    defaults = held_by DefaultsIn (all_lambdas lambdas_of s a es) x (all_kept s a es g.1.defaults) y;
-  }
+  read_whole : (a : State) (e : syntax.Tree) (f : Full) → Good a → w.Text e → full_operand lams s a e ≡ Ok f → IsWholeState f.state
+  read_whole a e f g t q = held_by (λ (z : Full). IsWholeState z.state) (full_operand lams s a e) f
+      (full_whole P w.Text w.Texts s lams a e (λ x y. (i.behind a x e g.0 t y, i.left a x e g.0 t y g.1)) t) q
 
   values_whole : (a x : State) (t : Typ) (p : At) (es : syntax.Trees) (xs : TypedAll) (m : Made) → Good a → w.Texts es
-      → all_lambdas lambdas_of s a es ≡ Ok x → operands_of s x.ctx x.work es ≡ Ok xs
+      → all_lambdas lams s a es ≡ Ok x → operands_of s x.ctx x.work es ≡ Ok xs
       → Statements.directly_initialised x.ctx xs.work t p xs.operands ≡ Ok m → IsWholeState (with_work x m.work)
   values_whole a x t p es xs m g ts y z v = made_whole x m.work before
       ((held_by (Mades x.ctx.classes xs.work) (Statements.directly_initialised x.ctx xs.work t p xs.operands) m
@@ -66,7 +55,7 @@ module _ (w : Words) (P : State → Work → Type 0) (s : List Lexeme) (d : Disc
       r = i.behind_all a x es g.0 ts y
 
       before : IsWholeState x
-      before = behind_whole a x es g y
+      before = i.left_all a x es g.0 ts y g.1
 
       there : AreWhole x.ctx.classes xs.work
       there = held_by (λ (z : TypedAll). AreWhole x.ctx.classes z.work) (operands_of s x.ctx x.work es) xs
@@ -77,7 +66,7 @@ module _ (w : Words) (P : State → Work → Type 0) (s : List Lexeme) (d : Disc
           (r.reads.supplies.operands x.work es r.reads.here ts) z).0
 
   braces_whole : (a x : State) (t : Typ) (variable : Tree) (p : SyntaxAt) (token : Option ℕ) (es : syntax.Trees) (m : Made) → Good a → w.Texts es
-      → all_lambdas lambdas_of s a es ≡ Ok x → item_of s x.ctx x.work variable t (syntax.node k.BracedInitList p token es) ≡ Ok m
+      → all_lambdas lams s a es ≡ Ok x → item_of s x.ctx x.work variable t (syntax.node k.BracedInitList p token es) ≡ Ok m
       → IsWholeState (with_work x m.work)
   braces_whole a x t variable p token es m g ts y z = made_whole x m.work before
       ((held_by (Mades x.ctx.classes x.work) (item_of s x.ctx x.work variable t (syntax.node k.BracedInitList p token es)) m
@@ -88,9 +77,9 @@ module _ (w : Words) (P : State → Work → Type 0) (s : List Lexeme) (d : Disc
       r = i.behind_all a x es g.0 ts y
 
       before : IsWholeState x
-      before = behind_whole a x es g y
+      before = i.left_all a x es g.0 ts y g.1
 
-  pub items_discipline : Discipline (with_items w) lambdas_of s
+  pub items_discipline : Discipline (with_items w) lams s
   items_discipline = record {
     kids = d.kids;
     first = d.first;
@@ -145,14 +134,14 @@ module _ (w : Words) (P : State → Work → Type 0) (s : List Lexeme) (d : Disc
     objects = λ a p t init x y z g wr n e b u v. d.objects a p t init x y z g.0 wr n e b u v;
     deduces = λ a p t u o m g wr au r q e. d.deduces a p t u o m g.0 wr au r q e;
     places = λ a name t g o. let x = d.places a name t g.0 o in record {
-      good = (x.good, record { items = (placed a name t (i.object a t g.0 o)).whole g.1.items; defaults = g.1.defaults });
+      good = (x.good, record { items = (placed a name t (i.object a t g.0 o)).whole g.1.items; defaults = g.1.defaults; bodies = g.1.bodies });
       leads = x.leads;
       item = x.item;
     };
     names = λ a name g. (d.names a name g.0, g.1);
     names_leads = d.names_leads;
     autos = λ a n t g o. let x = d.autos a n t g.0 o in record {
-      good = (x.good, record { items = (one_item a.ctx.classes a.work t (i.object a t g.0 o)).whole g.1.items; defaults = g.1.defaults });
+      good = (x.good, record { items = (one_item a.ctx.classes a.work t (i.object a t g.0 o)).whole g.1.items; defaults = g.1.defaults; bodies = g.1.bodies });
       leads = x.leads;
       item = x.item;
     };
