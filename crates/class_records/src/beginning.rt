@@ -14,7 +14,8 @@ use elab_init::ill;
 use elab_types::types::type_named;
 use std::alloc::{AllocError, Global};
 
-fn no_traits() -> Traits
+/// What is known of a class that is not complete.
+pub fn no_traits() -> Traits
     ensures { traits_of result ≡ no_traits_of }
 {
     Traits {

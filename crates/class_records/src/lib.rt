@@ -7,7 +7,7 @@ mod renewing;
 pub mod slots;
 mod within;
 
-pub use beginning::begun;
+pub use beginning::{begun, no_traits};
 pub use closing::{closed_class, completed};
 pub use renewing::push_class;
 pub use slots::slots_of;

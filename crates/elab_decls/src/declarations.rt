@@ -19,6 +19,7 @@ use elab_expr::below::{
     ElabFault, Entity, EntityKind, Env, IllRule, InitCell, Linkage, NameFault, Special, TGlobal,
     Work, element_type, has_auto, ill, is_bounded, traits_at,
 };
+use elab_ops::pointers::within_if_sized;
 use elab_sizes::typ_sized;
 use std::alloc::{AllocError, Global};
 
@@ -78,7 +79,8 @@ pub fn global_declarable(env: &Env, at: At, name: &[u8], ty: &Ty) -> Result<bool
     if !is_bounded(ty) {
         return Err(ill(at, IllRule::BadDeclaration));
     }
-    typ_sized(env, at, ty)
+    typ_sized(env, at, ty)?;
+    within_if_sized(env, at, ty)
 }
 
 // How a variable is linked (C++14 3.5 p3).

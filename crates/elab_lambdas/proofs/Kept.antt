@@ -26,7 +26,7 @@ use Rattle.elab_entry.specs.elab_rules.Objects.{followed_by}
 use Rattle.elab_entry.specs.elab_rules.Operators.{is_complete}
 use Rattle.elab_entry.specs.elab_rules.Statements.{State, Done, done, block, statements_of}
 use Rattle.elab_entry.specs.elab_rules.Functions.{with_parameters, end_of}
-use Rattle.elab_entry.specs.elab_rules.Lambdas.{Written, no_lambda, kids_of, body_statements, result_in}
+use Rattle.elab_entry.specs.elab_rules.Lambdas.{Written, no_lambda, kids_of, body_statements, closure_sized, result_in}
 use Rattle.elab_entry.specs.elab_types.Syntax.{trees_at as syntaxes_at}
 use Rattle.elab_entry.specs.elab_scopes.declared.state.State.{State as StateRec}
 use Rattle.elab_entry.specs.elab_scopes.States.{state_of, made, Grown}
@@ -109,23 +109,35 @@ nest_one (Ok d) g f = refl
 nest_one (Err e) g f = refl
 
 lambda_steps : (s : List Lexeme) (st : State) (x : Written) (ret : Typ) (sig : Signature) → is_complete st.ctx (held ret) ≡ true
-    → lambda_with s st x ret sig ≡ and_then (body_inside s (closure_entered st x (known ret) ret sig) x ret) (kept st x)
-lambda_steps s st x ret sig c =
+    → closure_sized st x sig ≡ Ok true → lambda_with s st x ret sig ≡ and_then (body_inside s (closure_entered st x (known ret) ret sig) x ret) (kept st x)
+lambda_steps s st x ret sig c z =
     let inner : State = closure_entered st x (known ret) ret sig in
-    ap (λ (z : Bool). and_then (check x.at Incomplete z) (λ y. and_then (body_statements s inner x) (λ (d : Done). and_then (ended x ret d) (kept st x)))) c
+    let follow : Result State ElabFault = and_then (body_statements s inner x) (λ (d : Done). and_then (ended x ret d) (kept st x)) in
+    ap (λ (b : Bool). and_then (check x.at Incomplete b) (λ y. and_then (closure_sized st x sig) (λ w. follow))) c
+    ∙ ap (λ (r : Result Bool ElabFault). and_then r (λ w. follow)) z
     ∙ sym (nest_one (body_statements s inner x) (ended x ret) (kept st x))
 
 pub lambda_incomplete : (s : List Lexeme) (st : State) (x : Written) (ret : Typ) (sig : Signature) → is_complete st.ctx (held ret) ≡ false
     → lambda_with s st x ret sig ≡ Err (Ill x.at Incomplete)
-lambda_incomplete s st x ret sig c = ap (λ (z : Bool). and_then (check x.at Incomplete z)
-    (λ y. and_then (body_statements s (closure_entered st x (known ret) ret sig) x) (λ (d : Done). and_then (ended x ret d) (kept st x)))) c
+lambda_incomplete s st x ret sig c = ap (λ (z : Bool). and_then (check x.at Incomplete z) (λ y. and_then (closure_sized st x sig)
+    (λ w. and_then (body_statements s (closure_entered st x (known ret) ret sig) x) (λ (d : Done). and_then (ended x ret d) (kept st x))))) c
+
+pub lambda_oversized : (s : List Lexeme) (st : State) (x : Written) (ret : Typ) (sig : Signature) (e : ElabFault) → is_complete st.ctx (held ret) ≡ true
+    → Faults e (closure_sized st x sig) → Faults e (lambda_with s st x ret sig)
+lambda_oversized s st x ret sig e c m =
+    let follow : Result State ElabFault = and_then (body_statements s (closure_entered st x (known ret) ret sig) x)
+    (λ (d : Done). and_then (ended x ret d) (kept st x)) in
+    faults_same e (and_then (closure_sized st x sig) (λ w. follow)) (lambda_with s st x ret sig)
+    (ap (λ (b : Bool). and_then (check x.at Incomplete b) (λ y. and_then (closure_sized st x sig) (λ w. follow))) c)
+    (faults_in (λ (r : Result Bool ElabFault). and_then r (λ w. follow)) e (closure_sized st x sig) (λ d. refl) m)
 
 pub lambda_refused : (s : List Lexeme) (st inner : State) (x : Written) (ret : Typ) (sig : Signature) (rs : Returns) (e : ElabFault)
-    → is_complete st.ctx (held ret) ≡ true → inner ≡ closure_entered st x rs ret sig → rs ≡ known ret → Faults e (body_inside s inner x ret)
+    → is_complete st.ctx (held ret) ≡ true → closure_sized st x sig ≡ Ok true → inner ≡ closure_entered st x rs ret sig → rs ≡ known ret
+    → Faults e (body_inside s inner x ret)
     → Faults e (lambda_with s st x ret sig)
-lambda_refused s st inner x ret sig rs e c i k m =
+lambda_refused s st inner x ret sig rs e c z i k m =
     faults_same e (and_then (body_inside s inner x ret) (kept st x)) (lambda_with s st x ret sig)
-    (lambda_steps s st x ret sig c ∙ ap (λ (z : State). and_then (body_inside s z x ret) (kept st x))
+    (lambda_steps s st x ret sig c z ∙ ap (λ (y : State). and_then (body_inside s y x ret) (kept st x))
     (sym (i ∙ ap (λ (z : Returns). closure_entered st x z ret sig) k)))
     (faults_in (λ (z : Result Done ElabFault). and_then z (kept st x)) e (body_inside s inner x ret) (λ d. refl) m)
 
@@ -141,16 +153,16 @@ kept_is a c d x place around t tree frame r s q f n =
 
 pub lambda_done : (s : List Lexeme) (a b c d e : StateRec) (x : Written) (ret : Typ) (sig : Signature) (rs : Returns) (place : ℕ) (around : Round)
     (id : TNodeId) (tree : Tree) (frame : List Typ) (r : Result (Unit {0}) ElabFault) →
-    is_complete (state_of a).ctx (held ret) ≡ true → state_of b ≡ closure_entered (state_of a) x rs ret sig → rs ≡ known ret
-    → around ≡ round_lambda (state_of a) → OneDone b c id (body_inside s (state_of b) x ret) → state_of d ≡ left_by around (state_of c) → made d ≡ made a
+    is_complete (state_of a).ctx (held ret) ≡ true → closure_sized (state_of a) x sig ≡ Ok true → state_of b ≡ closure_entered (state_of a) x rs ret sig
+    → rs ≡ known ret → around ≡ round_lambda (state_of a) → OneDone b c id (body_inside s (state_of b) x ret) → state_of d ≡ left_by around (state_of c) → made d ≡ made a
     → tree ≡ tree_at (made c) id → frame ≡ (state_of c).work.frame → place ≡ length (state_of a).ctx.funcs →
     Changes d e r (body_kept (state_of d) x.at place tree frame) → Changes a e r (lambda_with s (state_of a) x ret sig)
-lambda_done s a b c d e x ret sig rs place around id tree frame r k i w ro m l t q f p n =
+lambda_done s a b c d e x ret sig rs place around id tree frame r k g i w ro m l t q f p n =
     let v : Done = record { trees = one (tree_at (made c) id); state = state_of c } in
     let step : Changes d e r (kept (state_of a) x v) =
     subst (λ (z : Result State ElabFault). Changes d e r z) (sym (kept_is a c d x place around (tree_at (made c) id) tree frame ro l q f p)) n in
     subst (λ (z : Result State ElabFault). Changes a e r z)
-    (sym (lambda_steps s (state_of a) x ret sig k ∙ ap (λ (z : State). and_then (body_inside s z x ret) (kept (state_of a) x))
+    (sym (lambda_steps s (state_of a) x ret sig k g ∙ ap (λ (z : State). and_then (body_inside s z x ret) (kept (state_of a) x))
     (sym (i ∙ ap (λ (z : Returns). closure_entered (state_of a) x z ret sig) w))))
     (changes_after a d e (body_inside s (state_of b) x ret) v (kept (state_of a) x) r (left_grown a d (state_of c) around ro l t) m.is step)
 
@@ -158,16 +170,18 @@ lambda_done s a b c d e x ret sig rs place around id tree frame r k i w ro m l t
 
 pub read_done : (s : List Lexeme) (a b c d : StateRec) (x : Written) (sig : Signature) (rs rest : Returns) (ret : Typ) (around : Round) (v : Vec TNodeId Global)
     (t : Ty) →
-    state_of b ≡ closure_entered (state_of a) x rs ret sig → rs ≡ deduced None → ret ≡ plain void → around ≡ round_lambda (state_of a)
+    closure_sized (state_of a) x sig ≡ Ok true → state_of b ≡ closure_entered (state_of a) x rs ret sig → rs ≡ deduced None → ret ≡ plain void → around ≡ round_lambda (state_of a)
     → AllListed b c v (body_statements s (state_of b) x) → state_of d ≡ left_by around (state_of c) → made d ≡ made a → rest ≡ (state_of c).ctx.returns
     → typ_of t ≡ result_in rest → DeducedAt a d t (result_read s (state_of a) x sig)
-read_done s a b c d x sig rs rest ret around v t i w y ro m l tr q e =
+read_done s a b c d x sig rs rest ret around v t g i w y ro m l tr q e =
     let entry : closure_entered (state_of a) x (deduced None) (plain void) sig ≡ state_of b =
     sym (i ∙ ap (λ (z : Returns). closure_entered (state_of a) x z ret sig) w ∙ ap (λ (z : Typ). closure_entered (state_of a) x (deduced None) z sig) y) in
     record {
       grown = left_grown a d (state_of c) around ro l tr;
       is =
-          ap (λ (z : State). and_then (body_statements s z x)
+          ap (λ (z : Result Bool ElabFault). and_then z (λ w. and_then (body_statements s (closure_entered (state_of a) x (deduced None) (plain void) sig) x)
+          (λ (d : Done). Ok (record { typ = result_in d.state.ctx.returns; state = left_by (round_lambda (state_of a)) d.state })))) g
+          ∙ ap (λ (z : State). and_then (body_statements s z x)
           (λ (d : Done). Ok (record { typ = result_in d.state.ctx.returns; state = left_by (round_lambda (state_of a)) d.state }))) entry
           ∙ ap (λ (z : Result Done ElabFault). and_then z
           (λ (d : Done). Ok (record { typ = result_in d.state.ctx.returns; state = left_by (round_lambda (state_of a)) d.state }))) m.is
@@ -178,11 +192,20 @@ read_done s a b c d x sig rs rest ret around v t i w y ro m l tr q e =
     }
 
 pub read_refused : (s : List Lexeme) (st inner : State) (x : Written) (sig : Signature) (rs : Returns) (ret : Typ) (e : ElabFault)
-    → inner ≡ closure_entered st x rs ret sig → rs ≡ deduced None → ret ≡ plain void → Faults e (body_statements s inner x) → Faults e (result_read s st x sig)
-read_refused s st inner x sig rs ret e i w y m =
+    → closure_sized st x sig ≡ Ok true → inner ≡ closure_entered st x rs ret sig → rs ≡ deduced None → ret ≡ plain void
+    → Faults e (body_statements s inner x) → Faults e (result_read s st x sig)
+read_refused s st inner x sig rs ret e g i w y m =
     let entry : closure_entered st x (deduced None) (plain void) sig ≡ inner =
     sym (i ∙ ap (λ (z : Returns). closure_entered st x z ret sig) w ∙ ap (λ (z : Typ). closure_entered st x (deduced None) z sig) y) in
     let follow : Done → Result Deduced ElabFault = λ (d : Done). Ok
     (record { typ = result_in d.state.ctx.returns; state = left_by (round_lambda st) d.state }) in
-    faults_same e (and_then (body_statements s inner x) follow) (result_read s st x sig) (ap (λ (z : State). and_then (body_statements s z x) follow) entry)
+    faults_same e (and_then (body_statements s inner x) follow) (result_read s st x sig)
+    (ap (λ (z : Result Bool ElabFault). and_then z (λ w. and_then (body_statements s (closure_entered st x (deduced None) (plain void) sig) x) follow)) g
+    ∙ ap (λ (z : State). and_then (body_statements s z x) follow) entry)
     (faults_in (λ (z : Result Done ElabFault). and_then z follow) e (body_statements s inner x) (λ d. refl) m)
+
+pub read_oversized : (s : List Lexeme) (st : State) (x : Written) (sig : Signature) (e : ElabFault) → Faults e (closure_sized st x sig)
+    → Faults e (result_read s st x sig)
+read_oversized s st x sig e m = faults_in (λ (z : Result Bool ElabFault). and_then z
+    (λ w. and_then (body_statements s (closure_entered st x (deduced None) (plain void) sig) x)
+    (λ (d : Done). Ok (record { typ = result_in d.state.ctx.returns; state = left_by (round_lambda st) d.state })))) e (closure_sized st x sig) (λ d. refl) m

@@ -1,5 +1,5 @@
 -- Reading a body for its result adds the class of the lambda alone: behind it the classes that were known stand first, as they were.
-use Rattle.std.proofs.Common.{◌≡◌, ◌∙◌, ℕ, true, List, length, take, None, Result, Ok, refl, sym, ap, subst}
+use Rattle.std.proofs.Common.{◌≡◌, ◌∙◌, ℕ, Bool, true, List, length, take, None, Result, Ok, Err, refl, sym, ap, subst}
 use Rattle.std.proofs.lemmas.List.{length-map}
 use Rattle.std.proofs.Math.Seq.{take-append_seam}
 use Rattle.elab_entry.specs.cpp_types.Typ.{Signature, void}
@@ -11,7 +11,7 @@ use Rattle.elab_entry.specs.cpp_tree.declared.faults.ElabFault.{ElabFault}
 use Rattle.elab_entry.specs.cpp_tree.Notation.{plain}
 use Rattle.elab_entry.specs.elab_ctx.Ctx.{deduced}
 use Rattle.elab_entry.specs.elab_rules.Statements.{State}
-use Rattle.elab_entry.specs.elab_rules.Lambdas.{Written, body_statements}
+use Rattle.elab_entry.specs.elab_rules.Lambdas.{Written, body_statements, closure_sized}
 use Rattle.elab_entry.specs.elab_scopes.declared.state.State.{State as StateRec}
 use Rattle.elab_entry.specs.elab_scopes.States.{state_of}
 use Rattle.elab_lambdas.specs.Checkpoints.{checkpoint_in}
@@ -27,10 +27,15 @@ classes_in cs d = d.state.ctx.classes ≡ cs
 abbrev entered : State → Written → Signature → State
 entered st x sig = closure_entered st x (deduced None) (plain void) sig
 
+whatever : (x : Result Bool ElabFault) → Holds (λ (b : Bool). Unit {0}) x
+whatever (Ok b) = tt
+whatever (Err e) = tt
+
 read_classes : (s : List Lexeme) (st : State) (x : Written) (sig : Signature) → Holds (classes_in (entered st x sig).ctx.classes) (result_read s st x sig)
 read_classes s st x sig =
+    passes (λ (b : Bool). Unit {0}) (classes_in (entered st x sig).ctx.classes) (closure_sized st x sig) _ (whatever (closure_sized st x sig)) (λ b i.
     passes (done_of (entered st x sig).ctx.classes) (classes_in (entered st x sig).ctx.classes) (body_statements s (entered st x sig) x) _
-    (body_unchanged (entered st x sig).ctx.classes s (entered st x sig) x refl) (λ d h. h)
+    (body_unchanged (entered st x sig).ctx.classes s (entered st x sig) x refl) (λ d h. h))
 
 held_by : {A : Type 0} (P : A → Type 0) (r : Result A ElabFault) (a : A) → r ≡ Ok a → Holds P r → P a
 held_by P r a e h = subst (Holds P) e h

@@ -21,7 +21,7 @@ use Rattle.elab_entry.specs.elab_rules.Sizes.{typ_sized}
 use Rattle.elab_entry.specs.elab_rules.Types.{Parameter, Qualifiers, no_qualifiers, qualifiers_from, is_declared_safe, function_of}
 use Rattle.elab_entry.specs.elab_rules.Statements.{State, Done, Lambdas, done, statement, the_tree}
 use Rattle.elab_entry.specs.elab_rules.Functions.{end_of}
-use Rattle.elab_entry.specs.elab_rules.Lambdas.{Written, kids_of, place_of_tree, signature_in, result_in, lambda_entered, declared_closure, inside}
+use Rattle.elab_entry.specs.elab_rules.Lambdas.{Written, kids_of, place_of_tree, signature_in, closure_sized, result_in, lambda_entered, declared_closure, inside}
 use Rattle.elab_entry.specs.elab_rules.Lambdas.{body_statements, with_written, explicit_captures, default_in, default_captures, used_in, parameters_among}
 use Rattle.elab_entry.specs.elab_rules.Lambdas.{result_among, not_dynamic, has_mutable, closing}
 use Rattle.elab_entry.specs.elab_types.Shown.{parameter_of, qualifiers_of}
@@ -71,9 +71,10 @@ kept st x d = body_made (round_lambda st) x.at (length st.ctx.funcs) (the_tree x
 -- with its result known: the body once
 abbrev pub lambda_with : List Lexeme → State → Written → Typ → Signature → Result State ElabFault
 lambda_with s st x r sig = and_then (check x.at Incomplete (is_complete st.ctx (held r)))
-    (λ y. and_then (body_statements s (closure_entered st x (known r) r sig) x) (λ (d : Done).
+    (λ y. and_then (closure_sized st x sig)
+    (λ z. and_then (body_statements s (closure_entered st x (known r) r sig) x) (λ (d : Done).
     body_made (round_lambda st) x.at (length st.ctx.funcs)
-    (statement (forms.Block false) x.body_at (followed_by d.trees (end_of d.state.ctx r x.body_at))) d.state))
+    (statement (forms.Block false) x.body_at (followed_by d.trees (end_of d.state.ctx r x.body_at))) d.state)))
 
 abbrev pub lambda_known : List Lexeme → State → Written → Typ → Result State ElabFault
 lambda_known s st x r = and_then (call_signature st.ctx x.at r x.params x.qualifiers) (λ (sig : Signature). lambda_with s st x r sig)
@@ -98,8 +99,9 @@ pub record Deduced : Type 0 where
   pub state : State
 
 abbrev pub result_read : List Lexeme → State → Written → Signature → Result Deduced ElabFault
-result_read s st x sig = and_then (body_statements s (closure_entered st x (deduced None) (plain void) sig) x)
-    (λ (d : Done). Ok (record { typ = result_in d.state.ctx.returns; state = left_by (round_lambda st) d.state }))
+result_read s st x sig = and_then (closure_sized st x sig)
+    (λ z. and_then (body_statements s (closure_entered st x (deduced None) (plain void) sig) x)
+    (λ (d : Done). Ok (record { typ = result_in d.state.ctx.returns; state = left_by (round_lambda st) d.state })))
 
 abbrev pub result_deduced : List Lexeme → State → Written → Result Deduced ElabFault
 result_deduced s st x = and_then (call_signature st.ctx x.at (plain void) x.params x.qualifiers)

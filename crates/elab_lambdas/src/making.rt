@@ -1,6 +1,6 @@
 // A lambda is made: its class, and the body of its call (C++14 5.1.2 p3 to p5).
 
-ghost use Rattle.std.specs.Prelude.{◌≡◌, ◌<◌, ◌++◌, ◌∷◌, [], List, map, option_map, length, true, false, not, IfOk, OnOk};
+ghost use Rattle.std.specs.Prelude.{◌≡◌, ◌<◌, ◌++◌, ◌∷◌, [], List, map, option_map, length, true, false, not, IfOk, IfErr, OnOk, Ok};
 ghost use Rattle.elab_entry.specs.cpp_types.Typ.{typ, closure, typ_of, signature_of};
 ghost use Rattle.elab_entry.specs.cpp_lex.Tokens.{lexemes_of};
 ghost use Rattle.elab_entry.specs.cpp_ast.Trees.{Tree};
@@ -8,11 +8,13 @@ ghost use Rattle.elab_entry.specs.cpp_tree.Typing.{form_in};
 ghost use Rattle.elab_entry.specs.cpp_tree.Trees.{one};
 ghost use Rattle.elab_entry.specs.cpp_tree.Arena.{trees_at};
 ghost use Rattle.elab_entry.specs.elab_ctx.Ctx.{ctx_of, capture_of, returns_of, lambda_of, closure_of, known};
-ghost use Rattle.elab_entry.specs.elab_ctx.Says.{are_within};
+ghost use Rattle.elab_entry.specs.elab_ctx.Says.{are_within, Faults};
+ghost use Rattle.elab_entry.specs.cpp_layout.Layout.{class_extent};
 ghost use Rattle.elab_entry.specs.elab_rules.Objects.{followed_by};
+ghost use Rattle.elab_entry.specs.elab_rules.Sizes.{sized as sized_of};
 ghost use Rattle.elab_entry.specs.elab_rules.Statements.{done, statements_of, block as block_of};
 ghost use Rattle.elab_entry.specs.elab_rules.Functions.{with_parameters as with_parameters_of, end_of as end_of_typ};
-ghost use Rattle.elab_entry.specs.elab_rules.Lambdas.{no_lambda, kids_of, place_of_tree, with_closure, signature_in, result_in as result_in_of, body_statements as body_statements_of};
+ghost use Rattle.elab_entry.specs.elab_rules.Lambdas.{no_lambda, kids_of, place_of_tree, with_closure, signature_in, closure_sized as closure_sized_of, result_in as result_in_of, body_statements as body_statements_of};
 ghost use Rattle.elab_entry.specs.elab_types.Shown.{Says, parameter_of, qualifiers_of};
 ghost use Rattle.elab_entry.specs.elab_types.Syntax.{syntax_of, tree_at};
 ghost use Rattle.elab_entry.specs.elab_scopes.States.{state_of, made};
@@ -24,6 +26,7 @@ ghost use Rattle.elab_lambdas.specs.Outcomes.{Lists, Deduces};
 
 use crate::closures::{CallWords, add_closure, next_class};
 use crate::undoing::{checkpoint_here, undo};
+use class_records::closed_class;
 use elab_entry::below::{
     At, Capture, Closure, ElabFault, Env, FnTy, IllRule, Lambda, NoLambdas, NodeId, Nodes,
     Parameter, Returns, Shape, State, TNodeId, Tokens, Ty, block, copy, copy_function,
@@ -104,6 +107,14 @@ fn object_type(x: &Written, class: u32) -> Ty
     }
 }
 
+// Tests that the object of a lambda is no larger than the greatest one.
+fn closure_sized(env: &Env, at: At, class: u32) -> Result<(), ElabFault>
+    ensures ok { OnOk result (sized_of at (class_extent (ctx_of env.now).classes class).size ≡ Ok true) }
+    ensures err { IfErr result (λ e. Faults e (sized_of at (class_extent (ctx_of env.now).classes class).size)) }
+{
+    closed_class(env, at, class)
+}
+
 // Declares the class of a lambda and its call, and goes into the body.
 fn enter(
     alloc: Global,
@@ -112,7 +123,9 @@ fn enter(
     ret: &Ty,
     returns: Returns,
     function: &FnTy,
-) -> Result<Around, AllocError>
+) -> Result<Around, ElabFault>
+    ensures sized { (trees : List Tree) → OnOk result (closure_sized_of (state_of st.old) (written_of trees x.now) (signature_of function.now) ≡ Ok true) }
+    ensures large { (trees : List Tree) → IfErr result (λ e. Faults e (closure_sized_of (state_of st.old) (written_of trees x.now) (signature_of function.now))) }
     ensures is { (trees : List Tree) → OnOk result (state_of st.new ≡ closure_entered (state_of st.old) (written_of trees x.now) (returns_of returns) (typ_of ret.now) (signature_of function.now)) }
     ensures round { IfOk result (λ a. round_of a ≡ round_lambda (state_of st.old)) }
     ensures trees { IfOk result (λ a. trees_round a ≡ made st.old) }
@@ -120,6 +133,7 @@ fn enter(
     let class = next_class(&st.env)?;
     let lambda = lambda_here(alloc, &st.env, x, class)?;
     declare_closure(alloc, &mut st.env, x, function)?;
+    closure_sized(&st.env, x.words.at, class)?;
     let around = enter_lambda(alloc, st, ret, object_type(x, class), returns, lambda)?;
     Ok(around)
 }

@@ -3,6 +3,7 @@ use Rattle.std.proofs.Common.{◌≡◌, ℕ, Bool, true, false, List, [], refl,
 use Rattle.std.specs.Prelude.{if◌then◌else◌, ◌&&◌, not, is_none, is_some, nat_le, ◌||◌}
 use Rattle.elab_rules.specs.cpp_types.Typ.{Typ, typ, Form, class, func}
 use Rattle.elab_rules.specs.cpp_types.Class.{Member, completion_of, held}
+use Rattle.elab_rules.specs.cpp_types.Equal.{typ_eq}
 use Rattle.elab_rules.specs.cpp_types.declared.classes.At.{At}
 use Rattle.elab_rules.specs.cpp_lex.Tokens.{Lexeme}
 use Rattle.elab_rules.specs.cpp_ast.declared.kinds.NodeKind.TheVariants as k
@@ -15,7 +16,7 @@ use Rattle.elab_rules.specs.elab_ctx.Steps.{and_then, at_of, check}
 use Rattle.elab_rules.specs.Types.{Declared, has_auto, is_bounded, is_abstract_type, type_named}
 use Rattle.elab_rules.specs.Statements.{State, Lambdas, statements_of, initialised, is_own_name, is_trivial, name_of}
 use Rattle.elab_rules.specs.Functions.{Header, Storage, function_body, text_sized, with_parameters, entered, first_from, header_sized, is_same_function}
-use Rattle.elab_rules.specs.Functions.{new_function, no_storage, within_frame}
+use Rattle.elab_rules.specs.Functions.{new_function, no_storage, within_frame, defines_well, with_definition}
 use Rattle.elab_rules.specs.Classes.{Home, Members, Begun, begun, begun_in, members_of, member_of, completed, closed_class, Method, method_of, body_in}
 use Rattle.elab_rules.specs.Classes.{class_text, Marks, Definition, Started, data_member, member_function, declared_method, declared_member, member_declarator}
 use Rattle.elab_rules.specs.Classes.{member_declarators, Specials, with_destructor, with_copy, with_default, all_held, base_default, declarator_among}
@@ -23,21 +24,22 @@ use Rattle.elab_rules.specs.Classes.{definition_between, definition_sized, has_e
 use Rattle.elab_rules.specs.Classes.{is_destructor_of, is_no_place, is_trivial_default, last_token, marks_fit, marks_from, may_copy, member_form, member_named}
 use Rattle.elab_rules.specs.Classes.{members_default, no_function_words, no_marks, overridden, overrides_well, started_from, within_bounds, written_copy}
 use Rattle.elab_rules.specs.Members as rules
-use Rattle.elab_rules.specs.Members.{place_of_header, base_named, has_final, members_among, all_given, in_object, parts_built}
+use Rattle.elab_rules.specs.Members.{place_of_header, late_kept, base_named, has_final, members_among, all_given, in_object, parts_built}
 use Rattle.class_table.specs.Written.{ClassRead, class_read, read_members, read_closed}
+use Rattle.elab_members.specs.Bodies as code_bodies
 use Rattle.elab_members.specs.Whole as code
 use Rattle.elab_leaving.specs.Kept.{On, Lawful}
 use Rattle.elab_leaving.proofs.Keeping.{bind, skip, either}
 use Rattle.elab_leaving.proofs.Answers.{same_after, same_behind, nest, each_holds, each_same}
 use Rattle.elab_leaving.proofs.Objects.{method_same}
 use Rattle.elab_leaving.proofs.Defaults.{Settled, all_same, all_settled}
-use Rattle.elab_rules.specs.cpp_tree.declared.faults.IllRule.TheVariants.{AbstractObject, BadDeclaration, Incomplete, OutOfProfile, Redeclared}
+use Rattle.elab_rules.specs.cpp_tree.declared.faults.IllRule.TheVariants.{AbstractObject, BadDeclaration, Incomplete, OutOfProfile, Redeclared, TypeDiffers}
 use Rattle.elab_rules.specs.cpp_layout.Layout.{class_extent}
 use Rattle.elab_rules.specs.Expressions.{declared_by, type_of_specifiers}
 use Rattle.elab_rules.specs.Objects.{element_of, traits_at}
 use Rattle.elab_rules.specs.cpp_tree.Typing.{form_in}
 use Rattle.elab_rules.specs.Operators.{is_complete}
-use Rattle.elab_rules.specs.Initialising.{is_constructor, places_from, signature_result}
+use Rattle.elab_rules.specs.Initialising.{func_at, is_constructor, places_from, signature_result}
 use Rattle.elab_rules.specs.Sizes.{typ_sized}
 
 -- Behind a body no lambdas are at hand where there were none before
@@ -62,17 +64,35 @@ destructor_settled : (lams : Lambdas) (s : List Lexeme) (st : State) (h : Header
 destructor_settled lams s st h n place (syntax.node kind p token kids) e =
     skip Settled (statements_of lams s (in_object st n) kids) _ (λ d. skip Settled (within_frame d.state.ctx h.at d.state.work.frame) _ (λ y. e))
 
+by_kind_settled : (lams : Lambdas) (s : List Lexeme) (st : State) (n place : ℕ) (kind : FuncKind) (m : Method) (body : syntax.Tree) → Settled st
+    → On Settled (rules.body_by_kind lams s st n place kind m body)
+by_kind_settled lams s st n place Constructor m body e = constructor_settled lams s st m.header n place m.rest body e
+by_kind_settled lams s st n place Destructor m body e = destructor_settled lams s st m.header n place body e
+by_kind_settled lams s st n place kind m body e = function_settled lams s st m.header (Some (rules.this_type n m.header)) place body e
+
 pub method_settled : (lams : Lambdas) (s : List Lexeme) (st : State) (n place : ℕ) (kind : FuncKind) (m : Method) (body : syntax.Tree) → Settled st
     → On Settled (rules.method_body lams s st n place kind m body)
-method_settled lams s st n place Constructor m body e = constructor_settled lams s st m.header n place m.rest body e
-method_settled lams s st n place Destructor m body e = destructor_settled lams s st m.header n place body e
-method_settled lams s st n place kind m body e = function_settled lams s st m.header (Some (rules.this_type n m.header)) place body e
+method_settled lams s st n place kind m body e = skip Settled (defines_well m.header) _ (λ y. by_kind_settled lams s st n place kind m body e)
 
 -- Behind the brace
 
+-- no lambdas are at hand
+abbrev Clear : Ctx → Type 0
+Clear c = c.closures ≡ []
+
+late_clear : (c : Ctx) (place : ℕ) (h : Header) → Clear c → On Clear (late_kept c place h)
+late_clear c place h e =
+    skip Clear (check h.at TypeDiffers (typ_eq (signature_result (func_at c.funcs place).declared.signature) (signature_result h.signature))) _ (λ y. e)
+
 late_method_same : (lams : Lambdas) → Lawful lams → (s : List Lexeme) (st : State) (n : ℕ) (kind : FuncKind) (m : Method) (body : Option syntax.Tree)
     → Settled st → code.late_method lams s st n kind m body ≡ rules.late_method lams s st n kind m body
-late_method_same lams q s st n kind m (Some body) e = same_behind (place_of_header st.ctx m.header) _ _ (λ place. method_same lams q s st n place kind m body e)
+late_method_same lams q s st n kind m (Some body) e = same_behind (place_of_header st.ctx m.header) _ _
+    (λ place. ap (λ (z : Result Ctx ElabFault). and_then z (λ (c : Ctx). code_bodies.method_body lams s (record st { ctx = c }) n place kind m.header m.rest body))
+    (nest (check m.header.at TypeDiffers
+    (typ_eq (signature_result (func_at st.ctx.funcs place).declared.signature) (signature_result m.header.signature))) _
+    (λ (d : Definition). Ok (with_definition st.ctx place m.header d.text d.closed_at)))
+    ∙ same_after Clear (late_kept st.ctx place m.header) _ _ (late_clear st.ctx place m.header e)
+    (λ c i. method_same lams q s (record st { ctx = c }) n place kind m body i))
 late_method_same lams q s st n kind m None e = refl
 
 late_function_same : (lams : Lambdas) → Lawful lams → (s : List Lexeme) (st : State) (n : ℕ) (name : List ℕ) (at : At) (kind : FuncKind) (kids : syntax.Trees)
@@ -90,7 +110,9 @@ late_same lams q s n name st t e = refl
 late_method_settled : (lams : Lambdas) (s : List Lexeme) (st : State) (n : ℕ) (kind : FuncKind) (m : Method) (body : Option syntax.Tree) → Settled st
     → On Settled (rules.late_method lams s st n kind m body)
 late_method_settled lams s st n kind m (Some body) e =
-    skip Settled (place_of_header st.ctx m.header) _ (λ place. method_settled lams s st n place kind m body e)
+    skip Settled (place_of_header st.ctx m.header) _
+    (λ place. bind Clear Settled (late_kept st.ctx place m.header) _ (late_clear st.ctx place m.header e)
+    (λ c i. method_settled lams s (record st { ctx = c }) n place kind m body i))
 late_method_settled lams s st n kind m None e = e
 
 late_function_settled : (lams : Lambdas) (s : List Lexeme) (st : State) (n : ℕ) (name : List ℕ) (at : At) (kind : FuncKind) (kids : syntax.Trees) → Settled st

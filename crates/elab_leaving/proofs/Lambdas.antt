@@ -22,7 +22,7 @@ use Rattle.elab_rules.specs.Types.{Parameter, is_declared_safe, function_of, qua
 use Rattle.elab_rules.specs.Statements.{State, Done, Body, statement}
 use Rattle.elab_rules.specs.Functions.{with_parameters, end_of, within_frame, leaving, body_made}
 use Rattle.elab_rules.specs.Lambdas as rules
-use Rattle.elab_rules.specs.Lambdas.{Written, refused_at, no_lambda, first_lambda, lambda_entered, declared_closure, body_statements, lambda_type, signature_in}
+use Rattle.elab_rules.specs.Lambdas.{Written, refused_at, no_lambda, first_lambda, lambda_entered, declared_closure, body_statements, lambda_type, signature_in, closure_sized}
 use Rattle.elab_rules.specs.Lambdas.{result_in, with_written, kids_of, explicit_captures, default_in, parameters_among, not_dynamic, result_among}
 use Rattle.elab_rules.specs.Lambdas.{default_captures, used_in, has_mutable, place_of_tree, closing}
 use Rattle.elab_entry.specs.Round.{round_lambda, left_by}
@@ -85,9 +85,10 @@ made_lambda st y x sig place tree h v = ap (λ (z : State). body_kept z x.at pla
 with_same : (s : List Lexeme) (st : State) (x : Written) (r : Typ) (sig : Signature) → code.lambda_with s st x r sig ≡ rules.lambda_with s st x r sig
 with_same s st x r sig =
     let e : State = closure_entered st x (known r) r sig in
-    same_behind (check x.at Incomplete (is_complete st.ctx (held r))) _ _ (λ y. same_after (Ends e) (body_statements s e x) _ _ (body_kept_inside s e x)
+    same_behind (check x.at Incomplete (is_complete st.ctx (held r))) _ _ (λ y. same_behind (closure_sized st x sig) _ _ (λ z.
+    same_after (Ends e) (body_statements s e x) _ _ (body_kept_inside s e x)
     (λ d h. made_lambda st d.state x sig (length st.ctx.funcs) (statement (forms.Block false) x.body_at (followed_by d.trees (end_of d.state.ctx r x.body_at)))
-    (inside_lambda st d.state x (known r) r sig h) (grown_lambda st d.state x (known r) r sig h).variables))
+    (inside_lambda st d.state x (known r) r sig h) (grown_lambda st d.state x (known r) r sig h).variables)))
 
 -- The type of the call
 
@@ -139,15 +140,16 @@ found st t = Ok (record { typ = t; state = st })
 -- a body that was read for its result
 read_same : (s : List Lexeme) (st : State) (x : Written) (sig : Signature)
     → and_then (code.result_read s st x sig) (λ (r : Deduced). Ok (record { typ = r.typ; state = undone st r.state }))
-    ≡ and_then (and_then (body_statements s (closure_entered st x (deduced None) (plain void) sig) x) (λ (d : Done). Ok (result_in d.state.ctx.returns)))
-    (found st)
+    ≡ and_then (rules.result_read s st x sig) (found st)
 read_same s st x sig =
     let e : State = closure_entered st x (deduced None) (plain void) sig in
+    nest (closure_sized st x sig) _ _ ∙ same_behind (closure_sized st x sig) _ _ (λ w.
     nest (body_statements s e x) _ _ ∙ same_after (Ends e) (body_statements s e x) _ _ (body_kept_inside s e x)
     (λ d h. let g : Grown st d.state = grown_lambda st d.state x (deduced None) (plain void) sig h in
     ap (λ (z : State). found z (result_in d.state.ctx.returns))
     (ap (undone st) (left_lambda st d.state (inside_lambda st d.state x (deduced None) (plain void) sig h) g.variables) ∙ undone_same st d.state g))
-    ∙ sym (nest (body_statements s e x) _ (found st))
+    ∙ sym (nest (body_statements s e x) _ (found st)))
+    ∙ sym (nest (closure_sized st x sig) _ (found st))
 
 deduced_same : (s : List Lexeme) (st : State) (x : Written) → code.result_deduced s st x ≡ and_then (rules.result_of s st x None) (found st)
 deduced_same s st x =
@@ -235,8 +237,8 @@ with_kept : (s : List Lexeme) (st : State) (x : Written) (r : Typ) (sig : Signat
 with_kept s st x r sig =
     let e : State = closure_entered st x (known r) r sig in
     skip (Leaves st) (check x.at Incomplete (is_complete st.ctx (held r))) _
-    (λ y. bind (Ends e) (Leaves st) (body_statements s e x) _ (body_kept_inside s e x)
-    (λ d h. kept_behind st d.state x sig x.at (length st.ctx.funcs) _ (grown_lambda st d.state x (known r) r sig h)))
+    (λ y. skip (Leaves st) (closure_sized st x sig) _ (λ z. bind (Ends e) (Leaves st) (body_statements s e x) _ (body_kept_inside s e x)
+    (λ d h. kept_behind st d.state x sig x.at (length st.ctx.funcs) _ (grown_lambda st d.state x (known r) r sig h))))
 
 made_kept : (s : List Lexeme) (st : State) (x : Written) → On (Leaves st) (rules.lambda_made s st x)
 made_kept s st x = skip (Leaves st) (rules.result_of s st x x.result) _

@@ -19,7 +19,7 @@ use Rattle.elab_rules.specs.Types.{type_named}
 use Rattle.elab_rules.specs.Braces.{default_at}
 use Rattle.elab_rules.specs.Expressions.{operands_of}
 use Rattle.elab_rules.specs.Statements.{State, Lambdas, with_work, all_lambdas, default_object, directly_initialised, statements_of}
-use Rattle.elab_rules.specs.Functions.{Header, with_parameters}
+use Rattle.elab_rules.specs.Functions.{Header, with_parameters, defines_well}
 use Rattle.elab_rules.specs.Classes.{Method}
 use Rattle.elab_rules.specs.Members as rules
 use Rattle.elab_rules.specs.Members.{Given, Giving, member_index, member_type, given_part, given_base, given_member, is_named_class, is_base_type, given_for}
@@ -31,7 +31,7 @@ use Rattle.elab_members.specs.Bodies as code
 use Rattle.elab_leaving.specs.Kept.{Leaves, Inside, On, Lawful}
 use Rattle.elab_leaving.proofs.Keeping.{bind, skip, stays, after, behind, follow, of_done, Ends, begins_refl, begins_trans, work_kept}
 use Rattle.elab_leaving.proofs.Growing.{Mades, TypesAll, operands_grow, directly_grows}
-use Rattle.elab_leaving.proofs.Answers.{same_after, nest, each_holds}
+use Rattle.elab_leaving.proofs.Answers.{same_after, same_behind, nest, each_holds}
 use Rattle.elab_leaving.proofs.Statements.{statements_kept, parameters_kept, all_lambdas_kept}
 use Rattle.elab_leaving.proofs.Leaving.{entered_same, inside_function, made_function, function_same}
 
@@ -132,8 +132,12 @@ destructor_same lams q s st h n place (syntax.node kind p token kids) e =
     ∙ same_after (Ends b) (statements_of lams s b kids) _ _ (statements_kept lams q s b kids) (λ d i.
     made_function st d.state h.at place (destructor_tree d.state.ctx h.at (at_of p) n d.trees) (inside_object st d.state n i))
 
+by_kind_same : (lams : Lambdas) → Lawful lams → (s : List Lexeme) (st : State) (n place : ℕ) (kind : FuncKind) (m : Method) (body : syntax.Tree)
+    → st.ctx.closures ≡ [] → code.body_by_kind lams s st n place kind m.header m.rest body ≡ rules.body_by_kind lams s st n place kind m body
+by_kind_same lams q s st n place Constructor m body e = constructor_same lams q s st m.header n place m.rest body e
+by_kind_same lams q s st n place Destructor m body e = destructor_same lams q s st m.header n place body e
+by_kind_same lams q s st n place kind m body e = function_same lams q s st m.header (Some (this_type n m.header)) place body e
+
 pub method_same : (lams : Lambdas) → Lawful lams → (s : List Lexeme) (st : State) (n place : ℕ) (kind : FuncKind) (m : Method) (body : syntax.Tree)
     → st.ctx.closures ≡ [] → code.method_body lams s st n place kind m.header m.rest body ≡ rules.method_body lams s st n place kind m body
-method_same lams q s st n place Constructor m body e = constructor_same lams q s st m.header n place m.rest body e
-method_same lams q s st n place Destructor m body e = destructor_same lams q s st m.header n place body e
-method_same lams q s st n place kind m body e = function_same lams q s st m.header (Some (this_type n m.header)) place body e
+method_same lams q s st n place kind m body e = same_behind (defines_well m.header) _ _ (λ y. by_kind_same lams q s st n place kind m body e)

@@ -16,7 +16,7 @@ use Rattle.elab_rules.specs.Types.{Declared}
 use Rattle.elab_rules.specs.Expressions.{type_of_specifiers, declared_by}
 use Rattle.elab_rules.specs.Statements.{State, Lambdas}
 use Rattle.elab_rules.specs.Functions as functions
-use Rattle.elab_rules.specs.Functions.{Storage, Header, no_storage, with_specifier, function_declared, with_definition, text_sized}
+use Rattle.elab_rules.specs.Functions.{Storage, Header, no_storage, with_specifier, function_declared, with_definition, text_sized, defines_well}
 use Rattle.elab_rules.specs.Classes.{Started, started_from, body_in}
 use Rattle.elab_rules.specs.Lambdas as lambdas
 use Rattle.elab_rules.specs.Members as members
@@ -61,8 +61,9 @@ with_same : (s : List Lexeme) (st : State) (x : Storage) (at : At) (first : ℕ)
 with_same s st x at first d body (func sig) e =
     let h : Header = header_of s at x d sig in
     same_behind (text_sized at (definition_text s x first body)) _ _
-    (λ y. same_after Placing (function_declared st.ctx h true) _ _ (function_clear st.ctx h true e)
-    (λ p i. body_same s (record st { ctx = with_definition p.ctx p.place h (definition_text s x first body) (closing_offset s body) }) h None p.place body i))
+    (λ y. same_behind (defines_well h) _ _
+    (λ z. same_after Placing (function_declared st.ctx h true) _ _ (function_clear st.ctx h true e)
+    (λ p i. body_same s (record st { ctx = with_definition p.ctx p.place h (definition_text s x first body) (closing_offset s body) }) h None p.place body i)))
 with_same s st x at first d body f e = refl
 
 with_settled : (s : List Lexeme) (st : State) (x : Storage) (at : At) (first : ℕ) (d : Declared) (body : syntax.Tree) (f : Form) → Settled st
@@ -70,11 +71,12 @@ with_settled : (s : List Lexeme) (st : State) (x : Storage) (at : At) (first : �
 with_settled s st x at first d body (func sig) e =
     let h : Header = header_of s at x d sig in
     skip Settled (text_sized at (definition_text s x first body)) _
-    (λ y. bind Placing Settled (function_declared st.ctx h true) _ (function_clear st.ctx h true e)
+    (λ y. skip Settled (defines_well h) _
+    (λ z. bind Placing Settled (function_declared st.ctx h true) _ (function_clear st.ctx h true e)
     (λ p i. function_settled lambdas.lambdas_of s (record st {
       ctx = with_definition p.ctx p.place h (definition_text s x first body)
           (closing_offset s body);
-    }) h None p.place body i))
+    }) h None p.place body i)))
 with_settled s st x at first d body f e = tt
 
 -- a member, whose words are read again

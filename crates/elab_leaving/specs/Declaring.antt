@@ -16,7 +16,7 @@ use Rattle.elab_rules.specs.Types.{Declared}
 use Rattle.elab_rules.specs.Strings.{string_bytes}
 use Rattle.elab_rules.specs.Expressions.{type_of_specifiers, declared_by}
 use Rattle.elab_rules.specs.Statements.{State, is_own_name}
-use Rattle.elab_rules.specs.Functions.{Storage, Header, Placed, function_declared, with_definition, text_sized}
+use Rattle.elab_rules.specs.Functions.{Storage, Header, Placed, function_declared, with_definition, text_sized, defines_well}
 use Rattle.elab_rules.specs.Classes.{Started, started_from}
 use Rattle.elab_rules.specs.Members.{declared_only}
 use Rattle.elab_rules.specs.Globals.{enum_declared}
@@ -70,11 +70,11 @@ c_words x false = record x { is_c = true; is_extern = true }
 
 abbrev pub defined_with : List Lexeme → State → Storage → At → ℕ → Declared → syntax.Tree → Form → Result State ElabFault
 defined_with s st x at first d body (func sig) = and_then (text_sized at (definition_text s x first body))
-    (λ y. and_then (function_declared st.ctx (header_of s at x d sig) true) (λ (p : Placed).
+    (λ y. and_then (defines_well (header_of s at x d sig)) (λ z. and_then (function_declared st.ctx (header_of s at x d sig) true) (λ (p : Placed).
     function_body lambdas_of s (record st {
       ctx = with_definition p.ctx p.place (header_of s at x d sig) (definition_text s x first body)
           (closing_offset s body);
-    }) (header_of s at x d sig) None p.place body))
+    }) (header_of s at x d sig) None p.place body)))
 defined_with s st x at first d body f = Err (Ill at BadDeclaration)
 
 -- the same as steps
@@ -83,7 +83,7 @@ body_with s st first body h p = function_body lambdas_of s
     (record st { ctx = with_definition p.ctx p.place h (definition_text s h.storage first body) (closing_offset s body) }) h None p.place body
 
 abbrev pub defined_header : List Lexeme → State → ℕ → syntax.Tree → Header → Result State ElabFault
-defined_header s st first body h = and_then (function_declared st.ctx h true) (λ (p : Placed). body_with s st first body h p)
+defined_header s st first body h = and_then (defines_well h) (λ z. and_then (function_declared st.ctx h true) (λ (p : Placed). body_with s st first body h p))
 
 abbrev pub defined_steps : List Lexeme → State → Storage → At → ℕ → Declared → syntax.Tree → Form → Result State ElabFault
 defined_steps s st x at first d body f = and_then (text_sized at (definition_text s x first body))

@@ -13,6 +13,7 @@ use Rattle.elab_scopes.specs.elab_ctx.Ctx.{Variable}
 use Rattle.elab_scopes.specs.elab_ctx.Steps.{and_then, expect, check}
 use Rattle.elab_scopes.specs.elab_rules.Braces.{is_char_array, string_token}
 use Rattle.elab_scopes.specs.elab_rules.Types.{has_auto, is_bounded}
+use Rattle.elab_scopes.specs.elab_rules.Operators.{within_if_sized}
 use Rattle.elab_scopes.specs.elab_rules.Sizes.{typ_sized}
 use Rattle.elab_scopes.specs.elab_rules.Statements.{Lambdas, State, Done, Full, by_expression, with_initialiser, variable_tree, variable, variable_by}
 use Rattle.elab_scopes.specs.elab_rules.Statements.{plain_variable, placed_variable, declared_variable, without_auto, bound_by_initialiser, only_expression}
@@ -52,7 +53,8 @@ pub plain_is : (lams : Lambdas) (s : List Lexeme) (st : State) (name : List ℕ)
     → plain_variable lams s st name t at init ≡ plain_made lams s (variable_tree st t at) (placed_variable st name t) t at init
 plain_is lams s st name t at init = then_same (declarable st.ctx at t) _ _
     (λ x. then_same (check at BadDeclaration (is_bounded t)) _ _
-    (λ z. then_same (typ_sized st.ctx.classes at t) _ _ (λ y. initialiser_is lams s st (placed_variable st name t) t at init)))
+    (λ z. then_same (typ_sized st.ctx.classes at t) _ _
+    (λ y. then_same (within_if_sized st.ctx at t) _ _ (λ w. initialiser_is lams s st (placed_variable st name t) t at init))))
 
 length_more : (xs : List Variable) (x : Variable) → length (xs ++ x ∷ []) ≡ suc (length xs)
 length_more [] x = refl

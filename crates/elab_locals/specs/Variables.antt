@@ -8,6 +8,7 @@ use Rattle.elab_scopes.specs.cpp_tree.declared.faults.ElabFault.{ElabFault}
 use Rattle.elab_scopes.specs.cpp_tree.declared.faults.IllRule.TheVariants.{Redeclared, TypeDiffers, BadInit, BadDeclaration}
 use Rattle.elab_scopes.specs.cpp_tree.Trees.{Tree, one}
 use Rattle.elab_scopes.specs.elab_ctx.Steps.{and_then, expect, check, Made}
+use Rattle.elab_scopes.specs.elab_rules.Operators.{within_if_sized}
 use Rattle.elab_scopes.specs.elab_rules.Sizes.{typ_sized}
 use Rattle.elab_scopes.specs.elab_rules.Statements.{Lambdas, State, Done, Full, Deduction, done, full_operand, with_work, init_node, variable_tree}
 use Rattle.elab_scopes.specs.elab_rules.Statements.{declared_variable, placed_variable, auto_placed, copy_initialised, deduced_type, replaced, same_deduction}
@@ -41,7 +42,8 @@ auto_read lams s st name t at before init = and_then (check at Redeclared (is_fr
 abbrev pub plain_made : Lambdas → List Lexeme → Tree → State → Typ → At → syntax.Trees → Result Done ElabFault
 plain_made lams s variable v t at init = and_then (declarable v.ctx at t)
     (λ x. and_then (check at BadDeclaration (is_bounded t))
-    (λ z. and_then (typ_sized v.ctx.classes at t) (λ y. initialised_by lams s variable v t at (form_of init))))
+    (λ z. and_then (typ_sized v.ctx.classes at t)
+    (λ y. and_then (within_if_sized v.ctx at t) (λ w. initialised_by lams s variable v t at (form_of init)))))
 
 abbrev pub plain_read : Lambdas → List Lexeme → State → List ℕ → Typ → At → syntax.Trees → Result Done ElabFault
 plain_read lams s st name t at init = and_then (check at Redeclared (is_fresh st.ctx name))

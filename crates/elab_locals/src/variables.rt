@@ -18,6 +18,7 @@ use crate::autos::auto_variable;
 use crate::inits::local;
 use crate::written::initialised;
 use elab_braces::bound_by_initialiser;
+use elab_ops::pointers::within_if_sized;
 use elab_scopes::below::{
     At, ElabFault, Env, IllRule, NodeId, Nodes, Shape, TNodeId, Tokens, Ty, has_auto, ill,
     is_bounded, is_complete_type,
@@ -75,6 +76,7 @@ fn plain_made<L: MakeLambdas>(
         return Err(ill(at, IllRule::BadDeclaration));
     }
     typ_sized(&st.env, at, ty)?;
+    within_if_sized(&st.env, at, ty)?;
     initialised(
         alloc, lams, tokens, nodes, parent, ids, st, variable, ty, at,
     )

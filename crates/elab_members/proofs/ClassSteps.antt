@@ -8,6 +8,7 @@ use Rattle.elab_entry.specs.cpp_ast.declared.kinds.NodeKind.{NodeKind}
 use Rattle.elab_entry.specs.cpp_ast.declared.kinds.NodeKind.TheVariants as k
 use Rattle.elab_entry.specs.cpp_tree.declared.program.FuncKind.{FuncKind}
 use Rattle.elab_entry.specs.cpp_tree.declared.faults.ElabFault.{ElabFault}
+use Rattle.elab_entry.specs.elab_ctx.Ctx.{Ctx}
 use Rattle.elab_entry.specs.elab_ctx.Steps.{and_then, at_of}
 use Rattle.elab_entry.specs.elab_ctx.Says.{Faults}
 use Rattle.elab_entry.proofs.elab_ctx.Looks.{grows_trans}
@@ -18,13 +19,13 @@ use Rattle.elab_entry.specs.elab_rules.Members.{members_among, declared_only, pl
 use Rattle.elab_entry.specs.elab_scopes.declared.state.State.{State as StateRec}
 use Rattle.elab_entry.specs.elab_scopes.States.{state_of, made}
 use Rattle.elab_entry.specs.elab_scopes.Says.{Changed, Changes}
-use Rattle.elab_entry.proofs.elab_scopes.Standing.{grown_refl}
+use Rattle.elab_entry.proofs.elab_scopes.Standing.{grown_refl, grown_by, changes_after}
 use Rattle.class_members.specs.Shown.{home_of}
 use Rattle.class_members.specs.declared.records.Home.{Home as HomeRec}
 use Rattle.class_table.specs.Written.{ClassRead, class_read, class_stood}
 use Rattle.elab_members.specs.Bodies.{method_body}
 use Rattle.elab_members.specs.Initialisers.{all_defaults}
-use Rattle.elab_members.specs.Whole.{late_with, late_method, late_function, late_kind, late_of, all_late, behind_brace, class_defined, Stood, Stands}
+use Rattle.elab_members.specs.Whole.{late_kept, late_with, late_method, late_function, late_kind, late_of, all_late, behind_brace, class_defined, Stood, Stands}
 use Rattle.elab_members.proofs.ObjectBodies.{same_trees, state_fails}
 use Rattle.elab_members.proofs.DeclarationSteps.{changed_so, changes_so}
 
@@ -46,16 +47,19 @@ undeclared_fault st at name e f = state_fails e (begun st.ctx at name false) (λ
 
 -- A function behind the brace
 
-pub with_place : (lams : Lambdas) (s : List Lexeme) (a c : StateRec) (n : ℕ) (kind : FuncKind) (m : Method) (body : syntax.Tree) (place : ℕ)
-    (rest : syntax.Trees) (r : Result (Unit {0}) ElabFault) → place_of_header (state_of a).ctx m.header ≡ Ok place → rest ≡ m.rest
-    → Changes a c r (method_body lams s (state_of a) n place kind m.header rest body) → Changes a c r (late_with lams s (state_of a) n kind m body)
-with_place lams s a c n kind m body place rest r e f h =
-    changes_so a c r _ _ (ap (λ (z : Result ℕ ElabFault). and_then z (λ (p : ℕ). method_body lams s (state_of a) n p kind m.header m.rest body)) e ∙ ap
-    (λ (z : syntax.Trees). method_body lams s (state_of a) n place kind m.header z body) (sym f)) h
-
-pub no_place : (lams : Lambdas) (s : List Lexeme) (st : State) (n : ℕ) (kind : FuncKind) (m : Method) (body : syntax.Tree) (e : ElabFault)
-    → Faults e (place_of_header st.ctx m.header) → Faults e (late_with lams s st n kind m body)
-no_place lams s st n kind m body e f = state_fails e (place_of_header st.ctx m.header) (λ (p : ℕ). method_body lams s st n p kind m.header m.rest body) f
+pub with_place : (lams : Lambdas) (s : List Lexeme) (a b d : StateRec) (n : ℕ) (kind : FuncKind) (m : Method) (body : syntax.Tree) (place : ℕ)
+    (rest : syntax.Trees) (r : Result (Unit {0}) ElabFault) → place_of_header (state_of a).ctx m.header ≡ Ok place
+    → late_kept (state_of a).ctx place m.header ≡ Ok (state_of b).ctx → state_of b ≡ record (state_of a) { ctx = (state_of b).ctx } → made b ≡ made a
+    → (state_of b).ctx.labels ≡ (state_of a).ctx.labels → rest ≡ m.rest
+    → Changes b d r (method_body lams s (state_of b) n place kind m.header rest body) → Changes a d r (late_with lams s (state_of a) n kind m body)
+with_place lams s a b d n kind m body place rest r p k e t l f h =
+    let follow : Ctx → Result State ElabFault = λ (c : Ctx). method_body lams s (record (state_of a) { ctx = c }) n place kind m.header m.rest body in
+    let next : Changes b d r (follow (state_of b).ctx) = changes_so b d r _ _
+    (ap (λ (z : syntax.Trees). method_body lams s (record (state_of a) { ctx = (state_of b).ctx }) n place kind m.header z body) (sym f) ∙ ap
+    (λ (z : State). method_body lams s z n place kind m.header rest body) (sym e)) h in
+    changes_so a d r _ _ (ap (λ (z : Result ℕ ElabFault). and_then z (λ (q : ℕ). and_then (late_kept (state_of a).ctx q m.header)
+    (λ (c : Ctx). method_body lams s (record (state_of a) { ctx = c }) n q kind m.header m.rest body))) p)
+    (changes_after a b d (late_kept (state_of a).ctx place m.header) (state_of b).ctx follow r (grown_by a b (same_trees (made a) (made b) t) l) k next)
 
 pub late_body : (lams : Lambdas) (s : List Lexeme) (a c : StateRec) (n : ℕ) (name those : List ℕ) (at : At) (kind : FuncKind) (kids : syntax.Trees) (m : Method)
     (body : syntax.Tree) (r : Result (Unit {0}) ElabFault) → those ≡ name → method_of s (state_of a) n those at kind kids ≡ Ok m → body_in kids ≡ Some body

@@ -9,7 +9,7 @@ use Rattle.elab_entry.specs.cpp_tree.Trees.{one}
 use Rattle.elab_entry.specs.elab_ctx.Steps.{and_then}
 use Rattle.elab_entry.specs.elab_rules.Braces.{syntax_place}
 use Rattle.elab_entry.specs.elab_rules.Statements.{State, Done, done, the_tree, Lambdas}
-use Rattle.elab_entry.specs.elab_rules.Functions.{Header, with_parameters}
+use Rattle.elab_entry.specs.elab_rules.Functions.{Header, with_parameters, defines_well}
 use Rattle.elab_entry.specs.elab_rules.Members.{Giving, all_given, parts_built, constructor_tree, destructor_tree, this_type}
 use Rattle.elab_entry.specs.Round.{round_function}
 use Rattle.elab_entry.specs.Bodies.{statements_in, body_made, function_body}
@@ -45,7 +45,10 @@ abbrev pub destructor_body : Lambdas → List Lexeme → State → Header → �
 destructor_body lams s st h n place body = and_then (destructor_inside lams s (in_object st n) h n body) (kept st h place)
 
 -- the body of a member, with what stands between its declarator and that
+abbrev pub body_by_kind : Lambdas → List Lexeme → State → ℕ → ℕ → FuncKind → Header → syntax.Trees → syntax.Tree → Result State ElabFault
+body_by_kind lams s st n place Constructor h rest body = constructor_body lams s st h n place rest body
+body_by_kind lams s st n place Destructor h rest body = destructor_body lams s st h n place body
+body_by_kind lams s st n place kind h rest body = function_body lams s st h (Some (this_type n h)) place body
+
 abbrev pub method_body : Lambdas → List Lexeme → State → ℕ → ℕ → FuncKind → Header → syntax.Trees → syntax.Tree → Result State ElabFault
-method_body lams s st n place Constructor h rest body = constructor_body lams s st h n place rest body
-method_body lams s st n place Destructor h rest body = destructor_body lams s st h n place body
-method_body lams s st n place kind h rest body = function_body lams s st h (Some (this_type n h)) place body
+method_body lams s st n place kind h rest body = and_then (defines_well h) (λ y. body_by_kind lams s st n place kind h rest body)

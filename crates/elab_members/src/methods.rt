@@ -9,10 +9,11 @@ ghost use Rattle.elab_entry.specs.elab_types.Syntax.{syntax_of, tree_at, trees_a
 ghost use Rattle.elab_entry.specs.elab_scopes.States.{state_of};
 ghost use Rattle.elab_entry.specs.elab_scopes.Says.{Changes};
 ghost use Rattle.class_members.specs.Shown.{header_of};
-ghost use Rattle.elab_members.specs.Bodies.{method_body as method_body_of};
+ghost use Rattle.elab_members.specs.Bodies.{body_by_kind as body_by_kind_of, method_body as method_body_of};
 
 use crate::constructors::constructor_body;
 use crate::destructors::destructor_body;
+use class_members::defines_well;
 use elab_implicit::below::{
     ElabFault, FuncKind, Header, MakeLambdas, NodeId, Nodes, Shape, State, Tokens, Ty,
     function_body,
@@ -27,6 +28,38 @@ fn this_type(class: u32, header: &Header) -> Ty
         shape: Shape::Class(class),
         is_const: header.qualifiers.is_const,
         is_volatile: false,
+    }
+}
+
+// The body of a member of a class, by the kind of its function.
+fn body_by_kind<L: MakeLambdas>(
+    alloc: Global,
+    lams: &L,
+    tokens: &Tokens,
+    nodes: &Nodes,
+    st: &mut State,
+    class: u32,
+    func: u32,
+    kind: FuncKind,
+    header: &Header,
+    rest: &[NodeId],
+    body: NodeId,
+) -> Result<(), ElabFault>
+    requires rest { are_below (length nodes.now) rest.now ≡ true }
+    requires body { body.0 < length nodes.now }
+    ensures { Changes st.old st.new result (body_by_kind_of (L.lambdas lams.now) (lexemes_of tokens.now) (state_of st.old) class func kind (header_of header.now) (trees_at (syntax_of nodes.now) rest.now) (tree_at (syntax_of nodes.now) body)) }
+{
+    match kind {
+        FuncKind::Constructor => constructor_body(
+            alloc, lams, tokens, nodes, st, class, func, header, rest, body,
+        ),
+        FuncKind::Destructor => destructor_body(
+            alloc, lams, tokens, nodes, st, class, func, header, body,
+        ),
+        FuncKind::Plain | FuncKind::ClosureCall => {
+            let this = Some(this_type(class, header));
+            function_body(alloc, lams, tokens, nodes, st, header, this, func, body)
+        }
     }
 }
 
@@ -48,16 +81,8 @@ pub fn method_body<L: MakeLambdas>(
     requires body { body.0 < length nodes.now }
     ensures { Changes st.old st.new result (method_body_of (L.lambdas lams.now) (lexemes_of tokens.now) (state_of st.old) class func kind (header_of header.now) (trees_at (syntax_of nodes.now) rest.now) (tree_at (syntax_of nodes.now) body)) }
 {
-    match kind {
-        FuncKind::Constructor => constructor_body(
-            alloc, lams, tokens, nodes, st, class, func, header, rest, body,
-        ),
-        FuncKind::Destructor => destructor_body(
-            alloc, lams, tokens, nodes, st, class, func, header, body,
-        ),
-        FuncKind::Plain | FuncKind::ClosureCall => {
-            let this = Some(this_type(class, header));
-            function_body(alloc, lams, tokens, nodes, st, header, this, func, body)
-        }
-    }
+    defines_well(alloc, header)?;
+    body_by_kind(
+        alloc, lams, tokens, nodes, st, class, func, kind, header, rest, body,
+    )
 }

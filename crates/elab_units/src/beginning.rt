@@ -6,17 +6,19 @@ ghost use Rattle.elab_entry.specs.cpp_types.Class.{classes_of};
 ghost use Rattle.elab_entry.specs.elab_ctx.cpp_names.Names.{with_name};
 ghost use Rattle.elab_entry.specs.elab_ctx.cpp_names.declared.entity.EntityKind.TheVariants as entities;
 ghost use Rattle.elab_entry.specs.cpp_tree.Notation.{plain};
-ghost use Rattle.elab_entry.specs.elab_ctx.Ctx.{func_of, labels_of};
+ghost use Rattle.elab_entry.specs.elab_ctx.Ctx.{Traits as TraitsOf, func_of, labels_of, traits_of};
+ghost use Rattle.elab_entry.specs.elab_rules.Objects.{no_traits as no_traits_of};
 ghost use Rattle.elab_entry.specs.elab_rules.Statements.{no_labels as no_labels_of};
 ghost use Rattle.elab_entry.specs.elab_rules.Units.{int_typ, thread_function, builtin as builtin_of, builtins as builtins_of, start};
 ghost use Rattle.elab_entry.specs.elab_scopes.States.{state_of, made};
 ghost use Rattle.elab_units.specs.Begun.{one_or_two, long_typ, program_with, traits_known, begun_behind};
 
 pub use crate::known::Classes;
+use class_records::no_traits;
 use elab_entry::below::{
     At, Builtin, Entity, EntityKind, Env, FnTy, FuncDecl, FuncKind, FuncRec, Functions, IntKind,
-    Label, Labels, Linkage, Returns, Safety, Scopes, Shape, State, Ty, TypeNames, Work, plain_type,
-    pointer_to,
+    Label, Labels, Linkage, Returns, Safety, Scopes, Shape, State, Traits, Ty, TypeNames, Work,
+    plain_type, pointer_to,
 };
 use std::alloc::{AllocError, Global};
 
@@ -184,19 +186,32 @@ fn no_labels(alloc: Global) -> Labels
     }
 }
 
-/// The beginning of a unit behind others: their classes stay, their names are gone.
+// Nothing is known of the special members of these classes.
+fn bare_traits(alloc: Global, known: &[Traits]) -> Result<Vec<Traits>, AllocError>
+    ensures { IfOk result (λ v. map traits_of v.items ≡ map (λ (t : TraitsOf). no_traits_of) (map traits_of known.now)) }
+{
+    let mut bare = Vec::new(alloc);
+    for _ in known {
+        bare.push(no_traits())?;
+    }
+    Ok(bare)
+}
+
+/// The beginning of a unit behind others: their classes stay; their names are gone, and their special members, which are
+/// functions of those units.
 pub fn start_behind(alloc: Global, source: u32, known: Classes) -> Result<State, AllocError>
     ensures state { IfOk result (λ st. state_of st ≡ begun_behind source known) }
     ensures nodes { IfOk result (λ st. made st ≡ []) }
 {
     let scopes = unit_scopes(alloc)?;
     let funcs = builtins(alloc)?;
+    let traits = bare_traits(alloc, &known.traits)?;
     let env = Env {
         source,
         scopes,
         types: TypeNames::new(alloc),
         classes: known.classes,
-        traits: known.traits,
+        traits,
         slots: known.slots,
         defaults: Vec::new(alloc),
         default_nodes: Vec::new(alloc),

@@ -15,6 +15,7 @@ ghost use Rattle.elab_leaving.specs.Declaring.{are_three, defined_header as defi
 
 use crate::declarations::{header_of, is_function};
 use crate::lambdas::UnitLambdas;
+use class_members::defines_well;
 use class_table::kids::rest_from;
 use class_table::started::started_from;
 use class_table::texts::{text_between, token_end};
@@ -67,6 +68,7 @@ fn defined_header(
     requires { body.0 < length nodes.now }
     ensures { (first : ℕ) → text.items ≡ definition_text_of (lexemes_of tokens.now) (storage_of header.now.storage) first (tree_at (syntax_of nodes.now) body) → Answers (state_of st.new) result (defined_header_of (lexemes_of tokens.now) (state_of st.old) first (tree_at (syntax_of nodes.now) body) (header_shown header.now)) }
 {
+    defines_well(alloc, header)?;
     let func = function_declared(alloc, &mut st.env, header, true)?;
     let closed = token_end(tokens, brace_of(nodes, body));
     define_function(alloc, &mut st.env, func, header, text, closed)?;
