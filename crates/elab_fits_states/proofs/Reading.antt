@@ -17,7 +17,7 @@ use Rattle.elab_fits.specs.Scalars.{IsZero}
 use Rattle.elab_growth.proofs.Growth.{Behind}
 use Rattle.elab_fits_forms.specs.Meaning.{Proper, ProperOperand, MeansOperand}
 use Rattle.elab_fits_forms.specs.Context.{Holds}
-use Rattle.elab_fits_forms.specs.Names.{Typed_means}
+use Rattle.elab_fits_forms.specs.Names.{TypedMeans}
 use Rattle.elab_fits_forms.proofs.Names.{resolved_stand}
 use Rattle.elab_fits_expressions.proofs.Expressions.{of_expression}
 use Rattle.elab_fits_statements.specs.Discipline.{HasRead, StandsSomewhere}
@@ -119,7 +119,7 @@ module _ (f : UnitFunc) (lams : Lambdas) (s : List Lexeme) (p : Premises f lams 
       S = setting_at f x.ctx o.work
 
       means : (y : Typed) → expression_of s x.ctx x.work e ≡ Ok y → y.work ≡ o.work → MeansOperand S x.ctx y.operand
-      means y h q = answered (Typed_means S x.ctx) (expression_of s x.ctx x.work e) y
+      means y h q = answered (TypedMeans S x.ctx) (expression_of s x.ctx x.work e) y
           (of_expression s S x.ctx x.ctx.closures x.work e (later f x.ctx x.work o.work g.holds) g.closures t.spelled) h
           (subst (λ (v : Work). Reaches S v) (sym q) (reached_law f x.ctx o.work))
 

@@ -1,8 +1,8 @@
 -- What a context has to say for the types of expressions to be sound, and what the text has to be.
-use Rattle.std.specs.Prelude.{◌≡◌, ℕ, nat_lt, Bool, true, false, not, ◌&&◌, ◌||◌, List, length, Option, Some, None}
+use Rattle.std.specs.Prelude.{◌≡◌, ℕ, Bool, true, false, not, ◌&&◌, ◌||◌, List, length, Option, Some, None, is_some}
 use Rattle.std.specs.List.{list_all}
 use Rattle.elab_rules.specs.cpp_types.Typ.{Typ, typ, Form, int, enum, class, closure}
-use Rattle.elab_rules.specs.cpp_types.Class.{Class, Member}
+use Rattle.elab_rules.specs.cpp_types.Class.{Class, Member, completion_of}
 use Rattle.elab_rules.specs.cpp_lex.Tokens.{Lexeme}
 use Rattle.elab_rules.specs.cpp_ast.Trees as syntax
 use Rattle.elab_rules.specs.cpp_tree.Units.{Global}
@@ -10,21 +10,22 @@ use Rattle.elab_rules.specs.cpp_tree.Typing.{form_in}
 use Rattle.elab_rules.specs.elab_ctx.Ctx.{Ctx, Work, Func, Enumerator, Variable, This, Capture, Lambda, Closure}
 use Rattle.elab_rules.specs.elab_ctx.Types.{Named}
 use Rattle.elab_rules.specs.elab_ctx.Steps.{spelling}
+use Rattle.elab_rules.specs.Objects.{traits_at}
 use Rattle.elab_rules.specs.Types.{is_nothing, Parameter}
-use Rattle.elab_sound_types.specs.Types.{is_sound, is_sound_signature, Use, object, target, variable, parameter, declared}
+use Rattle.elab_sound_types.specs.Types.{is_lambda, is_class, is_sound, is_sound_signature, Use, object, target, variable, parameter, denoted}
 
 -- a member that has a name is an object; those of a lambda's class have none, and may be references
 abbrev pub member_use : (nameless : Bool) → Use
 member_use true = variable
 member_use false = object
 
-abbrev pub is_sound_member : (classes : ℕ) → Member → Bool
+abbrev pub is_sound_member : List Class → Member → Bool
 is_sound_member classes m = is_sound classes (member_use (is_nothing m.name)) m.typ
 
-abbrev pub has_sound_members : (classes : ℕ) → Class → Bool
+abbrev pub has_sound_members : List Class → Class → Bool
 has_sound_members classes x = list_all (is_sound_member classes) x.members
 
-abbrev pub is_sound_function : (classes : ℕ) → Func → Bool
+abbrev pub is_sound_function : List Class → Func → Bool
 is_sound_function classes f = is_sound_signature classes f.declared.signature
 
 -- an integer or an enum without qualifiers
@@ -40,64 +41,68 @@ abbrev pub is_sound_enumerator : Enumerator → Bool
 is_sound_enumerator e = is_number e.typ
 
 -- where its type is known
-abbrev pub is_sound_known : (classes : ℕ) → Option Typ → Bool
+abbrev pub is_sound_known : List Class → Option Typ → Bool
 is_sound_known classes None = true
 is_sound_known classes (Some t) = is_sound classes variable t
 
-abbrev pub is_sound_variable : (classes : ℕ) → Variable → Bool
+abbrev pub is_sound_variable : List Class → Variable → Bool
 is_sound_variable classes v = is_sound_known classes v.typ
 
 -- an object of a class, a lambda's too
-abbrev pub is_object_of_class : (classes : ℕ) → Form → Bool
-is_object_of_class classes (class n) = nat_lt n classes
-is_object_of_class classes (closure n) = nat_lt n classes
+abbrev pub is_object_of_class : List Class → Form → Bool
+is_object_of_class classes (class n) = is_class classes n
+is_object_of_class classes (closure n) = is_lambda classes n
 is_object_of_class classes f = false
 
-abbrev pub is_sound_this : (classes : ℕ) → Option This → Bool
+abbrev pub is_sound_this : List Class → Option This → Bool
 is_sound_this classes None = true
 is_sound_this classes (Some t) = is_object_of_class classes (form_in t.typ)
 
-abbrev pub is_sound_capture : (classes : ℕ) → Capture → Bool
+abbrev pub is_sound_capture : List Class → Capture → Bool
 is_sound_capture classes x = is_sound classes variable x.typ
 
-abbrev pub are_sound_captures : (classes : ℕ) → Option Lambda → Bool
+abbrev pub are_sound_captures : List Class → Option Lambda → Bool
 are_sound_captures classes None = true
 are_sound_captures classes (Some l) = list_all (is_sound_capture classes) l.captures
 
-abbrev pub is_sound_closure : (classes : ℕ) → Closure → Bool
-is_sound_closure classes x = nat_lt x.class classes
+abbrev pub is_sound_closure : List Class → Closure → Bool
+is_sound_closure classes x = is_lambda classes x.class
 
--- lambdas that were made: their classes are declared
-abbrev pub are_sound_closures : (classes : ℕ) → List Closure → Bool
+-- lambdas that were made: their classes are lambdas'
+abbrev pub are_sound_closures : List Class → List Closure → Bool
 are_sound_closures classes l = list_all (is_sound_closure classes) l
 
-abbrev pub is_sound_name : (classes : ℕ) → Named → Bool
-is_sound_name classes x = is_sound classes declared x.typ
+abbrev pub is_sound_name : List Class → Named → Bool
+is_sound_name classes x = is_sound classes denoted x.typ
 
-abbrev pub is_sound_global : (classes : ℕ) → Global → Bool
+abbrev pub is_sound_global : List Class → Global → Bool
 is_sound_global classes g = is_sound classes target g.typ
 
-abbrev pub are_sound_globals : (classes : ℕ) → Work → Bool
+abbrev pub are_sound_globals : List Class → Work → Bool
 are_sound_globals classes w = list_all (is_sound_global classes) w.globals
 
 -- what is declared has types that can be declared
 pub record HasSoundTypes (c : Ctx) (w : Work) : Type 0 where
-  -- what a name of a type stands for can be declared
-  pub types : list_all (is_sound_name (length c.classes)) c.types ≡ true
+  -- what a name of a type stands for can be written
+  pub types : list_all (is_sound_name c.classes) c.types ≡ true
   -- a member that has a name is an object, and one of a lambda's class an object or a reference
-  pub members : list_all (has_sound_members (length c.classes)) c.classes ≡ true
+  pub members : list_all (has_sound_members c.classes) c.classes ≡ true
   -- a function takes values, objects of classes and references, and gives one of these or nothing
-  pub functions : list_all (is_sound_function (length c.classes)) c.funcs ≡ true
+  pub functions : list_all (is_sound_function c.classes) c.funcs ≡ true
   -- an enumerator is an `int`, or of its enum
   pub enumerators : list_all is_sound_enumerator c.enumerators ≡ true
   -- a variable whose type is known is an object or a reference
-  pub variables : list_all (is_sound_variable (length c.classes)) c.variables ≡ true
+  pub variables : list_all (is_sound_variable c.classes) c.variables ≡ true
   -- `*this` is an object of a class, or of a lambda
-  pub this : is_sound_this (length c.classes) c.this ≡ true
+  pub this : is_sound_this c.classes c.this ≡ true
   -- what the lambda around captures is an object or a reference
-  pub captures : are_sound_captures (length c.classes) c.lambda ≡ true
+  pub captures : are_sound_captures c.classes c.lambda ≡ true
   -- a global is what an lvalue can refer to
-  pub globals : are_sound_globals (length c.classes) w ≡ true
+  pub globals : are_sound_globals c.classes w ≡ true
+  -- each class has its traits
+  pub many : length c.traits ≡ length c.classes
+  -- a class whose objects may be copied as bytes is complete
+  pub copied : (n : ℕ) → (traits_at c n).is_trivially_copyable ≡ true → is_some (completion_of c.classes n) ≡ true
 
 -- each token of a syntax tree has a spelling, as each that was read has
 abbrev mutual
@@ -112,5 +117,5 @@ abbrev mutual
 -- Parameters
 
 -- a parameter as its function knows it
-abbrev pub is_sound_parameter : (classes : ℕ) → Parameter → Bool
+abbrev pub is_sound_parameter : List Class → Parameter → Bool
 is_sound_parameter classes p = is_sound classes parameter p.typ

@@ -1,8 +1,8 @@
 -- Statements keep the types of a context sound.
-use Rattle.std.specs.Prelude.{◌≡◌, ◌≤◌, ℕ, Bool, true, false, List, length, Option, Some, None, Ok}
+use Rattle.std.specs.Prelude.{◌≡◌, ◌≤◌, ℕ, nat_lt, Bool, true, false, List, length, Option, Some, None, is_some, Ok}
 use Rattle.std.specs.List.{list_all}
 use Rattle.elab_rules.specs.cpp_types.Typ.{Typ}
-use Rattle.elab_rules.specs.cpp_types.Class.{Class}
+use Rattle.elab_rules.specs.cpp_types.Class.{Class, completion_of}
 use Rattle.elab_rules.specs.cpp_lex.Tokens.{Lexeme}
 use Rattle.elab_rules.specs.cpp_ast.Trees as syntax
 use Rattle.elab_rules.specs.cpp_tree.Typing.{form_in}
@@ -10,12 +10,12 @@ use Rattle.elab_rules.specs.elab_ctx.Ctx.{Returns, known, deduced}
 use Rattle.elab_rules.specs.Statements.{State, Done, Lambdas, statement_of, statements_of}
 use Rattle.elab_rules.specs.Functions.{Header, function_body}
 use Rattle.elab_rules.specs.Lambdas.{no_lambda, lambdas_of}
-use Rattle.elab_sound_types.specs.Types.{is_sound, declared}
+use Rattle.elab_sound_types.specs.Types.{is_lambda, is_sound, declared}
 use Rattle.elab_sound_types.specs.Contexts.{is_object_of_class, is_sound_parameter}
 use Rattle.elab_sound_types.specs.Contexts.{HasSoundTypes, are_sound_closures, is_spelled, are_spelled}
 
 -- what a lambda's body has returned so far
-abbrev pub is_sound_return : (classes : ℕ) → Returns → Bool
+abbrev pub is_sound_return : List Class → Returns → Bool
 is_sound_return classes (known t) = true
 is_sound_return classes (deduced None) = true
 is_sound_return classes (deduced (Some t)) = is_sound classes declared t
@@ -23,15 +23,21 @@ is_sound_return classes (deduced (Some t)) = is_sound classes declared t
 pub record IsSoundState (st : State) : Type 0 where
   -- what is declared has types that can be declared
   pub context : HasSoundTypes st.ctx st.work
-  -- the lambdas at hand have classes that are declared
-  pub closures : are_sound_closures (length st.ctx.classes) st.ctx.closures ≡ true
+  -- the lambdas at hand have classes of lambdas
+  pub closures : are_sound_closures st.ctx.classes st.ctx.closures ≡ true
   -- what a lambda's body has returned is of a type that can be declared
-  pub returned : is_sound_return (length st.ctx.classes) st.ctx.returns ≡ true
+  pub returned : is_sound_return st.ctx.classes st.ctx.returns ≡ true
 
--- no class is taken back; where there are no lambdas, none is added
-pub record Grown (lambdas : Bool) (before now : List Class) : Type 0 where
+-- no class is taken back; each has a name or none as before, and is complete if it was
+pub record Kept (before now : List Class) : Type 0 where
   pub longer : length before ≤ length now
-  pub same : lambdas ≡ false → length now ≡ length before
+  pub names : (n : ℕ) → nat_lt n (length before) ≡ true → is_lambda now n ≡ is_lambda before n
+  pub complete : (n : ℕ) → is_some (completion_of before n) ≡ true → is_some (completion_of now n) ≡ true
+
+-- classes are kept; where there are no lambdas, none is added
+pub record Grown (lambdas : Bool) (before now : List Class) : Type 0 where
+  pub kept : Kept before now
+  pub same : lambdas ≡ false → now ≡ before
 
 pub record IsSoundAfter (lambdas : Bool) (before now : State) : Type 0 where
   pub sound : IsSoundState now
@@ -62,13 +68,13 @@ NoLambdasKeep = (s : List Lexeme) → KeepsSound false s no_lambda
 -- Functions
 
 -- the object of a member function
-abbrev pub is_sound_object : (classes : ℕ) → Option Typ → Bool
+abbrev pub is_sound_object : List Class → Option Typ → Bool
 is_sound_object classes None = true
 is_sound_object classes (Some t) = is_object_of_class classes (form_in t)
 
 -- so does the body of a function, in which its parameters and its object are known
 abbrev pub FunctionsKeep : Type 0
 FunctionsKeep = (lams : Lambdas) (s : List Lexeme) (st : State) (f : Header) (this : Option Typ) (place : ℕ) (body : syntax.Tree) (x : State)
-    → KeepsSound true s lams → IsSoundState st → list_all (is_sound_parameter (length st.ctx.classes)) f.params ≡ true
-    → is_sound_object (length st.ctx.classes) this ≡ true → is_spelled s body ≡ true → function_body lams s st f this place body ≡ Ok x
+    → KeepsSound true s lams → IsSoundState st → list_all (is_sound_parameter st.ctx.classes) f.params ≡ true
+    → is_sound_object st.ctx.classes this ≡ true → is_spelled s body ≡ true → function_body lams s st f this place body ≡ Ok x
     → IsSoundAfter true st x
