@@ -1,2 +1,3 @@
 pub use Rattle.elab_rules.proofs as elab_rules
+pub mod Headers
 pub mod Walk
