@@ -3,6 +3,7 @@ use Rattle.std.proofs.Common.{◌≡◌, refl, ap, ◌∙◌, sym, ℕ, Bool, tr
 use Rattle.std.specs.Prelude.{if◌then◌else◌}
 use Rattle.std.proofs.lemmas.Bool.{and_parts}
 use Rattle.elab_rules.specs.cpp_types.Typ.{Typ, typ, Form, void, int, enum, null, ptr, ref, array, func, class, closure, tx_ex, Signature, signature}
+use Rattle.elab_rules.specs.cpp_types.Class.{Class}
 use Rattle.elab_rules.specs.cpp_types.declared.classes.At.{At}
 use Rattle.elab_rules.specs.cpp_types.declared.ranks.Cat.{Cat}
 use Rattle.elab_rules.specs.cpp_types.declared.ranks.Cat.TheVariants.{Lvalue, Prvalue}
@@ -26,13 +27,14 @@ use Rattle.elab_sound_types.specs.Types.{IsSoundTree, free, method, get, abort, 
 use Rattle.elab_sound_types.specs.Contexts.{HasSoundTypes}
 use Rattle.elab_sound_types.proofs.Sound.{both}
 use Rattle.elab_sound_types.proofs.Trees.{Plain, some_same, expression_node, class_head, valued_sound}
+use Rattle.elab_sound_types.proofs.Growth.{held_class}
 use Rattle.elab_sound_types.proofs.Initial.{made}
 use Rattle.elab_sound_types.proofs.Pointers.{pointers_law}
 use Rattle.elab_sound_types.proofs.Names.{function_sound}
 
 -- What a call gives (C++14 5.2.2 p10)
 
-result_head : (n : ℕ) (r : Typ) → is_sound n result r ≡ true → is_head n (calls.result_type r) (calls.result_category r) ≡ true
+result_head : (n : List Class) (r : Typ) → is_sound n result r ≡ true → is_head n (calls.result_type r) (calls.result_category r) ≡ true
 result_head n (typ (ref t) c v) h = (and_parts (not (c || v)) (is_sound n target t) h).1
 result_head n (typ void c v) h = refl
 result_head n (typ (int k) c v) h = refl
@@ -45,10 +47,10 @@ result_head n (typ (class k) c v) h = class_head n result (class k) (c || v) c v
 result_head n (typ (closure k) c v) h = class_head n result (closure k) (c || v) c v Prvalue refl h
 result_head n (typ (tx_ex (typ f d w)) c v) h = class_head n result (tx_ex (typ f d w)) (c || v) c v Prvalue refl h
 
-signature_given : (n : ℕ) (s : Signature) → is_sound_signature n s ≡ true → is_sound n result (signature_result s) ≡ true
+signature_given : (n : List Class) (s : Signature) → is_sound_signature n s ≡ true → is_sound n result (signature_result s) ≡ true
 signature_given n (signature ps r x) h = (and_parts (are_sound n ps) (is_sound n result r) h).1
 
-called : (n : ℕ) (c : Ctx) (w : Work) (at : At) (kind : TKind) (s : Signature) (self : Trees) (os : List Operand) → Plain kind
+called : (n : List Class) (c : Ctx) (w : Work) (at : At) (kind : TKind) (s : Signature) (self : Trees) (os : List Operand) → Plain kind
     → is_sound_signature n s ≡ true → On (made n) (calls.called c w at kind s self os)
 called n c w at kind s self os p h = skip (made n) (calls.complete_result c at (signature_result s)) _
     (λ y. skip (made n) (words c w (signature_parameters s) os) _
@@ -68,7 +70,7 @@ call_kind None k = call_plain k
 
 -- `get` of an exception
 
-held_head : (n : ℕ) (f : Form) (t : Typ) (c v : Bool) (cat : Cat) → calls.value_type f ≡ Some t → is_head n (typ f c v) cat ≡ true
+held_head : (n : List Class) (f : Form) (t : Typ) (c v : Bool) (cat : Cat) → calls.value_type f ≡ Some t → is_head n (typ f c v) cat ≡ true
     → is_sound n value (typ (tx_ex t) c v) ≡ true
 held_head n (tx_ex u) t c v cat e h = exception_of u t cat (some_same u t e) h
   where
@@ -87,10 +89,10 @@ held_head n (func s) t c v cat e h = absurd cc
 held_head n (class k) t c v cat e h = absurd cc
 held_head n (closure k) t c v cat e h = absurd cc
 
-exception_value : (n : ℕ) (c : Ctx) (at : At) (e : Tree) (f : Form) (d v : Bool) → is_held n f ≡ true → IsExpression n (calls.exception_value c at e (typ f d v))
+exception_value : (n : List Class) (c : Ctx) (at : At) (e : Tree) (f : Form) (d v : Bool) → is_held n f ≡ true → IsExpression n (calls.exception_value c at e (typ f d v))
 exception_value n c at e (int k) d v h = record { head = refl; chosen = refl; written = refl }
 exception_value n c at e (enum m s) d v h = record { head = refl; chosen = refl; written = refl }
-exception_value n c at e (class k) d v h = record { head = class_head n value (class k) false false false Prvalue refl h; chosen = refl; written = refl }
+exception_value n c at e (class k) d v h = record { head = class_head n value (class k) false false false Prvalue refl (held_class n k h); chosen = refl; written = refl }
 exception_value n c at e void d v h = absurd cc
 exception_value n c at e null d v h = absurd cc
 exception_value n c at e (ptr t) d v h = absurd cc
@@ -100,11 +102,11 @@ exception_value n c at e (func s) d v h = absurd cc
 exception_value n c at e (closure k) d v h = absurd cc
 exception_value n c at e (tx_ex t) d v h = absurd cc
 
-value_of_held : (n : ℕ) (c : Ctx) (at : At) (e : Tree) (t : Typ) (d v : Bool) → is_sound n value (typ (tx_ex t) d v) ≡ true
+value_of_held : (n : List Class) (c : Ctx) (at : At) (e : Tree) (t : Typ) (d v : Bool) → is_sound n value (typ (tx_ex t) d v) ≡ true
     → IsExpression n (calls.exception_value c at e t)
 value_of_held n c at e (typ f x y) d v h = exception_value n c at e f x y (and_parts (not (x || y)) (is_held n f) h).1
 
-call_get : (n : ℕ) (c : Ctx) (w : Work) (at : At) (e : Tree) (os : List Operand) → IsExpression n e → On (made n) (calls.call_get c w at e os)
+call_get : (n : List Class) (c : Ctx) (w : Work) (at : At) (e : Tree) (os : List Operand) → IsExpression n e → On (made n) (calls.call_get c w at e os)
 call_get n c w at (node kind (typ f d v) cat p kids) [] h = expected (made n) at NotCallable (calls.value_type f) _
     (λ t i. skip (made n) (check at NoViable (not v)) _
     (λ y. value_of_held n c at (node kind (typ f d v) cat p kids) t d v (held_head n f t d v cat i h.head)))
@@ -112,22 +114,22 @@ call_get n c w at e (o ∷ os) h = tt
 
 -- Through pointers
 
-call_pointer : (n : ℕ) (c : Ctx) (w : Work) (at : At) (f : Form) (p : Tree) (os : List Operand) → ((u : Typ) → f ≡ ptr u → is_sound n target u ≡ true)
+call_pointer : (n : List Class) (c : Ctx) (w : Work) (at : At) (f : Form) (p : Tree) (os : List Operand) → ((u : Typ) → f ≡ ptr u → is_sound n target u ≡ true)
     → On (made n) (calls.call_pointer c w at f p os)
 call_pointer n c w at (ptr (typ (func s) d v)) p os h = skip (made n) (meant at (chosen c.classes (record { signature = s; this = None } ∷ []) (arguments os))) _
     (λ i. called n c w at forms.PointerCall s (one p) os (record { chosen = refl; written = λ cat t kids. refl })
     (and_parts (not (d || v)) (is_sound_signature n s) (h (typ (func s) d v) refl)).1)
 call_pointer n c w at f p os h = tt
 
-call_abort : (n : ℕ) (w : Work) (at : At) (b : Builtin) (os : List Operand) → On (made n) (calls.call_abort w at b os)
+call_abort : (n : List Class) (w : Work) (at : At) (b : Builtin) (os : List Operand) → On (made n) (calls.call_abort w at b os)
 call_abort n w at b [] = record { head = refl; chosen = refl; written = refl }
 call_abort n w at b (o ∷ os) = tt
 
 -- Of a context with sound types
 
 module _ (c : Ctx) (v : Work) (h : HasSoundTypes c v) where
-  abbrev n : ℕ
-  n = length c.classes
+  abbrev n : List Class
+  n = c.classes
 
   call_free : (w : Work) (at : At) (k : ℕ) (os : List Operand) → On (made n) (calls.call_free c w at k os)
   call_free w at k os = skip (made n) (check at BadMain (not (calls.is_main (func_at c.funcs k)))) _

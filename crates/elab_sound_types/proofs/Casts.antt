@@ -2,6 +2,7 @@
 use Rattle.std.proofs.Common.{◌≡◌, refl, ℕ, true, false, not, ◌&&◌, ◌||◌, List, [], ◌∷◌, is_some, Ok}
 use Rattle.std.proofs.lemmas.Bool.{and_parts}
 use Rattle.elab_rules.specs.cpp_types.Typ.{Typ, typ, void, int, enum, null, ptr, ref, array, func, class, closure, tx_ex}
+use Rattle.elab_rules.specs.cpp_types.Class.{Class}
 use Rattle.elab_rules.specs.cpp_types.Conversion.{referred}
 use Rattle.elab_rules.specs.cpp_types.declared.classes.At.{At}
 use Rattle.elab_rules.specs.cpp_types.declared.ranks.Cat.TheVariants.{Lvalue, Prvalue}
@@ -18,7 +19,7 @@ use Rattle.elab_rules.specs.Types.{is_bounded}
 use Rattle.elab_rules.specs.Casts as casts
 use Rattle.elab_fits.specs.Standing.{On}
 use Rattle.elab_fits.proofs.Steps.{skip, checked, either as either_of}
-use Rattle.elab_sound_types.specs.Types.{target, result, value as a_value, declared, is_sound, is_head, IsExpression, AreExpressions}
+use Rattle.elab_sound_types.specs.Types.{target, result, value as a_value, denoted, is_sound, is_head, IsExpression, AreExpressions}
 use Rattle.elab_sound_types.proofs.Sound.{both, unqualified_sound}
 use Rattle.elab_sound_types.proofs.Trees.{lvalue_retyped, converted_sound}
 use Rattle.elab_sound_types.proofs.Initial.{made, initial_sound}
@@ -26,24 +27,24 @@ use Rattle.elab_sound_types.proofs.Objects.{object_cast}
 use Rattle.elab_sound_types.proofs.Operators.{value_sound}
 
 -- an object that a cast to a reference refers to
-reference_cast : (n : ℕ) (at : At) (u : Typ) (e : Tree) → is_sound n target u ≡ true → IsExpression n (casts.reference_cast at u e)
+reference_cast : (n : List Class) (at : At) (u : Typ) (e : Tree) → is_sound n target u ≡ true → IsExpression n (casts.reference_cast at u e)
 reference_cast n at u (node Retype t Lvalue p kids) h = record { head = h; chosen = refl; written = refl }
 reference_cast n at u (node kind t cat p kids) h = lvalue_retyped n at u (node kind t cat p kids) h
 
 -- a cast to a scalar
-scalar_cast : (n : ℕ) (c : Ctx) (w : Work) (at : At) (t : Typ) (o : Operand) → is_sound n a_value t ≡ true → is_sound n result t ≡ true
+scalar_cast : (n : List Class) (c : Ctx) (w : Work) (at : At) (t : Typ) (o : Operand) → is_sound n a_value t ≡ true → is_sound n result t ≡ true
     → IsExpression n o.tree → On (made n) (casts.scalar_cast c w at t o)
 scalar_cast n c w at t o h g e = either_of (made n) (casts.is_numeric (form_in (typ_in (value o))) && casts.is_numeric (form_in t)) _ _
     (λ i. converted_sound n at t (value o) h (value_sound n o e))
     (λ i. initial_sound n c w (unqualified t) (record { tree = value o; at = at; zero = o.zero }) (unqualified_sound n result t g) (value_sound n o e))
 
 -- to an object of a class
-class_cast : (n : ℕ) (c : Ctx) (w : Work) (at : At) (t : Typ) (os : List Operand) → is_class_typ t ≡ true → is_sound n a_value t ≡ true
+class_cast : (n : List Class) (c : Ctx) (w : Work) (at : At) (t : Typ) (os : List Operand) → is_class_typ t ≡ true → is_sound n a_value t ≡ true
     → AreExpressions n os → On (made n) (and_then (Initialising.from_values c w (unqualified t) at os)
     (λ (m : Made). Ok (Initialising.with_tree (casts.as_expression at (unqualified t)) m)))
 class_cast n c w at (typ f q v) os i h g = object_cast n c w f false false at os i (unqualified_sound n a_value (typ f q v) h) g
 
-pub cast_in : (n : ℕ) (c : Ctx) (w : Work) (at : At) (t : Typ) (o : Operand) → is_sound n declared t ≡ true → IsExpression n o.tree
+pub cast_in : (n : List Class) (c : Ctx) (w : Work) (at : At) (t : Typ) (o : Operand) → is_sound n denoted t ≡ true → IsExpression n o.tree
     → On (made n) (casts.cast_in c w at t (form_in t) o)
 cast_in n c w at (typ void q v) o h e = record { head = refl; chosen = refl; written = refl }
 cast_in n c w at (typ (ref u) q v) o h e = skip (made n) (initial c w (typ (ref u) q v) o) _
@@ -55,14 +56,14 @@ cast_in n c w at (typ (enum m s) q v) o h e = scalar_cast n c w at (typ (enum m 
 cast_in n c w at (typ null q v) o h e = scalar_cast n c w at (typ null q v) o refl refl e
 cast_in n c w at (typ (ptr t) q v) o h e = scalar_cast n c w at (typ (ptr t) q v) o h h e
 cast_in n c w at (typ (class k) q v) o h e = class_cast n c w at (typ (class k) q v) (o ∷ []) refl h (e, tt)
-cast_in n c w at (typ (closure k) q v) o h e = class_cast n c w at (typ (closure k) q v) (o ∷ []) refl h (e, tt)
+cast_in n c w at (typ (closure k) q v) o h e = absurd cc
 cast_in n c w at (typ (tx_ex (typ f d x)) q v) o h e = class_cast n c w at (typ (tx_ex (typ f d x)) q v) (o ∷ []) refl h (e, tt)
 
 -- `T(a, ..)` (C++14 5.2.3)
 
-class_value : (n : ℕ) (t : Typ) → is_class_typ t ≡ true → is_sound n declared t ≡ true → is_sound n a_value t ≡ true
+class_value : (n : List Class) (t : Typ) → is_class_typ t ≡ true → is_sound n denoted t ≡ true → is_sound n a_value t ≡ true
 class_value n (typ (class k) q v) i h = h
-class_value n (typ (closure k) q v) i h = h
+class_value n (typ (closure k) q v) i h = absurd cc
 class_value n (typ (tx_ex (typ f d x)) q v) i h = h
 class_value n (typ void q v) i h = absurd cc
 class_value n (typ (int k) q v) i h = absurd cc
@@ -74,7 +75,7 @@ class_value n (typ (array t k) q v) i h = absurd cc
 class_value n (typ (func s) q v) i h = absurd cc
 
 -- nothing is the value 0 of a scalar
-zero_head : (n : ℕ) (t : Typ) → (is_some (kind_in (form_in t)) && not (is_reference t)) ≡ true → is_sound n declared t ≡ true
+zero_head : (n : List Class) (t : Typ) → (is_some (kind_in (form_in t)) && not (is_reference t)) ≡ true → is_sound n denoted t ≡ true
     → is_head n (unqualified t) Prvalue ≡ true
 zero_head n (typ (int k) q v) i h = refl
 zero_head n (typ (enum m s) q v) i h = refl
@@ -88,7 +89,7 @@ zero_head n (typ (class k) q v) i h = absurd cc
 zero_head n (typ (closure k) q v) i h = absurd cc
 zero_head n (typ (tx_ex t) q v) i h = absurd cc
 
-pub functional : (n : ℕ) (c : Ctx) (w : Work) (at : At) (t : Typ) (os : List Operand) → is_sound n declared t ≡ true → AreExpressions n os
+pub functional : (n : List Class) (c : Ctx) (w : Work) (at : At) (t : Typ) (os : List Operand) → is_sound n denoted t ≡ true → AreExpressions n os
     → On (made n) (casts.functional c w at t os)
 functional n c w at t (o ∷ []) h e = cast_in n c w at t o h e.0
 functional n c w at t [] h e = either_of (made n) (is_class_typ t) _ _ (λ i. class_cast n c w at t [] i (class_value n t i h) tt)
@@ -98,11 +99,11 @@ functional n c w at t [] h e = either_of (made n) (is_class_typ t) _ _ (λ i. cl
 functional n c w at t (o ∷ p ∷ os) h e = either_of (made n) (is_class_typ t) _ _
     (λ i. class_cast n c w at t (o ∷ p ∷ os) i (class_value n t i h) e) (λ i. tt)
 
-pub size_literal : (n : ℕ) (c : Ctx) (at operand : At) (t : Typ) → On (IsExpression n) (casts.size_literal c at operand t)
+pub size_literal : (n : List Class) (c : Ctx) (at operand : At) (t : Typ) → On (IsExpression n) (casts.size_literal c at operand t)
 size_literal n c at operand t = skip (IsExpression n) (check at BadOperand (not (is_function (referred t)) && not (is_void (referred t)))) _
     (λ y. skip (IsExpression n) (check at Incomplete (is_bounded (referred t))) _
     (λ x. skip (IsExpression n) (measurable c at (referred t)) _ (λ z. record { head = refl; chosen = refl; written = refl })))
 
-pub throw : (n : ℕ) (c : Ctx) (w : Work) (at : At) (os : List Operand) → On (made n) (casts.throw c w at os)
+pub throw : (n : List Class) (c : Ctx) (w : Work) (at : At) (os : List Operand) → On (made n) (casts.throw c w at os)
 throw n c w at [] = record { head = refl; chosen = refl; written = refl }
 throw n c w at (o ∷ os) = skip (made n) (casts.throw_in c w at (form_in (typ_in o.tree)) o) _ (λ m. record { head = refl; chosen = refl; written = refl })

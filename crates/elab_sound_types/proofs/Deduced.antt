@@ -1,7 +1,8 @@
 -- What stands for `auto` gives the type of a variable (C++14 7.1.6.4).
-use Rattle.std.proofs.Common.{◌≡◌, refl, ap, ◌∙◌, ℕ, Bool, true, false, not, ◌&&◌, ◌||◌, [], ◌∷◌, Option, Some, None}
+use Rattle.std.proofs.Common.{◌≡◌, refl, ap, ◌∙◌, ℕ, Bool, true, false, not, ◌&&◌, ◌||◌, List, [], ◌∷◌, Option, Some, None}
 use Rattle.std.proofs.lemmas.Bool.{and_parts}
 use Rattle.elab_rules.specs.cpp_types.Typ.{Typ, typ, Form, void, int, enum, null, ptr, ref, array, func, class, closure, tx_ex}
+use Rattle.elab_rules.specs.cpp_types.Class.{Class}
 use Rattle.elab_rules.specs.cpp_types.Conversion.{decayed}
 use Rattle.elab_rules.specs.cpp_types.declared.classes.At.{At}
 use Rattle.elab_rules.specs.cpp_types.declared.ranks.Cat.{Cat}
@@ -13,14 +14,14 @@ use Rattle.elab_rules.specs.cpp_tree.Notation.{plain}
 use Rattle.elab_rules.specs.cpp_tree.Typing.{form_in, is_void, unqualified}
 use Rattle.elab_rules.specs.elab_ctx.Steps.{expect, check, Operand}
 use Rattle.elab_rules.specs.Operators.{value}
-use Rattle.elab_rules.specs.Types.{is_function_form, with_qualifiers}
+use Rattle.elab_rules.specs.Types.{is_function_form}
 use Rattle.elab_rules.specs.Statements.{less_qualified, deduced_from, replaced, auto_of, deduced_type, is_null_type}
 use Rattle.elab_fits.specs.Standing.{On}
 use Rattle.elab_fits.proofs.Steps.{skip, checked}
 use Rattle.elab_fits.proofs.Initials.{value_form_is}
 use Rattle.elab_sound_types.specs.Types.{Use, object, target, variable, value as a_value, declared, may_refer, may_be_array, may_be_function, is_sound, is_sound_form}
 use Rattle.elab_sound_types.specs.Types.{is_sound_signature, is_head, IsExpression}
-use Rattle.elab_sound_types.proofs.Sound.{both, sound_as, all_declared, object_target, object_variable, target_object, unqualified_sound, written_sound}
+use Rattle.elab_sound_types.proofs.Sound.{both, sound_as, all_declared, target_variable, unqualified_sound, written_sound}
 use Rattle.elab_sound_types.proofs.Objects.{not_true}
 use Rattle.elab_sound_types.proofs.Names.{IfThere}
 use Rattle.elab_sound_types.proofs.Operators.{value_sound}
@@ -32,7 +33,7 @@ own_less true w x y h = absurd cc
 own_less false true x y h = absurd cc
 own_less false false x y h = refl
 
-form_less : (n : ℕ) (a : Use) (f : Form) (d w x y : Bool) → is_sound_form n a (d || w) f ≡ true → is_sound_form n a ((d && x) || (w && y)) f ≡ true
+form_less : (n : List Class) (a : Use) (f : Form) (d w x y : Bool) → is_sound_form n a (d || w) f ≡ true → is_sound_form n a ((d && x) || (w && y)) f ≡ true
 form_less n a void d w x y h = h
 form_less n a (int k) d w x y h = refl
 form_less n a (enum e s) d w x y h = refl
@@ -40,7 +41,7 @@ form_less n a null d w x y h = refl
 form_less n a (ptr t) d w x y h = h
 form_less n a (ref t) d w x y h = let p = and_parts (may_refer a) (not (d || w) && is_sound n target t) h in
     let q = and_parts (not (d || w)) (is_sound n target t) p.1 in both p.0 (both (own_less d w x y q.0) q.1)
-form_less n a (array t k) d w x y h = let p = and_parts (may_be_array a) (not (d || w) && is_sound n object t) h in
+form_less n a (array t k) d w x y h = let p = and_parts (may_be_array a k) (not (d || w) && is_sound n object t) h in
     let q = and_parts (not (d || w)) (is_sound n object t) p.1 in both p.0 (both (own_less d w x y q.0) q.1)
 form_less n a (func s) d w x y h = let p = and_parts (may_be_function a) (not (d || w) && is_sound_signature n s) h in
     let q = and_parts (not (d || w)) (is_sound_signature n s) p.1 in both p.0 (both (own_less d w x y q.0) q.1)
@@ -48,35 +49,31 @@ form_less n a (class k) d w x y h = h
 form_less n a (closure k) d w x y h = h
 form_less n a (tx_ex (typ f p q)) d w x y h = h
 
-less_sound : (n : ℕ) (a : Use) (t u : Typ) → is_sound n a u ≡ true → is_sound n a (less_qualified t u) ≡ true
+less_sound : (n : List Class) (a : Use) (t u : Typ) → is_sound n a u ≡ true → is_sound n a (less_qualified t u) ≡ true
 less_sound n a (typ g c v) (typ f d w) h = form_less n a f d w (not c) (not v) h
 
 -- The initialiser
 
-value_object : (n : ℕ) (t : Typ) → is_void t ≡ false → is_sound n a_value t ≡ true → is_sound n object t ≡ true
-value_object n (typ void c v) i h = absurd cc
-value_object n (typ (int k) c v) i h = refl
-value_object n (typ (enum e s) c v) i h = refl
-value_object n (typ null c v) i h = refl
-value_object n (typ (ptr t) c v) i h = h
-value_object n (typ (ref t) c v) i h = absurd cc
-value_object n (typ (array t k) c v) i h = absurd cc
-value_object n (typ (func s) c v) i h = absurd cc
-value_object n (typ (class k) c v) i h = h
-value_object n (typ (closure k) c v) i h = h
-value_object n (typ (tx_ex (typ f d w)) c v) i h = h
+value_target : (n : List Class) (t : Typ) → is_void t ≡ false → is_sound n a_value t ≡ true → is_sound n target t ≡ true
+value_target n (typ void c v) i h = absurd cc
+value_target n (typ (int k) c v) i h = refl
+value_target n (typ (enum e s) c v) i h = refl
+value_target n (typ null c v) i h = refl
+value_target n (typ (ptr t) c v) i h = h
+value_target n (typ (ref t) c v) i h = absurd cc
+value_target n (typ (array t k) c v) i h = absurd cc
+value_target n (typ (func s) c v) i h = absurd cc
+value_target n (typ (class k) c v) i h = h
+value_target n (typ (closure k) c v) i h = h
+value_target n (typ (tx_ex (typ f d w)) c v) i h = h
 
-pub value_of_head : (n : ℕ) (t : Typ) → is_head n t Prvalue ≡ true → is_sound n a_value t ≡ true
+pub value_of_head : (n : List Class) (t : Typ) → is_head n t Prvalue ≡ true → is_sound n a_value t ≡ true
 value_of_head n (typ f c v) h = (and_parts (is_sound n a_value (typ f c v)) _ h).0
 
 -- what is no `void` is what a reference can refer to
-head_target : (n : ℕ) (t : Typ) (cat : Cat) → is_void t ≡ false → is_head n t cat ≡ true → is_sound n target t ≡ true
+head_target : (n : List Class) (t : Typ) (cat : Cat) → is_void t ≡ false → is_head n t cat ≡ true → is_sound n target t ≡ true
 head_target n t Lvalue i h = h
-head_target n t Prvalue i h = sound_as n object target t object_target (value_object n t i (value_of_head n t h))
-
--- and, where it is no function, an object
-head_object : (n : ℕ) (t : Typ) (cat : Cat) → is_void t ≡ false → is_function_form (form_in t) ≡ false → is_head n t cat ≡ true → is_sound n object t ≡ true
-head_object n t cat i j h = target_object n t j (head_target n t cat i h)
+head_target n t Prvalue i h = value_target n t i (value_of_head n t h)
 
 decayed_no_function : (t : Typ) → is_function_form (decayed t) ≡ false
 decayed_no_function (typ void c v) = refl
@@ -117,23 +114,32 @@ void_by_form (typ (class k) c v) = refl
 void_by_form (typ (closure k) c v) = refl
 void_by_form (typ (tx_ex t) c v) = refl
 
--- the value of what is no `void` is an object
-value_type : (n : ℕ) (o : Operand) → is_void (typ_in o.tree) ≡ false → IsExpression n o.tree → is_sound n object (unqualified (typ_in (value o))) ≡ true
-value_type n o i h = unqualified_sound n object (typ_in (value o)) (head_object n (typ_in (value o)) (cat_of (value o))
+-- what has a value that is no `void` can be referred to
+value_type : (n : List Class) (o : Operand) → is_void (typ_in o.tree) ≡ false → IsExpression n o.tree → is_sound n target (unqualified (typ_in (value o))) ≡ true
+value_type n o i h = unqualified_sound n target (typ_in (value o)) (head_target n (typ_in (value o)) (cat_of (value o))
     (void_by_form (typ_in (value o)) ∙ ap (λ (f : Form). is_void (plain f)) (value_form_is o.at o.tree) ∙ decayed_no_void (typ_in o.tree) i)
-    (ap is_function_form (value_form_is o.at o.tree) ∙ decayed_no_function (typ_in o.tree)) (value_sound n o h).head)
+    (value_sound n o h).head)
+
+-- and, as it is no function, be an object
+value_variable : (n : List Class) (o : Operand) → is_void (typ_in o.tree) ≡ false → IsExpression n o.tree
+    → is_sound n variable (unqualified (typ_in (value o))) ≡ true
+value_variable n o i h = target_variable n (unqualified (typ_in (value o)))
+    (same_form (typ_in (value o)) ∙ ap is_function_form (value_form_is o.at o.tree) ∙ decayed_no_function (typ_in o.tree)) (value_type n o i h)
+  where
+    same_form : (t : Typ) → is_function_form (form_in (unqualified t)) ≡ is_function_form (form_in t)
+    same_form (typ f c v) = refl
 
 -- What stands for `auto`
 
-abbrev IsTarget : ℕ → Typ → Type 0
+abbrev IsTarget : List Class → Typ → Type 0
 IsTarget n t = is_sound n target t ≡ true
 
-deduced_target : (n : ℕ) (t u : Typ) → is_sound n target u ≡ true → IfThere (IsTarget n) (deduced_from t u)
+deduced_target : (n : List Class) (t u : Typ) → is_sound n target u ≡ true → IfThere (IsTarget n) (deduced_from t u)
 deduced_target n (typ (enum [] x) c v) u h = less_sound n target (typ (enum [] x) c v) u h
 deduced_target n (typ (ptr t) c v) (typ (ptr u) d w) h = deduced_target n t u h
 deduced_target n t u h = tt
 
-replaced_target : (n : ℕ) (u t : Typ) → is_sound n target u ≡ true → is_sound n target t ≡ true → is_sound n target (replaced u t) ≡ true
+replaced_target : (n : List Class) (u t : Typ) → is_sound n target u ≡ true → is_sound n target t ≡ true → is_sound n target (replaced u t) ≡ true
 replaced_target n u (typ (enum [] x) c v) h g = written_sound n target c v u h
 replaced_target n u (typ (enum (b ∷ bs) x) c v) h g = refl
 replaced_target n u (typ (ptr t) c v) h g = replaced_target n u t h g
@@ -152,22 +158,20 @@ mapped P Q (Some a) h g = g a h
 mapped P Q None h g = tt
 
 -- a variable's type, once `auto` is known
-abbrev pub IsReplaced : ℕ → Typ → Typ → Type 0
+abbrev pub IsReplaced : List Class → Typ → Typ → Type 0
 IsReplaced n t u = is_sound n variable (replaced u t) ≡ true
 
-auto_sound : (n : ℕ) (t : Typ) (o : Operand) → is_void (typ_in o.tree) ≡ false → IsExpression n o.tree → is_sound n declared t ≡ true
+auto_sound : (n : List Class) (t : Typ) (o : Operand) → is_void (typ_in o.tree) ≡ false → IsExpression n o.tree → is_sound n declared t ≡ true
     → IfThere (IsReplaced n t) (auto_of t o)
 auto_sound n (typ (ref t) c v) o i h g = let p = and_parts (not (c || v)) (is_sound n target t) g in
     mapped (IsTarget n) (IsReplaced n (typ (ref t) c v)) (deduced_from t (less_qualified t (typ_in o.tree)))
     (deduced_target n t (less_qualified t (typ_in o.tree)) (less_sound n target t (typ_in o.tree) (head_target n (typ_in o.tree) (cat_of o.tree) i h.head)))
     (λ u j. both p.0 (replaced_target n u t j p.1))
-auto_sound n (typ (enum [] x) c v) o i h g = sound_as n object variable (with_qualifiers c v (less_qualified (typ (enum [] x) c v) (unqualified (typ_in (value o)))))
-    object_variable (written_sound n object c v (less_qualified (typ (enum [] x) c v) (unqualified (typ_in (value o))))
-    (less_sound n object (typ (enum [] x) c v) (unqualified (typ_in (value o))) (value_type n o i h)))
+auto_sound n (typ (enum [] x) c v) o i h g = written_sound n variable c v (less_qualified (typ (enum [] x) c v) (unqualified (typ_in (value o))))
+    (less_sound n variable (typ (enum [] x) c v) (unqualified (typ_in (value o))) (value_variable n o i h))
 auto_sound n (typ (enum (b ∷ bs) x) c v) o i h g = tt
 auto_sound n (typ (ptr t) c v) o i h g = mapped (IsTarget n) (IsReplaced n (typ (ptr t) c v)) (deduced_from (typ (ptr t) c v) (unqualified (typ_in (value o))))
-    (deduced_target n (typ (ptr t) c v) (unqualified (typ_in (value o)))
-    (sound_as n object target (unqualified (typ_in (value o))) object_target (value_type n o i h)))
+    (deduced_target n (typ (ptr t) c v) (unqualified (typ_in (value o))) (value_type n o i h))
     (λ u j. replaced_target n u t j g)
 auto_sound n (typ void c v) o i h g = tt
 auto_sound n (typ (int k) c v) o i h g = tt
@@ -182,13 +186,13 @@ there : {A : Type 0} (P : A → Type 0) (at : At) (rule : IllRule) (o : Option A
 there P at rule (Some a) h = h
 there P at rule None h = tt
 
-pub deduced_sound : (n : ℕ) (at : At) (t : Typ) (o : Operand) → IsExpression n o.tree → is_sound n declared t ≡ true → On (IsReplaced n t) (deduced_type at t o)
+pub deduced_sound : (n : List Class) (at : At) (t : Typ) (o : Operand) → IsExpression n o.tree → is_sound n declared t ≡ true → On (IsReplaced n t) (deduced_type at t o)
 deduced_sound n at t o h g = skip (IsReplaced n t) (check at OutOfProfile (not (is_null_type (form_in (typ_in (value o)))))) _
     (λ x. checked (IsReplaced n t) o.at BadInit (not (is_void (typ_in o.tree))) _
     (λ i. there (IsReplaced n t) o.at NoConversion (auto_of t o) (auto_sound n t o (not_true (is_void (typ_in o.tree)) i) h g)))
 
 -- what is returned where the type is that of the first `return`
-pub returned_sound : (n : ℕ) (o : Operand) → IsExpression n o.tree → is_sound n declared (unqualified (typ_in (value o))) ≡ true
+pub returned_sound : (n : List Class) (o : Operand) → IsExpression n o.tree → is_sound n declared (unqualified (typ_in (value o))) ≡ true
 returned_sound n o h = unqualified_sound n declared (typ_in (value o)) (head_declared (typ_in (value o)) (cat_of (value o)) (value_sound n o h).head)
   where
     head_declared : (t : Typ) (cat : Cat) → is_head n t cat ≡ true → is_sound n declared t ≡ true

@@ -6,6 +6,7 @@ use Rattle.std.proofs.lemmas.Bool.{and_parts}
 use Rattle.elab_rules.specs.tx_ints.declared.kinds.BinOp.{BinOp}
 use Rattle.elab_rules.specs.tx_ints.declared.kinds.BinOp.TheVariants.{Add, Sub}
 use Rattle.elab_rules.specs.cpp_types.Typ.{Typ, typ, enum, closure}
+use Rattle.elab_rules.specs.cpp_types.Class.{Class}
 use Rattle.elab_rules.specs.cpp_types.declared.classes.At.{At}
 use Rattle.elab_rules.specs.cpp_types.declared.ranks.Cat.TheVariants.{Prvalue}
 use Rattle.elab_rules.specs.cpp_lex.Tokens.{Lexeme}
@@ -32,7 +33,7 @@ use Rattle.elab_rules.specs.Casts as casts
 use Rattle.elab_rules.specs.Expressions as expressions
 use Rattle.elab_fits.specs.Standing.{On}
 use Rattle.elab_fits.proofs.Steps.{bind, skip, expected}
-use Rattle.elab_sound_types.specs.Types.{is_head, IsExpression, IsSoundTree, AreExpressions, abort, expression, looked_up}
+use Rattle.elab_sound_types.specs.Types.{is_lambda, is_head, IsExpression, IsSoundTree, AreExpressions, abort, expression, looked_up}
 use Rattle.elab_sound_types.specs.Contexts.{HasSoundTypes, is_sound_closure, are_sound_closures, is_spelled, are_spelled}
 use Rattle.elab_sound_types.specs.Laws.{IsSoundTyped, AreSoundTyped, ExpressionsAreSound, OperandsAreSound, TypesAreSound, SpecifiersAreSound, DeclaratorsAreSound}
 use Rattle.elab_sound_types.specs.Laws.{ParametersAreSound, IsSoundDeclared}
@@ -47,7 +48,7 @@ use Rattle.elab_sound_types.proofs.Names.{SoundMade, IfThere, if_there, there_if
 use Rattle.elab_sound_types.proofs.Calls as by_call
 use Rattle.elab_sound_types.proofs.Casts as by_cast
 use Rattle.elab_sound_types.proofs.Written as written
-use Rattle.elab_sound_types.proofs.Written.{IsDeclared, AreSpecifiers, IsParameterOf}
+use Rattle.elab_sound_types.proofs.Written.{IsDenoted, AreSpecifiers, IsParameterOf}
 use Rattle.elab_sound_types.proofs.Zeros.{on_ok}
 
 -- What was made with it keeps the types of the context sound
@@ -61,7 +62,9 @@ moved c w x h b = record {
   variables = h.variables;
   this = h.this;
   captures = h.captures;
-  globals = b.kept (length c.classes) h.globals;
+  globals = b.kept c.classes h.globals;
+  many = h.many;
+  copied = h.copied;
 }
 
 -- Spellings
@@ -83,19 +86,19 @@ rest_spelled s t ts h = (and_parts (is_spelled s t) (are_spelled s ts) h).1
 
 -- Lambdas
 
-closure_found : (n : ℕ) (at : At) (l : List Closure) → are_sound_closures n l ≡ true
-    → IfThere (λ (x : Closure). nat_lt x.class n ≡ true) (expressions.closure_at at l)
+closure_found : (n : List Class) (at : At) (l : List Closure) → are_sound_closures n l ≡ true
+    → IfThere (λ (x : Closure). is_lambda n x.class ≡ true) (expressions.closure_at at l)
 closure_found n at [] h = tt
 closure_found n at (x ∷ xs) h = let p = and_parts (is_sound_closure n x) (list_all (is_sound_closure n) xs) h in
-    there_if (λ (y : Closure). nat_lt y.class n ≡ true) (same_at at x.at) _ _ (λ e. p.0) (closure_found n at xs p.1)
+    there_if (λ (y : Closure). is_lambda n y.class ≡ true) (same_at at x.at) _ _ (λ e. p.0) (closure_found n at xs p.1)
 
-closure_head : (n m : ℕ) → nat_lt m n ≡ true → is_head n (typ (closure m) false false) Prvalue ≡ true
+closure_head : (n : List Class) (m : ℕ) → is_lambda n m ≡ true → is_head n (typ (closure m) false false) Prvalue ≡ true
 closure_head n m h = both h refl
 
-closure_object : (n : ℕ) (c : Ctx) (l : List Closure) (w : Work) (at : At) → are_sound_closures n l ≡ true → On (made n) (expressions.closure_object c l w at)
+closure_object : (n : List Class) (c : Ctx) (l : List Closure) (w : Work) (at : At) → are_sound_closures n l ≡ true → On (made n) (expressions.closure_object c l w at)
 closure_object n c l w at h = expected (made n) at OutOfProfile (expressions.closure_at at l) _
     (λ x e. skip (made n) (expressions.captured_pieces c w (parts_of c.classes x.class) x.captures) _ (λ m. record {
-      head = closure_head n x.class (if_there (λ (y : Closure). nat_lt y.class n ≡ true) (expressions.closure_at at l) x (closure_found n at l h) e);
+      head = closure_head n x.class (if_there (λ (y : Closure). is_lambda n y.class ≡ true) (expressions.closure_at at l) x (closure_found n at l h) e);
       chosen = refl;
       written = refl;
     }))
@@ -103,8 +106,8 @@ closure_object n c l w at h = expected (made n) at OutOfProfile (expressions.clo
 -- Answers
 
 module _ (s : List Lexeme) (c : Ctx) where
-  abbrev n : ℕ
-  n = length c.classes
+  abbrev n : List Class
+  n = c.classes
 
   abbrev tree_sound : Typed → Type 0
   tree_sound x = IsSoundTree n x.operand.tree
@@ -134,8 +137,8 @@ module _ (s : List Lexeme) (c : Ctx) where
       (by_name.resolved c x.work i.work x.operand.tree i.tree) (λ t j. (j, i.work)))
 
   -- a type that an expression names
-  named_type : (at : At) (r : Result Typ ElabFault) → On (IsDeclared n) r → On (IsDeclared n) (and_then r (expressions.written_type at))
-  named_type at r h = bind (IsDeclared n) (IsDeclared n) r _ h (λ t i. skip (IsDeclared n) (check at OutOfProfile (not (has_auto t))) _ (λ y. i))
+  named_type : (at : At) (r : Result Typ ElabFault) → On (IsDenoted n) r → On (IsDenoted n) (and_then r (expressions.written_type at))
+  named_type at r h = bind (IsDenoted n) (IsDenoted n) r _ h (λ t i. skip (IsDenoted n) (check at OutOfProfile (not (has_auto t))) _ (λ y. i))
 
   -- Forms without operands
 
@@ -237,21 +240,21 @@ module _ (s : List Lexeme) (c : Ctx) where
         (by_call.call c xs.work m.work xs.work (at_of p) x.operand xs.operands j.tree)))
     of_expression l w (syntax.node k.FunctionalCast p token (syntax.more base es)) h g i =
         bind (AreSpecifiers n) tree_sound (expressions.specified_with s c l w no_specifiers base) _ (written.specified s c w h l w no_specifiers base tt)
-        (λ d j. bind (IsDeclared n) tree_sound (and_then (types.specified_type (at_of p) d) (expressions.written_type (at_of p))) _
+        (λ d j. bind (IsDenoted n) tree_sound (and_then (types.specified_type (at_of p) d) (expressions.written_type (at_of p))) _
         (named_type (at_of p) (types.specified_type (at_of p) d) (written.specified_type n (at_of p) d j))
         (λ t m. bind (AreSoundTyped c) tree_sound (expressions.operands_with s c l w es) _
         (of_operands l w es h g (rest_spelled s base es (kids_spelled s k.FunctionalCast p token _ i)))
         (λ xs o. an_operand (at_of p) (casts.functional c xs.work (at_of p) t xs.operands)
         (by_cast.functional n c xs.work (at_of p) t xs.operands m o.trees))))
     of_expression l w (syntax.node k.StaticCast p token (syntax.more t (syntax.more e syntax.none))) h g i =
-        bind (IsDeclared n) tree_sound (and_then (expressions.type_id_with s c l w t) (expressions.written_type (at_of p))) _
+        bind (IsDenoted n) tree_sound (and_then (expressions.type_id_with s c l w t) (expressions.written_type (at_of p))) _
         (named_type (at_of p) (expressions.type_id_with s c l w t) (written.type_id s c w h l w t))
         (λ u j. bind is_chosen tree_sound (and_then (expressions.expression_with s c l w e) (expressions.chosen_operand c)) _
         (chosen (expressions.expression_with s c l w e) (with_work w (expressions.expression_with s c l w e) h (globals.expression s c l w e)
         (of_expression l w e h g (first_spelled s e syntax.none (rest_spelled s t (syntax.more e syntax.none) (kids_spelled s k.StaticCast p token _ i))))))
         (λ x m. an_operand (at_of p) (casts.cast c x.work (at_of p) u x.operand) (by_cast.cast_in n c x.work (at_of p) u x.operand j m.0)))
     of_expression l w (syntax.node k.CastExpression p token (syntax.more t (syntax.more e syntax.none))) h g i =
-        bind (IsDeclared n) tree_sound (and_then (expressions.type_id_with s c l w t) (expressions.written_type (at_of p))) _
+        bind (IsDenoted n) tree_sound (and_then (expressions.type_id_with s c l w t) (expressions.written_type (at_of p))) _
         (named_type (at_of p) (expressions.type_id_with s c l w t) (written.type_id s c w h l w t))
         (λ u j. bind is_chosen tree_sound (and_then (expressions.expression_with s c l w e) (expressions.chosen_operand c)) _
         (chosen (expressions.expression_with s c l w e) (with_work w (expressions.expression_with s c l w e) h (globals.expression s c l w e)
@@ -287,9 +290,9 @@ module _ (s : List Lexeme) (c : Ctx) where
 -- Operands, of which each names one function at most
 
 abbrev pub Chosen : Ctx → Typed → Type 0
-Chosen c x = IsExpression (length c.classes) x.operand.tree × HasSoundTypes c x.work
+Chosen c x = IsExpression c.classes x.operand.tree × HasSoundTypes c x.work
 
-pub operand_sound : (s : List Lexeme) (c : Ctx) (l : List Closure) (w : Work) (e : syntax.Tree) → HasSoundTypes c w → are_sound_closures (length c.classes) l ≡ true
+pub operand_sound : (s : List Lexeme) (c : Ctx) (l : List Closure) (w : Work) (e : syntax.Tree) → HasSoundTypes c w → are_sound_closures c.classes l ≡ true
     → is_spelled s e ≡ true → On (Chosen c) (and_then (expressions.expression_with s c l w e) (expressions.chosen_operand c))
 operand_sound s c l w e h g i = chosen s c (expressions.expression_with s c l w e)
     (with_work s c w (expressions.expression_with s c l w e) h (globals.expression s c l w e) (of_expression s c l w e h g i))
@@ -304,14 +307,14 @@ pub operands_law : OperandsAreSound
 operands_law s c l w es x h g i j = on_ok (AreSoundTyped c) (expressions.operands_with s c l w es) x (of_operands s c l w es h g i) j
 
 pub types_law : TypesAreSound
-types_law s c l w e t h j = on_ok (IsDeclared (length c.classes)) (expressions.type_id_with s c l w e) t (written.type_id s c w h l w e) j
+types_law s c l w e t h j = on_ok (IsDenoted c.classes) (expressions.type_id_with s c l w e) t (written.type_id s c w h l w e) j
 
 pub specifiers_law : SpecifiersAreSound
-specifiers_law s c l w e t h j = on_ok (IsDeclared (length c.classes)) (expressions.specifiers_with s c l w e) t (written.specifiers s c w h l w e) j
+specifiers_law s c l w e t h j = on_ok (IsDenoted c.classes) (expressions.specifiers_with s c l w e) t (written.specifiers s c w h l w e) j
 
 pub declarators_law : DeclaratorsAreSound
-declarators_law s c l w at t d r h g j = on_ok (IsSoundDeclared (length c.classes)) (expressions.declared_with s c l w at t d) r
+declarators_law s c l w at t d r h g j = on_ok (IsSoundDeclared c.classes) (expressions.declared_with s c l w at t d) r
     (written.declared_of s c w h l w at t d g) j
 
 pub parameters_law : ParametersAreSound
-parameters_law s c l w e p h j = on_ok (IsParameterOf (length c.classes)) (expressions.parameter_with s c l w e) p (written.parameter_of s c w h l w e) j
+parameters_law s c l w e p h j = on_ok (IsParameterOf c.classes) (expressions.parameter_with s c l w e) p (written.parameter_of s c w h l w e) j

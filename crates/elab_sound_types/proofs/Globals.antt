@@ -8,6 +8,7 @@ use Rattle.std.proofs.lemmas.List.Folds.{list_all-append}
 use Rattle.elab_rules.specs.tx_ints.declared.kinds.BinOp.{BinOp}
 use Rattle.elab_rules.specs.cpp_types.Typ.{Typ, typ, Form, void, ptr, ref, array, func, class, closure, tx_ex, Signature, Typs, none as no_typs}
 use Rattle.elab_rules.specs.cpp_types.Typ.{more as and_typ}
+use Rattle.elab_rules.specs.cpp_types.Class.{Class}
 use Rattle.elab_rules.specs.cpp_types.Equal.{form_eq}
 use Rattle.elab_rules.specs.cpp_types.declared.classes.At.{At}
 use Rattle.elab_rules.specs.cpp_types.declared.ranks.Cat.TheVariants.{Lvalue}
@@ -45,7 +46,7 @@ use Rattle.elab_sound_types.specs.Contexts.{is_sound_global, are_sound_globals}
 -- Globals with sound types stay, and those that are added have such
 
 pub record Behind (a b : Work) : Type 0 where
-  pub kept : (n : ℕ) → are_sound_globals n a ≡ true → are_sound_globals n b ≡ true
+  pub kept : (n : List Class) → are_sound_globals n a ≡ true → are_sound_globals n b ≡ true
 
 pub same : (w : Work) → Behind w w
 same w = record { kept = λ n h. h }
@@ -56,7 +57,7 @@ after {a} {b} {c} h g = record { kept = λ n x. g.kept n (h.kept n x) }
 one_item : (w : Work) (t : Typ) → Behind w (with_item w t)
 one_item w t = record { kept = λ n h. h }
 
-one_text : (w : Work) (g : Global) → ((n : ℕ) → is_sound_global n g ≡ true) → Behind w (record w { globals = w.globals ++ g ∷ [] })
+one_text : (w : Work) (g : Global) → ((n : List Class) → is_sound_global n g ≡ true) → Behind w (record w { globals = w.globals ++ g ∷ [] })
 one_text w g i = record {
   kept = λ n h. list_all-append (is_sound_global n) w.globals (g ∷ []) ∙ and_from (list_all (is_sound_global n) w.globals) (is_sound_global n g && true) h
       (and_from (is_sound_global n g) true (i n) refl);

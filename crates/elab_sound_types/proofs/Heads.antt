@@ -1,11 +1,12 @@
 -- The types of expressions are what the laws of trees ask of them.
-use Rattle.std.proofs.Common.{◌≡◌, refl, sym, ap, ◌∙◌, ℕ, Bool, true, false, not, ◌||◌}
+use Rattle.std.proofs.Common.{◌≡◌, refl, sym, ap, ◌∙◌, ℕ, Bool, true, false, not, ◌&&◌, ◌||◌, List}
 use Rattle.std.proofs.lemmas.Bool.{and_parts}
 use Rattle.elab_rules.specs.cpp_types.Typ.{Typ, typ, Form, void, int, enum, null, ptr, ref, array, func, class, closure, tx_ex}
+use Rattle.elab_rules.specs.cpp_types.Class.{Class}
 use Rattle.elab_rules.specs.cpp_types.declared.ranks.Cat.TheVariants.{Lvalue, Prvalue}
 use Rattle.elab_rules.specs.cpp_tree.Typing.{is_scalar_value}
 use Rattle.elab_fits.specs.Standing.{IsExpressionType}
-use Rattle.elab_sound_types.specs.Types.{object, target, is_sound, is_head}
+use Rattle.elab_sound_types.specs.Types.{object, target, is_positive, is_sound, is_head}
 use Rattle.elab_sound_types.specs.Laws.{TargetsAreTypes, HeadsAreTypes, ArraysHold, VoidsAreValues}
 use Rattle.elab_sound_types.proofs.Sound.{sound_as, object_target}
 
@@ -34,7 +35,7 @@ int_plain f true v s h = absurd cc
 int_plain f false true s h = absurd cc
 int_plain f false false s h = s
 
-values_law : (n : ℕ) (f : Form) (c v : Bool) → is_head n (typ f c v) Prvalue ≡ true → IsExpressionType (typ f c v) Prvalue
+values_law : (n : List Class) (f : Form) (c v : Bool) → is_head n (typ f c v) Prvalue ≡ true → IsExpressionType (typ f c v) Prvalue
 values_law n void c v h = void_plain c v h
 values_law n (int k) c v h = λ i. int_plain (int k) c v refl h
 values_law n (enum e x) c v h = λ i. int_plain (enum e x) c v refl h
@@ -53,7 +54,8 @@ heads_law n (typ f c v) Prvalue h = values_law n f c v h
 
 pub arrays_law : ArraysHold
 arrays_law n (typ (array t k) c v) u m Lvalue h e =
-    ap (λ (f : Form). is_sound n target (held_in f)) (sym e) ∙ sound_as n object target t object_target (and_parts (not (c || v)) (is_sound n object t) h).1
+    ap (λ (f : Form). is_sound n target (held_in f)) (sym e) ∙ sound_as n object target t object_target
+    (and_parts (not (c || v)) (is_sound n object t) (and_parts (is_positive k) (not (c || v) && is_sound n object t) h).1).1
   where
     held_in : Form → Typ
     held_in (array x i) = x

@@ -28,23 +28,23 @@ use Rattle.elab_sound_types.proofs.Sound.{unqualified_sound}
 use Rattle.elab_sound_types.proofs.Trees.{tree_if, class_sound, lvalue_retyped, valued_sound, converted_sound, stepped_sound}
 
 -- what is made has the type of an expression
-abbrev pub made : ℕ → Made → Type 0
+abbrev pub made : List Class → Made → Type 0
 made n m = IsExpression n m.tree
 
-pub made_if : (n : ℕ) (b : Bool) (x y : Made) → (b ≡ true → made n x) → (b ≡ false → made n y) → made n (if b then x else y)
+pub made_if : (n : List Class) (b : Bool) (x y : Made) → (b ≡ true → made n x) → (b ≡ false → made n y) → made n (if b then x else y)
 made_if n true x y h k = h refl
 made_if n false x y h k = k refl
 
 -- the object that a prvalue of a class stands for is an lvalue of its type
-object_type : (n : ℕ) (t : Typ) (cat : Cat) → is_class_prvalue t cat ≡ true → is_head n t cat ≡ true → is_sound n target t ≡ true
-object_type n t Prvalue i h = class_sound n target t Prvalue i h
+object_type : (n : List Class) (t : Typ) (cat : Cat) → is_class_prvalue t cat ≡ true → is_head n t cat ≡ true → is_sound n target t ≡ true
+object_type n t Prvalue i h = class_sound n t Prvalue i h
 object_type n t Lvalue i h = absurd cc
 
-pub object_sound : (n : ℕ) (c : Ctx) (w : Work) (at : At) (e : Tree) → IsExpression n e → made n (object_of c w at e)
+pub object_sound : (n : List Class) (c : Ctx) (w : Work) (at : At) (e : Tree) → IsExpression n e → made n (object_of c w at e)
 object_sound n c w at e h = made_if n (is_class_prvalue (typ_in e) (cat_of e)) _ _
     (λ i. record { head = object_type n (typ_in e) (cat_of e) i h.head; chosen = refl; written = refl }) (λ i. h)
 
-pub seen_sound : (n : ℕ) (at : At) (t : Typ) (e : Tree) → is_sound n target t ≡ true → IsExpression n e → IsExpression n (seen_as at t e)
+pub seen_sound : (n : List Class) (at : At) (t : Typ) (e : Tree) → is_sound n target t ≡ true → IsExpression n e → IsExpression n (seen_as at t e)
 seen_sound n at t e h g = tree_if (IsExpression n) (typ_eq t (typ_in e)) _ _ g (lvalue_retyped n at t e h)
 
 -- Conversions to values
@@ -53,7 +53,7 @@ seen_sound n at t e h g = tree_if (IsExpression n) (typ_eq t (typ_in e)) _ _ g (
 abbrev bind_it : Ctx → Work → Typ → Operand → Conversion → Result Made ElabFault
 bind_it c w t o v = Ok (bound_by c w v.binding v.step t o.at o.tree)
 
-by_value : (n : ℕ) (c : Ctx) (w : Work) (t : Typ) (o : Operand) (b : Bool) (r : Option Step)
+by_value : (n : List Class) (c : Ctx) (w : Work) (t : Typ) (o : Operand) (b : Bool) (r : Option Step)
     → ((x : Step) → r ≡ Some x → IsExpression n (stepped o.at x t (valued o.at o.tree)))
     → On (made n) (and_then (expect o.at NoConversion (cond b (bound Value r) None)) (bind_it c w t o))
 by_value n c w t o true (Some x) g = g x refl
@@ -81,31 +81,31 @@ exception_step classes literal (class k) u x h = absurd cc
 exception_step classes literal (closure k) u x h = absurd cc
 exception_step classes literal (tx_ex t) u x h = exception_same (form_eq (tx_ex t) (tx_ex u)) x h
 
-identity_sound : (n : ℕ) (at : At) (step : Step) (t : Typ) (v : Tree) → step ≡ Identity → is_sound n value t ≡ true → IsExpression n v
+identity_sound : (n : List Class) (at : At) (step : Step) (t : Typ) (v : Tree) → step ≡ Identity → is_sound n value t ≡ true → IsExpression n v
     → IsExpression n (stepped at step t v)
 identity_sound n at step t v e h g = subst (λ (x : Step). IsExpression n (stepped at x t v)) (sym e) (converted_sound n at t v h g)
 
 -- Conversions to references
 
-by_temporary : (n : ℕ) (c : Ctx) (w : Work) (t : Typ) (o : Operand) (b : Bool) (r : Option Step) → ((x : Step) → made n (bound_by c w Temporary x t o.at o.tree))
+by_temporary : (n : List Class) (c : Ctx) (w : Work) (t : Typ) (o : Operand) (b : Bool) (r : Option Step) → ((x : Step) → made n (bound_by c w Temporary x t o.at o.tree))
     → On (made n) (and_then (expect o.at NoConversion (cond b (bound Temporary r) None)) (bind_it c w t o))
 by_temporary n c w t o true (Some x) g = g x
 by_temporary n c w t o true None g = tt
 by_temporary n c w t o false r g = tt
 
-by_direct : (n : ℕ) (c : Ctx) (w : Work) (t : Typ) (o : Operand) (b : Bool) (x : Step) → made n (bound_by c w Direct x t o.at o.tree)
+by_direct : (n : List Class) (c : Ctx) (w : Work) (t : Typ) (o : Operand) (b : Bool) (x : Step) → made n (bound_by c w Direct x t o.at o.tree)
     → On (made n) (and_then (expect o.at NoConversion (cond b (Some (record { step = x; binding = Direct })) None)) (bind_it c w t o))
 by_direct n c w t o true x g = g
 by_direct n c w t o false x g = tt
 
-by_object : (n : ℕ) (c : Ctx) (w : Work) (t u : Typ) (o : Operand) (r : Option Step) → ((x : Step) → made n (bound_by c w Direct x t o.at o.tree))
+by_object : (n : List Class) (c : Ctx) (w : Work) (t u : Typ) (o : Operand) (r : Option Step) → ((x : Step) → made n (bound_by c w Direct x t o.at o.tree))
     → ((x : Step) → made n (bound_by c w Temporary x t o.at o.tree))
     → On (made n) (and_then (expect o.at NoConversion (object_binding c.classes (cat_of o.tree) o.zero (typ_in o.tree) u r)) (bind_it c w t o))
 by_object n c w t u o (Some x) g k = by_direct n c w t o (keeps (const_of (typ_in o.tree)) (volatile_of (typ_in o.tree)) (const_of u) (volatile_of u)
     && (is_lvalue (cat_of o.tree) || only_const u)) x (g x)
 by_object n c w t u o None g k = by_temporary n c w t o (only_const u) (step_of c.classes o.zero (decayed (typ_in o.tree)) (form_of u)) k
 
-by_reference : (n : ℕ) (c : Ctx) (w : Work) (t u : Typ) (o : Operand) (a b : Bool) → ((x : Step) → made n (bound_by c w Direct x t o.at o.tree))
+by_reference : (n : List Class) (c : Ctx) (w : Work) (t u : Typ) (o : Operand) (a b : Bool) → ((x : Step) → made n (bound_by c w Direct x t o.at o.tree))
     → ((x : Step) → made n (bound_by c w Temporary x t o.at o.tree))
     → On (made n) (and_then (expect o.at NoConversion (cond a (cond b
     (object_binding c.classes (cat_of o.tree) o.zero (typ_in o.tree) u (related_step c.classes (typ_in o.tree) u))
@@ -116,7 +116,7 @@ by_reference n c w t u o false b g k = tt
 
 -- The conversion that initialises (C++14 8.5)
 
-pub initial_sound : (n : ℕ) (c : Ctx) (w : Work) (t : Typ) (o : Operand) → is_sound n result t ≡ true → IsExpression n o.tree → On (made n) (initial c w t o)
+pub initial_sound : (n : List Class) (c : Ctx) (w : Work) (t : Typ) (o : Operand) → is_sound n result t ≡ true → IsExpression n o.tree → On (made n) (initial c w t o)
 initial_sound n c w (typ (ref u) q v) o h e = by_reference n c w (typ (ref u) q v) u o (has_value (typ_in o.tree)) (is_object (cat_of o.tree) (typ_in o.tree))
     (λ x. seen_sound n o.at u (object_of c w o.at o.tree).tree i (object_sound n c w o.at o.tree e))
     (λ x. record { head = unqualified_sound n target u i; chosen = refl; written = refl })

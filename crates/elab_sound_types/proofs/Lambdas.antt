@@ -32,7 +32,7 @@ use Rattle.elab_sound_types.proofs.Names.{at_place, this_object}
 
 -- Captures (C++14 5.1.2)
 
-referred_target : (n : ℕ) (t : Typ) → is_sound n variable t ≡ true → is_sound n target (referred t) ≡ true
+referred_target : (n : List Class) (t : Typ) → is_sound n variable t ≡ true → is_sound n target (referred t) ≡ true
 referred_target n (typ (ref u) c v) h = (and_parts (not (c || v)) (is_sound n target u) h).1
 referred_target n (typ void c v) h = absurd cc
 referred_target n (typ (int k) c v) h = refl
@@ -45,7 +45,7 @@ referred_target n (typ (class k) c v) h = h
 referred_target n (typ (closure k) c v) h = h
 referred_target n (typ (tx_ex (typ f d w)) c v) h = h
 
-copied_sound : (n : ℕ) (t : Typ) → is_sound n target t ≡ true → is_sound n variable (lambdas.copied_as t) ≡ true
+copied_sound : (n : List Class) (t : Typ) → is_sound n target t ≡ true → is_sound n variable (lambdas.copied_as t) ≡ true
 copied_sound n (typ (func s) c v) h = h
 copied_sound n (typ void c v) h = absurd cc
 copied_sound n (typ (int k) c v) h = refl
@@ -58,14 +58,14 @@ copied_sound n (typ (class k) c v) h = h
 copied_sound n (typ (closure k) c v) h = h
 copied_sound n (typ (tx_ex (typ f d w)) c v) h = h
 
-captured_sound : (n : ℕ) (b : Bool) (t : Typ) → is_sound n variable t ≡ true → is_sound n variable (lambdas.captured_as b t) ≡ true
+captured_sound : (n : List Class) (b : Bool) (t : Typ) → is_sound n variable t ≡ true → is_sound n variable (lambdas.captured_as b t) ≡ true
 captured_sound n true t h = referred_target n t h
 captured_sound n false t h = copied_sound n (referred t) (referred_target n t h)
 
-abbrev pub AreCaptures : ℕ → List Capture → Type 0
+abbrev pub AreCaptures : List Class → List Capture → Type 0
 AreCaptures n xs = list_all (is_sound_capture n) xs ≡ true
 
-one_more : (n : ℕ) (xs : List Capture) (x : Capture) → is_sound_capture n x ≡ true → AreCaptures n xs → AreCaptures n (xs ++ x ∷ [])
+one_more : (n : List Class) (xs : List Capture) (x : Capture) → is_sound_capture n x ≡ true → AreCaptures n xs → AreCaptures n (xs ++ x ∷ [])
 one_more n xs x h g = list_all-append (is_sound_capture n) xs (x ∷ []) ∙ both g (both h refl)
 
 each_sound : {R : Type 0} (P : R → Type 0) (step : R → syntax.Tree → Result R ElabFault) (r : R) (ts : syntax.Trees) → P r
@@ -74,8 +74,8 @@ each_sound P step r syntax.none h g = h
 each_sound P step r (syntax.more t ts) h g = bind P P (step r t) _ (g r t h) (λ x i. each_sound P step x ts i g)
 
 module _ (c : Ctx) (w : Work) (h : HasSoundTypes c w) where
-  abbrev n : ℕ
-  n = length c.classes
+  abbrev n : List Class
+  n = c.classes
 
   abbrev IsVariable : Typ → Type 0
   IsVariable t = is_sound n variable t ≡ true

@@ -63,12 +63,12 @@ there_if P false x y h g = g
 
 -- Variables
 
-class_tree : (n : ℕ) (b : Bool) (at : At) (place : ℕ) (item t : Typ) → is_sound n target t ≡ true
+class_tree : (n : List Class) (b : Bool) (at : At) (place : ℕ) (item t : Typ) → is_sound n target t ≡ true
     → IsExpression n (if b then names.held_by t item at place else node (Local place) t Lvalue at none)
 class_tree n b at place item t h = tree_if (IsExpression n) b _ _ (record { head = h; chosen = refl; written = refl })
     (record { head = h; chosen = refl; written = refl })
 
-variable_tree : (n : ℕ) (at : At) (place : ℕ) (item t : Typ) → is_sound n variable t ≡ true → IsExpression n (names.variable_tree at place item t)
+variable_tree : (n : List Class) (at : At) (place : ℕ) (item t : Typ) → is_sound n variable t ≡ true → IsExpression n (names.variable_tree at place item t)
 variable_tree n at place item (typ (ref t) c v) h = record { head = (and_parts (not (c || v)) (is_sound n target t) h).1; chosen = refl; written = refl }
 variable_tree n at place item (typ void c v) h = absurd cc
 variable_tree n at place item (typ (int k) c v) h = record { head = refl; chosen = refl; written = refl }
@@ -81,15 +81,15 @@ variable_tree n at place item (typ (class k) c v) h = class_tree n (names.is_poi
 variable_tree n at place item (typ (closure k) c v) h = class_tree n (names.is_pointer item) at place item (typ (closure k) c v) h
 variable_tree n at place item (typ (tx_ex (typ f d w)) c v) h = class_tree n (names.is_pointer item) at place item (typ (tx_ex (typ f d w)) c v) h
 
-pub known_sound : (n : ℕ) (o : Option Typ) (t : Typ) → is_sound_known n o ≡ true → o ≡ Some t → is_sound n variable t ≡ true
+pub known_sound : (n : List Class) (o : Option Typ) (t : Typ) → is_sound_known n o ≡ true → o ≡ Some t → is_sound n variable t ≡ true
 known_sound n o t h e = subst (λ (z : Option Typ). is_sound_known n z ≡ true) e h
 
-own_variable : (n : ℕ) (w : Work) (at : At) (v : Variable) → is_sound_variable n v ≡ true → On (IsExpression n) (names.own_variable w at v)
+own_variable : (n : List Class) (w : Work) (at : At) (v : Variable) → is_sound_variable n v ≡ true → On (IsExpression n) (names.own_variable w at v)
 own_variable n w at v h = expected (IsExpression n) at BadInit v.typ _ (λ t e. variable_tree n at v.place (names.item_at w v.place t) t (known_sound n v.typ t h e))
 
 -- `this`
 
-this_target : (n : ℕ) (t : Typ) → is_object_of_class n (form_in t) ≡ true → is_sound n target t ≡ true
+this_target : (n : List Class) (t : Typ) → is_object_of_class n (form_in t) ≡ true → is_sound n target t ≡ true
 this_target n (typ (class k) c v) h = h
 this_target n (typ (closure k) c v) h = h
 this_target n (typ void c v) h = absurd cc
@@ -102,21 +102,21 @@ this_target n (typ (array t k) c v) h = absurd cc
 this_target n (typ (func s) c v) h = absurd cc
 this_target n (typ (tx_ex t) c v) h = absurd cc
 
-pub this_object : (n : ℕ) (o : Option This) (t : This) → is_sound_this n o ≡ true → o ≡ Some t → is_sound n target t.typ ≡ true
+pub this_object : (n : List Class) (o : Option This) (t : This) → is_sound_this n o ≡ true → o ≡ Some t → is_sound n target t.typ ≡ true
 this_object n o t h e = this_target n t.typ (subst (λ (z : Option This). is_sound_this n z ≡ true) e h)
 
-this_pointer : (n : ℕ) (at : At) (t : This) → is_sound n target t.typ ≡ true → IsExpression n (names.this_pointer at t)
+this_pointer : (n : List Class) (at : At) (t : This) → is_sound n target t.typ ≡ true → IsExpression n (names.this_pointer at t)
 this_pointer n at t h = record { head = both h refl; chosen = refl; written = refl }
 
 -- Captures
 
-part_sound : (n : ℕ) (offset : ℕ) (t : Typ) (at : At) (e : Tree) → is_sound n target t ≡ true → IsExpression n (part_at offset t at e)
+part_sound : (n : List Class) (offset : ℕ) (t : Typ) (at : At) (e : Tree) → is_sound n target t ≡ true → IsExpression n (part_at offset t at e)
 part_sound n offset t at e h = record { head = h; chosen = refl; written = refl }
 
-in_object : (n : ℕ) (offset : ℕ) (c v : Bool) (t : Typ) (at : At) (e : Tree) → is_sound n object t ≡ true → IsExpression n (part_at offset (qualified c v t) at e)
+in_object : (n : List Class) (offset : ℕ) (c v : Bool) (t : Typ) (at : At) (e : Tree) → is_sound n object t ≡ true → IsExpression n (part_at offset (qualified c v t) at e)
 in_object n offset c v t at e h = part_sound n offset (qualified c v t) at e (sound_as n object target (qualified c v t) object_target (qualified_object n c v t h))
 
-captured_tree : (n : ℕ) (c : Ctx) (at : At) (t : This) (l : Lambda) (i : ℕ) (u : Typ) → is_sound n variable u ≡ true
+captured_tree : (n : List Class) (c : Ctx) (at : At) (t : This) (l : Lambda) (i : ℕ) (u : Typ) → is_sound n variable u ≡ true
     → IsExpression n (names.in_capture c at t l i u)
 captured_tree n c at t l i (typ (ref u) d v) h = record { head = (and_parts (not (d || v)) (is_sound n target u) h).1; chosen = refl; written = refl }
 captured_tree n c at t l i (typ void d v) h = absurd cc
@@ -127,26 +127,26 @@ captured_tree n c at t l i (typ (ptr u) d v) h = in_object n _ (names.is_const_t
 captured_tree n c at t l i (typ (array u k) d v) h = in_object n _ (names.is_const_typ t.typ) false (typ (array u k) d v) at _ h
 captured_tree n c at t l i (typ (func s) d v) h = absurd cc
 captured_tree n c at t l i (typ (class k) d v) h = in_object n _ (names.is_const_typ t.typ) false (typ (class k) d v) at _ h
-captured_tree n c at t l i (typ (closure k) d v) h = in_object n _ (names.is_const_typ t.typ) false (typ (closure k) d v) at _ h
+captured_tree n c at t l i (typ (closure k) d v) h = part_sound n _ (qualified (names.is_const_typ t.typ) false (typ (closure k) d v)) at _ h
 captured_tree n c at t l i (typ (tx_ex (typ f x y)) d v) h = in_object n _ (names.is_const_typ t.typ) false (typ (tx_ex (typ f x y)) d v) at _ h
 
-abbrev CapturedSound : ℕ → Captured → Type 0
+abbrev CapturedSound : List Class → Captured → Type 0
 CapturedSound n x = is_sound n variable x.capture.typ ≡ true
 
-captured_sound : (n i : ℕ) (o : Option ℕ) (xs : List Capture) → list_all (is_sound_capture n) xs ≡ true → IfThere (CapturedSound n) (captured_from i o xs)
+captured_sound : (n : List Class) (i : ℕ) (o : Option ℕ) (xs : List Capture) → list_all (is_sound_capture n) xs ≡ true → IfThere (CapturedSound n) (captured_from i o xs)
 captured_sound n i o [] h = tt
 captured_sound n i o (x ∷ xs) h = let p = and_parts (is_sound_capture n x) (list_all (is_sound_capture n) xs) h in
     there_if (CapturedSound n) (names.same_variable o x.variable) _ _ (λ e. p.0) (captured_sound n (suc i) o xs p.1)
 
 -- what is made has a sound type, or is looked up and not yet chosen
-abbrev pub SoundMade : ℕ → Made → Type 0
+abbrev pub SoundMade : List Class → Made → Type 0
 SoundMade n m = IsSoundTree n m.tree
 
 -- Of a context with sound types
 
 module _ (c : Ctx) (w : Work) (h : HasSoundTypes c w) where
-  abbrev n : ℕ
-  n = length c.classes
+  abbrev n : List Class
+  n = c.classes
 
   captured_variable : (at : At) (o : Option ℕ) (l : Lambda) (f : Tree → Tree) → list_all (is_sound_capture n) l.captures ≡ true
       → ((e : Tree) → IsExpression n e → IsExpression n (f e))

@@ -26,12 +26,13 @@ use Rattle.elab_rules.specs.Initialising.{object_of, building, rebuilt, copied_a
 use Rattle.elab_rules.specs.Casts.{as_expression, stored_at}
 use Rattle.elab_fits.specs.Standing.{On}
 use Rattle.elab_fits.proofs.Steps.{bind, skip}
-use Rattle.elab_sound_types.specs.Types.{value, is_held, is_sound, is_head, IsExpression, AreExpressions}
+use Rattle.elab_sound_types.specs.Types.{value, is_lambda, is_class, is_held, is_sound, is_head, IsExpression, AreExpressions}
+use Rattle.elab_sound_types.proofs.Growth.{held_class}
 use Rattle.elab_sound_types.proofs.Trees.{tree_if, class_head}
 use Rattle.elab_sound_types.proofs.Initial.{made, object_sound}
 
 -- where it is an exception, it has the type of an expression; else it is the value that an exception is written with
-abbrev pub Writes : ℕ → Tree → Type 0
+abbrev pub Writes : List Class → Tree → Type 0
 Writes n e = is_exception_form (form_in (typ_in e)) ≡ true → IsExpression n e
 
 pub either : {A : Type 0} (P : A → Type 0) (b : Bool) (x y : Result A ElabFault) → On P x → On P y → On P (if b then x else y)
@@ -41,23 +42,23 @@ either P false x y h k = k
 -- Nodes of classes
 
 -- of a class, of whatever kind that is no `Retype`
-class_node : (n : ℕ) (m : ℕ) (q v : Bool) (cat : Cat) → nat_lt m n ≡ true → is_head n (typ (class m) q v) cat ≡ true
+class_node : (n : List Class) (m : ℕ) (q v : Bool) (cat : Cat) → is_class n m ≡ true → is_head n (typ (class m) q v) cat ≡ true
 class_node n m q v cat h = class_head n value (class m) (q || v) q v cat refl h
 
-zeros_depth : (n m : ℕ) (depth : ℕ) (leaf : Leaf) (classes : List Class) (at : At) (q v : Bool) → nat_lt m n ≡ true
+zeros_depth : (n : List Class) (m : ℕ) (depth : ℕ) (leaf : Leaf) (classes : List Class) (at : At) (q v : Bool) → is_class n m ≡ true
     → IsExpression n (class_whole depth leaf classes at m q v)
 zeros_depth n m zero leaf classes at q v h = record { head = class_node n m q v Prvalue h; chosen = refl; written = refl }
 zeros_depth n m (suc depth) leaf classes at q v h = record { head = class_node n m q v Prvalue h; chosen = refl; written = refl }
 
-zeros_class : (n m : ℕ) (classes : List Class) (at : At) (q v : Bool) → nat_lt m n ≡ true → IsExpression n (zeros classes at (typ (class m) q v))
+zeros_class : (n : List Class) (m : ℕ) (classes : List Class) (at : At) (q v : Bool) → is_class n m ≡ true → IsExpression n (zeros classes at (typ (class m) q v))
 zeros_class n m classes at q v h = zeros_depth n m (length classes) zero_leaf classes at q v h
 
-anew_class : (n m : ℕ) (classes : List Class) (q v : Bool) (e : Tree) (kids : Trees) → nat_lt m n ≡ true → IsExpression n e
+anew_class : (n : List Class) (m : ℕ) (classes : List Class) (q v : Bool) (e : Tree) (kids : Trees) → is_class n m ≡ true → IsExpression n e
     → IsExpression n (copied_anew classes (typ (class m) q v) e kids)
 anew_class n m classes q v e none h g = g
 anew_class n m classes q v e (more s ts) h g = record { head = class_node n m q v (cat_of e) h; chosen = refl; written = refl }
 
-rebuilt_class : (n m : ℕ) (classes : List Class) (kind : TKind) (q v : Bool) (e : Tree) → nat_lt m n ≡ true → IsExpression n e
+rebuilt_class : (n : List Class) (m : ℕ) (classes : List Class) (kind : TKind) (q v : Bool) (e : Tree) → is_class n m ≡ true → IsExpression n e
     → IsExpression n (rebuilt classes kind (typ (class m) q v) e)
 rebuilt_class n m classes (Construct k) q v e h g = record { head = class_node n m q v (cat_of e) h; chosen = refl; written = refl }
 rebuilt_class n m classes (Store k x) q v e h g = record { head = class_node n m q v (cat_of e) h; chosen = refl; written = refl }
@@ -65,13 +66,13 @@ rebuilt_class n m classes CopyFrom q v e h g = anew_class n m classes q v e (kid
 rebuilt_class n m classes Pieces q v e h g = zeros_class n m classes (place_of e) q v h
 rebuilt_class n m classes kind q v e h g = g
 
-building_class : (n m : ℕ) (classes : List Class) (q v : Bool) (e : Tree) → nat_lt m n ≡ true → IsExpression n e
+building_class : (n : List Class) (m : ℕ) (classes : List Class) (q v : Bool) (e : Tree) → is_class n m ≡ true → IsExpression n e
     → IsExpression n (building classes (typ (class m) q v) e)
 building_class n m classes q v e h g = tree_if (IsExpression n) (typ_eq (typ (class m) q v) (typ_in e)) _ _ g (rebuilt_class n m classes (kind_of e) q v e h g)
 
 -- Objects of classes
 
-copied_object : (n m : ℕ) (c : Ctx) (w : Work) (q v : Bool) (at : At) (o : Operand) → nat_lt m n ≡ true
+copied_object : (n : List Class) (m : ℕ) (c : Ctx) (w : Work) (q v : Bool) (at : At) (o : Operand) → is_class n m ≡ true
     → On (made n) (Initialising.copied_object c w m (typ (class m) q v) at o)
 copied_object n m c w q v at o h = skip (made n)
     (check o.at NoCopy (not (is_volatile_typ (typ_in o.tree)) && Initialising.has_copy (Objects.traits_at c m).copy)) _
@@ -83,14 +84,14 @@ copied_object n m c w q v at o h = skip (made n)
     copy_by (Some k) = skip (made n) (Initialising.reference_word c w (Initialising.parameters_at c.funcs k) o) _
         (λ x. record { head = class_node n m q v Prvalue h; chosen = refl; written = refl })
 
-pub class_from : (n m : ℕ) (c : Ctx) (w : Work) (q v : Bool) (at : At) (o : Operand) → nat_lt m n ≡ true → IsExpression n o.tree
+pub class_from : (n : List Class) (m : ℕ) (c : Ctx) (w : Work) (q v : Bool) (at : At) (o : Operand) → is_class n m ≡ true → IsExpression n o.tree
     → On (made n) (Initialising.class_from c w (typ (class m) q v) at o)
 class_from n m c w q v at o h g = skip (made n) (Initialising.makeable c at m) _ (λ k. either (made n) (Initialising.is_prvalue_of_class m o.tree) _ _
     (building_class n m c.classes q v o.tree h g)
     (skip (made n) (check o.at NoConversion (Initialising.is_same_or_base c.classes (Initialising.class_number (typ_in o.tree)) (Some m))) _
     (λ y. copied_object n m c w q v at o h)))
 
-pub closure_from : (n m : ℕ) (c : Ctx) (w : Work) (q v : Bool) (at : At) (o : Operand) → nat_lt m n ≡ true → IsExpression n o.tree
+pub closure_from : (n : List Class) (m : ℕ) (c : Ctx) (w : Work) (q v : Bool) (at : At) (o : Operand) → is_lambda n m ≡ true → IsExpression n o.tree
     → On (made n) (Initialising.class_from c w (typ (closure m) q v) at o)
 closure_from n m c w q v at o h g = either (made n) (Initialising.is_closure_itself m q v o.tree) _ _ g
     (skip (made n) (check o.at NoConversion (Initialising.same_number m (Initialising.class_number (typ_in o.tree)))) _
@@ -99,7 +100,7 @@ closure_from n m c w q v at o h g = either (made n) (Initialising.is_closure_its
 
 -- Exceptions
 
-no_exception : (n : ℕ) (e : Tree) → is_exception_form (form_in (typ_in e)) ≡ false → Writes n e
+no_exception : (n : List Class) (e : Tree) → is_exception_form (form_in (typ_in e)) ≡ false → Writes n e
 no_exception n e h i = clash (is_exception_form (form_in (typ_in e))) h i
   where
     clash : (b : Bool) → b ≡ false → b ≡ true → IsExpression n e
@@ -111,17 +112,17 @@ not_true true h = absurd cc
 not_true false h = refl
 
 -- what builds the object of an exception
-builder_writes : (n : ℕ) (e : Tree) → IsExpression n e → Writes n (builder e)
+builder_writes : (n : List Class) (e : Tree) → IsExpression n e → Writes n (builder e)
 builder_writes n (node Retype (typ (tx_ex u) c v) Prvalue at (more e none)) h = no_exception n e (not_true _ h.written)
 builder_writes n (node Retype (typ (tx_ex u) c v) Prvalue at none) h = λ i. h
 builder_writes n (node Retype (typ (tx_ex u) c v) Prvalue at (more e (more d ts))) h = λ i. h
 builder_writes n (node kind t cat at kids) h = λ i. h
 
 -- a value of a type that is no exception
-zeros_held : (n : ℕ) (classes : List Class) (at : At) (f : Form) (q v : Bool) → is_held n f ≡ true → Writes n (zeros classes at (typ f q v))
+zeros_held : (n : List Class) (classes : List Class) (at : At) (f : Form) (q v : Bool) → is_held n f ≡ true → Writes n (zeros classes at (typ f q v))
 zeros_held n classes at (int k) q v h = λ i. absurd cc
 zeros_held n classes at (enum e s) q v h = λ i. absurd cc
-zeros_held n classes at (class m) q v h = λ i. zeros_class n m classes at q v h
+zeros_held n classes at (class m) q v h = λ i. zeros_class n m classes at q v (held_class n m h)
 zeros_held n classes at void q v h = absurd cc
 zeros_held n classes at null q v h = absurd cc
 zeros_held n classes at (ptr t) q v h = absurd cc
@@ -131,7 +132,7 @@ zeros_held n classes at (func g) q v h = absurd cc
 zeros_held n classes at (closure m) q v h = absurd cc
 zeros_held n classes at (tx_ex t) q v h = absurd cc
 
-held_form : (n : ℕ) (f : Form) → is_held n f ≡ true → is_exception_form f ≡ false
+held_form : (n : List Class) (f : Form) → is_held n f ≡ true → is_exception_form f ≡ false
 held_form n (int k) h = refl
 held_form n (enum e s) h = refl
 held_form n (class m) h = refl
@@ -144,12 +145,12 @@ held_form n (func g) h = refl
 held_form n (closure m) h = refl
 held_form n (tx_ex t) h = absurd cc
 
-anew_writes : (n : ℕ) (classes : List Class) (t : Typ) (e : Tree) (kids : Trees) → is_exception_form (form_in t) ≡ false → Writes n e
+anew_writes : (n : List Class) (classes : List Class) (t : Typ) (e : Tree) (kids : Trees) → is_exception_form (form_in t) ≡ false → Writes n e
     → Writes n (copied_anew classes t e kids)
 anew_writes n classes t e none h g = g
 anew_writes n classes t e (more s ts) h g = no_exception n _ h
 
-rebuilt_writes : (n : ℕ) (classes : List Class) (kind : TKind) (f : Form) (q v : Bool) (e : Tree) → is_held n f ≡ true → Writes n e
+rebuilt_writes : (n : List Class) (classes : List Class) (kind : TKind) (f : Form) (q v : Bool) (e : Tree) → is_held n f ≡ true → Writes n e
     → Writes n (rebuilt classes kind (typ f q v) e)
 rebuilt_writes n classes (Construct k) f q v e h g = no_exception n _ (held_form n f h)
 rebuilt_writes n classes (Store k x) f q v e h g = no_exception n _ (held_form n f h)
@@ -157,31 +158,31 @@ rebuilt_writes n classes CopyFrom f q v e h g = anew_writes n classes (typ f q v
 rebuilt_writes n classes Pieces f q v e h g = zeros_held n classes (place_of e) f q v h
 rebuilt_writes n classes kind f q v e h g = g
 
-building_writes : (n : ℕ) (classes : List Class) (f : Form) (q v : Bool) (e : Tree) → is_held n f ≡ true → Writes n e
+building_writes : (n : List Class) (classes : List Class) (f : Form) (q v : Bool) (e : Tree) → is_held n f ≡ true → Writes n e
     → Writes n (building classes (typ f q v) e)
 building_writes n classes f q v e h g = tree_if (Writes n) (typ_eq (typ f q v) (typ_in e)) _ _ g (rebuilt_writes n classes (kind_of e) f q v e h g)
 
-exception_built : (n : ℕ) (classes : List Class) (f : Form) (d w q v : Bool) (e : Tree) → is_held n f ≡ true → Writes n e
+exception_built : (n : List Class) (classes : List Class) (f : Form) (d w q v : Bool) (e : Tree) → is_held n f ≡ true → Writes n e
     → Writes n (Initialising.exception_built classes (typ (tx_ex (typ f d w)) q v) e)
 exception_built n classes f d w q v e h g = tree_if (Writes n) (typ_eq (typ (tx_ex (typ f d w)) q v) (typ_in e)) _ _ g (building_writes n classes f q v e h g)
 
-exception_node : (n : ℕ) (f : Form) (d w q v : Bool) → (not (d || w) && is_held n f) ≡ true → is_head n (typ (tx_ex (typ f d w)) q v) Prvalue ≡ true
+exception_node : (n : List Class) (f : Form) (d w q v : Bool) → (not (d || w) && is_held n f) ≡ true → is_head n (typ (tx_ex (typ f d w)) q v) Prvalue ≡ true
 exception_node n f d w q v h = class_head n value (tx_ex (typ f d w)) (q || v) q v Prvalue refl h
 
-writes_if : (n : ℕ) (b : Bool) (x y : Made) → Writes n x.tree → Writes n y.tree → Writes n (if b then x else y).tree
+writes_if : (n : List Class) (b : Bool) (x y : Made) → Writes n x.tree → Writes n y.tree → Writes n (if b then x else y).tree
 writes_if n true x y h k = h
 writes_if n false x y h k = k
 
-exception_made : (n : ℕ) (c : Ctx) (w : Work) (f : Form) (d u q v : Bool) (at : At) (o : Operand) → (not (d || u) && is_held n f) ≡ true → IsExpression n o.tree
+exception_made : (n : List Class) (c : Ctx) (w : Work) (f : Form) (d u q v : Bool) (at : At) (o : Operand) → (not (d || u) && is_held n f) ≡ true → IsExpression n o.tree
     → Writes n (Initialising.exception_made c w (typ (tx_ex (typ f d u)) q v) at o).tree
 exception_made n c w f d u q v at o h g = writes_if n (Initialising.is_given_value (builder o.tree)) _ _
     (λ i. record { head = exception_node n f d u q v h; chosen = refl; written = refl })
     (exception_built n c.classes f d u q v (builder o.tree) (and_parts (not (d || u)) (is_held n f) h).1 (builder_writes n o.tree g))
 
-abbrev writes : ℕ → Made → Type 0
+abbrev writes : List Class → Made → Type 0
 writes n m = Writes n m.tree
 
-exception_copied_from : (n : ℕ) (c : Ctx) (w : Work) (f : Form) (d u q v : Bool) (at : At) (o : Operand) → (not (d || u) && is_held n f) ≡ true
+exception_copied_from : (n : List Class) (c : Ctx) (w : Work) (f : Form) (d u q v : Bool) (at : At) (o : Operand) → (not (d || u) && is_held n f) ≡ true
     → IsExpression n o.tree → On (writes n) (Initialising.class_from c w (typ (tx_ex (typ f d u)) q v) at o)
 exception_copied_from n c w f d u q v at o h g = skip (writes n) (check o.at NoConversion (form_eq (form_in (typ_in o.tree)) (tx_ex (typ f d u)))) _
     (λ y. either (writes n) (is_class_prvalue (typ_in o.tree) (cat_of o.tree)) _ _ (exception_made n c w f d u q v at o h g)
@@ -189,7 +190,7 @@ exception_copied_from n c w f d u q v at o h g = skip (writes n) (check o.at NoC
     (λ z i. record { head = exception_node n f d u q v h; chosen = refl; written = refl })))
 
 -- from the one value that it is written with
-exact_writes : (n m : ℕ) (c : Ctx) (w : Work) (q v : Bool) (at : At) (o : Operand) → nat_lt m n ≡ true → IsExpression n o.tree
+exact_writes : (n : List Class) (m : ℕ) (c : Ctx) (w : Work) (q v : Bool) (at : At) (o : Operand) → is_class n m ≡ true → IsExpression n o.tree
     → On (writes n) (Initialising.exact_object c w (typ (class m) q v) at o)
 exact_writes n m c w q v at o h g = either (writes n) (Initialising.is_other_prvalue (typ (class m) q v) o.tree) _ _
     (expression_writes (Initialising.class_from c x.work (typ (class m) q v) at (object_operand o x.tree))
@@ -203,11 +204,11 @@ exact_writes n m c w q v at o h g = either (writes n) (Initialising.is_other_prv
     expression_writes (Ok a) h = λ i. h
     expression_writes (Err e) h = tt
 
-value_writes : (n : ℕ) (c : Ctx) (w : Work) (f : Form) (q v : Bool) (at : At) (os : List Operand) → is_held n f ≡ true → AreExpressions n os
+value_writes : (n : List Class) (c : Ctx) (w : Work) (f : Form) (q v : Bool) (at : At) (os : List Operand) → is_held n f ≡ true → AreExpressions n os
     → On (writes n) (Initialising.exception_from c w (typ f q v) at os)
 value_writes n c w (int k) q v at (o ∷ []) h g = skip (writes n) (Initialising.initial c w (typ (int k) q v) o) _ (λ m i. absurd cc)
 value_writes n c w (enum e s) q v at (o ∷ []) h g = skip (writes n) (Initialising.initial c w (typ (enum e s) q v) o) _ (λ m i. absurd cc)
-value_writes n c w (class m) q v at (o ∷ []) h g = exact_writes n m c w q v at o h g.0
+value_writes n c w (class m) q v at (o ∷ []) h g = exact_writes n m c w q v at o (held_class n m h) g.0
 value_writes n c w void q v at (o ∷ []) h g = absurd cc
 value_writes n c w null q v at (o ∷ []) h g = absurd cc
 value_writes n c w (ptr t) q v at (o ∷ []) h g = absurd cc
@@ -221,7 +222,7 @@ value_writes n c w f q v at (o ∷ p ∷ os) h g = tt
 
 -- Values in parentheses (C++14 8.5 p16)
 
-default_class : (n m : ℕ) (c : Ctx) (q v : Bool) (at : At) → nat_lt m n ≡ true → On (IsExpression n) (Initialising.from_nothing c (typ (class m) q v) at)
+default_class : (n : List Class) (m : ℕ) (c : Ctx) (q v : Bool) (at : At) → is_class n m ≡ true → On (IsExpression n) (Initialising.from_nothing c (typ (class m) q v) at)
 default_class n m c q v at h = skip (IsExpression n) (Initialising.makeable c at m) _ (λ k. default_by (Objects.traits_at c m).default)
   where
     default_by : (s : Special) → On (IsExpression n) (Initialising.default_by c (typ (class m) q v) at s)
@@ -229,7 +230,7 @@ default_class n m c q v at h = skip (IsExpression n) (Initialising.makeable c at
     default_by trivial = zeros_class n m c.classes at q v h
     default_by (function k) = record { head = class_node n m q v Prvalue h; chosen = refl; written = refl }
 
-constructed : (n m : ℕ) (c : Ctx) (w : Work) (q v : Bool) (at : At) (os : List Operand) → nat_lt m n ≡ true → AreExpressions n os
+constructed : (n : List Class) (m : ℕ) (c : Ctx) (w : Work) (q v : Bool) (at : At) (os : List Operand) → is_class n m ≡ true → AreExpressions n os
     → On (made n) (Initialising.constructed c w m (typ (class m) q v) at os)
 constructed n m c w q v at [] h g = bind (IsExpression n) (made n) (Initialising.from_nothing c (typ (class m) q v) at) _ (default_class n m c q v at h) (λ e i. i)
 constructed n m c w q v at (o ∷ os) h g = skip (made n) (Initialising.makeable c at m) _
@@ -244,7 +245,7 @@ constructed n m c w q v at (o ∷ os) h g = skip (made n) (Initialising.makeable
         (λ y. record { head = class_node n m q v Prvalue h; chosen = refl; written = refl })
     constructed_by (p ∷ ps) None = tt
 
-exception_values : (n : ℕ) (c : Ctx) (w : Work) (f : Form) (d u q v : Bool) (at : At) (os : List Operand) → (not (d || u) && is_held n f) ≡ true
+exception_values : (n : List Class) (c : Ctx) (w : Work) (f : Form) (d u q v : Bool) (at : At) (os : List Operand) → (not (d || u) && is_held n f) ≡ true
     → AreExpressions n os → On (writes n) (Initialising.from_values c w (typ (tx_ex (typ f d u)) q v) at os)
 exception_values n c w f d u q v at [] h g = tt
 exception_values n c w f d u q v at (o ∷ os) h g = either (writes n) (Initialising.is_exception_itself (typ f d u) (o ∷ os)) _ _
@@ -257,7 +258,7 @@ stored_typ at (node (Store k v) t cat p kids) = refl
 stored_typ at (node kind t cat p kids) = refl
 
 -- an exception says what it is
-exception_expression : (n : ℕ) (at : At) (f : Form) (d u q v : Bool) (e : Tree) (b : Bool) → (not (d || u) && is_held n f) ≡ true
+exception_expression : (n : List Class) (at : At) (f : Form) (d u q v : Bool) (e : Tree) (b : Bool) → (not (d || u) && is_held n f) ≡ true
     → is_exception_form (form_in (typ_in e)) ≡ b → Writes n e
     → IsExpression n (if not b then node Retype (typ (tx_ex (typ f d u)) q v) Prvalue at (one (stored_at at e)) else e)
 exception_expression n at f d u q v e true h b g = g b
@@ -265,7 +266,7 @@ exception_expression n at f d u q v e false h b g =
     record { head = exception_node n f d u q v h; chosen = refl; written = ap (λ (t : Typ). not (is_exception_form (form_in t))) (stored_typ at e) ∙ ap not b }
 
 -- `T(..)` where it is a class
-pub object_cast : (n : ℕ) (c : Ctx) (w : Work) (f : Form) (q v : Bool) (at : At) (os : List Operand) → is_object_form f ≡ true
+pub object_cast : (n : List Class) (c : Ctx) (w : Work) (f : Form) (q v : Bool) (at : At) (os : List Operand) → is_object_form f ≡ true
     → is_sound n value (typ f q v) ≡ true → AreExpressions n os
     → On (made n) (and_then (Initialising.from_values c w (typ f q v) at os) (λ (m : Made). Ok (with_tree (as_expression at (typ f q v)) m)))
 object_cast n c w (class m) q v at os i h g = bind (made n) (made n) (Initialising.from_values c w (typ (class m) q v) at os) _

@@ -1,5 +1,5 @@
 -- Operators give what has the type of an expression.
-use Rattle.std.proofs.Common.{◌≡◌, refl, ap, ◌∙◌, subst, ℕ, Bool, true, false, not, ◌&&◌, ◌||◌, Option, Some, None, is_some, Result, Ok}
+use Rattle.std.proofs.Common.{◌≡◌, refl, ap, ◌∙◌, subst, ℕ, Bool, true, false, not, ◌&&◌, ◌||◌, List, Option, Some, None, is_some, Result, Ok}
 use Rattle.std.specs.Prelude.{if◌then◌else◌}
 use Rattle.std.proofs.lemmas.Bool.{and_parts}
 use Rattle.elab_rules.specs.tx_ints.declared.kinds.IntKind.{IntKind}
@@ -8,6 +8,7 @@ use Rattle.elab_rules.specs.tx_ints.declared.kinds.BinOp.{BinOp}
 use Rattle.elab_rules.specs.tx_ints.declared.kinds.BinOp.TheVariants.{Add, Sub}
 use Rattle.elab_rules.specs.tx_ints.Integers.{usual_of, promote_of, is_shift}
 use Rattle.elab_rules.specs.cpp_types.Typ.{Typ, typ, Form, void, int, enum, null, ptr, ref, array, func, class, closure, tx_ex}
+use Rattle.elab_rules.specs.cpp_types.Class.{Class}
 use Rattle.elab_rules.specs.cpp_types.Equal.{kind_eq, typ_eq, form_eq}
 use Rattle.elab_rules.specs.cpp_types.Conversion.{is_lvalue, const_of}
 use Rattle.elab_rules.specs.cpp_types.declared.classes.At.{At}
@@ -37,13 +38,13 @@ use Rattle.elab_sound_types.proofs.Pointers.{pointers_law}
 
 -- Parts of operands
 
-pub value_sound : (n : ℕ) (o : Operand) → IsExpression n o.tree → IsExpression n (value o)
+pub value_sound : (n : List Class) (o : Operand) → IsExpression n o.tree → IsExpression n (value o)
 value_sound n o h = valued_sound n o.at o.tree h
 
-pub as_kind_sound : (n : ℕ) (k : IntKind) (o : Operand) → IsExpression n o.tree → IsExpression n (as_kind k o)
+pub as_kind_sound : (n : List Class) (k : IntKind) (o : Operand) → IsExpression n o.tree → IsExpression n (as_kind k o)
 as_kind_sound n k o h = in_kind_sound n o.at k (value o) (value_sound n o h)
 
-pub lvalue_target : (n : ℕ) (t : Typ) (cat : Cat) → is_lvalue cat ≡ true → is_head n t cat ≡ true → is_sound n target t ≡ true
+pub lvalue_target : (n : List Class) (t : Typ) (cat : Cat) → is_lvalue cat ≡ true → is_head n t cat ≡ true → is_sound n target t ≡ true
 lvalue_target n t Lvalue i h = h
 lvalue_target n t Prvalue i h = absurd cc
 
@@ -61,22 +62,22 @@ pointed_is (closure k) t h = absurd cc
 pointed_is (tx_ex u) t h = absurd cc
 
 -- a pointer without its qualifiers
-pointer_head : (n : ℕ) (e : Tree) (t : Typ) → pointed (form_in (typ_in e)) ≡ Some t → IsExpression n e → is_head n (unqualified (typ_in e)) Prvalue ≡ true
+pointer_head : (n : List Class) (e : Tree) (t : Typ) → pointed (form_in (typ_in e)) ≡ Some t → IsExpression n e → is_head n (unqualified (typ_in e)) Prvalue ≡ true
 pointer_head n e t i h = scalar_head n (typ_in e) (cat_of e) h.head (ap (λ (f : Form). is_some (kind_in f)) (pointed_is (form_in (typ_in e)) t i))
 
 -- what lies behind it
-pub pointed_target : (n : ℕ) (e : Tree) (t : Typ) → pointed (form_in (typ_in e)) ≡ Some t → IsExpression n e → is_sound n target t ≡ true
+pub pointed_target : (n : List Class) (e : Tree) (t : Typ) → pointed (form_in (typ_in e)) ≡ Some t → IsExpression n e → is_sound n target t ≡ true
 pointed_target n e t i h = pointers_law n (typ_in e) t (cat_of e) h.head (pointed_is (form_in (typ_in e)) t i)
 
 -- Arithmetic (C++14 5.6 to 5.13)
 
-arithmetic_of : (n : ℕ) (op : BinOp) (at : At) (x y : Option IntKind) (a b : Operand) → On (IsExpression n) (operators.arithmetic_of op at x y a b)
+arithmetic_of : (n : List Class) (op : BinOp) (at : At) (x y : Option IntKind) (a b : Operand) → On (IsExpression n) (operators.arithmetic_of op at x y a b)
 arithmetic_of n op at (Some j) (Some k) a b = either (IsExpression n) (is_shift op) _ _ (record { head = refl; chosen = refl; written = refl })
     (record { head = refl; chosen = refl; written = refl })
 arithmetic_of n op at None y a b = tt
 arithmetic_of n op at (Some j) None a b = tt
 
-pub sum_of : (n : ℕ) (c : Ctx) (op : BinOp) (at : At) (x y : Option Typ) (a b : Operand) → pointed (value_form a) ≡ x → pointed (value_form b) ≡ y
+pub sum_of : (n : List Class) (c : Ctx) (op : BinOp) (at : At) (x y : Option Typ) (a b : Operand) → pointed (value_form a) ≡ x → pointed (value_form b) ≡ y
     → IsExpression n a.tree → IsExpression n b.tree → On (IsExpression n) (operators.sum_of c op at x y a b)
 sum_of n c Sub at (Some t) (Some u) a b i j h g = skip (IsExpression n) (check at BadOperand (typ_eq t u)) _
     (λ y. skip (IsExpression n) (operators.movable c at a.at t) _ (λ z. record { head = refl; chosen = refl; written = refl }))
@@ -90,15 +91,15 @@ sum_of n c op at x y a b i j h g = arithmetic_of n op at (arithmetic (value_form
 
 -- Comparisons (5.9, 5.10)
 
-comparison_by : (n : ℕ) (op : BinOp) (at : At) (x y : Option IntKind) (a b : Operand) → On (IsExpression n) (operators.comparison_by op at x y a b)
+comparison_by : (n : List Class) (op : BinOp) (at : At) (x y : Option IntKind) (a b : Operand) → On (IsExpression n) (operators.comparison_by op at x y a b)
 comparison_by n op at (Some j) (Some k) a b = record { head = refl; chosen = refl; written = refl }
 comparison_by n op at None y a b = tt
 comparison_by n op at (Some j) None a b = tt
 
-compared : (n : ℕ) (op : BinOp) (k : IntKind) (at : At) (x y : Tree) → IsExpression n (operators.compared op k at x y)
+compared : (n : List Class) (op : BinOp) (k : IntKind) (at : At) (x y : Tree) → IsExpression n (operators.compared op k at x y)
 compared n op k at x y = record { head = refl; chosen = refl; written = refl }
 
-comparison_in : (n : ℕ) (op : BinOp) (at : At) (f g : Form) (a b : Operand) → On (IsExpression n) (operators.comparison_in op at f g a b)
+comparison_in : (n : List Class) (op : BinOp) (at : At) (f g : Form) (a b : Operand) → On (IsExpression n) (operators.comparison_in op at f g a b)
 comparison_in n op at (ptr t) (ptr u) a b = skip (IsExpression n) (check at BadOperand (typ_eq t u)) _ (λ y. compared n op ULong at (value a) (value b))
 comparison_in n op at (ptr t) f a b = skip (IsExpression n) (check at BadOperand (operators.is_null b)) _
     (λ y. compared n op ULong at (value a) (operators.as_pointer t b))
@@ -108,7 +109,7 @@ comparison_in n op at (enum m true) f a b = skip (IsExpression n) (check at BadO
     (λ y. Ok (operators.compared op Int at (value a) (value b))) (λ y. compared n op Int at (value a) (value b))
 comparison_in n op at f g a b = comparison_by n op at (arithmetic f) (arithmetic g) a b
 
-pub binary : (n : ℕ) (c : Ctx) (op : BinOp) (at : At) (a b : Operand) → IsExpression n a.tree → IsExpression n b.tree
+pub binary : (n : List Class) (c : Ctx) (op : BinOp) (at : At) (a b : Operand) → IsExpression n a.tree → IsExpression n b.tree
     → On (IsExpression n) (operators.binary c op at a b)
 binary n c op at a b h g = either (IsExpression n) (operators.is_comparison op) _ _ (comparison_in n op at (value_form a) (value_form b) a b)
     (either (IsExpression n) (operators.is_sum op) _ _ (sum_of n c op at (pointed (value_form a)) (pointed (value_form b)) a b refl refl h g)
@@ -116,33 +117,33 @@ binary n c op at a b h g = either (IsExpression n) (operators.is_comparison op) 
 
 -- Truth (5.3.1, 5.14, 5.15)
 
-pub logical : (n : ℕ) (c : Ctx) (w : Work) (is_and : Bool) (at : At) (a b : Operand) → On (IsExpression n) (operators.logical c w is_and at a b)
+pub logical : (n : List Class) (c : Ctx) (w : Work) (is_and : Bool) (at : At) (a b : Operand) → On (IsExpression n) (operators.logical c w is_and at a b)
 logical n c w is_and at a b = skip (IsExpression n) (operators.truth c w a) _
     (λ x. skip (IsExpression n) (operators.truth c w b) _ (λ y. record { head = refl; chosen = refl; written = refl }))
 
-pub negation : (n : ℕ) (c : Ctx) (w : Work) (at : At) (a : Operand) → On (IsExpression n) (operators.negation c w at a)
+pub negation : (n : List Class) (c : Ctx) (w : Work) (at : At) (a : Operand) → On (IsExpression n) (operators.negation c w at a)
 negation n c w at a = skip (IsExpression n) (operators.truth c w a) _ (λ x. record { head = refl; chosen = refl; written = refl })
 
 -- Unary operators (5.3.1)
 
-pub minus : (n : ℕ) (at : At) (a : Operand) → On (IsExpression n) (operators.minus at a)
+pub minus : (n : List Class) (at : At) (a : Operand) → On (IsExpression n) (operators.minus at a)
 minus n at a = skip (IsExpression n) (expect at BadOperand (arithmetic (value_form a))) _ (λ k. record { head = refl; chosen = refl; written = refl })
 
-pub complement : (n : ℕ) (at : At) (a : Operand) → On (IsExpression n) (operators.complement at a)
+pub complement : (n : List Class) (at : At) (a : Operand) → On (IsExpression n) (operators.complement at a)
 complement n at a = skip (IsExpression n) (expect at BadOperand (arithmetic (value_form a))) _ (λ k. record { head = refl; chosen = refl; written = refl })
 
-pub plus : (n : ℕ) (at : At) (a : Operand) → IsExpression n a.tree → On (IsExpression n) (operators.plus at a)
+pub plus : (n : List Class) (at : At) (a : Operand) → IsExpression n a.tree → On (IsExpression n) (operators.plus at a)
 plus n at a h = skip (IsExpression n) (expect at BadOperand (arithmetic (value_form a))) _ (λ k. as_kind_sound n (promote_of k) a h)
 
-pub indirection : (n : ℕ) (at : At) (a : Operand) → IsExpression n a.tree → On (IsExpression n) (operators.indirection at a)
+pub indirection : (n : List Class) (at : At) (a : Operand) → IsExpression n a.tree → On (IsExpression n) (operators.indirection at a)
 indirection n at a h = expected (IsExpression n) at BadOperand (pointed (value_form a)) _
     (λ t i. lvalue_retyped n at t (value a) (pointed_target n (value a) t i (value_sound n a h)))
 
-pub address_of : (n : ℕ) (at : At) (a : Operand) → IsExpression n a.tree → On (IsExpression n) (operators.address_of at a)
+pub address_of : (n : List Class) (at : At) (a : Operand) → IsExpression n a.tree → On (IsExpression n) (operators.address_of at a)
 address_of n at a h = checked (IsExpression n) at NotLvalue (is_lvalue (cat_of a.tree)) _
     (λ i. record { head = both (lvalue_target n (typ_in a.tree) (cat_of a.tree) i h.head) refl; chosen = refl; written = refl })
 
-pub subscript : (n : ℕ) (c : Ctx) (at : At) (a b : Operand) → IsExpression n a.tree → IsExpression n b.tree
+pub subscript : (n : List Class) (c : Ctx) (at : At) (a b : Operand) → IsExpression n a.tree → IsExpression n b.tree
     → On (IsExpression n) (operators.subscript c at a b)
 subscript n c at a b h g = bind (IsExpression n) (IsExpression n) (operators.sum_of c Add at (pointed (value_form a)) (pointed (value_form b)) a b) _
     (sum_of n c Add at (pointed (value_form a)) (pointed (value_form b)) a b refl refl h g)
@@ -157,12 +158,12 @@ targeted_by Q at x y true false f h = tt
 targeted_by Q at x y false b f h = tt
 
 -- what is assigned to is an lvalue
-targeted : {B : Type 0} (n : ℕ) (Q : B → Type 0) (at : At) (a : Operand) (f : Bool → Result B ElabFault) → IsExpression n a.tree
+targeted : {B : Type 0} (n : List Class) (Q : B → Type 0) (at : At) (a : Operand) (f : Bool → Result B ElabFault) → IsExpression n a.tree
     → (is_sound n target (typ_in a.tree) ≡ true → On Q (f true)) → On Q (and_then (operators.target at a) f)
 targeted n Q at a f h g = targeted_by Q at NotLvalue ConstTarget (is_lvalue (cat_of a.tree)) (not (const_of (typ_in a.tree))) f
     (λ i. g (lvalue_target n (typ_in a.tree) (cat_of a.tree) i h.head))
 
-class_assigned_in : (n : ℕ) (c : Ctx) (w : Work) (at : At) (a b : Operand) (f : Form) → is_sound n target (typ_in a.tree) ≡ true
+class_assigned_in : (n : List Class) (c : Ctx) (w : Work) (at : At) (a b : Operand) (f : Form) → is_sound n target (typ_in a.tree) ≡ true
     → On (made n) (operators.class_assigned_in c w at a b f)
 class_assigned_in n c w at a b (class k) h = skip (made n) (check b.at NoConversion (is_same_or_base c.classes (class_number (typ_in b.tree)) (Some k))) _
     (λ x. skip (made n) (check at NoCopy ((traits_at c k).is_assignable && not (is_volatile_typ (typ_in a.tree)))) _
@@ -172,12 +173,12 @@ class_assigned_in n c w at a b (tx_ex t) h = skip (made n) (check b.at NoConvers
     (λ y. skip (made n) (check b.at NoCopy (not (is_volatile_typ (typ_in b.tree)))) _ (λ z. record { head = h; chosen = refl; written = refl })))
 class_assigned_in n c w at a b f h = tt
 
-assigned : (n : ℕ) (at : At) (x : Option IntKind) (a : Operand) (v : Tree) → is_sound n target (typ_in a.tree) ≡ true
+assigned : (n : List Class) (at : At) (x : Option IntKind) (a : Operand) (v : Tree) → is_sound n target (typ_in a.tree) ≡ true
     → On (IsExpression n) (operators.assigned at x a v)
 assigned n at (Some k) a v h = record { head = h; chosen = refl; written = refl }
 assigned n at None a v h = tt
 
-pub assignment : (n : ℕ) (c : Ctx) (w : Work) (at : At) (a b : Operand) → IsExpression n a.tree → On (made n) (operators.assignment c w at a b)
+pub assignment : (n : List Class) (c : Ctx) (w : Work) (at : At) (a b : Operand) → IsExpression n a.tree → On (made n) (operators.assignment c w at a b)
 assignment n c w at a b h = targeted n (made n) at a _ h (λ i. either (made n) (is_class_typ (typ_in a.tree)) _ _
     (class_assigned_in n c w at a b (form_in (typ_in a.tree)) i)
     (skip (made n) (check at BadOperand (is_some (kind_in (form_in (typ_in a.tree))))) _
@@ -185,7 +186,7 @@ assignment n c w at a b h = targeted n (made n) at a _ h (λ i. either (made n) 
     (λ m. bind (IsExpression n) (made n) (operators.assigned at (kind_in (form_in (typ_in a.tree))) a m.tree) _
     (assigned n at (kind_in (form_in (typ_in a.tree))) a m.tree i) (λ t k. k)))))
 
-updated : (n : ℕ) (op : BinOp) (j k : IntKind) (old : Bool) (at : At) (a : Operand) (r : Tree) → is_sound n target (typ_in a.tree) ≡ true
+updated : (n : List Class) (op : BinOp) (j k : IntKind) (old : Bool) (at : At) (a : Operand) (r : Tree) → is_sound n target (typ_in a.tree) ≡ true
     → is_some (kind_in (form_in (typ_in a.tree))) ≡ true → IsExpression n (operators.updated op j k old at a r)
 updated n op j k true at a r h i = record { head = scalar_head n (typ_in a.tree) Lvalue h i; chosen = refl; written = refl }
 updated n op j k false at a r h i = record { head = h; chosen = refl; written = refl }
@@ -194,7 +195,7 @@ updated n op j k false at a r h i = record { head = h; chosen = refl; written = 
 has_kind : (e : Tree) (f : Form) → form_in (typ_in e) ≡ f → is_some (kind_in f) ≡ true → is_some (kind_in (form_in (typ_in e))) ≡ true
 has_kind e f i h = ap (λ (g : Form). is_some (kind_in g)) i ∙ h
 
-compound_in : (n : ℕ) (c : Ctx) (op : BinOp) (at : At) (f : Form) (a b : Operand) → form_in (typ_in a.tree) ≡ f → is_sound n target (typ_in a.tree) ≡ true
+compound_in : (n : List Class) (c : Ctx) (op : BinOp) (at : At) (f : Form) (a b : Operand) → form_in (typ_in a.tree) ≡ f → is_sound n target (typ_in a.tree) ≡ true
     → On (IsExpression n) (operators.compound_in c op at f a b)
 compound_in n c op at (ptr t) a b i h = skip (IsExpression n) (check at BadOperand (operators.is_sum op && is_some (arithmetic (value_form b)))) _
     (λ y. skip (IsExpression n) (operators.movable c at a.at t) _ (λ z. updated n op ULong ULong false at a _ h (has_kind a.tree (ptr t) i refl)))
@@ -206,10 +207,10 @@ compound_in n c op at (int j) a b i h = skip (IsExpression n) (expect at BadOper
     tree_by k false = updated n op j (usual_of j k) false at a _ h (has_kind a.tree (int j) i refl)
 compound_in n c op at f a b i h = tt
 
-pub compound : (n : ℕ) (c : Ctx) (op : BinOp) (at : At) (a b : Operand) → IsExpression n a.tree → On (IsExpression n) (operators.compound c op at a b)
+pub compound : (n : List Class) (c : Ctx) (op : BinOp) (at : At) (a b : Operand) → IsExpression n a.tree → On (IsExpression n) (operators.compound c op at a b)
 compound n c op at a b h = targeted n (IsExpression n) at a _ h (λ i. compound_in n c op at (form_in (typ_in a.tree)) a b refl i)
 
-step_in : (n : ℕ) (c : Ctx) (op : BinOp) (old : Bool) (at : At) (f : Form) (a : Operand) → form_in (typ_in a.tree) ≡ f
+step_in : (n : List Class) (c : Ctx) (op : BinOp) (old : Bool) (at : At) (f : Form) (a : Operand) → form_in (typ_in a.tree) ≡ f
     → is_sound n target (typ_in a.tree) ≡ true → On (IsExpression n) (operators.step_in c op old at f a)
 step_in n c op old at (ptr t) a i h = skip (IsExpression n) (operators.movable c at a.at t) _
     (λ z. updated n op ULong ULong old at a _ h (has_kind a.tree (ptr t) i refl))
@@ -217,7 +218,7 @@ step_in n c op old at (int j) a i h = skip (IsExpression n) (check at BadOperand
     (λ y. updated n op j (promote_of j) old at a _ h (has_kind a.tree (int j) i refl))
 step_in n c op old at f a i h = tt
 
-pub step : (n : ℕ) (c : Ctx) (op : BinOp) (old : Bool) (at : At) (a : Operand) → IsExpression n a.tree → On (IsExpression n) (operators.step c op old at a)
+pub step : (n : List Class) (c : Ctx) (op : BinOp) (old : Bool) (at : At) (a : Operand) → IsExpression n a.tree → On (IsExpression n) (operators.step c op old at a)
 step n c op old at a h = targeted n (IsExpression n) at a _ h (λ i. step_in n c op old at (form_in (typ_in a.tree)) a refl i)
 
 -- `,` and `?:` (5.16, 5.18)
@@ -226,34 +227,34 @@ written_prvalue : (e : Tree) → is_written_exception e ≡ true → cat_of e �
 written_prvalue (node Retype (typ (tx_ex t) d v) Prvalue at kids) h = refl
 written_prvalue (node kind t cat at kids) h = absurd cc
 
-settled : (n : ℕ) (c : Ctx) (w : Work) (o : Operand) → IsExpression n o.tree → made n (operators.settled c w o)
+settled : (n : List Class) (c : Ctx) (w : Work) (o : Operand) → IsExpression n o.tree → made n (operators.settled c w o)
 settled n c w o h = made_if n (is_written_exception o.tree) _ _
     (λ i. record { head = subst (λ (x : Cat). is_head n (typ_in o.tree) x ≡ true) (written_prvalue o.tree i) h.head; chosen = refl; written = refl })
     (λ i. h)
 
-pub comma : (n : ℕ) (c : Ctx) (w : Work) (at : At) (a b : Operand) → IsExpression n b.tree → made n (operators.comma c w at a b)
+pub comma : (n : List Class) (c : Ctx) (w : Work) (at : At) (a b : Operand) → IsExpression n b.tree → made n (operators.comma c w at a b)
 comma n c w at a b h = record { head = (settled n c (operators.dropped c w a).work b h).head; chosen = refl; written = refl }
 
 -- objects of one class
 
-joined_head : (n : ℕ) (s t : Typ) (cat : Cat) → is_class_typ s ≡ true → is_sound n target s ≡ true → is_head n (operators.joined_type s t) cat ≡ true
+joined_head : (n : List Class) (s t : Typ) (cat : Cat) → is_class_typ s ≡ true → is_sound n target s ≡ true → is_head n (operators.joined_type s t) cat ≡ true
 joined_head n (typ f c v) (typ g d w) cat i h = class_head n target f (c || v) (c || d) (v || w) cat i h
 
-record ClassObject (n : ℕ) (t : Typ) : Type 0 where
+record ClassObject (n : List Class) (t : Typ) : Type 0 where
   is_class : is_class_typ t ≡ true
   sound : is_sound n target t ≡ true
 
 unqualified_class : (t : Typ) → is_class_typ t ≡ true → is_class_typ (unqualified t) ≡ true
 unqualified_class (typ f c v) h = h
 
-object_by : (n : ℕ) (b : Bool) (t : Typ) → is_class_typ t ≡ true → is_sound n target t ≡ true → ClassObject n (if b then t else unqualified t)
+object_by : (n : List Class) (b : Bool) (t : Typ) → is_class_typ t ≡ true → is_sound n target t ≡ true → ClassObject n (if b then t else unqualified t)
 object_by n true t i h = record { is_class = i; sound = h }
 object_by n false t i h = record { is_class = unqualified_class t i; sound = unqualified_sound n target t h }
 
-class_object : (n : ℕ) (e : Tree) → is_class_typ (typ_in e) ≡ true → IsExpression n e → ClassObject n (operators.object_type e)
-class_object n e i h = object_by n (is_class_prvalue (typ_in e) (cat_of e)) (typ_in e) i (class_sound n target (typ_in e) (cat_of e) i h.head)
+class_object : (n : List Class) (e : Tree) → is_class_typ (typ_in e) ≡ true → IsExpression n e → ClassObject n (operators.object_type e)
+class_object n e i h = object_by n (is_class_prvalue (typ_in e) (cat_of e)) (typ_in e) i (class_sound n (typ_in e) (cat_of e) i h.head)
 
-two_objects : (n : ℕ) (c : Ctx) (w : Work) (at : At) (test : Tree) (a b : Operand) → is_class_typ (typ_in a.tree) ≡ true → IsExpression n a.tree
+two_objects : (n : List Class) (c : Ctx) (w : Work) (at : At) (test : Tree) (a b : Operand) → is_class_typ (typ_in a.tree) ≡ true → IsExpression n a.tree
     → On (made n) (operators.two_objects c w at test a b)
 two_objects n c w at test a b i h = skip (made n) (exact_object c w (operators.common_class a b) a.at a) _
     (λ x. skip (made n) (exact_object c x.work (operators.common_class a b) b.at b) _ (λ y. record {
@@ -264,19 +265,19 @@ two_objects n c w at test a b i h = skip (made n) (exact_object c w (operators.c
 
 -- two values
 
-two_numbers : (n : ℕ) (at : At) (test : Tree) (x y : Option IntKind) (a b : Operand) → On (IsExpression n) (operators.two_numbers at test x y a b)
+two_numbers : (n : List Class) (at : At) (test : Tree) (x y : Option IntKind) (a b : Operand) → On (IsExpression n) (operators.two_numbers at test x y a b)
 two_numbers n at test (Some j) (Some k) a b = record { head = refl; chosen = refl; written = refl }
 two_numbers n at test None y a b = tt
 two_numbers n at test (Some j) None a b = tt
 
 -- a scalar's form is that of a value
-abbrev OfValue : ℕ → Form → Type 0
+abbrev OfValue : List Class → Form → Type 0
 OfValue n f = is_some (kind_in f) ≡ true → is_head n (plain f) Prvalue ≡ true
 
-scalar_plain : (n : ℕ) (t : Typ) (cat : Cat) → is_head n t cat ≡ true → OfValue n (form_in t)
+scalar_plain : (n : List Class) (t : Typ) (cat : Cat) → is_head n t cat ≡ true → OfValue n (form_in t)
 scalar_plain n (typ f c v) cat h i = scalar_head n (typ f c v) cat h i
 
-two_values : (n : ℕ) (at : At) (test : Tree) (f g : Form) (a b : Operand) → OfValue n f → OfValue n g
+two_values : (n : List Class) (at : At) (test : Tree) (f g : Form) (a b : Operand) → OfValue n f → OfValue n g
     → On (IsExpression n) (operators.two_values at test f g a b)
 two_values n at test (ptr t) (ptr u) a b h k = skip (IsExpression n) (check at BadOperand (typ_eq t u)) _
     (λ y. record { head = h refl; chosen = refl; written = refl })
@@ -299,11 +300,11 @@ shared_class a b h = let d = and_parts (is_lvalue (cat_of a.tree) && is_lvalue (
     (typ_eq (operators.joined_class a b) (typ_in a.tree) || typ_eq (operators.joined_class a b) (typ_in b.tree)) h in
     both_class a b (and_parts (is_lvalue (cat_of a.tree) && is_lvalue (cat_of b.tree)) (operators.both_of_class a b) d.0).1
 
-branch : (n : ℕ) (b : Bool) (x y : Result Made ElabFault) → (b ≡ true → On (made n) x) → (b ≡ false → On (made n) y) → On (made n) (if b then x else y)
+branch : (n : List Class) (b : Bool) (x y : Result Made ElabFault) → (b ≡ true → On (made n) x) → (b ≡ false → On (made n) y) → On (made n) (if b then x else y)
 branch n true x y h k = h refl
 branch n false x y h k = k refl
 
-branches : (n : ℕ) (c : Ctx) (w : Work) (at : At) (test : Tree) (a b : Operand) → IsExpression n a.tree → IsExpression n b.tree
+branches : (n : List Class) (c : Ctx) (w : Work) (at : At) (test : Tree) (a b : Operand) → IsExpression n a.tree → IsExpression n b.tree
     → On (made n) (operators.branches c w at test a b)
 branches n c w at test a b h g =
     branch n (operators.throws a.tree && operators.throws b.tree) _ _ (λ i. record { head = refl; chosen = refl; written = refl })
@@ -313,7 +314,7 @@ branches n c w at test a b h g =
     (λ l. record { head = h.head; chosen = refl; written = refl })
     (λ l. branch n (operators.is_shared a b) _ _ (λ m. record {
       head = joined_head n (typ_in a.tree) (typ_in b.tree) Lvalue (shared_class a b m)
-          (class_sound n target (typ_in a.tree) (cat_of a.tree) (shared_class a b m) h.head);
+          (class_sound n (typ_in a.tree) (cat_of a.tree) (shared_class a b m) h.head);
       chosen = refl;
       written = refl;
     })
@@ -323,6 +324,6 @@ branches n c w at test a b h g =
     (scalar_plain n (typ_in (value a)) (cat_of (value a)) (value_sound n a h).head)
     (scalar_plain n (typ_in (value b)) (cat_of (value b)) (value_sound n b g).head)) (λ t x. x)))))))
 
-pub conditional : (n : ℕ) (c : Ctx) (w : Work) (at : At) (test a b : Operand) → IsExpression n a.tree → IsExpression n b.tree
+pub conditional : (n : List Class) (c : Ctx) (w : Work) (at : At) (test a b : Operand) → IsExpression n a.tree → IsExpression n b.tree
     → On (made n) (operators.conditional c w at test a b)
 conditional n c w at test a b h g = skip (made n) (operators.truth c w test) _ (λ t. branches n c w at t a b h g)

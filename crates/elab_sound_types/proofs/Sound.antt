@@ -1,13 +1,14 @@
 -- Types that are used in one way serve in another, with fewer qualifiers or with more.
-use Rattle.std.proofs.Common.{◌≡◌, refl, ℕ, Bool, true, false, not, ◌&&◌, ◌||◌}
+use Rattle.std.proofs.Common.{◌≡◌, refl, ℕ, Bool, true, false, not, ◌&&◌, ◌||◌, List, zero, suc}
 use Rattle.std.proofs.lemmas.Bool.{and_parts, and_from}
 use Rattle.elab_rules.specs.cpp_types.Typ.{Typ, typ, Form, void, int, enum, null, ptr, ref, array, func, class, closure, tx_ex}
+use Rattle.elab_rules.specs.cpp_types.Class.{Class}
 use Rattle.elab_rules.specs.cpp_types.Conversion.{is_object_form}
 use Rattle.elab_rules.specs.cpp_tree.Notation.{plain}
 use Rattle.elab_rules.specs.cpp_tree.Typing.{form_in, qualified, unqualified, is_void}
-use Rattle.elab_rules.specs.Types.{with_qualifiers, is_reference_form, is_array_form, is_function_form}
-use Rattle.elab_sound_types.specs.Types.{Use, object, target, variable, parameter, result, declared, may_be_void, may_refer, may_be_array}
-use Rattle.elab_sound_types.specs.Types.{may_be_function, is_sound, is_sound_form, is_sound_signature}
+use Rattle.elab_rules.specs.Types.{with_qualifiers, is_reference_form, is_array_form, is_function_form, is_bounded}
+use Rattle.elab_sound_types.specs.Types.{Use, object, target, variable, parameter, result, value, denoted, declared, may_be_void, may_refer, may_be_array}
+use Rattle.elab_sound_types.specs.Types.{may_be_function, may_be_lambda, is_lambda, is_sound, is_sound_form, is_sound_signature}
 
 pub both : {a b : Bool} → a ≡ true → b ≡ true → (a && b) ≡ true
 both {a} {b} h g = and_from a b h g
@@ -18,79 +19,103 @@ both {a} {b} h g = and_from a b h g
 pub record Serves (a b : Use) : Type 0 where
   pub voids : may_be_void a ≡ true → may_be_void b ≡ true
   pub references : may_refer a ≡ true → may_refer b ≡ true
-  pub arrays : may_be_array a ≡ true → may_be_array b ≡ true
+  pub arrays : (bound : ℕ) → may_be_array a bound ≡ true → may_be_array b bound ≡ true
   pub functions : may_be_function a ≡ true → may_be_function b ≡ true
+  pub lambdas : may_be_lambda a ≡ true → may_be_lambda b ≡ true
 
-form_as : (n : ℕ) (a b : Use) (own : Bool) (f : Form) → Serves a b → is_sound_form n a own f ≡ true → is_sound_form n b own f ≡ true
+form_as : (n : List Class) (a b : Use) (own : Bool) (f : Form) → Serves a b → is_sound_form n a own f ≡ true → is_sound_form n b own f ≡ true
 form_as n a b own void s h = s.voids h
 form_as n a b own (int k) s h = refl
 form_as n a b own (enum e x) s h = refl
 form_as n a b own null s h = refl
 form_as n a b own (ptr t) s h = h
 form_as n a b own (ref t) s h = let p = and_parts (may_refer a) (not own && is_sound n target t) h in both (s.references p.0) p.1
-form_as n a b own (array t k) s h = let p = and_parts (may_be_array a) (not own && is_sound n object t) h in both (s.arrays p.0) p.1
+form_as n a b own (array t k) s h = let p = and_parts (may_be_array a k) (not own && is_sound n object t) h in both (s.arrays k p.0) p.1
 form_as n a b own (func g) s h = let p = and_parts (may_be_function a) (not own && is_sound_signature n g) h in both (s.functions p.0) p.1
 form_as n a b own (class k) s h = h
-form_as n a b own (closure k) s h = h
+form_as n a b own (closure k) s h = let p = and_parts (may_be_lambda a) (is_lambda n k) h in both (s.lambdas p.0) p.1
 form_as n a b own (tx_ex (typ f c v)) s h = h
 
-pub sound_as : (n : ℕ) (a b : Use) (t : Typ) → Serves a b → is_sound n a t ≡ true → is_sound n b t ≡ true
+pub sound_as : (n : List Class) (a b : Use) (t : Typ) → Serves a b → is_sound n a t ≡ true → is_sound n b t ≡ true
 sound_as n a b (typ f c v) s h = form_as n a b (c || v) f s h
 
 pub all_declared : (u : Use) → Serves u declared
-all_declared u = record { voids = λ h. refl; references = λ h. refl; arrays = λ h. refl; functions = λ h. refl }
+all_declared u = record { voids = λ h. refl; references = λ h. refl; arrays = λ i h. refl; functions = λ h. refl; lambdas = λ h. refl }
 
 pub object_target : Serves object target
-object_target = record { voids = λ h. absurd cc; references = λ h. absurd cc; arrays = λ h. refl; functions = λ h. absurd cc }
+object_target = record { voids = λ h. absurd cc; references = λ h. absurd cc; arrays = λ i h. h; functions = λ h. absurd cc; lambdas = λ h. absurd cc }
 
 pub object_variable : Serves object variable
-object_variable = record { voids = λ h. absurd cc; references = λ h. absurd cc; arrays = λ h. refl; functions = λ h. absurd cc }
+object_variable = record { voids = λ h. absurd cc; references = λ h. absurd cc; arrays = λ i h. h; functions = λ h. absurd cc; lambdas = λ h. absurd cc }
+
+pub object_denoted : Serves object denoted
+object_denoted = record { voids = λ h. absurd cc; references = λ h. absurd cc; arrays = λ i h. refl; functions = λ h. absurd cc; lambdas = λ h. absurd cc }
 
 pub parameter_variable : Serves parameter variable
-parameter_variable = record { voids = λ h. absurd cc; references = λ h. refl; arrays = λ h. absurd cc; functions = λ h. absurd cc }
+parameter_variable =
+    record { voids = λ h. absurd cc; references = λ h. refl; arrays = λ i h. absurd cc; functions = λ h. absurd cc; lambdas = λ h. refl }
 
 -- what stands nowhere else stands here, once that is ruled out
 
-pub variable_object : (n : ℕ) (f : Form) (c v : Bool) → is_reference_form f ≡ false → is_sound n variable (typ f c v) ≡ true → is_sound n object (typ f c v) ≡ true
-variable_object n void c v r h = absurd cc
-variable_object n (int k) c v r h = refl
-variable_object n (enum e x) c v r h = refl
-variable_object n null c v r h = refl
-variable_object n (ptr t) c v r h = h
-variable_object n (ref t) c v r h = absurd cc
-variable_object n (array t k) c v r h = h
-variable_object n (func g) c v r h = absurd cc
-variable_object n (class k) c v r h = h
-variable_object n (closure k) c v r h = h
-variable_object n (tx_ex (typ f d w)) c v r h = h
+pub bounded_variable : (n : List Class) (t : Typ) → is_void t ≡ false → is_function_form (form_in t) ≡ false → is_bounded t ≡ true
+    → is_sound n declared t ≡ true → is_sound n variable t ≡ true
+bounded_variable n (typ void c v) i j b h = absurd cc
+bounded_variable n (typ (int k) c v) i j b h = refl
+bounded_variable n (typ (enum e x) c v) i j b h = refl
+bounded_variable n (typ null c v) i j b h = refl
+bounded_variable n (typ (ptr t) c v) i j b h = h
+bounded_variable n (typ (ref t) c v) i j b h = h
+bounded_variable n (typ (array t zero) c v) i j b h = absurd cc
+bounded_variable n (typ (array t (suc k)) c v) i j b h = h
+bounded_variable n (typ (func g) c v) i j b h = absurd cc
+bounded_variable n (typ (class k) c v) i j b h = h
+bounded_variable n (typ (closure k) c v) i j b h = h
+bounded_variable n (typ (tx_ex (typ f d w)) c v) i j b h = h
 
-pub declared_target : (n : ℕ) (t : Typ) → is_reference_form (form_in t) ≡ false → is_void t ≡ false → is_sound n declared t ≡ true → is_sound n target t ≡ true
-declared_target n (typ void c v) r i h = absurd cc
-declared_target n (typ (int k) c v) r i h = refl
-declared_target n (typ (enum e x) c v) r i h = refl
-declared_target n (typ null c v) r i h = refl
-declared_target n (typ (ptr t) c v) r i h = h
-declared_target n (typ (ref t) c v) r i h = absurd cc
-declared_target n (typ (array t k) c v) r i h = h
-declared_target n (typ (func g) c v) r i h = h
-declared_target n (typ (class k) c v) r i h = h
-declared_target n (typ (closure k) c v) r i h = h
-declared_target n (typ (tx_ex (typ f d w)) c v) r i h = h
+pub declared_target : (n : List Class) (t : Typ) → is_reference_form (form_in t) ≡ false → is_void t ≡ false → is_bounded t ≡ true
+    → is_sound n declared t ≡ true → is_sound n target t ≡ true
+declared_target n (typ void c v) r i b h = absurd cc
+declared_target n (typ (int k) c v) r i b h = refl
+declared_target n (typ (enum e x) c v) r i b h = refl
+declared_target n (typ null c v) r i b h = refl
+declared_target n (typ (ptr t) c v) r i b h = h
+declared_target n (typ (ref t) c v) r i b h = absurd cc
+declared_target n (typ (array t zero) c v) r i b h = absurd cc
+declared_target n (typ (array t (suc k)) c v) r i b h = h
+declared_target n (typ (func g) c v) r i b h = h
+declared_target n (typ (class k) c v) r i b h = h
+declared_target n (typ (closure k) c v) r i b h = h
+declared_target n (typ (tx_ex (typ f d w)) c v) r i b h = h
 
-pub target_object : (n : ℕ) (t : Typ) → is_function_form (form_in t) ≡ false → is_sound n target t ≡ true → is_sound n object t ≡ true
-target_object n (typ void c v) i h = h
-target_object n (typ (int k) c v) i h = refl
-target_object n (typ (enum e x) c v) i h = refl
-target_object n (typ null c v) i h = refl
-target_object n (typ (ptr t) c v) i h = h
-target_object n (typ (ref t) c v) i h = h
-target_object n (typ (array t k) c v) i h = h
-target_object n (typ (func g) c v) i h = absurd cc
-target_object n (typ (class k) c v) i h = h
-target_object n (typ (closure k) c v) i h = h
-target_object n (typ (tx_ex (typ f d w)) c v) i h = h
+pub denoted_object : (n : List Class) (t : Typ) → is_reference_form (form_in t) ≡ false → is_void t ≡ false → is_function_form (form_in t) ≡ false
+    → is_bounded t ≡ true → is_sound n denoted t ≡ true → is_sound n object t ≡ true
+denoted_object n (typ void c v) r i j b h = absurd cc
+denoted_object n (typ (int k) c v) r i j b h = refl
+denoted_object n (typ (enum e x) c v) r i j b h = refl
+denoted_object n (typ null c v) r i j b h = refl
+denoted_object n (typ (ptr t) c v) r i j b h = h
+denoted_object n (typ (ref t) c v) r i j b h = absurd cc
+denoted_object n (typ (array t zero) c v) r i j b h = absurd cc
+denoted_object n (typ (array t (suc k)) c v) r i j b h = h
+denoted_object n (typ (func g) c v) r i j b h = absurd cc
+denoted_object n (typ (class k) c v) r i j b h = h
+denoted_object n (typ (closure k) c v) r i j b h = absurd cc
+denoted_object n (typ (tx_ex (typ f d w)) c v) r i j b h = h
 
-pub declared_result : (n : ℕ) (t : Typ) → is_array_form (form_in t) ≡ false → is_function_form (form_in t) ≡ false → is_sound n declared t ≡ true
+pub target_variable : (n : List Class) (t : Typ) → is_function_form (form_in t) ≡ false → is_sound n target t ≡ true → is_sound n variable t ≡ true
+target_variable n (typ void c v) i h = h
+target_variable n (typ (int k) c v) i h = refl
+target_variable n (typ (enum e x) c v) i h = refl
+target_variable n (typ null c v) i h = refl
+target_variable n (typ (ptr t) c v) i h = h
+target_variable n (typ (ref t) c v) i h = absurd cc
+target_variable n (typ (array t k) c v) i h = h
+target_variable n (typ (func g) c v) i h = absurd cc
+target_variable n (typ (class k) c v) i h = h
+target_variable n (typ (closure k) c v) i h = h
+target_variable n (typ (tx_ex (typ f d w)) c v) i h = h
+
+pub declared_result : (n : List Class) (t : Typ) → is_array_form (form_in t) ≡ false → is_function_form (form_in t) ≡ false → is_sound n declared t ≡ true
     → is_sound n result t ≡ true
 declared_result n (typ void c v) a i h = refl
 declared_result n (typ (int k) c v) a i h = refl
@@ -104,19 +129,20 @@ declared_result n (typ (class k) c v) a i h = h
 declared_result n (typ (closure k) c v) a i h = h
 declared_result n (typ (tx_ex (typ f d w)) c v) a i h = h
 
--- an object of a class is an object wherever it stands
-pub class_as : (n : ℕ) (a b : Use) (f : Form) (p q : Bool) → is_object_form f ≡ true → is_sound_form n a p f ≡ true → is_sound_form n b q f ≡ true
-class_as n a b (class k) p q i h = h
-class_as n a b (closure k) p q i h = h
-class_as n a b (tx_ex (typ f c v)) p q i h = h
-class_as n a b void p q i h = absurd cc
-class_as n a b (int k) p q i h = absurd cc
-class_as n a b (enum e x) p q i h = absurd cc
-class_as n a b null p q i h = absurd cc
-class_as n a b (ptr t) p q i h = absurd cc
-class_as n a b (ref t) p q i h = absurd cc
-class_as n a b (array t k) p q i h = absurd cc
-class_as n a b (func g) p q i h = absurd cc
+-- an object of a class is an object wherever lambdas' objects may stand
+pub class_as : (n : List Class) (a b : Use) (f : Form) (p q : Bool) → is_object_form f ≡ true → may_be_lambda b ≡ true → is_sound_form n a p f ≡ true
+    → is_sound_form n b q f ≡ true
+class_as n a b (class k) p q i l h = h
+class_as n a b (closure k) p q i l h = both l (and_parts (may_be_lambda a) (is_lambda n k) h).1
+class_as n a b (tx_ex (typ f c v)) p q i l h = h
+class_as n a b void p q i l h = absurd cc
+class_as n a b (int k) p q i l h = absurd cc
+class_as n a b (enum e x) p q i l h = absurd cc
+class_as n a b null p q i l h = absurd cc
+class_as n a b (ptr t) p q i l h = absurd cc
+class_as n a b (ref t) p q i l h = absurd cc
+class_as n a b (array t k) p q i l h = absurd cc
+class_as n a b (func g) p q i l h = absurd cc
 
 -- Qualifiers
 
@@ -124,45 +150,45 @@ no_own : (own : Bool) {b : Bool} → (not own && b) ≡ true → b ≡ true
 no_own true h = absurd cc
 no_own false h = h
 
-form_less : (n : ℕ) (a : Use) (own : Bool) (f : Form) → is_sound_form n a own f ≡ true → is_sound_form n a false f ≡ true
+form_less : (n : List Class) (a : Use) (own : Bool) (f : Form) → is_sound_form n a own f ≡ true → is_sound_form n a false f ≡ true
 form_less n a own void h = h
 form_less n a own (int k) h = refl
 form_less n a own (enum e x) h = refl
 form_less n a own null h = refl
 form_less n a own (ptr t) h = h
 form_less n a own (ref t) h = let p = and_parts (may_refer a) (not own && is_sound n target t) h in both p.0 (no_own own p.1)
-form_less n a own (array t k) h = let p = and_parts (may_be_array a) (not own && is_sound n object t) h in both p.0 (no_own own p.1)
+form_less n a own (array t k) h = let p = and_parts (may_be_array a k) (not own && is_sound n object t) h in both p.0 (no_own own p.1)
 form_less n a own (func g) h = let p = and_parts (may_be_function a) (not own && is_sound_signature n g) h in both p.0 (no_own own p.1)
 form_less n a own (class k) h = h
 form_less n a own (closure k) h = h
 form_less n a own (tx_ex (typ f c v)) h = h
 
 -- without its own qualifiers
-pub unqualified_sound : (n : ℕ) (a : Use) (t : Typ) → is_sound n a t ≡ true → is_sound n a (unqualified t) ≡ true
+pub unqualified_sound : (n : List Class) (a : Use) (t : Typ) → is_sound n a t ≡ true → is_sound n a (unqualified t) ≡ true
 unqualified_sound n a (typ f c v) h = form_less n a (c || v) f h
 
-pub plain_sound : (n : ℕ) (a : Use) (f : Form) (c v : Bool) → is_sound n a (typ f c v) ≡ true → is_sound n a (plain f) ≡ true
+pub plain_sound : (n : List Class) (a : Use) (f : Form) (c v : Bool) → is_sound n a (typ f c v) ≡ true → is_sound n a (plain f) ≡ true
 plain_sound n a f c v h = form_less n a (c || v) f h
+
+pub object_no_function : (n : List Class) (f : Form) (own : Bool) → is_sound_form n object own f ≡ true → is_function_form f ≡ false
+object_no_function n void own h = refl
+object_no_function n (int k) own h = refl
+object_no_function n (enum e x) own h = refl
+object_no_function n null own h = refl
+object_no_function n (ptr t) own h = refl
+object_no_function n (ref t) own h = refl
+object_no_function n (array t k) own h = refl
+object_no_function n (func g) own h = absurd cc
+object_no_function n (class k) own h = refl
+object_no_function n (closure k) own h = refl
+object_no_function n (tx_ex t) own h = refl
 
 -- with qualifiers more
 mutual
-  pub qualified_object : (n : ℕ) (c v : Bool) (t : Typ) → is_sound n object t ≡ true → is_sound n object (qualified c v t) ≡ true
+  pub qualified_object : (n : List Class) (c v : Bool) (t : Typ) → is_sound n object t ≡ true → is_sound n object (qualified c v t) ≡ true
   qualified_object n c v (typ f d w) h = qualified_form n object c v f d w (object_no_function n f (d || w) h) h
 
-  object_no_function : (n : ℕ) (f : Form) (own : Bool) → is_sound_form n object own f ≡ true → is_function_form f ≡ false
-  object_no_function n void own h = refl
-  object_no_function n (int k) own h = refl
-  object_no_function n (enum e x) own h = refl
-  object_no_function n null own h = refl
-  object_no_function n (ptr t) own h = refl
-  object_no_function n (ref t) own h = refl
-  object_no_function n (array t k) own h = refl
-  object_no_function n (func g) own h = absurd cc
-  object_no_function n (class k) own h = refl
-  object_no_function n (closure k) own h = refl
-  object_no_function n (tx_ex t) own h = refl
-
-  qualified_form : (n : ℕ) (a : Use) (c v : Bool) (f : Form) (d w : Bool) → is_function_form f ≡ false → is_sound_form n a (d || w) f ≡ true
+  pub qualified_form : (n : List Class) (a : Use) (c v : Bool) (f : Form) (d w : Bool) → is_function_form f ≡ false → is_sound_form n a (d || w) f ≡ true
       → is_sound n a (qualified c v (typ f d w)) ≡ true
   qualified_form n a c v void d w i h = h
   qualified_form n a c v (int k) d w i h = refl
@@ -170,7 +196,7 @@ mutual
   qualified_form n a c v null d w i h = refl
   qualified_form n a c v (ptr t) d w i h = h
   qualified_form n a c v (ref t) d w i h = h
-  qualified_form n a c v (array t k) d w i h = let p = and_parts (may_be_array a) (not (d || w) && is_sound n object t) h in
+  qualified_form n a c v (array t k) d w i h = let p = and_parts (may_be_array a k) (not (d || w) && is_sound n object t) h in
       let q = and_parts (not (d || w)) (is_sound n object t) p.1 in both p.0 (both q.0 (qualified_object n c v t q.1))
   qualified_form n a c v (func g) d w i h = absurd cc
   qualified_form n a c v (class k) d w i h = h
@@ -178,7 +204,7 @@ mutual
   qualified_form n a c v (tx_ex (typ f x y)) d w i h = h
 
 -- with those that are written before it
-pub written_sound : (n : ℕ) (a : Use) (c v : Bool) (t : Typ) → is_sound n a t ≡ true → is_sound n a (with_qualifiers c v t) ≡ true
+pub written_sound : (n : List Class) (a : Use) (c v : Bool) (t : Typ) → is_sound n a t ≡ true → is_sound n a (with_qualifiers c v t) ≡ true
 written_sound n a c v (typ (func g) d w) h = h
 written_sound n a c v (typ void d w) h = h
 written_sound n a c v (typ (int k) d w) h = refl

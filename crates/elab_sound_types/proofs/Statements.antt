@@ -4,6 +4,7 @@ use Rattle.std.specs.Prelude.{if◌then◌else◌}
 use Rattle.std.specs.List.{list_any}
 use Rattle.std.proofs.lemmas.Bool.{and_parts}
 use Rattle.elab_rules.specs.cpp_types.Typ.{Typ, typ, Form, void, int, enum, null, ptr, ref, array, func, class, closure, tx_ex}
+use Rattle.elab_rules.specs.cpp_types.Class.{Class}
 use Rattle.elab_rules.specs.cpp_types.declared.classes.At.{At}
 use Rattle.elab_rules.specs.cpp_lex.Tokens.{Lexeme}
 use Rattle.elab_rules.specs.cpp_ast.declared.kinds.NodeKind.TheVariants as k
@@ -21,7 +22,7 @@ use Rattle.elab_rules.specs.elab_ctx.Steps.{and_then, expect, check, at_of, spel
 use Rattle.elab_rules.specs.Strings.{string_bytes}
 use Rattle.elab_rules.specs.Constants.{constant}
 use Rattle.elab_rules.specs.Initialising.{initial, class_from}
-use Rattle.elab_rules.specs.Operators.{value, dropped, truth}
+use Rattle.elab_rules.specs.Operators.{value, dropped, truth, within_if_sized}
 use Rattle.elab_rules.specs.Sizes.{typ_sized}
 use Rattle.elab_rules.specs.Casts.{within_exception}
 use Rattle.elab_rules.specs.Types.{has_auto, is_bounded, is_nothing}
@@ -34,8 +35,8 @@ use Rattle.elab_rules.specs.Statements as statements
 use Rattle.elab_rules.specs.Statements.{State, Done, Full, Lambdas, Deduction, Declaring, Caught, Switched, with_work, full_operand, full_made, inner, in_loop, in_block}
 use Rattle.elab_rules.specs.Statements.{in_switch, outer, declared_variable, placed_variable, auto_placed, with_labels, past_declaration, replaced}
 use Rattle.elab_fits.specs.Standing.{On}
-use Rattle.elab_fits.proofs.Steps.{bind, skip, expected}
-use Rattle.elab_sound_types.specs.Types.{target, variable, declared, is_sound}
+use Rattle.elab_fits.proofs.Steps.{bind, skip, checked, expected}
+use Rattle.elab_sound_types.specs.Types.{target, variable, denoted, declared, is_sound}
 use Rattle.elab_sound_types.specs.Contexts.{is_spelled, are_spelled}
 use Rattle.elab_sound_types.specs.Laws.{IsSoundDeclared, AreSoundTyped}
 use Rattle.elab_sound_types.specs.States.{IsSoundState, IsSoundAfter, KeepsSound, StatementsKeep, BlocksKeep}
@@ -45,11 +46,11 @@ use Rattle.elab_sound_types.proofs.Names.{if_there}
 use Rattle.elab_sound_types.proofs.Globals as globals
 use Rattle.elab_sound_types.proofs.Globals.{Behind, same}
 use Rattle.elab_sound_types.proofs.Written as written
-use Rattle.elab_sound_types.proofs.Written.{IsDeclared}
+use Rattle.elab_sound_types.proofs.Written.{IsDenoted, as_declared}
 use Rattle.elab_sound_types.proofs.Deduced.{IsReplaced, deduced_sound, returned_sound}
 use Rattle.elab_sound_types.proofs.Braces.{copy_kept, direct_kept, item_kept}
 use Rattle.elab_sound_types.proofs.Expressions.{Chosen, moved, operand_sound, of_operands, kids_spelled, first_spelled, rest_spelled}
-use Rattle.elab_sound_types.proofs.States.{After, DeclaringSound, DeductionSound, DoneSound, FullSound, IsSpelled, IsVariable, auto_sound, block_sound, bound_sound, check_holds, classes_in}
+use Rattle.elab_sound_types.proofs.States.{After, DeclaringSound, DeductionSound, DoneSound, FullSound, IsSpelled, IsBounded, auto_sound, block_sound, bound_sound, check_holds, classes_in}
 use Rattle.elab_sound_types.proofs.States.{declarable, declared_sound, elsewhere, inner_sound, kept_sound, labels_sound, later, loop_sound, made_done, made_sound, nothing, on_all, one_spelled, only_spelled, placed_sound, since, switch_sound}
 use Rattle.elab_sound_types.proofs.Growth.{grown_same, grown_joined, grown_sound}
 use Rattle.elab_sound_types.proofs.Zeros.{on_ok}
@@ -118,11 +119,12 @@ module _ (adds : Bool) (lams : Lambdas) (s : List Lexeme) (keeps : KeepsSound ad
   plain_variable : (st : State) (name : List ℕ) (t : Typ) (at : At) (init : syntax.Trees) → IsSoundState st → is_sound (classes_in st) declared t ≡ true
       → are_spelled s init ≡ true → On (DoneSound adds st) (statements.plain_variable lams s st name t at init)
   plain_variable st name t at init h g i =
-      bind (λ (y : Bool). IsVariable (classes_in st) t) (DoneSound adds st) (statements.declarable st.ctx at t) _ (declarable (classes_in st) st.ctx at t g)
-      (λ x j. skip (DoneSound adds st) (check at BadDeclaration (is_bounded t)) _
+      bind (λ (y : Bool). IsBounded (classes_in st) t) (DoneSound adds st) (statements.declarable st.ctx at t) _ (declarable (classes_in st) st.ctx at t g)
+      (λ x j. checked (DoneSound adds st) at BadDeclaration (is_bounded t) _
       (λ z. skip (DoneSound adds st) (typ_sized st.ctx.classes at t) _
-      (λ y. since (DoneSound adds (placed_variable st name t)) (DoneSound adds st) (statements.with_initialiser lams s st (placed_variable st name t) t at init)
-      (with_initialiser st (placed_variable st name t) t at init (placed_sound st name t j h) i) (λ d m. record { sound = m.sound; grown = m.grown }))))
+      (λ y. skip (DoneSound adds st) (within_if_sized st.ctx at t) _
+      (λ w. since (DoneSound adds (placed_variable st name t)) (DoneSound adds st) (statements.with_initialiser lams s st (placed_variable st name t) t at init)
+      (with_initialiser st (placed_variable st name t) t at init (placed_sound st name t (j z) h) i) (λ d m. record { sound = m.sound; grown = m.grown })))))
 
   -- `auto`
 
@@ -168,7 +170,7 @@ module _ (adds : Bool) (lams : Lambdas) (s : List Lexeme) (keeps : KeepsSound ad
     grown = h.grown;
   }
 
-  block_declarator : (t : Typ) (d : Declaring) (x : syntax.Tree) → IsSoundState d.state → is_sound (classes_in d.state) declared t ≡ true
+  block_declarator : (t : Typ) (d : Declaring) (x : syntax.Tree) → IsSoundState d.state → is_sound (classes_in d.state) denoted t ≡ true
       → is_spelled s x ≡ true → On (DeclaringSound adds d.state) (statements.block_declarator lams s t d x)
   block_declarator t d (syntax.node k.InitDeclarator p token (syntax.more x init)) h g i =
       bind (IsSoundDeclared (classes_in d.state)) (DeclaringSound adds d.state) (declared_by s d.state.ctx d.state.work (at_of p) t x) _
@@ -176,25 +178,25 @@ module _ (adds : Bool) (lams : Lambdas) (s : List Lexeme) (keeps : KeepsSound ad
       (λ r j. skip (DeclaringSound adds d.state) (check (at_of p) BadDeclaration (statements.is_own_name r)) _
       (λ z. bind (DeductionSound adds d.state) (DeclaringSound adds d.state)
       (statements.variable lams s d.state (statements.name_of s r.name) r.typ (at_of p) d.auto init) _
-      (variable_sound d.state (statements.name_of s r.name) r.typ (at_of p) d.auto init h j.typ
+      (variable_sound d.state (statements.name_of s r.name) r.typ (at_of p) d.auto init h (as_declared (classes_in d.state) r.typ j.typ)
       (rest_spelled s x init (kids_spelled s k.InitDeclarator p token (syntax.more x init) i)))
       (λ y m. past_sound d.state r.typ init y.done.state m)))
   block_declarator t d (syntax.node k.InitDeclarator p token syntax.none) h g i = tt
   block_declarator t d (syntax.node kind p token kids) h g i = tt
 
-  block_declarators : (a : State) (t : Typ) (d : Declaring) (xs : syntax.Trees) → IsSoundAfter adds a d.state → is_sound (classes_in d.state) declared t ≡ true
+  block_declarators : (a : State) (t : Typ) (d : Declaring) (xs : syntax.Trees) → IsSoundAfter adds a d.state → is_sound (classes_in d.state) denoted t ≡ true
       → are_spelled s xs ≡ true → On (DeclaringSound adds a) (statements.block_declarators lams s t d xs)
   block_declarators a t d syntax.none h g i = h
   block_declarators a t d (syntax.more x xs) h g i = bind (DeclaringSound adds d.state) (DeclaringSound adds a) (statements.block_declarator lams s t d x) _
       (block_declarator t d x h.sound g (first_spelled s x xs i))
-      (λ y j. block_declarators a t y xs (later adds a d.state y.state h j) (grown_sound adds d.state.ctx.classes y.state.ctx.classes declared t j.grown g) (rest_spelled s x xs i))
+      (λ y j. block_declarators a t y xs (later adds a d.state y.state h j) (grown_sound adds d.state.ctx.classes y.state.ctx.classes denoted t j.grown g) (rest_spelled s x xs i))
 
   block_declaration : (st : State) (at : At) (ts : syntax.Trees) → IsSoundState st → are_spelled s ts ≡ true
       → On (DoneSound adds st) (statements.block_declaration lams s st at ts)
   block_declaration st at (syntax.more (syntax.node k.Attribute p token kids) ts) h i =
       block_declaration st at ts h (rest_spelled s (syntax.node k.Attribute p token kids) ts i)
   block_declaration st at (syntax.more (syntax.node k.TypeSpecifierSeq p token kids) ds) h i =
-      bind (IsDeclared (classes_in st)) (DoneSound adds st) (type_of_specifiers s st.ctx st.work (syntax.node k.TypeSpecifierSeq p token kids)) _
+      bind (IsDenoted (classes_in st)) (DoneSound adds st) (type_of_specifiers s st.ctx st.work (syntax.node k.TypeSpecifierSeq p token kids)) _
       (written.specifiers s st.ctx st.work h.context st.ctx.closures st.work (syntax.node k.TypeSpecifierSeq p token kids))
       (λ t j. bind (DeclaringSound adds st) (DoneSound adds st)
       (statements.block_declarators lams s t (record { trees = Trees.none; state = st; auto = None }) ds) _
@@ -232,6 +234,8 @@ module _ (adds : Bool) (lams : Lambdas) (s : List Lexeme) (keeps : KeepsSound ad
         this = h.sound.context.this;
         captures = h.sound.context.captures;
         globals = h.sound.context.globals;
+        many = h.sound.context.many;
+        copied = h.sound.context.copied;
       };
       closures = h.sound.closures;
       returned = g;
@@ -267,7 +271,7 @@ module _ (adds : Bool) (lams : Lambdas) (s : List Lexeme) (keeps : KeepsSound ad
       (λ w. skip (DoneSound adds st) (expect o.operand.at NotConstant (constant st.work.globals m.tree)) _
       (λ word. skip (DoneSound adds st) (check o.operand.at Narrowing
       (statements.case_fits (kind_in (form_in (typ_in (value o.operand)))) (kind_in (form_in st.ctx.labels.typ)) w)) _
-      (λ x. skip (DoneSound adds st) (check at BadCase (not (list_any (λ (n : ℕ). n == word) st.ctx.labels.words))) _ (λ z. label_sound st _ h)))))))
+      (λ x. skip (DoneSound adds st) (check at BadCase (not (list_any (λ (n : List Class). n == word) st.ctx.labels.words))) _ (λ z. label_sound st _ h)))))))
 
   default_label : (st : State) (at : At) → IsSoundState st → On (DoneSound adds st) (statements.default_label st at)
   default_label st at h = skip (DoneSound adds st) (statements.label_here st at) _
@@ -278,10 +282,10 @@ module _ (adds : Bool) (lams : Lambdas) (s : List Lexeme) (keeps : KeepsSound ad
   abbrev CaughtSound : State → Caught → Type 0
   CaughtSound a x = IsSoundAfter adds a x.state
 
-  abbrev CaughtType : ℕ → Typ → Type 0
+  abbrev CaughtType : List Class → Typ → Type 0
   CaughtType n u = is_sound n variable u ≡ true
 
-  caught_form : (n : ℕ) (c : Ctx) (at : At) (f : Form) (d v : Bool) → is_sound n declared (typ f d v) ≡ true
+  caught_form : (n : List Class) (c : Ctx) (at : At) (f : Form) (d v : Bool) → is_sound n declared (typ f d v) ≡ true
       → On (λ (y : Bool). CaughtType n (typ f d v)) (statements.caught_form c at f)
   caught_form n c at (int j) d v h = refl
   caught_form n c at (enum e x) d v h = check_holds (CaughtType n (typ (enum e x) d v)) at BadCatch (not (is_nothing e)) refl
@@ -295,12 +299,12 @@ module _ (adds : Bool) (lams : Lambdas) (s : List Lexeme) (keeps : KeepsSound ad
   caught_form n c at (func g) d v h = tt
   caught_form n c at (closure m) d v h = tt
 
-  caught_by : (n : ℕ) (c : Ctx) (at : At) (t : Typ) → is_sound n declared t ≡ true
+  caught_by : (n : List Class) (c : Ctx) (at : At) (t : Typ) → is_sound n declared t ≡ true
       → On (CaughtType n) (and_then (statements.caught_form c at (form_in t)) (λ (z : Bool). Ok t))
   caught_by n c at (typ f d v) h = bind (λ (y : Bool). CaughtType n (typ f d v)) (CaughtType n) (statements.caught_form c at f) _ (caught_form n c at f d v h)
       (λ z g. g)
 
-  caught_type : (n : ℕ) (c : Ctx) (at : At) (t : Typ) → is_sound n declared t ≡ true → On (CaughtType n) (statements.caught_type c at t)
+  caught_type : (n : List Class) (c : Ctx) (at : At) (t : Typ) → is_sound n declared t ≡ true → On (CaughtType n) (statements.caught_type c at t)
   caught_type n c at (typ (ref t) d v) h = skip (CaughtType n) (check at OutOfProfile (Names.is_const_typ t)) _
       (λ y. caught_by n c at t (sound_as n target declared t (all_declared target) (and_parts (not (d || v)) (is_sound n target t) h).1))
   caught_type n c at t h = caught_by n c at t h
@@ -313,12 +317,12 @@ module _ (adds : Bool) (lams : Lambdas) (s : List Lexeme) (keeps : KeepsSound ad
 
   handler_type : (st : State) (at : At) (t : syntax.Tree) → IsSoundState st → On (CaughtSound st) (statements.handler_type s st at t)
   handler_type st at (syntax.node k.ParameterDeclaration p token (syntax.more base (syntax.more d syntax.none))) h =
-      bind (IsDeclared (classes_in st)) (CaughtSound st) (type_of_specifiers s st.ctx st.work base) _
+      bind (IsDenoted (classes_in st)) (CaughtSound st) (type_of_specifiers s st.ctx st.work base) _
       (written.specifiers s st.ctx st.work h.context st.ctx.closures st.work base)
       (λ t j. bind (IsSoundDeclared (classes_in st)) (CaughtSound st) (declared_by s st.ctx st.work (at_of p) t d) _
       (written.declared_of s st.ctx st.work h.context st.ctx.closures st.work (at_of p) t d j)
       (λ r m. bind (CaughtType (classes_in st)) (CaughtSound st) (statements.caught_type st.ctx (at_of p) r.typ) _
-      (caught_type (classes_in st) st.ctx (at_of p) r.typ m.typ) (λ u o. named_handler st at (at_of p) r.typ u r.name h o)))
+      (caught_type (classes_in st) st.ctx (at_of p) r.typ (as_declared (classes_in st) r.typ m.typ)) (λ u o. named_handler st at (at_of p) r.typ u r.name h o)))
   handler_type st at t h = nothing adds st h
 
   -- Statements

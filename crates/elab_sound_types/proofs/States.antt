@@ -5,7 +5,7 @@ use Rattle.std.specs.List.{list_all}
 use Rattle.std.proofs.lemmas.Bool.{and_parts}
 use Rattle.std.proofs.lemmas.List.Folds.{list_all-append}
 use Rattle.elab_rules.specs.cpp_types.Typ.{Typ, typ, void, int, enum, null, ptr, ref, array, func, class, closure, tx_ex}
-use Rattle.elab_rules.specs.cpp_types.Class.{held}
+use Rattle.elab_rules.specs.cpp_types.Class.{Class, held}
 use Rattle.elab_rules.specs.cpp_types.declared.classes.At.{At}
 use Rattle.elab_rules.specs.cpp_lex.Tokens.{Lexeme}
 use Rattle.elab_rules.specs.cpp_ast.declared.arena.At.{At as SyntaxAt}
@@ -16,10 +16,12 @@ use Rattle.elab_rules.specs.cpp_names.Names.{Names}
 use Rattle.elab_rules.specs.cpp_tree.declared.faults.ElabFault.{ElabFault}
 use Rattle.elab_rules.specs.cpp_tree.declared.faults.IllRule.{IllRule}
 use Rattle.elab_rules.specs.cpp_tree.declared.faults.IllRule.TheVariants.{Incomplete}
+use Rattle.elab_rules.specs.cpp_tree.Typing.{form_in, is_void}
 use Rattle.elab_rules.specs.elab_ctx.declared.env.Label.{Label}
 use Rattle.elab_rules.specs.elab_ctx.Ctx.{Ctx, Work, Labels, Variable}
 use Rattle.elab_rules.specs.elab_ctx.Steps.{check, Made}
 use Rattle.elab_rules.specs.Operators.{is_complete}
+use Rattle.elab_rules.specs.Types.{is_function_form, is_bounded}
 use Rattle.elab_rules.specs.Braces.{string_token}
 use Rattle.elab_rules.specs.Statements as statements
 use Rattle.elab_rules.specs.Statements.{State, Done, Full, Lambdas, Deduction, Declaring, Caught, Switched, with_work, full_operand, full_made, inner, in_loop, in_block}
@@ -29,7 +31,7 @@ use Rattle.elab_fits.proofs.Steps.{bind}
 use Rattle.elab_sound_types.specs.Types.{variable, declared, is_sound, IsExpression}
 use Rattle.elab_sound_types.specs.Contexts.{HasSoundTypes, is_sound_known, is_sound_variable, is_spelled, are_spelled}
 use Rattle.elab_sound_types.specs.States.{IsSoundState, IsSoundAfter}
-use Rattle.elab_sound_types.proofs.Sound.{both}
+use Rattle.elab_sound_types.proofs.Sound.{both, bounded_variable}
 use Rattle.elab_sound_types.proofs.Names.{IfThere}
 use Rattle.elab_sound_types.proofs.Globals as globals
 use Rattle.elab_sound_types.proofs.Globals.{Behind, same}
@@ -38,8 +40,8 @@ use Rattle.elab_sound_types.proofs.Growth.{grown_same, grown_joined}
 
 -- States
 
-abbrev pub classes_in : State → ℕ
-classes_in st = length st.ctx.classes
+abbrev pub classes_in : State → List Class
+classes_in st = st.ctx.classes
 
 pub on_all : {A : Type 0} (P : A → Type 0) (r : Result A ElabFault) → ((x : A) → r ≡ Ok x → P x) → On P r
 on_all P (Ok x) h = h x refl
@@ -70,6 +72,8 @@ elsewhere st scopes breaks continues label labels h = record {
     this = h.context.this;
     captures = h.context.captures;
     globals = h.context.globals;
+    many = h.context.many;
+    copied = h.context.copied;
   };
   closures = h.closures;
   returned = h.returned;
@@ -102,6 +106,8 @@ made_sound st w g h = record {
     this = g.this;
     captures = g.captures;
     globals = g.globals;
+    many = g.many;
+    copied = g.copied;
   };
   closures = refl;
   returned = h.returned;
@@ -145,6 +151,8 @@ renewed st scopes vs frame g h = record {
     this = h.context.this;
     captures = h.context.captures;
     globals = h.context.globals;
+    many = h.context.many;
+    copied = h.context.copied;
   };
   closures = h.closures;
   returned = h.returned;
@@ -165,32 +173,40 @@ pub auto_sound : (st : State) (i : ℕ) (t : Typ) → is_sound (classes_in st) v
 auto_sound st i t g h = renewed st st.ctx.scopes _ _ (all_but (is_sound_variable (classes_in st)) st.ctx.variables i _ g h.context.variables) h
 
 -- an object or a reference may be declared
-abbrev pub IsVariable : ℕ → Typ → Type 0
+abbrev pub IsVariable : List Class → Typ → Type 0
 IsVariable n t = is_sound n variable t ≡ true
 
 pub check_holds : (Q : Type 0) (at : At) (rule : IllRule) (b : Bool) → Q → On (λ (y : Bool). Q) (check at rule b)
 check_holds Q at rule true h = h
 check_holds Q at rule false h = tt
 
-pub declarable : (n : ℕ) (c : Ctx) (at : At) (t : Typ) → is_sound n declared t ≡ true → On (λ (y : Bool). IsVariable n t) (statements.declarable c at t)
+abbrev pub IsBounded : List Class → Typ → Type 0
+IsBounded n t = is_bounded t ≡ true → IsVariable n t
+
+variable_if : (n : List Class) (c : Ctx) (at : At) (t : Typ) → is_void t ≡ false → is_function_form (form_in t) ≡ false → is_sound n declared t ≡ true
+    → On (λ (y : Bool). IsBounded n t) (check at Incomplete (is_complete c (held t)))
+variable_if n c at t i j h = check_holds (IsBounded n t) at Incomplete (is_complete c (held t)) (λ b. bounded_variable n t i j b h)
+
+-- what is declarable is an object or a reference, once its bound is known
+pub declarable : (n : List Class) (c : Ctx) (at : At) (t : Typ) → is_sound n declared t ≡ true → On (λ (y : Bool). IsBounded n t) (statements.declarable c at t)
 declarable n c at (typ void d v) h = tt
 declarable n c at (typ (func s) d v) h = tt
-declarable n c at (typ (int j) d v) h = check_holds (IsVariable n (typ (int j) d v)) at Incomplete (is_complete c (held (typ (int j) d v))) refl
-declarable n c at (typ (enum e s) d v) h = check_holds (IsVariable n (typ (enum e s) d v)) at Incomplete (is_complete c (held (typ (enum e s) d v))) refl
-declarable n c at (typ null d v) h = check_holds (IsVariable n (typ null d v)) at Incomplete (is_complete c (held (typ null d v))) refl
-declarable n c at (typ (ptr t) d v) h = check_holds (IsVariable n (typ (ptr t) d v)) at Incomplete (is_complete c (held (typ (ptr t) d v))) h
-declarable n c at (typ (ref t) d v) h = check_holds (IsVariable n (typ (ref t) d v)) at Incomplete (is_complete c (held (typ (ref t) d v))) h
-declarable n c at (typ (array t m) d v) h = check_holds (IsVariable n (typ (array t m) d v)) at Incomplete (is_complete c (held (typ (array t m) d v))) h
-declarable n c at (typ (class m) d v) h = check_holds (IsVariable n (typ (class m) d v)) at Incomplete (is_complete c (held (typ (class m) d v))) h
-declarable n c at (typ (closure m) d v) h = check_holds (IsVariable n (typ (closure m) d v)) at Incomplete (is_complete c (held (typ (closure m) d v))) h
-declarable n c at (typ (tx_ex (typ f x y)) d v) h = check_holds (IsVariable n (typ (tx_ex (typ f x y)) d v)) at Incomplete (is_complete c (held (typ (tx_ex (typ f x y)) d v))) h
+declarable n c at (typ (int j) d v) h = variable_if n c at (typ (int j) d v) refl refl h
+declarable n c at (typ (enum e s) d v) h = variable_if n c at (typ (enum e s) d v) refl refl h
+declarable n c at (typ null d v) h = variable_if n c at (typ null d v) refl refl h
+declarable n c at (typ (ptr t) d v) h = variable_if n c at (typ (ptr t) d v) refl refl h
+declarable n c at (typ (ref t) d v) h = variable_if n c at (typ (ref t) d v) refl refl h
+declarable n c at (typ (array t m) d v) h = variable_if n c at (typ (array t m) d v) refl refl h
+declarable n c at (typ (class m) d v) h = variable_if n c at (typ (class m) d v) refl refl h
+declarable n c at (typ (closure m) d v) h = variable_if n c at (typ (closure m) d v) refl refl h
+declarable n c at (typ (tx_ex t) d v) h = variable_if n c at (typ (tx_ex t) d v) refl refl h
 
 -- an array whose bound its initialiser gives
-pub closed_sound : (n m : ℕ) (t : Typ) → is_sound n declared t ≡ true → is_sound n declared (statements.closed_bound m t) ≡ true
+pub closed_sound : (n : List Class) (m : ℕ) (t : Typ) → is_sound n declared t ≡ true → is_sound n declared (statements.closed_bound m t) ≡ true
 closed_sound n m (typ (array e zero) d v) h = h
 closed_sound n m t h = h
 
-pub bound_sound : (n : ℕ) (s : List Lexeme) (t : Typ) (init : syntax.Trees) → is_sound n declared t ≡ true
+pub bound_sound : (n : List Class) (s : List Lexeme) (t : Typ) (init : syntax.Trees) → is_sound n declared t ≡ true
     → is_sound n declared (statements.bound_by_initialiser s t init) ≡ true
 bound_sound n s t (syntax.more (syntax.node k.EqualInitializer p token (syntax.more (syntax.node k.BracedInitList q brace items) syntax.none)) syntax.none) h =
     closed_sound n (statements.count items) t h

@@ -1,10 +1,11 @@
 -- Nodes, values and conversions have the types of expressions.
-use Rattle.std.proofs.Common.{◌≡◌, refl, ap, ℕ, Bool, true, false, not, ◌||◌, Option, Some, None, is_some}
+use Rattle.std.proofs.Common.{◌≡◌, refl, ap, ℕ, Bool, true, false, not, ◌&&◌, ◌||◌, List, Option, Some, None, is_some}
 use Rattle.std.specs.Prelude.{if◌then◌else◌}
 use Rattle.std.proofs.lemmas.Bool.{and_parts}
 use Rattle.elab_rules.specs.tx_ints.declared.kinds.IntKind.{IntKind}
 use Rattle.elab_rules.specs.tx_ints.declared.kinds.BinOp.{BinOp}
 use Rattle.elab_rules.specs.cpp_types.Typ.{Typ, typ, Form, void, int, enum, null, ptr, ref, array, func, class, closure, tx_ex}
+use Rattle.elab_rules.specs.cpp_types.Class.{Class}
 use Rattle.elab_rules.specs.cpp_types.Equal.{kind_eq, typ_eq}
 use Rattle.elab_rules.specs.cpp_types.Conversion.{is_object_form}
 use Rattle.elab_rules.specs.cpp_types.declared.classes.At.{At}
@@ -18,7 +19,7 @@ use Rattle.elab_rules.specs.cpp_tree.Trees.{Tree, node, Trees, one, typ_in}
 use Rattle.elab_rules.specs.cpp_tree.Notation.{plain}
 use Rattle.elab_rules.specs.cpp_tree.Typing.{form_in, unqualified, kind_in, is_class_typ}
 use Rattle.elab_rules.specs.Values.{is_exception_form, retyped, number, operated, valued, retyped_if, between, converted, in_kind, stepped}
-use Rattle.elab_sound_types.specs.Types.{Use, object, target, value, is_sound, is_sound_form, is_head, is_get, is_value_written, is_unqualified, IsExpression}
+use Rattle.elab_sound_types.specs.Types.{Use, object, target, value, is_positive, is_sound, is_sound_form, is_head, is_get, is_value_written, is_unqualified, IsExpression}
 use Rattle.elab_sound_types.proofs.Sound.{both, sound_as, object_target, class_as, unqualified_sound, plain_sound}
 
 pub or_left : {a : Bool} (b : Bool) → a ≡ true → (a || b) ≡ true
@@ -37,26 +38,26 @@ tree_if P false x y h g = g
 
 -- Heads
 
-pub plain_head : (n : ℕ) (f : Form) → is_sound n value (plain f) ≡ true → is_head n (plain f) Prvalue ≡ true
+pub plain_head : (n : List Class) (f : Form) → is_sound n value (plain f) ≡ true → is_head n (plain f) Prvalue ≡ true
 plain_head n f h = both h (or_right (is_object_form f) refl)
 
-pub value_head : (n : ℕ) (t : Typ) → is_sound n value t ≡ true → is_head n (unqualified t) Prvalue ≡ true
+pub value_head : (n : List Class) (t : Typ) → is_sound n value t ≡ true → is_head n (unqualified t) Prvalue ≡ true
 value_head n (typ f c v) h = plain_head n f (plain_sound n value f c v h)
 
 -- an object of a class, in either category
-pub class_head : (n : ℕ) (a : Use) (f : Form) (own c v : Bool) (cat : Cat) → is_object_form f ≡ true → is_sound_form n a own f ≡ true
+pub class_head : (n : List Class) (a : Use) (f : Form) (own c v : Bool) (cat : Cat) → is_object_form f ≡ true → is_sound_form n a own f ≡ true
     → is_head n (typ f c v) cat ≡ true
-class_head n a f own c v Lvalue i h = class_as n a target f own (c || v) i h
-class_head n a f own c v Prvalue i h = both (class_as n a value f own (c || v) i h) (or_left (not (c || v)) i)
+class_head n a f own c v Lvalue i h = class_as n a target f own (c || v) i refl h
+class_head n a f own c v Prvalue i h = both (class_as n a value f own (c || v) i refl h) (or_left (not (c || v)) i)
 
 -- what an expression of a class has for a type
-pub class_sound : (n : ℕ) (a : Use) (t : Typ) (cat : Cat) → is_class_typ t ≡ true → is_head n t cat ≡ true → is_sound n a t ≡ true
-class_sound n a (typ f c v) Lvalue i h = class_as n target a f (c || v) (c || v) i h
-class_sound n a (typ f c v) Prvalue i h =
-    class_as n value a f (c || v) (c || v) i (and_parts (is_sound n value (typ f c v)) (is_object_form f || not (c || v)) h).0
+pub class_sound : (n : List Class) (t : Typ) (cat : Cat) → is_class_typ t ≡ true → is_head n t cat ≡ true → is_sound n target t ≡ true
+class_sound n (typ f c v) Lvalue i h = h
+class_sound n (typ f c v) Prvalue i h =
+    class_as n value target f (c || v) (c || v) i refl (and_parts (is_sound n value (typ f c v)) (is_object_form f || not (c || v)) h).0
 
 -- the value of a scalar has its type without qualifiers
-pub scalar_head : (n : ℕ) (t : Typ) (cat : Cat) → is_head n t cat ≡ true → is_some (kind_in (form_in t)) ≡ true → is_head n (unqualified t) Prvalue ≡ true
+pub scalar_head : (n : List Class) (t : Typ) (cat : Cat) → is_head n t cat ≡ true → is_some (kind_in (form_in t)) ≡ true → is_head n (unqualified t) Prvalue ≡ true
 scalar_head n (typ (int k) c v) cat h s = refl
 scalar_head n (typ (enum e x) c v) cat h s = refl
 scalar_head n (typ null c v) cat h s = refl
@@ -81,37 +82,37 @@ pub record Plain (kind : TKind) : Type 0 where
   pub chosen : is_get kind ≡ false
   pub written : (cat : Cat) (t : Typ) (kids : Trees) → is_value_written kind cat t kids ≡ true
 
-pub expression_node : (n : ℕ) (kind : TKind) (t : Typ) (cat : Cat) (at : At) (kids : Trees) → Plain kind → is_head n t cat ≡ true
+pub expression_node : (n : List Class) (kind : TKind) (t : Typ) (cat : Cat) (at : At) (kids : Trees) → Plain kind → is_head n t cat ≡ true
     → IsExpression n (node kind t cat at kids)
 expression_node n kind t cat at kids p h = record { head = h; chosen = p.chosen; written = p.written cat t kids }
 
-pub lvalue_retyped : (n : ℕ) (at : At) (t : Typ) (e : Tree) → is_sound n target t ≡ true → IsExpression n (retyped at t Lvalue e)
+pub lvalue_retyped : (n : List Class) (at : At) (t : Typ) (e : Tree) → is_sound n target t ≡ true → IsExpression n (retyped at t Lvalue e)
 lvalue_retyped n at t e h = record { head = h; chosen = refl; written = refl }
 
-pub number_sound : (n : ℕ) (k : IntKind) (w : ℕ) (at : At) → IsExpression n (number k w at)
+pub number_sound : (n : List Class) (k : IntKind) (w : ℕ) (at : At) → IsExpression n (number k w at)
 number_sound n k w at = record { head = refl; chosen = refl; written = refl }
 
-pub operated_sound : (n : ℕ) (op : BinOp) (k : IntKind) (t : Typ) (at : At) (a b : Tree) → is_head n t Prvalue ≡ true → IsExpression n (operated op k t at a b)
+pub operated_sound : (n : List Class) (op : BinOp) (k : IntKind) (t : Typ) (at : At) (a b : Tree) → is_head n t Prvalue ≡ true → IsExpression n (operated op k t at a b)
 operated_sound n op k t at a b h = record { head = h; chosen = refl; written = refl }
 
 -- Values (C++14 4.1 to 4.3)
 
 -- an element as what a pointer points to
-element_target : (n : ℕ) (f : Form) (c v : Bool) → is_sound n object (typ f c v) ≡ true → is_sound n target (typ f (c || false) (v || false)) ≡ true
+element_target : (n : List Class) (f : Form) (c v : Bool) → is_sound n object (typ f c v) ≡ true → is_sound n target (typ f (c || false) (v || false)) ≡ true
 element_target n f true true h = sound_as n object target (typ f true true) object_target h
 element_target n f true false h = sound_as n object target (typ f true false) object_target h
 element_target n f false true h = sound_as n object target (typ f false true) object_target h
 element_target n f false false h = sound_as n object target (typ f false false) object_target h
 
-value_by : (n : ℕ) (at : At) (kind : TKind) (f : Form) (c v : Bool) (cat : Cat) (p : At) (kids : Trees) → IsExpression n (node kind (typ f c v) cat p kids)
+value_by : (n : List Class) (at : At) (kind : TKind) (f : Form) (c v : Bool) (cat : Cat) (p : At) (kids : Trees) → IsExpression n (node kind (typ f c v) cat p kids)
     → IsExpression n (valued at (node kind (typ f c v) cat p kids))
 value_by n at kind (func g) c v Lvalue p kids h =
     record { head = both (unqualified_sound n target (typ (func g) c v) h.head) refl; chosen = refl; written = refl }
 value_by n at kind (func g) c v Prvalue p kids h = let e : false ≡ true = h.head in absurd cc
 value_by n at kind (array (typ g q u) k) false false Lvalue p kids h =
-    record { head = both (element_target n g q u h.head) refl; chosen = refl; written = refl }
-value_by n at kind (array t k) true v Lvalue p kids h = let e : false ≡ true = h.head in absurd cc
-value_by n at kind (array t k) false true Lvalue p kids h = let e : false ≡ true = h.head in absurd cc
+    record { head = both (element_target n g q u (and_parts (is_positive k) (is_sound n object (typ g q u)) h.head).1) refl; chosen = refl; written = refl }
+value_by n at kind (array t k) true v Lvalue p kids h = let e : false ≡ true = (and_parts (is_positive k) false h.head).1 in absurd cc
+value_by n at kind (array t k) false true Lvalue p kids h = let e : false ≡ true = (and_parts (is_positive k) false h.head).1 in absurd cc
 value_by n at kind (array t k) c v Prvalue p kids h = let e : false ≡ true = h.head in absurd cc
 value_by n at kind (int j) c v Lvalue p kids h = record { head = refl; chosen = refl; written = refl }
 value_by n at kind (enum e x) c v Lvalue p kids h = record { head = refl; chosen = refl; written = refl }
@@ -124,30 +125,30 @@ value_by n at kind (closure k) c v Lvalue p kids h = h
 value_by n at kind (tx_ex t) c v Lvalue p kids h = h
 value_by n at kind f c v Prvalue p kids h = h
 
-pub valued_sound : (n : ℕ) (at : At) (e : Tree) → IsExpression n e → IsExpression n (valued at e)
+pub valued_sound : (n : List Class) (at : At) (e : Tree) → IsExpression n e → IsExpression n (valued at e)
 valued_sound n at (node kind (typ f c v) cat p kids) h = value_by n at kind f c v cat p kids h
 
 -- Conversions (C++14 4.5 to 4.12)
 
-retyped_by : (n : ℕ) (at : At) (b : Bool) (t : Typ) (v : Tree) → IsExpression n v → IsExpression n (retyped at t Prvalue v) → IsExpression n (retyped_if at b t v)
+retyped_by : (n : List Class) (at : At) (b : Bool) (t : Typ) (v : Tree) → IsExpression n v → IsExpression n (retyped at t Prvalue v) → IsExpression n (retyped_if at b t v)
 retyped_by n at true t v h g = h
 retyped_by n at false t v h g = g
 
-between_some : (n : ℕ) (at : At) (x : Option IntKind) (k : IntKind) (t : Typ) (v : Tree) → IsExpression n v → IsExpression n (retyped at t Prvalue v)
+between_some : (n : List Class) (at : At) (x : Option IntKind) (k : IntKind) (t : Typ) (v : Tree) → IsExpression n v → IsExpression n (retyped at t Prvalue v)
     → IsExpression n (node (Convert k) t Prvalue at (one v)) → IsExpression n (between at x (Some k) t v)
 between_some n at (Some j) k t v h g i = tree_if (IsExpression n) (kind_eq j k) _ _ (retyped_by n at (typ_eq t (typ_in v)) t v h g) i
 between_some n at None k t v h g i = h
 
-between_none : (n : ℕ) (at : At) (x : Option IntKind) (t : Typ) (v : Tree) → IsExpression n v → IsExpression n (between at x None t v)
+between_none : (n : List Class) (at : At) (x : Option IntKind) (t : Typ) (v : Tree) → IsExpression n v → IsExpression n (between at x None t v)
 between_none n at (Some j) t v h = h
 between_none n at None t v h = h
 
-to_plain : (n : ℕ) (at : At) (k : IntKind) (f : Form) (v : Tree) → is_head n (plain f) Prvalue ≡ true → is_value_written Retype Prvalue (plain f) (one v) ≡ true
+to_plain : (n : List Class) (at : At) (k : IntKind) (f : Form) (v : Tree) → is_head n (plain f) Prvalue ≡ true → is_value_written Retype Prvalue (plain f) (one v) ≡ true
     → kind_in f ≡ Some k → IsExpression n v → IsExpression n (between at (kind_in (form_in (typ_in v))) (Some k) (plain f) v)
 to_plain n at k f v h g i e = between_some n at (kind_in (form_in (typ_in v))) k (plain f) v e (record { head = h; chosen = refl; written = g })
     (record { head = h; chosen = refl; written = refl })
 
-pub converted_sound : (n : ℕ) (at : At) (t : Typ) (v : Tree) → is_sound n value t ≡ true → IsExpression n v → IsExpression n (converted at t v)
+pub converted_sound : (n : List Class) (at : At) (t : Typ) (v : Tree) → is_sound n value t ≡ true → IsExpression n v → IsExpression n (converted at t v)
 converted_sound n at (typ (int k) c d) v h e = to_plain n at k (int k) v refl refl refl e
 converted_sound n at (typ (enum m x) c d) v h e = to_plain n at _ (enum m x) v refl refl refl e
 converted_sound n at (typ null c d) v h e = to_plain n at _ null v refl refl refl e
@@ -160,7 +161,7 @@ converted_sound n at (typ (class k) c d) v h e = between_none n at (kind_in (for
 converted_sound n at (typ (closure k) c d) v h e = between_none n at (kind_in (form_in (typ_in v))) (plain (closure k)) v e
 converted_sound n at (typ (tx_ex t) c d) v h e = between_none n at (kind_in (form_in (typ_in v))) (plain (tx_ex t)) v e
 
-pub in_kind_sound : (n : ℕ) (at : At) (k : IntKind) (v : Tree) → IsExpression n v → IsExpression n (in_kind at k v)
+pub in_kind_sound : (n : List Class) (at : At) (k : IntKind) (v : Tree) → IsExpression n v → IsExpression n (in_kind at k v)
 in_kind_sound n at k v e = converted_sound n at (plain (int k)) v refl e
 
 -- a null constant, where it is no exception
@@ -177,11 +178,11 @@ no_exception (class k) v h = refl
 no_exception (closure k) v h = refl
 no_exception (tx_ex t) v h = absurd cc
 
-null_retyped : (n : ℕ) (at : At) (t : Typ) (v : Tree) → is_sound n value t ≡ true → is_exception_form (form_in t) ≡ false
+null_retyped : (n : List Class) (at : At) (t : Typ) (v : Tree) → is_sound n value t ≡ true → is_exception_form (form_in t) ≡ false
     → IsExpression n (retyped at (unqualified t) Prvalue v)
 null_retyped n at (typ f c d) v h g = record { head = value_head n (typ f c d) h; chosen = refl; written = no_exception f v g }
 
-pub stepped_sound : (n : ℕ) (at : At) (step : Step) (t : Typ) (v : Tree) → is_sound n value t ≡ true → is_exception_form (form_in t) ≡ false → IsExpression n v
+pub stepped_sound : (n : List Class) (at : At) (step : Step) (t : Typ) (v : Tree) → is_sound n value t ≡ true → is_exception_form (form_in t) ≡ false → IsExpression n v
     → IsExpression n (stepped at step t v)
 stepped_sound n at steps.NullPointer t v h g e = null_retyped n at t v h g
 stepped_sound n at step t v h g e = converted_sound n at t v h e

@@ -8,6 +8,7 @@ use Rattle.std.proofs.lemmas.Bool.{and_parts}
 use Rattle.elab_rules.specs.tx_ints.declared.kinds.IntKind.{IntKind}
 use Rattle.elab_rules.specs.tx_ints.Words.{value_of_word}
 use Rattle.elab_rules.specs.cpp_types.Typ.{Typ, typ, Form, void, int, enum, null, ptr, ref, array, func, class, closure, tx_ex}
+use Rattle.elab_rules.specs.cpp_types.Class.{Class}
 use Rattle.elab_rules.specs.cpp_types.declared.classes.At.{At}
 use Rattle.elab_rules.specs.cpp_lex.Tokens.{Lexeme}
 use Rattle.elab_rules.specs.cpp_ast.declared.kinds.NodeKind.TheVariants as k
@@ -29,28 +30,28 @@ use Rattle.elab_rules.specs.Types.{qualifiers_of, is_declared_safe, is_name}
 use Rattle.elab_rules.specs.Expressions as expressions
 use Rattle.elab_fits.specs.Standing.{On}
 use Rattle.elab_fits.proofs.Steps.{bind, skip, checked, expected}
-use Rattle.elab_sound_types.specs.Types.{object, target, parameter, declared, is_sound, are_sound, is_unqualified}
+use Rattle.elab_sound_types.specs.Types.{object, target, parameter, denoted, declared, is_lambda, is_sound, are_sound, is_unqualified}
 use Rattle.elab_sound_types.specs.Contexts.{HasSoundTypes, is_sound_name, is_sound_parameter}
 use Rattle.elab_sound_types.specs.Laws.{IsSoundDeclared}
-use Rattle.elab_sound_types.proofs.Sound.{both, declared_target, target_object, declared_result, unqualified_sound, written_sound, qualified_object, sound_as}
-use Rattle.elab_sound_types.proofs.Sound.{object_target}
+use Rattle.elab_sound_types.proofs.Sound.{both, declared_target, denoted_object, declared_result, unqualified_sound, written_sound, qualified_object, sound_as}
+use Rattle.elab_sound_types.proofs.Sound.{object_target, all_declared}
 use Rattle.elab_sound_types.proofs.Objects.{either, not_true}
 use Rattle.elab_sound_types.proofs.Names.{IfThere, if_there, there_if}
 
 -- Specifiers (C++14 7.1.6)
 
-abbrev pub IsDeclared : ℕ → Typ → Type 0
-IsDeclared n t = is_sound n declared t ≡ true
+abbrev pub IsDenoted : List Class → Typ → Type 0
+IsDenoted n t = is_sound n denoted t ≡ true
 
-abbrev IsWord : ℕ → Form → Type 0
-IsWord n f = is_sound n declared (plain f) ≡ true
+abbrev IsWord : List Class → Form → Type 0
+IsWord n f = is_sound n denoted (plain f) ≡ true
 
-named_sound : (n : ℕ) (name : List ℕ) (xs : List Named) → list_all (is_sound_name n) xs ≡ true → IfThere (IsDeclared n) (type_called name xs)
+named_sound : (n : List Class) (name : List ℕ) (xs : List Named) → list_all (is_sound_name n) xs ≡ true → IfThere (IsDenoted n) (type_called name xs)
 named_sound n name [] h = tt
 named_sound n name (x ∷ xs) h = let p = and_parts (is_sound_name n x) (list_all (is_sound_name n) xs) h in
-    there_if (IsDeclared n) (bytes_eq name x.name) _ _ (λ e. p.0) (named_sound n name xs p.1)
+    there_if (IsDenoted n) (bytes_eq name x.name) _ _ (λ e. p.0) (named_sound n name xs p.1)
 
-word_sound : (n : ℕ) (w : types.Words) → IfThere (IsWord n) (integer_words w)
+word_sound : (n : List Class) (w : types.Words) → IfThere (IsWord n) (integer_words w)
 word_sound n w =
     there_if (IsWord n) (w.chars == 1 && w.ints == 0 && types.is_modified w 1) _ _ (λ e. refl) (
     there_if (IsWord n) (w.shorts == 1 && types.is_modified w 1) _ _ (λ e. refl) (
@@ -58,7 +59,7 @@ word_sound n w =
     there_if (IsWord n) (w.longs == 2 && types.is_modified w 2) _ _ (λ e. refl) (
     there_if (IsWord n) (nat_lt 0 w.all && types.is_modified w 0) _ _ (λ e. refl) tt))))
 
-form_sound : (n : ℕ) (words : List (List ℕ)) → IfThere (IsWord n) (word_form words)
+form_sound : (n : List Class) (words : List (List ℕ)) → IfThere (IsWord n) (word_form words)
 form_sound n (word ∷ []) =
     there_if (IsWord n) (bytes_eq word (codes "void")) _ _ (λ e. refl) (
     there_if (IsWord n) (bytes_eq word (codes "bool")) _ _ (λ e. refl) (
@@ -66,67 +67,74 @@ form_sound n (word ∷ []) =
 form_sound n [] = word_sound n (words_of [])
 form_sound n (word ∷ other ∷ words) = word_sound n (words_of (word ∷ other ∷ words))
 
-words_sound : (n : ℕ) (o : Option Form) → IfThere (IsWord n) o → IfThere (IsDeclared n) (types.words_type o)
+words_sound : (n : List Class) (o : Option Form) → IfThere (IsWord n) o → IfThere (IsDenoted n) (types.words_type o)
 words_sound n (Some f) h = h
 words_sound n None h = tt
 
-base_sound : (n : ℕ) (o : Option Typ) (words : List (List ℕ)) → IfThere (IsDeclared n) o → IfThere (IsDeclared n) (types.base_type o words)
+base_sound : (n : List Class) (o : Option Typ) (words : List (List ℕ)) → IfThere (IsDenoted n) o → IfThere (IsDenoted n) (types.base_type o words)
 base_sound n (Some t) words h = h
 base_sound n None words h = words_sound n (word_form words) (form_sound n words)
 
 -- what is named is sound
-abbrev pub AreSpecifiers : ℕ → Specifiers → Type 0
-AreSpecifiers n d = IfThere (IsDeclared n) d.named
+abbrev pub AreSpecifiers : List Class → Specifiers → Type 0
+AreSpecifiers n d = IfThere (IsDenoted n) d.named
 
-pub specified_type : (n : ℕ) (at : At) (d : Specifiers) → AreSpecifiers n d → On (IsDeclared n) (types.specified_type at d)
-specified_type n at d h = expected (IsDeclared n) at BadDeclaration (types.base_type d.named d.words) _
-    (λ t e. written_sound n declared d.is_const d.is_volatile t
-    (if_there (IsDeclared n) (types.base_type d.named d.words) t (base_sound n d.named d.words h) e))
+pub specified_type : (n : List Class) (at : At) (d : Specifiers) → AreSpecifiers n d → On (IsDenoted n) (types.specified_type at d)
+specified_type n at d h = expected (IsDenoted n) at BadDeclaration (types.base_type d.named d.words) _
+    (λ t e. written_sound n denoted d.is_const d.is_volatile t
+    (if_there (IsDenoted n) (types.base_type d.named d.words) t (base_sound n d.named d.words h) e))
 
--- what a `std::tx_exception` may hold
-thrown : (n : ℕ) (c : Ctx) (t : Typ) → may_be_thrown c t ≡ true → is_sound n declared t ≡ true → is_sound n declared (plain (tx_ex t)) ≡ true
-thrown n c (typ (int m) false false) i h = refl
-thrown n c (typ (enum e s) false false) i h = refl
-thrown n c (typ (class m) false false) i h = h
-thrown n c t i h = absurd cc
+-- what a `std::tx_exception` may hold: objects of classes that are copied as bytes, and these are complete
+thrown : (c : Ctx) (w : Work) (t : Typ) → HasSoundTypes c w → may_be_thrown c t ≡ true → is_sound c.classes denoted t ≡ true
+    → is_sound c.classes denoted (plain (tx_ex t)) ≡ true
+thrown c w (typ (int m) false false) s i h = refl
+thrown c w (typ (enum e x) false false) s i h = refl
+thrown c w (typ (class m) false false) s i h =
+    both (s.copied m i) (and_parts (nat_lt m (length c.classes)) (not (is_lambda c.classes m)) h).1
+thrown c w t s i h = absurd cc
 
 -- Declarators (8.3)
 
-not_void : (n : ℕ) (t : Typ) → not (is_reference_form (form_in t)) ≡ true → not (is_void t) ≡ true → is_sound n declared t ≡ true → is_sound n target t ≡ true
-not_void n t r v h = declared_target n t (not_true (is_reference_form (form_in t)) r) (not_true (is_void t) v) h
+-- what may stand somewhere may stand wherever something is declared
+pub as_declared : (n : List Class) (t : Typ) → IsDenoted n t → is_sound n declared t ≡ true
+as_declared n t h = sound_as n denoted declared t (all_declared denoted) h
 
-pub pointer_to : (n : ℕ) (at : At) (t : Typ) → IsDeclared n t → On (IsDeclared n) (types.pointer_to at t)
-pointer_to n at t h = checked (IsDeclared n) at BadDeclaration (not (is_reference_form (form_in t))) _
-    (λ r. checked (IsDeclared n) at OutOfProfile (not (is_void t) && is_bounded t) _
-    (λ v. not_void n t r (and_parts (not (is_void t)) (is_bounded t) v).0 h))
+not_void : (n : List Class) (t : Typ) → not (is_reference_form (form_in t)) ≡ true → not (is_void t) ≡ true → is_bounded t ≡ true → IsDenoted n t
+    → is_sound n target t ≡ true
+not_void n t r v b h = declared_target n t (not_true (is_reference_form (form_in t)) r) (not_true (is_void t) v) b (as_declared n t h)
 
-pub reference_to : (n : ℕ) (at : At) (t : Typ) → IsDeclared n t → On (IsDeclared n) (types.reference_to at t)
-reference_to n at t h = checked (IsDeclared n) at BadDeclaration (not (is_reference_form (form_in t)) && not (is_void t)) _
-    (λ r. skip (IsDeclared n) (check at OutOfProfile (is_bounded t)) _
-    (λ y. let p = and_parts (not (is_reference_form (form_in t))) (not (is_void t)) r in not_void n t p.0 p.1 h))
+pub pointer_to : (n : List Class) (at : At) (t : Typ) → IsDenoted n t → On (IsDenoted n) (types.pointer_to at t)
+pointer_to n at t h = checked (IsDenoted n) at BadDeclaration (not (is_reference_form (form_in t))) _
+    (λ r. checked (IsDenoted n) at OutOfProfile (not (is_void t) && is_bounded t) _
+    (λ v. let p = and_parts (not (is_void t)) (is_bounded t) v in not_void n t r p.0 p.1 h))
 
-element_sound : (n : ℕ) (t : Typ) → types.is_element t ≡ true → IsDeclared n t → is_sound n object t ≡ true
+pub reference_to : (n : List Class) (at : At) (t : Typ) → IsDenoted n t → On (IsDenoted n) (types.reference_to at t)
+reference_to n at t h = checked (IsDenoted n) at BadDeclaration (not (is_reference_form (form_in t)) && not (is_void t)) _
+    (λ r. checked (IsDenoted n) at OutOfProfile (is_bounded t) _
+    (λ b. let p = and_parts (not (is_reference_form (form_in t))) (not (is_void t)) r in not_void n t p.0 p.1 b h))
+
+element_sound : (n : List Class) (t : Typ) → types.is_element t ≡ true → IsDenoted n t → is_sound n object t ≡ true
 element_sound n t i h =
     let a = and_parts (not (is_reference_form (form_in t)) && not (is_void t) && not (is_function_form (form_in t)) && not (auto_in (form_in t))) (is_bounded t) i in
     let b = and_parts (not (is_reference_form (form_in t)) && not (is_void t) && not (is_function_form (form_in t))) (not (auto_in (form_in t))) a.0 in
     let d = and_parts (not (is_reference_form (form_in t)) && not (is_void t)) (not (is_function_form (form_in t))) b.0 in
     let e = and_parts (not (is_reference_form (form_in t))) (not (is_void t)) d.0 in
-    target_object n t (not_true (is_function_form (form_in t)) d.1) (not_void n t e.0 e.1 h)
+    denoted_object n t (not_true (is_reference_form (form_in t)) e.0) (not_true (is_void t) e.1) (not_true (is_function_form (form_in t)) d.1) a.1 h
 
-pub array_of : (n : ℕ) (c : Ctx) (at p : At) (t : Typ) (kind : IntKind) (w : ℕ) → IsDeclared n t → On (IsDeclared n) (types.array_of c at p t kind w)
-array_of n c at p t kind w h = checked (IsDeclared n) at BadDeclaration (types.is_element t) _
-    (λ i. skip (IsDeclared n) (check p BadDeclaration (int_lt (pos 0) (value_of_word kind w))) _
-    (λ y. either (IsDeclared n) (nat_le w GREATEST_SIZE && types.is_within_size c t w) _ _ (element_sound n t i h) tt))
+pub array_of : (n : List Class) (c : Ctx) (at p : At) (t : Typ) (kind : IntKind) (w : ℕ) → IsDenoted n t → On (IsDenoted n) (types.array_of c at p t kind w)
+array_of n c at p t kind w h = checked (IsDenoted n) at BadDeclaration (types.is_element t) _
+    (λ i. skip (IsDenoted n) (check p BadDeclaration (int_lt (pos 0) (value_of_word kind w))) _
+    (λ y. either (IsDenoted n) (nat_le w GREATEST_SIZE && types.is_within_size c t w) _ _ (element_sound n t i h) tt))
 
-pub open_array : (n : ℕ) (at : At) (t : Typ) → IsDeclared n t → On (IsDeclared n) (types.open_array at t)
-open_array n at t h = checked (IsDeclared n) at BadDeclaration (types.is_element t) _ (λ i. element_sound n t i h)
+pub open_array : (n : List Class) (at : At) (t : Typ) → IsDenoted n t → On (IsDenoted n) (types.open_array at t)
+open_array n at t h = checked (IsDenoted n) at BadDeclaration (types.is_element t) _ (λ i. element_sound n t i h)
 
-bounded : (n : ℕ) (c : Ctx) (w : Work) (at : At) (t : Typ) (o : Operand) → IsDeclared n t → On (IsDeclared n) (expressions.bounded c w at t o)
-bounded n c w at t o h = skip (IsDeclared n) (expressions.bound_kind o.at (arithmetic (form_in (typ_in (value o))))) _
-    (λ kind. skip (IsDeclared n) (expect o.at NotConstant (constant w.globals (value o))) _ (λ m. array_of n c at o.at t kind m h))
+bounded : (n : List Class) (c : Ctx) (w : Work) (at : At) (t : Typ) (o : Operand) → IsDenoted n t → On (IsDenoted n) (expressions.bounded c w at t o)
+bounded n c w at t o h = skip (IsDenoted n) (expressions.bound_kind o.at (arithmetic (form_in (typ_in (value o))))) _
+    (λ kind. skip (IsDenoted n) (expect o.at NotConstant (constant w.globals (value o))) _ (λ m. array_of n c at o.at t kind m h))
 
 -- a parameter is no array and no function
-adjusted_sound : (n : ℕ) (t : Typ) → is_void t ≡ false → IsDeclared n t → is_sound n parameter (types.adjusted t) ≡ true
+adjusted_sound : (n : List Class) (t : Typ) → is_void t ≡ false → IsDenoted n t → is_sound n parameter (types.adjusted t) ≡ true
 adjusted_sound n (typ (array t m) c v) i h =
     sound_as n object target (qualified c v t) object_target (qualified_object n c v t (and_parts (not (c || v)) (is_sound n object t) h).1)
 adjusted_sound n (typ (func s) c v) i h = h
@@ -137,61 +145,61 @@ adjusted_sound n (typ null c v) i h = refl
 adjusted_sound n (typ (ptr t) c v) i h = h
 adjusted_sound n (typ (ref t) c v) i h = h
 adjusted_sound n (typ (class m) c v) i h = h
-adjusted_sound n (typ (closure m) c v) i h = h
+adjusted_sound n (typ (closure m) c v) i h = absurd cc
 adjusted_sound n (typ (tx_ex (typ f d w)) c v) i h = h
 
-abbrev pub IsParameter : ℕ → Typ → Type 0
+abbrev pub IsParameter : List Class → Typ → Type 0
 IsParameter n t = is_sound n parameter t ≡ true
 
-pub parameter_type : (n : ℕ) (c : Ctx) (at : At) (t : Typ) → IsDeclared n t → On (IsParameter n) (types.parameter_type c at t)
+pub parameter_type : (n : List Class) (c : Ctx) (at : At) (t : Typ) → IsDenoted n t → On (IsParameter n) (types.parameter_type c at t)
 parameter_type n c at t h = checked (IsParameter n) at BadDeclaration (not (is_void t)) _
     (λ i. skip (IsParameter n) (check at OutOfProfile (not (has_auto t))) _
     (λ y. skip (IsParameter n) (check at AbstractObject (not (types.is_abstract_type c t))) _ (λ z. adjusted_sound n t (not_true (is_void t) i) h)))
 
-abbrev pub AreParameters : ℕ → List Parameter → Type 0
+abbrev pub AreParameters : List Class → List Parameter → Type 0
 AreParameters n ps = list_all (is_sound_parameter n) ps ≡ true
 
 unqualified_is : (t : Typ) → is_unqualified (unqualified t) ≡ true
 unqualified_is (typ f c v) = refl
 
-types_sound : (n : ℕ) (ps : List Parameter) → AreParameters n ps → are_sound n (types.types_of ps) ≡ true
+types_sound : (n : List Class) (ps : List Parameter) → AreParameters n ps → are_sound n (types.types_of ps) ≡ true
 types_sound n [] h = refl
 types_sound n (p ∷ ps) h = let a = and_parts (is_sound_parameter n p) (list_all (is_sound_parameter n) ps) h in
     both (unqualified_is p.typ) (both (unqualified_sound n parameter p.typ a.0) (types_sound n ps a.1))
 
-pub function_of : (n : ℕ) (c : Ctx) (at : At) (r : Typ) (ps : List Parameter) (safe : Bool) → IsDeclared n r → AreParameters n ps
-    → On (IsDeclared n) (types.function_of c at r ps safe)
-function_of n c at r ps safe h g = checked (IsDeclared n) at BadDeclaration (types.is_result r) _
-    (λ i. skip (IsDeclared n) (check at OutOfProfile (not (has_auto r))) _
-    (λ a. skip (IsDeclared n) (check at AbstractObject (not (types.is_abstract_type c r))) _
-    (λ y. skip (IsDeclared n) (types.within_parameters at ps) _
+pub function_of : (n : List Class) (c : Ctx) (at : At) (r : Typ) (ps : List Parameter) (safe : Bool) → is_sound n declared r ≡ true → AreParameters n ps
+    → On (IsDenoted n) (types.function_of c at r ps safe)
+function_of n c at r ps safe h g = checked (IsDenoted n) at BadDeclaration (types.is_result r) _
+    (λ i. skip (IsDenoted n) (check at OutOfProfile (not (has_auto r))) _
+    (λ a. skip (IsDenoted n) (check at AbstractObject (not (types.is_abstract_type c r))) _
+    (λ y. skip (IsDenoted n) (types.within_parameters at ps) _
     (λ z. let p = and_parts (not (is_array_form (form_in r))) (not (is_function_form (form_in r))) i in both (types_sound n ps g)
     (declared_result n r (not_true (is_array_form (form_in r)) p.0) (not_true (is_function_form (form_in r)) p.1) h)))))
 
-with_function : (n : ℕ) (at : At) (b : Bool) (ps : List Parameter) (q : Qualifiers) (d : Declared) → AreParameters n ps → IsSoundDeclared n d
+with_function : (n : List Class) (at : At) (b : Bool) (ps : List Parameter) (q : Qualifiers) (d : Declared) → AreParameters n ps → IsSoundDeclared n d
     → On (IsSoundDeclared n) (types.with_function at b ps q d)
 with_function n at true ps q d h g = record { typ = g.typ; params = h }
 with_function n at false ps q d h g = skip (IsSoundDeclared n) (check at BadDeclaration (not q.is_const && not q.is_dynamic)) _ (λ y. g)
 
-alone : (n : ℕ) (name owner : Option ℕ) (b : Bool) (t : Typ) → IsDeclared n t → IsSoundDeclared n (declared_name name owner b t)
+alone : (n : List Class) (name owner : Option ℕ) (b : Bool) (t : Typ) → IsDenoted n t → IsSoundDeclared n (declared_name name owner b t)
 alone n name owner b t h = record { typ = h; params = refl }
 
 typ_if : (P : Typ → Type 0) (b : Bool) (x y : Typ) → P x → P y → P (if b then x else y)
 typ_if P true x y h g = h
 typ_if P false x y h g = g
 
-specifiers_if : (n : ℕ) (b : Bool) (x y : Specifiers) → AreSpecifiers n x → AreSpecifiers n y → AreSpecifiers n (if b then x else y)
+specifiers_if : (n : List Class) (b : Bool) (x y : Specifiers) → AreSpecifiers n x → AreSpecifiers n y → AreSpecifiers n (if b then x else y)
 specifiers_if n true x y h g = h
 specifiers_if n false x y h g = g
 
 -- Of a context with sound types
 
-abbrev pub IsParameterOf : ℕ → Parameter → Type 0
+abbrev pub IsParameterOf : List Class → Parameter → Type 0
 IsParameterOf n p = is_sound n parameter p.typ ≡ true
 
 module _ (s : List Lexeme) (c : Ctx) (v : Work) (h : HasSoundTypes c v) where
-  abbrev n : ℕ
-  n = length c.classes
+  abbrev n : List Class
+  n = c.classes
 
   mutual
     pub specified : (l : List Closure) (w : Work) (d : Specifiers) (t : syntax.Tree) → AreSpecifiers n d
@@ -199,10 +207,10 @@ module _ (s : List Lexeme) (c : Ctx) (v : Work) (h : HasSoundTypes c v) where
     specified l w d (syntax.node k.CvQualifier p (Some t) kids) g = specifiers_if n (bytes_eq (spelling s t) (codes "const")) _ _ g g
     specified l w d (syntax.node k.SimpleTypeSpecifier p (Some t) kids) g = g
     specified l w d (syntax.node k.TypeName p (Some t) kids) g = expected (AreSpecifiers n) (at_of p) UnknownName (type_named (spelling s t) c.types) _
-        (λ u e. if_there (IsDeclared n) (type_named (spelling s t) c.types) u (named_sound n (spelling s t) c.types h.types) e)
+        (λ u e. if_there (IsDenoted n) (type_named (spelling s t) c.types) u (named_sound n (spelling s t) c.types h.types) e)
     specified l w d (syntax.node k.TxException p token (syntax.more t syntax.none)) g =
-        bind (IsDeclared n) (AreSpecifiers n) (expressions.type_id_with s c l w t) _ (type_id l w t)
-        (λ u i. checked (AreSpecifiers n) (at_of p) NotTriviallyCopyable (may_be_thrown c u) _ (λ j. thrown n c u j i))
+        bind (IsDenoted n) (AreSpecifiers n) (expressions.type_id_with s c l w t) _ (type_id l w t)
+        (λ u i. checked (AreSpecifiers n) (at_of p) NotTriviallyCopyable (may_be_thrown c u) _ (λ j. thrown c v u h j i))
     specified l w d (syntax.node kind p token kids) g = tt
 
     pub all_specified : (l : List Closure) (w : Work) (d : Specifiers) (ts : syntax.Trees) → AreSpecifiers n d
@@ -211,19 +219,19 @@ module _ (s : List Lexeme) (c : Ctx) (v : Work) (h : HasSoundTypes c v) where
     all_specified l w d (syntax.more t ts) g = bind (AreSpecifiers n) (AreSpecifiers n) (expressions.specified_with s c l w d t) _ (specified l w d t g)
         (λ x i. all_specified l w x ts i)
 
-    pub specifiers : (l : List Closure) (w : Work) (t : syntax.Tree) → On (IsDeclared n) (expressions.specifiers_with s c l w t)
-    specifiers l w (syntax.node kind p token kids) = bind (AreSpecifiers n) (IsDeclared n) (expressions.all_specified_with s c l w no_specifiers kids) _
+    pub specifiers : (l : List Closure) (w : Work) (t : syntax.Tree) → On (IsDenoted n) (expressions.specifiers_with s c l w t)
+    specifiers l w (syntax.node kind p token kids) = bind (AreSpecifiers n) (IsDenoted n) (expressions.all_specified_with s c l w no_specifiers kids) _
         (all_specified l w no_specifiers kids tt) (λ d i. specified_type n (at_of p) d i)
 
-    pub type_id : (l : List Closure) (w : Work) (t : syntax.Tree) → On (IsDeclared n) (expressions.type_id_with s c l w t)
+    pub type_id : (l : List Closure) (w : Work) (t : syntax.Tree) → On (IsDenoted n) (expressions.type_id_with s c l w t)
     type_id l w (syntax.node kind p token (syntax.more base (syntax.more d syntax.none))) =
-        bind (IsDeclared n) (IsDeclared n) (expressions.specifiers_with s c l w base) _ (specifiers l w base)
-        (λ t i. bind (IsSoundDeclared n) (IsDeclared n) (expressions.declared_with s c l w (at_of p) t d) _ (declared_of l w (at_of p) t d i) (λ r j. j.typ))
+        bind (IsDenoted n) (IsDenoted n) (expressions.specifiers_with s c l w base) _ (specifiers l w base)
+        (λ t i. bind (IsSoundDeclared n) (IsDenoted n) (expressions.declared_with s c l w (at_of p) t d) _ (declared_of l w (at_of p) t d i) (λ r j. j.typ))
     type_id l w (syntax.node kind p token syntax.none) = tt
     type_id l w (syntax.node kind p token (syntax.more a syntax.none)) = tt
     type_id l w (syntax.node kind p token (syntax.more a (syntax.more b (syntax.more d ts)))) = tt
 
-    pub declared_of : (l : List Closure) (w : Work) (at : At) (t : Typ) (d : syntax.Tree) → IsDeclared n t
+    pub declared_of : (l : List Closure) (w : Work) (at : At) (t : Typ) (d : syntax.Tree) → IsDenoted n t
         → On (IsSoundDeclared n) (expressions.declared_with s c l w at t d)
     declared_of l w at t (syntax.node k.DeclaratorId p token kids) g = alone n token None false t g
     declared_of l w at t (syntax.node k.DestructorId p token kids) g = alone n token None true t g
@@ -231,28 +239,28 @@ module _ (s : List Lexeme) (c : Ctx) (v : Work) (h : HasSoundTypes c v) where
     declared_of l w at t (syntax.node k.QualifiedDestructorId p token kids) g = alone n token (owner_token kids) true t g
     declared_of l w at t (syntax.node k.OmittedId p token kids) g = alone n None None false t g
     declared_of l w at t (syntax.node k.ParenthesizedDeclarator p token (syntax.more d syntax.none)) g = declared_of l w at t d g
-    declared_of l w at t (syntax.node k.PointerDeclarator p token kids) g = bind (IsDeclared n) (IsSoundDeclared n) (types.pointer_to at t) _
+    declared_of l w at t (syntax.node k.PointerDeclarator p token kids) g = bind (IsDenoted n) (IsSoundDeclared n) (types.pointer_to at t) _
         (pointer_to n at t g) (λ u i. pointed l w at u kids i)
     declared_of l w at t (syntax.node k.ReferenceDeclarator p token (syntax.more d syntax.none)) g =
-        bind (IsDeclared n) (IsSoundDeclared n) (types.reference_to at t) _ (reference_to n at t g) (λ u i. declared_of l w at u d i)
+        bind (IsDenoted n) (IsSoundDeclared n) (types.reference_to at t) _ (reference_to n at t g) (λ u i. declared_of l w at u d i)
     declared_of l w at t (syntax.node k.ArrayDeclarator p token (syntax.more d syntax.none)) g =
-        bind (IsDeclared n) (IsSoundDeclared n) (types.open_array at t) _ (open_array n at t g) (λ u i. declared_of l w at u d i)
+        bind (IsDenoted n) (IsSoundDeclared n) (types.open_array at t) _ (open_array n at t g) (λ u i. declared_of l w at u d i)
     declared_of l w at t (syntax.node k.ArrayDeclarator p token (syntax.more d (syntax.more e syntax.none))) g =
         skip (IsSoundDeclared n) (and_then (expressions.expression_with s c l w e) (expressions.chosen_operand c)) _
-        (λ x. bind (IsDeclared n) (IsSoundDeclared n) (expressions.bounded c w at t x.operand) _ (bounded n c w at t x.operand g)
+        (λ x. bind (IsDenoted n) (IsSoundDeclared n) (expressions.bounded c w at t x.operand) _ (bounded n c w at t x.operand g)
         (λ u i. declared_of l w at u d i))
     declared_of l w at t (syntax.node k.FunctionDeclarator p token (syntax.more d (syntax.more ps (syntax.more q syntax.none)))) g =
         bind (AreParameters n) (IsSoundDeclared n) (expressions.parameters_in_with s c l w ps) _ (parameters_in l w ps)
-        (λ xs i. bind (IsDeclared n) (IsSoundDeclared n) (types.function_of c at t xs (is_declared_safe (qualifiers_of s q))) _
-        (function_of n c at t xs (is_declared_safe (qualifiers_of s q)) g i)
+        (λ xs i. bind (IsDenoted n) (IsSoundDeclared n) (types.function_of c at t xs (is_declared_safe (qualifiers_of s q))) _
+        (function_of n c at t xs (is_declared_safe (qualifiers_of s q)) (as_declared n t g) i)
         (λ u j. bind (IsSoundDeclared n) (IsSoundDeclared n) (expressions.declared_with s c l w at u d) _ (declared_of l w at u d j)
         (λ r m. with_function n at (is_name d) xs (qualifiers_of s q) r i m)))
     declared_of l w at t (syntax.node kind p token kids) g = tt
 
-    pub pointed : (l : List Closure) (w : Work) (at : At) (t : Typ) (ts : syntax.Trees) → IsDeclared n t
+    pub pointed : (l : List Closure) (w : Work) (at : At) (t : Typ) (ts : syntax.Trees) → IsDenoted n t
         → On (IsSoundDeclared n) (expressions.pointed_with s c l w at t ts)
     pointed l w at t (syntax.more (syntax.node k.CvQualifier p (Some i) kids) ts) g = pointed l w at _ ts
-        (typ_if (IsDeclared n) (bytes_eq (spelling s i) (codes "const")) _ _ (written_sound n declared true false t g) (written_sound n declared false true t g))
+        (typ_if (IsDenoted n) (bytes_eq (spelling s i) (codes "const")) _ _ (written_sound n denoted true false t g) (written_sound n denoted false true t g))
     pointed l w at t (syntax.more d syntax.none) g = declared_of l w at t d g
     pointed l w at t ts g = tt
 
@@ -266,7 +274,7 @@ module _ (s : List Lexeme) (c : Ctx) (v : Work) (h : HasSoundTypes c v) where
 
     pub parameter_of : (l : List Closure) (w : Work) (t : syntax.Tree) → On (IsParameterOf n) (expressions.parameter_with s c l w t)
     parameter_of l w (syntax.node kind p token (syntax.more base (syntax.more d syntax.none))) =
-        bind (IsDeclared n) (IsParameterOf n) (expressions.specifiers_with s c l w base) _ (specifiers l w base)
+        bind (IsDenoted n) (IsParameterOf n) (expressions.specifiers_with s c l w base) _ (specifiers l w base)
         (λ t i. bind (IsSoundDeclared n) (IsParameterOf n) (expressions.declared_with s c l w (at_of p) t d) _ (declared_of l w (at_of p) t d i)
         (λ r j. bind (IsParameter n) (IsParameterOf n) (types.parameter_type c (at_of p) r.typ) _ (parameter_type n c (at_of p) r.typ j.typ) (λ u m. m)))
     parameter_of l w (syntax.node kind p token syntax.none) = tt

@@ -1,5 +1,5 @@
 -- Types that expressions can have, through and through, and the trees that have them.
-use Rattle.std.specs.Prelude.{◌≡◌, ℕ, nat_lt, Bool, true, false, not, ◌&&◌, ◌||◌, List, [], ◌∷◌, length, is_some, slice_get}
+use Rattle.std.specs.Prelude.{◌≡◌, ℕ, zero, suc, nat_lt, Bool, true, false, not, ◌&&◌, ◌||◌, List, [], ◌∷◌, length, is_some, slice_get}
 use Rattle.elab_rules.specs.cpp_types.Typ.{Typ, typ, Form, void, int, enum, null, ptr, ref, array, func, class, closure, tx_ex, Signature, signature, Typs}
 use Rattle.elab_rules.specs.cpp_types.Typ.{none as no_typs, more as and_typ}
 use Rattle.elab_rules.specs.cpp_types.Class.{Class, completion_of}
@@ -61,11 +61,15 @@ may_refer value = false
 may_refer denoted = true
 may_refer declared = true
 
+abbrev pub is_positive : ℕ → Bool
+is_positive zero = false
+is_positive (suc n) = true
+
 -- an array has elements, but for one whose initialiser is yet to give its bound
 abbrev pub may_be_array : Use → (bound : ℕ) → Bool
-may_be_array object n = nat_lt 0 n
-may_be_array target n = nat_lt 0 n
-may_be_array variable n = nat_lt 0 n
+may_be_array object n = is_positive n
+may_be_array target n = is_positive n
+may_be_array variable n = is_positive n
 may_be_array parameter n = false
 may_be_array result n = false
 may_be_array value n = false
