@@ -1,5 +1,5 @@
 -- The lambdas of an expression keep the types of a context sound: their bodies are statements in which there are no lambdas.
-use Rattle.std.proofs.Common.{◌≡◌, refl, subst, Bool, true, false, not, ◌||◌, List, [], ◌∷◌, length}
+use Rattle.std.proofs.Common.{◌≡◌, refl, subst, ℕ, Bool, true, false, not, ◌||◌, List, [], ◌∷◌, length}
 use Rattle.std.proofs.Common.{Option, Some, None, Result, Ok}
 use Rattle.std.specs.List.{list_all}
 use Rattle.std.proofs.lemmas.Bool.{and_parts}
@@ -85,13 +85,13 @@ with_parameters s st (p ∷ ps) h g =
 -- Bodies
 
 abbrev IsDeclared : List Class → Typ → Type 0
-IsDeclared n t = is_sound n declared t ≡ true
+IsDeclared cs t = is_sound cs declared t ≡ true
 
 -- a lambda whose parts have sound types
-record IsSoundLambda (s : List Lexeme) (n : List Class) (x : Written) : Type 0 where
-  captures : AreCaptures n x.captures
-  params : AreParameters n x.params
-  result : IfThere (IsDenoted n) x.result
+record IsSoundLambda (s : List Lexeme) (cs : List Class) (x : Written) : Type 0 where
+  captures : AreCaptures cs x.captures
+  params : AreParameters cs x.params
+  result : IfThere (IsDenoted cs) x.result
   spelled : are_spelled s x.body ≡ true
 
 -- the classes with that of a lambda, and the same where its call is not known yet: which classes have names and are complete is the same
@@ -162,36 +162,36 @@ left_body s st x g z h i j l k = record {
   after = record {
     sound = record {
       context = record {
-        types = names_more n m l st.ctx.types d.types;
+        types = names_more next now l st.ctx.types d.types;
         members = k.context.members;
         functions = k.context.functions;
         enumerators = d.enumerators;
-        variables = variables_more n m l st.ctx.variables d.variables;
-        this = this_more n m l st.ctx.this d.this;
-        captures = captures_more n m l st.ctx.lambda d.captures;
+        variables = variables_more next now l st.ctx.variables d.variables;
+        this = this_more next now l st.ctx.this d.this;
+        captures = captures_more next now l st.ctx.lambda d.captures;
         globals = k.context.globals;
         many = k.context.many;
         copied = k.context.copied;
       };
-      closures = closures_more st.ctx.classes m o st.ctx.closures h.closures;
-      returned = return_more st.ctx.classes m o st.ctx.returns h.returned;
+      closures = closures_more st.ctx.classes now o st.ctx.closures h.closures;
+      returned = return_more st.ctx.classes now o st.ctx.returns h.returned;
     };
     grown = record { kept = o; same = λ b. absurd cc };
   };
-  within = lambda_more n m l (length st.ctx.classes) (one_nameless st.ctx.classes _ refl);
+  within = lambda_more next now l (length st.ctx.classes) (one_nameless st.ctx.classes _ refl);
 }
   where
-    n : List Class
-    n = with_lambda st x g
+    next : List Class
+    next = with_lambda st x g
 
-    m : List Class
-    m = z.ctx.classes
+    now : List Class
+    now = z.ctx.classes
 
     d : HasSoundTypes (declared_closure st x g) st.work
     d = around s st x g h i j
 
     o : Kept st.ctx.classes z.ctx.classes
-    o = kept_joined st.ctx.classes n m (lambda_kept st x g) l
+    o = kept_joined st.ctx.classes next now (lambda_kept st x g) l
 
 same_added : (st y : State) (bs : List Statements.Body) → Added st y → Added st (record y { bodies = bs })
 same_added st y bs h = record {
@@ -212,28 +212,28 @@ lambda_with s st x r g h i j = skip (Added st) (check x.at Incomplete (is_comple
     (λ z. same_added st (functions.leaving (record st { ctx = declared_closure st x g }) d.state) _
     (left_body s st x g d.state h i j k.grown.kept k.sound)))))
 
-signature_sound : (n : List Class) (t : Typ) → is_sound n denoted t ≡ true → is_sound_signature n (lambdas.signature_in (form_in t)) ≡ true
-signature_sound n (typ (func g) c v) h = (and_parts (not (c || v)) (is_sound_signature n g) h).1
-signature_sound n (typ void c v) h = refl
-signature_sound n (typ (int k) c v) h = refl
-signature_sound n (typ (enum e s) c v) h = refl
-signature_sound n (typ null c v) h = refl
-signature_sound n (typ (ptr t) c v) h = refl
-signature_sound n (typ (ref t) c v) h = refl
-signature_sound n (typ (array t k) c v) h = refl
-signature_sound n (typ (class k) c v) h = refl
-signature_sound n (typ (closure k) c v) h = refl
-signature_sound n (typ (tx_ex t) c v) h = refl
+signature_sound : (cs : List Class) (t : Typ) → is_sound cs denoted t ≡ true → is_sound_signature cs (lambdas.signature_in (form_in t)) ≡ true
+signature_sound cs (typ (func g) c v) h = (and_parts (not (c || v)) (is_sound_signature cs g) h).1
+signature_sound cs (typ void c v) h = refl
+signature_sound cs (typ (int k) c v) h = refl
+signature_sound cs (typ (enum e s) c v) h = refl
+signature_sound cs (typ null c v) h = refl
+signature_sound cs (typ (ptr t) c v) h = refl
+signature_sound cs (typ (ref t) c v) h = refl
+signature_sound cs (typ (array t k) c v) h = refl
+signature_sound cs (typ (class k) c v) h = refl
+signature_sound cs (typ (closure k) c v) h = refl
+signature_sound cs (typ (tx_ex t) c v) h = refl
 
 lambda_type : (s : List Lexeme) (st : State) (x : Written) (r : Typ) → IsSoundLambda s st.ctx.classes x → IsDeclared (with_nothing st x) r
     → On (IsDenoted (with_nothing st x)) (lambdas.lambda_type st.ctx x r)
-lambda_type s st x r i g = bind (IsDenoted n) (IsDenoted n) (function_of st.ctx x.at r x.params (is_declared_safe x.qualifiers)) _
-    (written.function_of n st.ctx x.at r x.params (is_declared_safe x.qualifiers) g
-    (parameters_more st.ctx.classes n (lambda_kept st x (signature no_typs (plain void) false)) x.params i.params))
-    (λ t h. skip (IsDenoted n) (typ_sized st.ctx.classes x.at t) _ (λ y. h))
+lambda_type s st x r i g = bind (IsDenoted cs) (IsDenoted cs) (function_of st.ctx x.at r x.params (is_declared_safe x.qualifiers)) _
+    (written.function_of cs st.ctx x.at r x.params (is_declared_safe x.qualifiers) g
+    (parameters_more st.ctx.classes cs (lambda_kept st x (signature no_typs (plain void) false)) x.params i.params))
+    (λ t h. skip (IsDenoted cs) (typ_sized st.ctx.classes x.at t) _ (λ y. h))
   where
-    n : List Class
-    n = with_nothing st x
+    cs : List Class
+    cs = with_nothing st x
 
 lambda_known : (s : List Lexeme) (st : State) (x : Written) (r : Typ) → IsSoundState st → IsSoundLambda s st.ctx.classes x
     → IsDeclared (with_nothing st x) r → On (Added st) (lambdas.lambda_known s st x r)
@@ -242,10 +242,10 @@ lambda_known s st x r h i g = bind (IsDenoted (with_nothing st x)) (Added st) (l
 
 -- the result that its first `return` gives
 
-result_in : (n : List Class) (rs : Returns) → is_sound_return n rs ≡ true → IsDeclared n (lambdas.result_in rs)
-result_in n (deduced (Some t)) h = h
-result_in n (deduced None) h = refl
-result_in n (known t) h = refl
+result_in : (cs : List Class) (rs : Returns) → is_sound_return cs rs ≡ true → IsDeclared cs (lambdas.result_in rs)
+result_in cs (deduced (Some t)) h = h
+result_in cs (deduced None) h = refl
+result_in cs (known t) h = refl
 
 result_read : (s : List Lexeme) (st : State) (x : Written) (g : Signature) → IsSoundState st → IsSoundLambda s st.ctx.classes x
     → is_sound_signature (with_nothing st x) g ≡ true → On (IsDeclared (with_nothing st x)) (lambdas.result_read s st x g)
@@ -253,7 +253,7 @@ result_read s st x g h i j = skip (IsDeclared (with_nothing st x)) (lambdas.clos
     (λ u. bind (DoneSound false e) (IsDeclared (with_nothing st x)) (lambdas.body_statements s e x) _ (body_sound s st x (deduced None) (plain void) g h i j refl)
     (λ d k. sound_more (with_lambda st x g) (with_nothing st x) (call_known st x g (signature no_typs (plain void) false)) declared
     (lambdas.result_in d.state.ctx.returns)
-    (subst (λ (n : List Class). IsDeclared n (lambdas.result_in d.state.ctx.returns)) (k.grown.same refl)
+    (subst (λ (cs : List Class). IsDeclared cs (lambdas.result_in d.state.ctx.returns)) (k.grown.same refl)
     (result_in d.state.ctx.classes d.state.ctx.returns k.sound.returned))))
   where
     e : State
@@ -316,12 +316,12 @@ module _ (s : List Lexeme) where
 
   lambda_written : (st : State) (at : At) (intro parts : syntax.Trees) (body : syntax.Tree) → IsSoundState st → is_spelled s body ≡ true
       → On (After true st) (lambdas.lambda_written s st at intro parts body)
-  lambda_written st at intro parts body h i = bind (AreCaptures n) (After true st) (lambdas.explicit_captures s st.ctx (lambdas.default_in s intro) intro) _
+  lambda_written st at intro parts body h i = bind (AreCaptures cs) (After true st) (lambdas.explicit_captures s st.ctx (lambdas.default_in s intro) intro) _
       (explicit_captures st.ctx st.work h.context s (lambdas.default_in s intro) intro)
-      (λ xs j. bind (AreParameters n) (After true st) (lambdas.parameters_among s st.ctx st.work parts) _ (parameters_among st.ctx st.work parts h.context)
+      (λ xs j. bind (AreParameters cs) (After true st) (lambdas.parameters_among s st.ctx st.work parts) _ (parameters_among st.ctx st.work parts h.context)
       (λ ps m. skip (After true st) (lambdas.not_dynamic at (qualifiers_from s no_qualifiers parts)) _
-      (λ y. bind (IfThere (IsDenoted n)) (After true st) (lambdas.result_among s st.ctx st.work parts) _ (result_among st.ctx st.work parts h.context)
-      (λ r o. bind (AreCaptures n) (After true st)
+      (λ y. bind (IfThere (IsDenoted cs)) (After true st) (lambdas.result_among s st.ctx st.work parts) _ (result_among st.ctx st.work parts h.context)
+      (λ r o. bind (AreCaptures cs) (After true st)
       (lambdas.default_captures st.ctx (lambdas.default_in s intro) xs (lambdas.used_in s st.ctx ps body)) _
       (default_captures st.ctx st.work h.context (lambdas.default_in s intro) xs (lambdas.used_in s st.ctx ps body) j)
       (λ ys q. lambda_made s st (record {
@@ -336,8 +336,8 @@ module _ (s : List Lexeme) where
         closed = lambdas.closing s body;
       }) h (record { captures = q; params = m; result = o; spelled = kids_of_spelled body i }))))))
     where
-      n : List Class
-      n = st.ctx.classes
+      cs : List Class
+      cs = st.ctx.classes
 
   lambda_of : (st : State) (at : At) (kids : syntax.Trees) → IsSoundState st → are_spelled s kids ≡ true → On (After true st) (lambdas.lambda_of s st at kids)
   lambda_of st at (syntax.more intro (syntax.more parts (syntax.more body syntax.none))) h i =

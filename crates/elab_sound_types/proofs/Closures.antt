@@ -3,7 +3,7 @@ use Rattle.std.proofs.Common.{◌≡◌, refl, ap, ◌∙◌, sym, subst, ℕ, z
 use Rattle.std.proofs.Common.{Option, Some, None, is_some, arith}
 use Rattle.std.specs.Prelude.{count_by, slice_get, unwrap_or}
 use Rattle.std.specs.List.{list_all}
-use Rattle.std.proofs.lemmas.Bool.{and_parts, ltb-true}
+use Rattle.std.proofs.lemmas.Bool.{and_parts, lt-ltb, ltb-true}
 use Rattle.std.proofs.lemmas.List.Folds.{list_all-append}
 use Rattle.std.proofs.Math.Nat.{le-suc, le_refl}
 use Rattle.elab_rules.specs.cpp_types.Typ.{Typ, Form, void, int, enum, null, ptr, ref, array, func, class, closure, tx_ex}
@@ -37,14 +37,14 @@ length_one (y ∷ ys) x = ap suc (length_one ys x)
 
 -- Parts of a context, with more classes
 
-module _ (m n : List Class) (l : Kept m n) where
-  known_more : (o : Option Typ) → is_sound_known m o ≡ true → is_sound_known n o ≡ true
-  known_more (Some t) h = sound_more m n l variable t h
+module _ (old new : List Class) (l : Kept old new) where
+  known_more : (o : Option Typ) → is_sound_known old o ≡ true → is_sound_known new o ≡ true
+  known_more (Some t) h = sound_more old new l variable t h
   known_more None h = refl
 
-  object_more : (f : Form) → is_object_of_class m f ≡ true → is_object_of_class n f ≡ true
-  object_more (class k) h = class_more m n l k h
-  object_more (closure k) h = lambda_more m n l k h
+  object_more : (f : Form) → is_object_of_class old f ≡ true → is_object_of_class new f ≡ true
+  object_more (class k) h = class_more old new l k h
+  object_more (closure k) h = lambda_more old new l k h
   object_more void h = absurd cc
   object_more (int k) h = absurd cc
   object_more (enum e s) h = absurd cc
@@ -55,45 +55,45 @@ module _ (m n : List Class) (l : Kept m n) where
   object_more (func s) h = absurd cc
   object_more (tx_ex t) h = absurd cc
 
-  pub names_more : (xs : List Named) → list_all (is_sound_name m) xs ≡ true → list_all (is_sound_name n) xs ≡ true
-  names_more xs h = all_more (is_sound_name m) (is_sound_name n) xs (λ x i. sound_more m n l denoted x.typ i) h
+  pub names_more : (xs : List Named) → list_all (is_sound_name old) xs ≡ true → list_all (is_sound_name new) xs ≡ true
+  names_more xs h = all_more (is_sound_name old) (is_sound_name new) xs (λ x i. sound_more old new l denoted x.typ i) h
 
-  members_more : (x : Class) → has_sound_members m x ≡ true → has_sound_members n x ≡ true
-  members_more x h = all_more (is_sound_member m) (is_sound_member n) x.members (λ y i. sound_more m n l (member_use (is_nothing y.name)) y.typ i) h
+  members_more : (x : Class) → has_sound_members old x ≡ true → has_sound_members new x ≡ true
+  members_more x h = all_more (is_sound_member old) (is_sound_member new) x.members (λ y i. sound_more old new l (member_use (is_nothing y.name)) y.typ i) h
 
-  pub classes_more : (xs : List Class) → list_all (has_sound_members m) xs ≡ true → list_all (has_sound_members n) xs ≡ true
-  classes_more xs h = all_more (has_sound_members m) (has_sound_members n) xs members_more h
+  pub classes_more : (xs : List Class) → list_all (has_sound_members old) xs ≡ true → list_all (has_sound_members new) xs ≡ true
+  classes_more xs h = all_more (has_sound_members old) (has_sound_members new) xs members_more h
 
-  pub functions_more : (xs : List Func) → list_all (is_sound_function m) xs ≡ true → list_all (is_sound_function n) xs ≡ true
-  functions_more xs h = all_more (is_sound_function m) (is_sound_function n) xs (λ x i. signature_more m n l x.declared.signature i) h
+  pub functions_more : (xs : List Func) → list_all (is_sound_function old) xs ≡ true → list_all (is_sound_function new) xs ≡ true
+  functions_more xs h = all_more (is_sound_function old) (is_sound_function new) xs (λ x i. signature_more old new l x.declared.signature i) h
 
-  pub variables_more : (xs : List Variable) → list_all (is_sound_variable m) xs ≡ true → list_all (is_sound_variable n) xs ≡ true
-  variables_more xs h = all_more (is_sound_variable m) (is_sound_variable n) xs (λ x i. known_more x.typ i) h
+  pub variables_more : (xs : List Variable) → list_all (is_sound_variable old) xs ≡ true → list_all (is_sound_variable new) xs ≡ true
+  variables_more xs h = all_more (is_sound_variable old) (is_sound_variable new) xs (λ x i. known_more x.typ i) h
 
-  pub this_more : (o : Option This) → is_sound_this m o ≡ true → is_sound_this n o ≡ true
+  pub this_more : (o : Option This) → is_sound_this old o ≡ true → is_sound_this new o ≡ true
   this_more (Some t) h = object_more _ h
   this_more None h = refl
 
-  pub captured_more : (xs : List Capture) → list_all (is_sound_capture m) xs ≡ true → list_all (is_sound_capture n) xs ≡ true
-  captured_more xs h = all_more (is_sound_capture m) (is_sound_capture n) xs (λ x i. sound_more m n l variable x.typ i) h
+  pub captured_more : (xs : List Capture) → list_all (is_sound_capture old) xs ≡ true → list_all (is_sound_capture new) xs ≡ true
+  captured_more xs h = all_more (is_sound_capture old) (is_sound_capture new) xs (λ x i. sound_more old new l variable x.typ i) h
 
-  pub captures_more : (o : Option Lambda) → are_sound_captures m o ≡ true → are_sound_captures n o ≡ true
+  pub captures_more : (o : Option Lambda) → are_sound_captures old o ≡ true → are_sound_captures new o ≡ true
   captures_more (Some x) h = captured_more x.captures h
   captures_more None h = refl
 
-  pub closures_more : (xs : List Closure) → are_sound_closures m xs ≡ true → are_sound_closures n xs ≡ true
-  closures_more xs h = all_more (is_sound_closure m) (is_sound_closure n) xs (λ x i. lambda_more m n l x.class i) h
+  pub closures_more : (xs : List Closure) → are_sound_closures old xs ≡ true → are_sound_closures new xs ≡ true
+  closures_more xs h = all_more (is_sound_closure old) (is_sound_closure new) xs (λ x i. lambda_more old new l x.class i) h
 
-  pub globals_more : (w : Work) → are_sound_globals m w ≡ true → are_sound_globals n w ≡ true
-  globals_more w h = all_more (is_sound_global m) (is_sound_global n) w.globals (λ x i. sound_more m n l _ x.typ i) h
+  pub globals_more : (w : Work) → are_sound_globals old w ≡ true → are_sound_globals new w ≡ true
+  globals_more w h = all_more (is_sound_global old) (is_sound_global new) w.globals (λ x i. sound_more old new l _ x.typ i) h
 
-  pub return_more : (r : Returns) → is_sound_return m r ≡ true → is_sound_return n r ≡ true
+  pub return_more : (r : Returns) → is_sound_return old r ≡ true → is_sound_return new r ≡ true
   return_more (known t) h = refl
   return_more (deduced None) h = refl
-  return_more (deduced (Some t)) h = sound_more m n l declared t h
+  return_more (deduced (Some t)) h = sound_more old new l declared t h
 
-  pub parameters_more : (ps : List Parameter) → list_all (is_sound_parameter m) ps ≡ true → list_all (is_sound_parameter n) ps ≡ true
-  parameters_more ps h = all_more (is_sound_parameter m) (is_sound_parameter n) ps (λ p i. sound_more m n l parameter p.typ i) h
+  pub parameters_more : (ps : List Parameter) → list_all (is_sound_parameter old) ps ≡ true → list_all (is_sound_parameter new) ps ≡ true
+  parameters_more ps h = all_more (is_sound_parameter old) (is_sound_parameter new) ps (λ p i. sound_more old new l parameter p.typ i) h
 
 -- A class more
 
@@ -103,7 +103,7 @@ one_longer xs x = subst (λ (k : ℕ). length xs ≤ k) (sym (length_one xs x)) 
 names_before : (xs : List Class) (x : Class) (k : ℕ) → nat_lt k (length xs) ≡ true → is_lambda (xs ++ x ∷ []) k ≡ is_lambda xs k
 names_before [] x k h = let lt = ltb-true k 0 h in absurd (omega arith)
 names_before (y ∷ ys) x zero h = refl
-names_before (y ∷ ys) x (suc k) h = names_before ys x k h
+names_before (y ∷ ys) x (suc k) h = let lt = ltb-true (suc k) (suc (length ys)) h in names_before ys x k (lt-ltb k (length ys) (omega arith))
 
 complete_before : (xs : List Class) (x : Class) (k : ℕ) → is_some (completion_of xs k) ≡ true → is_some (completion_of (xs ++ x ∷ []) k) ≡ true
 complete_before [] x k h = absurd cc
@@ -142,7 +142,7 @@ last_kept xs x y e i = record {
 -- Traits
 
 abbrev is_copied : List Traits → ℕ → Bool
-is_copied ts n = (unwrap_or (slice_get ts n) no_traits).is_trivially_copyable
+is_copied ts k = (unwrap_or (slice_get ts k) no_traits).is_trivially_copyable
 
 -- with a class more that is complete, what is copied as bytes is complete
 copied_more : (ts : List Traits) (xs : List Class) (t : Traits) (x : Class) (m : ℕ) → length ts ≡ length xs → x.complete ≡ Some m
@@ -160,35 +160,35 @@ copied_more (u ∷ us) (y ∷ ys) t x m e i h (suc k) g = copied_more us ys t x 
 
 -- The class of a lambda
 
-members_of : (n : List Class) (xs : List Capture) → list_all (is_sound_capture n) xs ≡ true → list_all (is_sound_member n) (lambdas.capture_members xs) ≡ true
-members_of n [] h = refl
-members_of n (x ∷ xs) h = let a = and_parts (is_sound_capture n x) (list_all (is_sound_capture n) xs) h in both a.0 (members_of n xs a.1)
+members_of : (cs : List Class) (xs : List Capture) → list_all (is_sound_capture cs) xs ≡ true → list_all (is_sound_member cs) (lambdas.capture_members xs) ≡ true
+members_of cs [] h = refl
+members_of cs (x ∷ xs) h = let a = and_parts (is_sound_capture cs x) (list_all (is_sound_capture cs) xs) h in both a.0 (members_of cs xs a.1)
 
 -- with the class of a lambda, which captures these, and its call
 pub with_closure : (c : Ctx) (w : Work) (xs : List Capture) (g : Function) (ps : List Parameter) (closed : ℕ) → HasSoundTypes c w
     → list_all (is_sound_capture c.classes) xs ≡ true → is_sound_signature (lambdas.with_closure c xs g ps closed).classes g.signature ≡ true
     → HasSoundTypes (lambdas.with_closure c xs g ps closed) w
 with_closure c w xs g ps closed h i j = record {
-  types = names_more m n l c.types h.types;
-  members = all_and_one (has_sound_members n) c.classes x (classes_more m n l c.classes h.members) (members_of n xs (captured_more m n l xs i));
-  functions = all_and_one (is_sound_function n) c.funcs _ (functions_more m n l c.funcs h.functions) j;
+  types = names_more old new l c.types h.types;
+  members = all_and_one (has_sound_members new) c.classes x (classes_more old new l c.classes h.members) (members_of new xs (captured_more old new l xs i));
+  functions = all_and_one (is_sound_function new) c.funcs _ (functions_more old new l c.funcs h.functions) j;
   enumerators = h.enumerators;
-  variables = variables_more m n l c.variables h.variables;
-  this = this_more m n l c.this h.this;
-  captures = captures_more m n l c.lambda h.captures;
-  globals = globals_more m n l w h.globals;
-  many = length_one c.traits (lambdas.closure_traits c xs) ∙ ap suc h.many ∙ sym (length_one m x);
-  copied = copied_more c.traits m (lambdas.closure_traits c xs) x (count_by Classes.is_completed m) h.many refl h.copied;
+  variables = variables_more old new l c.variables h.variables;
+  this = this_more old new l c.this h.this;
+  captures = captures_more old new l c.lambda h.captures;
+  globals = globals_more old new l w h.globals;
+  many = length_one c.traits (lambdas.closure_traits c xs) ∙ ap suc h.many ∙ sym (length_one old x);
+  copied = copied_more c.traits old (lambdas.closure_traits c xs) x (count_by Classes.is_completed old) h.many refl h.copied;
 }
   where
-    m : List Class
-    m = c.classes
+    old : List Class
+    old = c.classes
 
     x : Class
-    x = Classes.class_named [] None false (lambdas.capture_members xs) (g ∷ []) (Some (count_by Classes.is_completed m))
+    x = Classes.class_named [] None false (lambdas.capture_members xs) (g ∷ []) (Some (count_by Classes.is_completed old))
 
-    n : List Class
-    n = m ++ x ∷ []
+    new : List Class
+    new = old ++ x ∷ []
 
-    l : Kept m n
-    l = one_kept m x
+    l : Kept old new
+    l = one_kept old x

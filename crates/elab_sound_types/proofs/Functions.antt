@@ -26,9 +26,9 @@ use Rattle.elab_sound_types.proofs.Closures.{names_more, variables_more, this_mo
 use Rattle.elab_sound_types.proofs.Zeros.{on_ok}
 
 -- the object at hand
-this_sound : (n : List Class) (before : List Typ) (o : Option Typ) → is_sound_object n o ≡ true → is_sound_this n (functions.this_at before o) ≡ true
-this_sound n before (Some t) h = h
-this_sound n before None h = refl
+this_sound : (cs : List Class) (before : List Typ) (o : Option Typ) → is_sound_object cs o ≡ true → is_sound_this cs (functions.this_at before o) ≡ true
+this_sound cs before (Some t) h = h
+this_sound cs before None h = refl
 
 entered_sound : (st : State) (r : Typ) (this : Option Typ) (cls : Option ℕ) → IsSoundState st → is_sound_object st.ctx.classes this ≡ true
     → IsSoundState (entered st r this cls)

@@ -46,21 +46,21 @@ use Rattle.elab_sound_types.specs.Contexts.{is_sound_global, are_sound_globals}
 -- Globals with sound types stay, and those that are added have such
 
 pub record Behind (a b : Work) : Type 0 where
-  pub kept : (n : List Class) → are_sound_globals n a ≡ true → are_sound_globals n b ≡ true
+  pub kept : (cs : List Class) → are_sound_globals cs a ≡ true → are_sound_globals cs b ≡ true
 
 pub same : (w : Work) → Behind w w
-same w = record { kept = λ n h. h }
+same w = record { kept = λ cs h. h }
 
 pub after : {a b c : Work} → Behind a b → Behind b c → Behind a c
-after {a} {b} {c} h g = record { kept = λ n x. g.kept n (h.kept n x) }
+after {a} {b} {c} h g = record { kept = λ cs x. g.kept cs (h.kept cs x) }
 
 one_item : (w : Work) (t : Typ) → Behind w (with_item w t)
-one_item w t = record { kept = λ n h. h }
+one_item w t = record { kept = λ cs h. h }
 
-one_text : (w : Work) (g : Global) → ((n : List Class) → is_sound_global n g ≡ true) → Behind w (record w { globals = w.globals ++ g ∷ [] })
+one_text : (w : Work) (g : Global) → ((cs : List Class) → is_sound_global cs g ≡ true) → Behind w (record w { globals = w.globals ++ g ∷ [] })
 one_text w g i = record {
-  kept = λ n h. list_all-append (is_sound_global n) w.globals (g ∷ []) ∙ and_from (list_all (is_sound_global n) w.globals) (is_sound_global n g && true) h
-      (and_from (is_sound_global n g) true (i n) refl);
+  kept = λ cs h. list_all-append (is_sound_global cs) w.globals (g ∷ []) ∙ and_from (list_all (is_sound_global cs) w.globals) (is_sound_global cs g && true) h
+      (and_from (is_sound_global cs g) true (i cs) refl);
 }
 
 -- What is answered, if it is no fault
@@ -396,7 +396,7 @@ leaf_of s c w k.IntegerLiteral at t = search (behind, same)
 leaf_of s c w k.CharacterLiteral at t = same w
 leaf_of s c w k.BooleanLiteral at t = same w
 leaf_of s c w k.PointerLiteral at t = same w
-leaf_of s c w k.StringLiteral at t = one_text w (Casts.string_global at (Strings.string_bytes (spelling s t))) (λ n. refl)
+leaf_of s c w k.StringLiteral at t = one_text w (Casts.string_global at (Strings.string_bytes (spelling s t))) (λ cs. refl)
 leaf_of s c w k.This at t = search (behind, same)
 leaf_of s c w k.UnqualifiedId at t = search (behind, same)
 leaf_of s c w k.StdAbort at t = same w

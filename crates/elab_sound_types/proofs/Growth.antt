@@ -1,5 +1,5 @@
 -- Types stay sound where classes are added.
-use Rattle.std.proofs.Common.{◌≡◌, refl, ap, ◌∙◌, ℕ, zero, suc, ◌≤◌, Bool, true, false, not, ◌&&◌, ◌||◌, nat_lt, List, [], ◌∷◌, length, is_some, arith}
+use Rattle.std.proofs.Common.{◌≡◌, refl, ap, ◌∙◌, ℕ, zero, suc, Bool, true, not, ◌&&◌, ◌||◌, nat_lt, List, [], ◌∷◌, length, is_some, arith}
 use Rattle.std.proofs.lemmas.Bool.{and_parts, lt-ltb, ltb-true}
 use Rattle.std.proofs.Math.Nat.{le_trans, le_refl}
 use Rattle.elab_rules.specs.cpp_types.Typ.{Typ, typ, Form, void, int, enum, null, ptr, ref, array, func, class, closure, tx_ex, Signature, signature, Typs}
@@ -34,24 +34,24 @@ complete_within (x ∷ xs) (suc k) h = next_within k (length xs) (complete_withi
 pub held_class : (xs : List Class) (k : ℕ) → is_held xs (class k) ≡ true → is_class xs k ≡ true
 held_class xs k h = let p = and_parts (is_some (completion_of xs k)) (not (is_lambda xs k)) h in both (complete_within xs k p.0) p.1
 
-module _ (m n : List Class) (l : Kept m n) where
-  number_more : (k : ℕ) → nat_lt k (length m) ≡ true → nat_lt k (length n) ≡ true
-  number_more k h = lt-ltb k (length n) (le_trans (ltb-true k (length m) h) l.longer)
+module _ (old new : List Class) (l : Kept old new) where
+  number_more : (k : ℕ) → nat_lt k (length old) ≡ true → nat_lt k (length new) ≡ true
+  number_more k h = lt-ltb k (length new) (le_trans (ltb-true k (length old) h) l.longer)
 
-  pub lambda_more : (k : ℕ) → is_lambda m k ≡ true → is_lambda n k ≡ true
-  lambda_more k h = l.names k (lambda_within m k h) ∙ h
+  pub lambda_more : (k : ℕ) → is_lambda old k ≡ true → is_lambda new k ≡ true
+  lambda_more k h = l.names k (lambda_within old k h) ∙ h
 
-  named_more : (k : ℕ) → nat_lt k (length m) ≡ true → not (is_lambda m k) ≡ true → not (is_lambda n k) ≡ true
+  named_more : (k : ℕ) → nat_lt k (length old) ≡ true → not (is_lambda old k) ≡ true → not (is_lambda new k) ≡ true
   named_more k i h = ap not (l.names k i) ∙ h
 
-  pub class_more : (k : ℕ) → is_class m k ≡ true → is_class n k ≡ true
-  class_more k h = let p = and_parts (nat_lt k (length m)) (not (is_lambda m k)) h in both (number_more k p.0) (named_more k p.0 p.1)
+  pub class_more : (k : ℕ) → is_class old k ≡ true → is_class new k ≡ true
+  class_more k h = let p = and_parts (nat_lt k (length old)) (not (is_lambda old k)) h in both (number_more k p.0) (named_more k p.0 p.1)
 
-  held_more : (f : Form) → is_held m f ≡ true → is_held n f ≡ true
+  held_more : (f : Form) → is_held old f ≡ true → is_held new f ≡ true
   held_more (int k) h = refl
   held_more (enum e s) h = refl
-  held_more (class k) h = let p = and_parts (is_some (completion_of m k)) (not (is_lambda m k)) h in
-      both (l.complete k p.0) (named_more k (complete_within m k p.0) p.1)
+  held_more (class k) h = let p = and_parts (is_some (completion_of old k)) (not (is_lambda old k)) h in
+      both (l.complete k p.0) (named_more k (complete_within old k p.0) p.1)
   held_more void h = absurd cc
   held_more null h = absurd cc
   held_more (ptr t) h = absurd cc
@@ -62,33 +62,33 @@ module _ (m n : List Class) (l : Kept m n) where
   held_more (tx_ex t) h = absurd cc
 
   mutual
-    pub sound_more : (way : Use) (t : Typ) → is_sound m way t ≡ true → is_sound n way t ≡ true
+    pub sound_more : (way : Use) (t : Typ) → is_sound old way t ≡ true → is_sound new way t ≡ true
     sound_more way (typ f c v) h = form_more way (c || v) f h
 
-    form_more : (way : Use) (own : Bool) (f : Form) → is_sound_form m way own f ≡ true → is_sound_form n way own f ≡ true
+    form_more : (way : Use) (own : Bool) (f : Form) → is_sound_form old way own f ≡ true → is_sound_form new way own f ≡ true
     form_more way own void h = h
     form_more way own (int k) h = refl
     form_more way own (enum e s) h = refl
     form_more way own null h = refl
     form_more way own (ptr t) h = sound_more target t h
-    form_more way own (ref t) h = let p = and_parts (may_refer way) (not own && is_sound m target t) h in
-        let q = and_parts (not own) (is_sound m target t) p.1 in both p.0 (both q.0 (sound_more target t q.1))
-    form_more way own (array t k) h = let p = and_parts (may_be_array way k) (not own && is_sound m object t) h in
-        let q = and_parts (not own) (is_sound m object t) p.1 in both p.0 (both q.0 (sound_more object t q.1))
-    form_more way own (func s) h = let p = and_parts (may_be_function way) (not own && is_sound_signature m s) h in
-        let q = and_parts (not own) (is_sound_signature m s) p.1 in both p.0 (both q.0 (signature_more s q.1))
+    form_more way own (ref t) h = let p = and_parts (may_refer way) (not own && is_sound old target t) h in
+        let q = and_parts (not own) (is_sound old target t) p.1 in both p.0 (both q.0 (sound_more target t q.1))
+    form_more way own (array t k) h = let p = and_parts (may_be_array way k) (not own && is_sound old object t) h in
+        let q = and_parts (not own) (is_sound old object t) p.1 in both p.0 (both q.0 (sound_more object t q.1))
+    form_more way own (func s) h = let p = and_parts (may_be_function way) (not own && is_sound_signature old s) h in
+        let q = and_parts (not own) (is_sound_signature old s) p.1 in both p.0 (both q.0 (signature_more s q.1))
     form_more way own (class k) h = class_more k h
-    form_more way own (closure k) h = let p = and_parts (may_be_lambda way) (is_lambda m k) h in both p.0 (lambda_more k p.1)
-    form_more way own (tx_ex (typ f c v)) h = let p = and_parts (not (c || v)) (is_held m f) h in both p.0 (held_more f p.1)
+    form_more way own (closure k) h = let p = and_parts (may_be_lambda way) (is_lambda old k) h in both p.0 (lambda_more k p.1)
+    form_more way own (tx_ex (typ f c v)) h = let p = and_parts (not (c || v)) (is_held old f) h in both p.0 (held_more f p.1)
 
-    pub signature_more : (s : Signature) → is_sound_signature m s ≡ true → is_sound_signature n s ≡ true
-    signature_more (signature ps r safe) h = let p = and_parts (are_sound m ps) (is_sound m result r) h in
+    pub signature_more : (s : Signature) → is_sound_signature old s ≡ true → is_sound_signature new s ≡ true
+    signature_more (signature ps r safe) h = let p = and_parts (are_sound old ps) (is_sound old result r) h in
         both (typs_more ps p.0) (sound_more result r p.1)
 
-    typs_more : (ts : Typs) → are_sound m ts ≡ true → are_sound n ts ≡ true
+    typs_more : (ts : Typs) → are_sound old ts ≡ true → are_sound new ts ≡ true
     typs_more no_typs h = refl
-    typs_more (and_typ t ts) h = let p = and_parts (is_unqualified t) (is_sound m parameter t && are_sound m ts) h in
-        let q = and_parts (is_sound m parameter t) (are_sound m ts) p.1 in both p.0 (both (sound_more parameter t q.0) (typs_more ts q.1))
+    typs_more (and_typ t ts) h = let p = and_parts (is_unqualified t) (is_sound old parameter t && are_sound old ts) h in
+        let q = and_parts (is_sound old parameter t) (are_sound old ts) p.1 in both p.0 (both (sound_more parameter t q.0) (typs_more ts q.1))
 
 -- What is added, step by step
 

@@ -13,12 +13,12 @@ use Rattle.elab_sound_types.proofs.Operators.{value_sound, sum_of}
 use Rattle.elab_sound_types.proofs.Zeros.{on_ok}
 
 pub references_law : ReferencesLead
-references_law n way t c v h = let p = and_parts (may_refer way) (not (c || v) && is_sound n target t) h in (and_parts (not (c || v)) (is_sound n target t) p.1).1
+references_law cs way t c v h = let p = and_parts (may_refer way) (not (c || v) && is_sound cs target t) h in (and_parts (not (c || v)) (is_sound cs target t) p.1).1
 
 pub indirections_law : IndirectionsLead
-indirections_law n a h t e = targets_law n t (pointers_law n (typ_in (value a)) t (cat_of (value a)) (value_sound n a h).head e)
+indirections_law cs a h t e = targets_law cs t (pointers_law cs (typ_in (value a)) t (cat_of (value a)) (value_sound cs a h).head e)
 
 pub subscripts_law : SubscriptsLead
-subscripts_law n c at a b h g e t i j = targets_law n t (pointers_law n (typ_in e) t (cat_of e)
-    (on_ok (IsExpression n) (operators.sum_of c Add at (pointed (value_form a)) (pointed (value_form b)) a b) e
-    (sum_of n c Add at (pointed (value_form a)) (pointed (value_form b)) a b refl refl h g) i).head j)
+subscripts_law cs c at a b h g e t i j = targets_law cs t (pointers_law cs (typ_in e) t (cat_of e)
+    (on_ok (IsExpression cs) (operators.sum_of c Add at (pointed (value_form a)) (pointed (value_form b)) a b) e
+    (sum_of cs c Add at (pointed (value_form a)) (pointed (value_form b)) a b refl refl h g) i).head j)

@@ -271,7 +271,7 @@ module _ (adds : Bool) (lams : Lambdas) (s : List Lexeme) (keeps : KeepsSound ad
       (λ w. skip (DoneSound adds st) (expect o.operand.at NotConstant (constant st.work.globals m.tree)) _
       (λ word. skip (DoneSound adds st) (check o.operand.at Narrowing
       (statements.case_fits (kind_in (form_in (typ_in (value o.operand)))) (kind_in (form_in st.ctx.labels.typ)) w)) _
-      (λ x. skip (DoneSound adds st) (check at BadCase (not (list_any (λ (n : List Class). n == word) st.ctx.labels.words))) _ (λ z. label_sound st _ h)))))))
+      (λ x. skip (DoneSound adds st) (check at BadCase (not (list_any (λ (n : ℕ). n == word) st.ctx.labels.words))) _ (λ z. label_sound st _ h)))))))
 
   default_label : (st : State) (at : At) → IsSoundState st → On (DoneSound adds st) (statements.default_label st at)
   default_label st at h = skip (DoneSound adds st) (statements.label_here st at) _
@@ -283,31 +283,31 @@ module _ (adds : Bool) (lams : Lambdas) (s : List Lexeme) (keeps : KeepsSound ad
   CaughtSound a x = IsSoundAfter adds a x.state
 
   abbrev CaughtType : List Class → Typ → Type 0
-  CaughtType n u = is_sound n variable u ≡ true
+  CaughtType cs u = is_sound cs variable u ≡ true
 
-  caught_form : (n : List Class) (c : Ctx) (at : At) (f : Form) (d v : Bool) → is_sound n declared (typ f d v) ≡ true
-      → On (λ (y : Bool). CaughtType n (typ f d v)) (statements.caught_form c at f)
-  caught_form n c at (int j) d v h = refl
-  caught_form n c at (enum e x) d v h = check_holds (CaughtType n (typ (enum e x) d v)) at BadCatch (not (is_nothing e)) refl
-  caught_form n c at (class m) d v h = check_holds (CaughtType n (typ (class m) d v)) at BadCatch (traits_at c m).is_trivially_copyable h
-  caught_form n c at (tx_ex (typ f x y)) d v h = h
-  caught_form n c at void d v h = tt
-  caught_form n c at null d v h = tt
-  caught_form n c at (ptr t) d v h = tt
-  caught_form n c at (ref t) d v h = tt
-  caught_form n c at (array t m) d v h = tt
-  caught_form n c at (func g) d v h = tt
-  caught_form n c at (closure m) d v h = tt
+  caught_form : (cs : List Class) (c : Ctx) (at : At) (f : Form) (d v : Bool) → is_sound cs declared (typ f d v) ≡ true
+      → On (λ (y : Bool). CaughtType cs (typ f d v)) (statements.caught_form c at f)
+  caught_form cs c at (int j) d v h = refl
+  caught_form cs c at (enum e x) d v h = check_holds (CaughtType cs (typ (enum e x) d v)) at BadCatch (not (is_nothing e)) refl
+  caught_form cs c at (class m) d v h = check_holds (CaughtType cs (typ (class m) d v)) at BadCatch (traits_at c m).is_trivially_copyable h
+  caught_form cs c at (tx_ex (typ f x y)) d v h = h
+  caught_form cs c at void d v h = tt
+  caught_form cs c at null d v h = tt
+  caught_form cs c at (ptr t) d v h = tt
+  caught_form cs c at (ref t) d v h = tt
+  caught_form cs c at (array t m) d v h = tt
+  caught_form cs c at (func g) d v h = tt
+  caught_form cs c at (closure m) d v h = tt
 
-  caught_by : (n : List Class) (c : Ctx) (at : At) (t : Typ) → is_sound n declared t ≡ true
-      → On (CaughtType n) (and_then (statements.caught_form c at (form_in t)) (λ (z : Bool). Ok t))
-  caught_by n c at (typ f d v) h = bind (λ (y : Bool). CaughtType n (typ f d v)) (CaughtType n) (statements.caught_form c at f) _ (caught_form n c at f d v h)
+  caught_by : (cs : List Class) (c : Ctx) (at : At) (t : Typ) → is_sound cs declared t ≡ true
+      → On (CaughtType cs) (and_then (statements.caught_form c at (form_in t)) (λ (z : Bool). Ok t))
+  caught_by cs c at (typ f d v) h = bind (λ (y : Bool). CaughtType cs (typ f d v)) (CaughtType cs) (statements.caught_form c at f) _ (caught_form cs c at f d v h)
       (λ z g. g)
 
-  caught_type : (n : List Class) (c : Ctx) (at : At) (t : Typ) → is_sound n declared t ≡ true → On (CaughtType n) (statements.caught_type c at t)
-  caught_type n c at (typ (ref t) d v) h = skip (CaughtType n) (check at OutOfProfile (Names.is_const_typ t)) _
-      (λ y. caught_by n c at t (sound_as n target declared t (all_declared target) (and_parts (not (d || v)) (is_sound n target t) h).1))
-  caught_type n c at t h = caught_by n c at t h
+  caught_type : (cs : List Class) (c : Ctx) (at : At) (t : Typ) → is_sound cs declared t ≡ true → On (CaughtType cs) (statements.caught_type c at t)
+  caught_type cs c at (typ (ref t) d v) h = skip (CaughtType cs) (check at OutOfProfile (Names.is_const_typ t)) _
+      (λ y. caught_by cs c at t (sound_as cs target declared t (all_declared target) (and_parts (not (d || v)) (is_sound cs target t) h).1))
+  caught_type cs c at t h = caught_by cs c at t h
 
   named_handler : (st : State) (at p : At) (t u : Typ) (o : Option ℕ) → IsSoundState st → is_sound (classes_in st) variable u ≡ true
       → On (CaughtSound st) (statements.named_handler s st at p t u o)

@@ -1,5 +1,5 @@
 -- Sound states: what is known and made, where a statement stands, and with variables more.
-use Rattle.std.proofs.Common.{◌≡◌, refl, ◌∙◌, ℕ, zero, suc, Bool, true, false, List, [], ◌∷◌, ◌++◌, length, Option, Result, Ok, Err}
+use Rattle.std.proofs.Common.{◌≡◌, refl, ◌∙◌, ℕ, zero, suc, Bool, true, false, List, [], ◌∷◌, ◌++◌, Option, Result, Ok, Err}
 use Rattle.std.specs.Prelude.{slice_set}
 use Rattle.std.specs.List.{list_all}
 use Rattle.std.proofs.lemmas.Bool.{and_parts}
@@ -174,45 +174,45 @@ auto_sound st i t g h = renewed st st.ctx.scopes _ _ (all_but (is_sound_variable
 
 -- an object or a reference may be declared
 abbrev pub IsVariable : List Class → Typ → Type 0
-IsVariable n t = is_sound n variable t ≡ true
+IsVariable cs t = is_sound cs variable t ≡ true
 
 pub check_holds : (Q : Type 0) (at : At) (rule : IllRule) (b : Bool) → Q → On (λ (y : Bool). Q) (check at rule b)
 check_holds Q at rule true h = h
 check_holds Q at rule false h = tt
 
 abbrev pub IsBounded : List Class → Typ → Type 0
-IsBounded n t = is_bounded t ≡ true → IsVariable n t
+IsBounded cs t = is_bounded t ≡ true → IsVariable cs t
 
-variable_if : (n : List Class) (c : Ctx) (at : At) (t : Typ) → is_void t ≡ false → is_function_form (form_in t) ≡ false → is_sound n declared t ≡ true
-    → On (λ (y : Bool). IsBounded n t) (check at Incomplete (is_complete c (held t)))
-variable_if n c at t i j h = check_holds (IsBounded n t) at Incomplete (is_complete c (held t)) (λ b. bounded_variable n t i j b h)
+variable_if : (cs : List Class) (c : Ctx) (at : At) (t : Typ) → is_void t ≡ false → is_function_form (form_in t) ≡ false → is_sound cs declared t ≡ true
+    → On (λ (y : Bool). IsBounded cs t) (check at Incomplete (is_complete c (held t)))
+variable_if cs c at t i j h = check_holds (IsBounded cs t) at Incomplete (is_complete c (held t)) (λ b. bounded_variable cs t i j b h)
 
 -- what is declarable is an object or a reference, once its bound is known
-pub declarable : (n : List Class) (c : Ctx) (at : At) (t : Typ) → is_sound n declared t ≡ true → On (λ (y : Bool). IsBounded n t) (statements.declarable c at t)
-declarable n c at (typ void d v) h = tt
-declarable n c at (typ (func s) d v) h = tt
-declarable n c at (typ (int j) d v) h = variable_if n c at (typ (int j) d v) refl refl h
-declarable n c at (typ (enum e s) d v) h = variable_if n c at (typ (enum e s) d v) refl refl h
-declarable n c at (typ null d v) h = variable_if n c at (typ null d v) refl refl h
-declarable n c at (typ (ptr t) d v) h = variable_if n c at (typ (ptr t) d v) refl refl h
-declarable n c at (typ (ref t) d v) h = variable_if n c at (typ (ref t) d v) refl refl h
-declarable n c at (typ (array t m) d v) h = variable_if n c at (typ (array t m) d v) refl refl h
-declarable n c at (typ (class m) d v) h = variable_if n c at (typ (class m) d v) refl refl h
-declarable n c at (typ (closure m) d v) h = variable_if n c at (typ (closure m) d v) refl refl h
-declarable n c at (typ (tx_ex t) d v) h = variable_if n c at (typ (tx_ex t) d v) refl refl h
+pub declarable : (cs : List Class) (c : Ctx) (at : At) (t : Typ) → is_sound cs declared t ≡ true → On (λ (y : Bool). IsBounded cs t) (statements.declarable c at t)
+declarable cs c at (typ void d v) h = tt
+declarable cs c at (typ (func s) d v) h = tt
+declarable cs c at (typ (int j) d v) h = variable_if cs c at (typ (int j) d v) refl refl h
+declarable cs c at (typ (enum e s) d v) h = variable_if cs c at (typ (enum e s) d v) refl refl h
+declarable cs c at (typ null d v) h = variable_if cs c at (typ null d v) refl refl h
+declarable cs c at (typ (ptr t) d v) h = variable_if cs c at (typ (ptr t) d v) refl refl h
+declarable cs c at (typ (ref t) d v) h = variable_if cs c at (typ (ref t) d v) refl refl h
+declarable cs c at (typ (array t m) d v) h = variable_if cs c at (typ (array t m) d v) refl refl h
+declarable cs c at (typ (class m) d v) h = variable_if cs c at (typ (class m) d v) refl refl h
+declarable cs c at (typ (closure m) d v) h = variable_if cs c at (typ (closure m) d v) refl refl h
+declarable cs c at (typ (tx_ex t) d v) h = variable_if cs c at (typ (tx_ex t) d v) refl refl h
 
 -- an array whose bound its initialiser gives
-pub closed_sound : (n : List Class) (m : ℕ) (t : Typ) → is_sound n declared t ≡ true → is_sound n declared (statements.closed_bound m t) ≡ true
-closed_sound n m (typ (array e zero) d v) h = h
-closed_sound n m t h = h
+pub closed_sound : (cs : List Class) (m : ℕ) (t : Typ) → is_sound cs declared t ≡ true → is_sound cs declared (statements.closed_bound m t) ≡ true
+closed_sound cs m (typ (array e zero) d v) h = h
+closed_sound cs m t h = h
 
-pub bound_sound : (n : List Class) (s : List Lexeme) (t : Typ) (init : syntax.Trees) → is_sound n declared t ≡ true
-    → is_sound n declared (statements.bound_by_initialiser s t init) ≡ true
-bound_sound n s t (syntax.more (syntax.node k.EqualInitializer p token (syntax.more (syntax.node k.BracedInitList q brace items) syntax.none)) syntax.none) h =
-    closed_sound n (statements.count items) t h
-bound_sound n s t (syntax.more (syntax.node k.EqualInitializer p token (syntax.more e syntax.none)) syntax.none) h =
-    closed_sound n (statements.string_length s (string_token e)) t h
-bound_sound n s t kids h = h
+pub bound_sound : (cs : List Class) (s : List Lexeme) (t : Typ) (init : syntax.Trees) → is_sound cs declared t ≡ true
+    → is_sound cs declared (statements.bound_by_initialiser s t init) ≡ true
+bound_sound cs s t (syntax.more (syntax.node k.EqualInitializer p token (syntax.more (syntax.node k.BracedInitList q brace items) syntax.none)) syntax.none) h =
+    closed_sound cs (statements.count items) t h
+bound_sound cs s t (syntax.more (syntax.node k.EqualInitializer p token (syntax.more e syntax.none)) syntax.none) h =
+    closed_sound cs (statements.string_length s (string_token e)) t h
+bound_sound cs s t kids h = h
 
 -- the one expression of an initialiser
 abbrev pub IsSpelled : List Lexeme → syntax.Tree → Type 0

@@ -1,7 +1,7 @@
 -- Statements keep the types of a context sound.
 use Rattle.std.specs.Prelude.{◌≡◌, ◌≤◌, ℕ, nat_lt, Bool, true, false, List, length, Option, Some, None, is_some, Ok}
 use Rattle.std.specs.List.{list_all}
-use Rattle.elab_rules.specs.cpp_types.Typ.{Typ}
+use Rattle.elab_rules.specs.cpp_types.Typ.{Typ, Signature}
 use Rattle.elab_rules.specs.cpp_types.Class.{Class, completion_of}
 use Rattle.elab_rules.specs.cpp_lex.Tokens.{Lexeme}
 use Rattle.elab_rules.specs.cpp_ast.Trees as syntax
@@ -10,7 +10,7 @@ use Rattle.elab_rules.specs.elab_ctx.Ctx.{Returns, known, deduced}
 use Rattle.elab_rules.specs.Statements.{State, Done, Lambdas, statement_of, statements_of}
 use Rattle.elab_rules.specs.Functions.{Header, function_body}
 use Rattle.elab_rules.specs.Lambdas.{no_lambda, lambdas_of}
-use Rattle.elab_sound_types.specs.Types.{is_lambda, is_sound, declared}
+use Rattle.elab_sound_types.specs.Types.{is_lambda, is_sound, is_sound_signature, Use, declared}
 use Rattle.elab_sound_types.specs.Contexts.{is_object_of_class, is_sound_parameter}
 use Rattle.elab_sound_types.specs.Contexts.{HasSoundTypes, are_sound_closures, is_spelled, are_spelled}
 
@@ -38,6 +38,17 @@ pub record Kept (before now : List Class) : Type 0 where
 pub record Grown (lambdas : Bool) (before now : List Class) : Type 0 where
   pub kept : Kept before now
   pub same : lambdas ≡ false → now ≡ before
+
+-- where classes are kept, what was sound is so still
+abbrev pub TypesStay : Type 0
+TypesStay = (before now : List Class) (way : Use) (t : Typ) → Kept before now → is_sound before way t ≡ true → is_sound now way t ≡ true
+
+abbrev pub SignaturesStay : Type 0
+SignaturesStay = (before now : List Class) (s : Signature) → Kept before now → is_sound_signature before s ≡ true → is_sound_signature now s ≡ true
+
+-- step by step
+abbrev pub KeptStepwise : Type 0
+KeptStepwise = (before now later : List Class) → Kept before now → Kept now later → Kept before later
 
 pub record IsSoundAfter (lambdas : Bool) (before now : State) : Type 0 where
   pub sound : IsSoundState now

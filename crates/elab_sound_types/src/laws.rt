@@ -4,6 +4,7 @@ ghost use Rattle.elab_sound_types.specs.Laws.{TargetsAreTypes, HeadsAreTypes, Po
 ghost use Rattle.elab_sound_types.specs.Laws.{TypesAreSound, SpecifiersAreSound, DeclaratorsAreSound, ParametersAreSound};
 ghost use Rattle.elab_sound_types.specs.Laws.{ExpressionsAreSound, OperandsAreSound, ZerosAreLiterals, OperandZerosAreLiterals};
 ghost use Rattle.elab_sound_types.specs.Laws.{IndirectionsLead, SubscriptsLead};
+ghost use Rattle.elab_sound_types.specs.States.{TypesStay, SignaturesStay, KeptStepwise};
 ghost use Rattle.elab_sound_types.specs.States.{StatementsKeep, BlocksKeep, FunctionsKeep, LambdasKeep, NoLambdasKeep};
 
 /// Sound types are types of expressions, and so is what lies behind them.
@@ -28,6 +29,13 @@ pub fn written()
 pub fn expressions()
     ensures expressions { ExpressionsAreSound }
     ensures operands { OperandsAreSound }
+{}
+
+/// Types stay sound where classes are kept.
+pub fn growth()
+    ensures types { TypesStay }
+    ensures signatures { SignaturesStay }
+    ensures stepwise { KeptStepwise }
 {}
 
 /// What `*` and `[]` lead to.
