@@ -5,8 +5,7 @@ use Rattle.elab_rules.specs.cpp_tree.WellFormed.{fits, outermost}
 use Rattle.elab_rules.specs.elab_ctx.Ctx.{Func}
 use Rattle.elab_rules.specs.Statements.{State, Body}
 use Rattle.setting_growth.specs.Growth.{HeldEarlier}
-use Rattle.state_growth.specs.Settings.{setting_at, shown}
-use Rattle.state_growth.specs.States.{Goes}
+use Rattle.state_growth.specs.Settings.{setting_at, shown, UnitGrows}
 
 -- it is that of a function of the unit, and fits with its frame
 pub record MadeFits (st : State) (b : Body) : Type 0 where
@@ -21,4 +20,4 @@ pub record AllBodiesFit (st : State) : Type 0 where
 
 -- they fit still where the unit has grown
 abbrev pub BodiesStay : Type 0
-BodiesStay = (a b : State) → HeldEarlier a.ctx.classes → Goes a b → b.bodies ≡ a.bodies → AllBodiesFit a → AllBodiesFit b
+BodiesStay = (a b : State) → HeldEarlier a.ctx.classes → UnitGrows a b → b.bodies ≡ a.bodies → AllBodiesFit a → AllBodiesFit b

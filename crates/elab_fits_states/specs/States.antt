@@ -1,16 +1,17 @@
 -- The states of elaboration inside of the body of a function.
-use Rattle.std.specs.Prelude.{◌≡◌, ℕ, Bool, true, false, ◌&&◌, List, [], is_some}
+use Rattle.std.specs.Prelude.{◌≡◌, Bool, true, false, ◌&&◌, List, [], Some, is_some}
 use Rattle.elab_rules.specs.cpp_types.Typ.{Typ, ptr}
 use Rattle.elab_rules.specs.cpp_lex.Tokens.{Lexeme}
 use Rattle.elab_rules.specs.cpp_ast.declared.kinds.NodeKind.{NodeKind}
 use Rattle.elab_rules.specs.cpp_ast.declared.kinds.NodeKind.TheVariants as k
 use Rattle.elab_rules.specs.cpp_ast.Trees as syntax
+use Rattle.elab_rules.specs.cpp_tree.declared.program.FuncKind.TheVariants.{ClosureCall}
 use Rattle.elab_rules.specs.cpp_tree.Notation.{plain}
 use Rattle.elab_rules.specs.cpp_tree.Typing.{is_class_typ}
 use Rattle.elab_rules.specs.cpp_tree.Parts.{size_in}
 use Rattle.elab_rules.specs.cpp_tree.Units.{Func as UnitFunc}
 use Rattle.elab_rules.specs.cpp_tree.Rows.{Setting, result_of}
-use Rattle.elab_rules.specs.elab_ctx.Ctx.{known}
+use Rattle.elab_rules.specs.elab_ctx.Ctx.{Lambda, known}
 use Rattle.elab_rules.specs.elab_ctx.Steps.{Operand}
 use Rattle.elab_rules.specs.Statements.{State}
 use Rattle.elab_contexts.specs.Holding.{UnitHolds}
@@ -24,7 +25,8 @@ use Rattle.elab_fits_statements.specs.Discipline.{Words}
 use Rattle.elab_fits_braces.specs.Defaults.{AllDefaultsFit}
 use Rattle.state_growth.specs.Settings.{setting_at}
 use Rattle.state_growth.specs.States.{Goes}
-use Rattle.elab_fits_states.specs.Locals.{LocalsHold}
+use Rattle.elab_holds.specs.Contexts.{HasSlots}
+use Rattle.elab_holds.specs.Locals.{LocalsHold}
 use Rattle.elab_fits_states.specs.Made.{AllBodiesFit}
 
 -- The text of a body
@@ -60,11 +62,15 @@ setting f st = setting_at f st.ctx st.work
 -- a state in the body of a function whose result is known
 pub record IsGood (f : UnitFunc) (st : State) : Type 0 where
   -- the classes and functions of the unit are as elaboration makes them
-  pub unit : UnitHolds 0 st.ctx
+  pub unit : UnitHolds st.ctx
+  -- virtual functions have their slots
+  pub slots : HasSlots st.ctx
   -- what is declared has types that can be declared
   pub sound : IsSoundState st
   -- variables and the object at hand have their items in the frame, and the classes around are complete
   pub locals : LocalsHold st.ctx st.work
+  -- a lambda is around in the body of its call alone
+  pub around : (l : Lambda) → st.ctx.lambda ≡ Some l → f.kind ≡ ClosureCall
   -- what the laws of expressions ask of the lambdas at hand
   pub closures : ClosuresHold st.ctx st.ctx.closures
   pub returns : st.ctx.returns ≡ known (result_of f)
@@ -97,10 +103,10 @@ pub record Comes (a b : State) : Type 0 where
 abbrev pub IsWritten : UnitFunc → State → Typ → Type 0
 IsWritten f a t = is_sound a.ctx.classes a_denoted t ≡ true
 
--- a type of variables, whose objects have a size
+-- a type of variables, whose objects have a size, whatever is elaborated behind it
 pub record IsVariableType (st : State) (t : Typ) : Type 0 where
   pub sound : is_sound st.ctx.classes a_variable t ≡ true
-  pub sized : is_some (size_in st.ctx.classes t) ≡ true
+  pub sized : (z : State) → Comes st z → is_some (size_in z.ctx.classes t) ≡ true
 
 abbrev pub IsObjectType : UnitFunc → State → Typ → Type 0
 IsObjectType f a t = IsVariableType a t
