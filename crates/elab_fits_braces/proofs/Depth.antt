@@ -132,7 +132,7 @@ sized_owner true o c h = h
 sized_owner false o c h = absurd cc
 
 module _ (classes : List Class) (o : InOrder classes) where
-  parts_plain : (d n k : ℕ) → d ≡ length classes → completion_of classes n ≡ Some k → class_ready d classes false n ≡ true
+  pub parts_plain : (d n k : ℕ) → d ≡ length classes → completion_of classes n ≡ Some k → class_ready d classes false n ≡ true
       → list_all (part_ready (is_plain classes) false) (parts_of classes n) ≡ true
   parts_plain zero n k l c h = let x = complete_is classes n k c in let y = rank_within classes n k x.owner x.found x.complete in absurd (omega arith)
   parts_plain (suc d) n k l c h = let x = complete_is classes n k c in

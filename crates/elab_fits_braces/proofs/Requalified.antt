@@ -1,5 +1,5 @@
 -- What builds an object builds one with more qualifiers.
-use Rattle.std.proofs.Common.{◌≡◌, refl, sym, ap, ◌∙◌, subst, ℕ, zero, suc, Bool, true, false, not, ◌&&◌, ◌||◌, nat_lt, List, [], ◌∷◌, map, length, is_some, slice_get}
+use Rattle.std.proofs.Common.{◌≡◌, refl, sym, ap, ◌∙◌, subst, ℕ, zero, suc, Bool, true, false, not, ◌&&◌, ◌||◌, nat_lt, List, [], ◌∷◌, map, length, None, is_some, slice_get, arith, le-leb}
 use Rattle.std.proofs.lemmas.Bool.{and_parts}
 use Rattle.std.specs.List.{list_all}
 use Rattle.std.specs.Prelude.{if◌then◌else◌}
@@ -248,9 +248,9 @@ module _ (s : Setting) (plain : ℕ → Bool) (closed : ArePlain s.classes plain
 
   construct_row : (f : ℕ) (u : Typ) (cat : Cat) (hs : List Head) → row_fits s (Construct f) (qualified q v u) cat hs ≡ row_fits s (Construct f) u cat hs
   construct_row f u cat hs = ap (λ (x : Bool). is_prvalue cat && x) (passes_same
-      (λ (g : Func). is_constructor_of (qualified q v u) g.kind g.class && are_words (signature_words _ g.declared.signature) hs)
-      (λ (g : Func). is_constructor_of u g.kind g.class && are_words (signature_words _ g.declared.signature) hs)
-      (λ (g : Func). ap (λ (x : Bool). (is_constructor g.kind && x) && are_words (signature_words _ g.declared.signature) hs)
+      (λ (g : Func). is_constructor_of (qualified q v u) g.kind g.class && are_words (signature_words None g.declared.signature) hs)
+      (λ (g : Func). is_constructor_of u g.kind g.class && are_words (signature_words None g.declared.signature) hs)
+      (λ (g : Func). ap (λ (x : Bool). (is_constructor g.kind && x) && are_words (signature_words None g.declared.signature) hs)
       (passes_same (λ (n : ℕ). is_class n (form_in (qualified q v u))) (λ (n : ℕ). is_class n (form_in u)) (λ n. number_again q v n u) g.class))
       (slice_get s.funcs f))
 
@@ -372,7 +372,7 @@ module _ (s : Setting) (plain : ℕ → Bool) (closed : ArePlain s.classes plain
           fits = node_fits s p (object_as copying) Pieces (qualified q v u) cat at (all_requalified q v kids) (and_any [] (part_as copying)) f.serves
               (way_plain copying Pieces (qualified q v u) cat refl) refl refl
               (both x.0 (ap (are_pieces s.classes (qualified q v u)) y.heads ∙ pieces_again s.classes plain closed q v u (heads_of kids) x.1))
-              (ap (and_any []) (part_asked copying)) refl refl y.fits;
+              (ap (and_any []) (part_asked copying)) (le-leb 0 (length (heads_of (all_requalified q v kids))) (omega arith)) refl y.fits;
           builds = o.again Pieces;
         }
     object_again copying p t (node (Elements n stride) u cat at none) r b m h =
@@ -388,7 +388,7 @@ module _ (s : Setting) (plain : ℕ → Bool) (closed : ArePlain s.classes plain
         let k : kids_fit s p (and_any (object_as copying ∷ []) Destruction) 0 (more e ds) ≡ true =
         ap (λ (w : Role). kids_fit s p (and_any (w ∷ []) Destruction) 0 (more e ds)) (sym (element_asked copying)) ∙ f.kids in
         let l = object_split copying s p e ds k in
-        let i = object_again copying p z.element e z.ready z.builds m l.fits in
+        let i = object_again copying p z.element e z.ready z.built m l.fits in
         record {
           fits = node_fits s p (object_as copying) (Elements n stride) (qualified q v u) cat at (more (requalified q v e) ds)
               (and_any (object_as copying ∷ []) Destruction) f.serves (way_plain copying (Elements n stride) (qualified q v u) cat refl) refl refl
@@ -453,6 +453,9 @@ module _ (s : Setting) (plain : ℕ → Bool) (closed : ArePlain s.classes plain
           heads = rw (hx, hy) refl;
         }
 
+abbrev inner : Position
+inner = record { full = true; breaks = false; continues = false }
+
 -- what keeps its own type is left as it is
 left_alone : (q v : Bool) (e : Tree) → goes_both_ways (kind_of e) ≡ true → requalified q v e ≡ e
 left_alone q v (node (Store k marked) t cat at kids) h = absurd cc
@@ -483,9 +486,6 @@ module _ (s : Setting) (q v : Bool) (t : Typ) (e : Tree) (h : BuildsOne s t e) w
         fits = λ p full. (object_again s (is_plain s.classes) c q v false p t e x h.builds m (h.fits p full)).fits;
         builds = (object_again s (is_plain s.classes) c q v false inner t e x h.builds m (h.fits inner refl)).builds;
       }
-    where
-      abbrev inner : Position
-      inner = record { full = true; breaks = false; continues = false }
 
   by_kind : (b : Bool) → goes_both_ways (kind_of e) ≡ b → InOrder s.classes → is_some (size_in s.classes t) ≡ true → is_ready s.classes false t ≡ true
       → (if b then is_class_typ t && same_shape t (typ_in e) else is_made e) ≡ true → BuildsOne s (qualified q v t) (requalified q v e)
