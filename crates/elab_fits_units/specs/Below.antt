@@ -1,37 +1,70 @@
 -- What crates beside this one prove of the states of elaboration.
-use Rattle.std.specs.Prelude.{◌≡◌, ℕ, true, List, Option, Some, is_some, Ok}
-use Rattle.elab_rules.specs.cpp_types.Typ.{Typ}
-use Rattle.elab_rules.specs.cpp_types.Class.{completion_of}
+use Rattle.std.specs.Prelude.{◌≡◌, ℕ, true, List, Some, is_some, slice_get}
+use Rattle.elab_rules.specs.tx_ints.declared.kinds.IntKind.TheVariants.{ULong}
+use Rattle.elab_rules.specs.cpp_types.Class.{Class, Member, completion_of}
+use Rattle.elab_rules.specs.cpp_types.Typ.{Typ, class}
+use Rattle.elab_rules.specs.cpp_tree.Notation.{plain}
+use Rattle.elab_rules.specs.cpp_tree.Typing.{is_word_of}
+use Rattle.elab_rules.specs.cpp_tree.Rows.{Setting}
+use Rattle.elab_rules.specs.Calls.{pointer_offset, base_of_class}
+use Rattle.elab_fits.specs.Objects.{IsElementType}
+use Rattle.elab_fits_objects.specs.Contexts.{IsObjectTyp}
+use Rattle.elab_fits_forms.specs.Context.{Holds}
+use Rattle.elab_fits_forms.specs.Types.{is_lambda}
+use Rattle.elab_sound_types.specs.Contexts.{HasSoundTypes}
+use Rattle.elab_fits_bodies.specs.Built.{IsMember}
+use Rattle.elab_fits_bodies.specs.Copied.{IsCopied}
 use Rattle.elab_rules.specs.cpp_lex.Tokens.{Lexeme}
 use Rattle.elab_rules.specs.cpp_ast.Trees as syntax
 use Rattle.elab_rules.specs.cpp_tree.Units.{Func as UnitFunc}
 use Rattle.elab_rules.specs.elab_ctx.Ctx.{Ctx, Work}
-use Rattle.elab_rules.specs.Types.{Parameter}
 use Rattle.elab_rules.specs.Statements.{State, statements_of}
-use Rattle.elab_rules.specs.Functions.{entered, with_parameters}
 use Rattle.elab_rules.specs.Lambdas.{lambdas_of}
 use Rattle.elab_fits.specs.Standing.{On}
 use Rattle.elab_contexts.specs.Holding.{UnitHolds}
 use Rattle.elab_contexts.specs.Steps.{view}
-use Rattle.elab_sound_types.specs.Contexts.{HasSoundTypes}
-use Rattle.elab_fits_forms.specs.Context.{Holds}
+use Rattle.elab_holds.specs.Contexts.{ContextsHold}
+use Rattle.elab_holds.specs.Locals.{FunctionsEntered, ParametersPlaced}
+use Rattle.elab_sound_types.specs.Types.{Use, is_sound, is_class, object}
+use Rattle.elab_fits_forms.specs.Types as forms
 use Rattle.elab_fits_braces.specs.Defaults.{DefaultsStay}
+use Rattle.elab_fits_bodies.specs.Functions.{FunctionsFit}
+use Rattle.elab_fits_bodies.specs.Parts.{ConstructorsFit, DestructorsFit}
 use Rattle.elab_fits_statements.specs.Discipline.{Discipline}
-use Rattle.state_growth.specs.Settings.{setting_at}
-use Rattle.elab_fits_states.specs.Locals.{LocalsHold}
 use Rattle.elab_fits_states.specs.States.{AreTexts, IsSettled, words}
 use Rattle.elab_fits_states.specs.Bodies.{BodyFits, StandsAlone}
+
+-- the parts of a class lie at words, and each has a type of which objects can be made, copied and destroyed
+pub record ArePartsOf (c : Ctx) (n : ℕ) : Type 0 where
+  pub pointer : (o : ℕ) → pointer_offset c.classes n ≡ Some o → is_word_of ULong o ≡ true
+  pub base : (b : ℕ) → base_of_class (slice_get c.classes n) ≡ Some b → IsElementType c.classes true (plain (class b))
+  pub based : (b : ℕ) → base_of_class (slice_get c.classes n) ≡ Some b → is_sound c.classes object (plain (class b)) ≡ true
+  pub members : (i : ℕ) (m : Member) → IsMember c n i m → IsCopied c (is_lambda c.classes) m.typ
+  pub typed : (i : ℕ) (m : Member) → IsMember c n i m → is_sound c.classes object m.typ ≡ true
+
+-- a class that has a name and its brace
+pub record IsHome (classes : List Class) (n : ℕ) : Type 0 where
+  pub complete : is_some (completion_of classes n) ≡ true
+  pub named : is_class classes n ≡ true
 
 pub record Below (s : List Lexeme) : Type 0 where
   -- contexts of the same unit
   pub unit_same : (a b : Ctx) → view b ≡ view a → b.enumerators ≡ a.enumerators → b.types ≡ a.types → UnitHolds a → UnitHolds b
-  pub contexts : (f : UnitFunc) (c : Ctx) (w : Work) → UnitHolds c → HasSoundTypes c w → LocalsHold c w → Holds (setting_at f c w) c w
+  pub contexts : ContextsHold
   -- into a function whose class, if it has one, is complete; and its parameters
-  pub enters : (st : State) (r : Typ) (this : Option Typ) (class : Option ℕ) → ((n : ℕ) → class ≡ Some n → is_some (completion_of st.ctx.classes n) ≡ true)
-      → LocalsHold (entered st r this class).ctx (entered st r this class).work
-  pub parameters : (st : State) (ps : List Parameter) → LocalsHold st.ctx st.work → On (λ (y : State). LocalsHold y.ctx y.work) (with_parameters s st ps)
+  pub enters : FunctionsEntered
+  pub parameters : ParametersPlaced
+  -- types are such as expressions ask
+  pub sound_is : (classes : List Class) (way : Use) (t : Typ) → is_sound classes way t ≡ true → forms.is_sound classes t ≡ true
+  pub parts : (c : Ctx) (w : Work) (n : ℕ) → UnitHolds c → HasSoundTypes c w → IsHome c.classes n → ArePartsOf c n
+  -- a sound object type is one of which objects can be made
+  pub objects : (s : Setting) (c : Ctx) (w : Work) (t : Typ) → Holds s c w → is_sound c.classes object t ≡ true → IsObjectTyp c (is_lambda c.classes) t
   -- initialisers of members where the unit has grown
   pub defaults : DefaultsStay
+  -- trees of bodies
+  pub functions : FunctionsFit
+  pub constructors : ConstructorsFit
+  pub destructors : DestructorsFit
   -- the states of a function
   pub discipline : (f : UnitFunc) → Discipline (words f s) lambdas_of s
   pub bodies : (f : UnitFunc) (st : State) (ts : syntax.Trees) → IsSettled f st → StandsAlone st → AreTexts s ts

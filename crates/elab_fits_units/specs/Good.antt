@@ -1,6 +1,6 @@
 -- What holds of a state at file scope.
 use Rattle.std.specs.Prelude.{◌≡◌, ℕ, Bool, true, List, [], ◌∷◌, Option, Some, is_some, slice_get}
-use Rattle.elab_rules.specs.cpp_types.Class.{Class, completion_of}
+use Rattle.elab_rules.specs.cpp_types.Class.{Class}
 use Rattle.elab_rules.specs.cpp_types.Typ.{Typ, void, Signature, signature, Typs, none as no_typs, more as and_typ}
 use Rattle.elab_rules.specs.cpp_lex.Tokens.{Lexeme}
 use Rattle.elab_rules.specs.cpp_tree.declared.program.FuncKind.{FuncKind}
@@ -11,18 +11,14 @@ use Rattle.elab_rules.specs.elab_ctx.Ctx.{Ctx, Func}
 use Rattle.elab_rules.specs.Classes.{own_reference}
 use Rattle.elab_rules.specs.Statements.{State}
 use Rattle.elab_contexts.specs.Holding.{UnitHolds}
-use Rattle.elab_sound_types.specs.Types.{is_class}
+use Rattle.elab_holds.specs.Contexts.{HasSlots}
 use Rattle.elab_sound_types.specs.States.{IsSoundState}
 use Rattle.state_growth.specs.States.{IsTidy}
 use Rattle.elab_fits_braces.specs.Defaults.{AllDefaultsFit}
 use Rattle.elab_fits_states.specs.States.{setting, IsText, AreTexts}
 use Rattle.elab_fits_states.specs.Made.{AllBodiesFit}
+use Rattle.elab_fits_units.specs.Below.{IsHome}
 use Rattle.elab_fits_units.specs.Steps.{Words}
-
--- a class that has a name and its brace
-pub record IsHome (classes : List Class) (n : ℕ) : Type 0 where
-  pub complete : is_some (completion_of classes n) ≡ true
-  pub named : is_class classes n ≡ true
 
 -- Implicit members: a constructor without parameters, a copy of another object of the class, or a destructor, of a class that has its brace
 pub data IsImplied (n : ℕ) : FuncKind → Signature → Type 0 where
@@ -42,6 +38,8 @@ HasImplicits c = (k : ℕ) (f : Func) → slice_get c.funcs k ≡ Some f → f.i
 pub record UnitGood (st : State) : Type 0 where
   -- the classes and functions of the unit are as elaboration makes them
   pub unit : UnitHolds st.ctx
+  -- virtual functions have their slots
+  pub slots : HasSlots st.ctx
   -- what is declared has types that can be declared
   pub sound : IsSoundState st
   pub tidy : IsTidy st.ctx

@@ -1,5 +1,5 @@
 -- What declarations of a unit are made of, and what is asked of each step: from a good state it leads to a good one.
-use Rattle.std.specs.Prelude.{◌≡◌, ℕ, true, Option, Some, List, [], Ok, slice_get}
+use Rattle.std.specs.Prelude.{◌≡◌, ℕ, true, false, Option, Some, List, [], Ok, slice_get}
 use Rattle.elab_rules.specs.cpp_types.Typ.{Typ}
 use Rattle.elab_rules.specs.cpp_types.declared.classes.At.{At}
 use Rattle.elab_rules.specs.cpp_lex.Tokens.{Lexeme}
@@ -9,7 +9,8 @@ use Rattle.elab_rules.specs.cpp_ast.Trees as syntax
 use Rattle.elab_rules.specs.cpp_tree.Typing.{form_in}
 use Rattle.elab_rules.specs.cpp_tree.declared.program.FuncKind.{FuncKind}
 use Rattle.elab_rules.specs.elab_ctx.Ctx.{Ctx}
-use Rattle.elab_rules.specs.Types.{Declared}
+use Rattle.elab_rules.specs.elab_ctx.Steps.{spelling}
+use Rattle.elab_rules.specs.Types.{Declared, is_nothing}
 use Rattle.elab_rules.specs.Expressions.{type_of_specifiers, declared_by}
 use Rattle.elab_rules.specs.Names.{members_in}
 use Rattle.elab_rules.specs.Statements.{State}
@@ -52,11 +53,13 @@ pub record Steps (w : Words) (s : List Lexeme) : Type 0 where
   pub kids : (kind : NodeKind) (p : SyntaxAt) (token : Option ℕ) (ts : syntax.Trees) → w.Text (syntax.node kind p token ts) → w.Texts ts
   pub first : (t : syntax.Tree) (ts : syntax.Trees) → w.Texts (syntax.more t ts) → w.Text t
   pub rest : (t : syntax.Tree) (ts : syntax.Trees) → w.Texts (syntax.more t ts) → w.Texts ts
+  -- each token is spelled with something
+  pub spelled : (kind : NodeKind) (p : SyntaxAt) (t : ℕ) (ts : syntax.Trees) → w.Text (syntax.node kind p (Some t) ts) → is_nothing (spelling s t) ≡ false
   -- variables, functions that are only declared, names of types, enums, classes that are only declared
   pub variables : (st : State) (x : Storage) (at : At) (ts : syntax.Trees) → w.Good st → w.Texts ts → On w.Good (file_declaration s st x at ts)
   pub aliases : (st : State) (at : At) (name : List ℕ) (ts : syntax.Trees) → w.Good st → w.Texts ts → On w.Good (alias_of s st at name ts)
   pub enums : (st : State) (at : At) (name : List ℕ) (ts : syntax.Trees) → w.Good st → w.Texts ts → On w.Good (enum_declared s st at name ts)
-  pub names : (st : State) (at : At) (name : List ℕ) → w.Good st → On w.Good (declared_only st at name)
+  pub names : (st : State) (at : At) (name : List ℕ) → w.Good st → is_nothing name ≡ false → On w.Good (declared_only st at name)
   -- a function at file scope, with its body
   pub functions : (st : State) (x : Storage) (at : At) (first : ℕ) (base d body : syntax.Tree) (t : Typ) (r : Declared) → w.Good st → w.Text base → w.Text d
       → w.Text body → type_of_specifiers s st.ctx st.work base ≡ Ok t → declared_by s st.ctx st.work at t d ≡ Ok r
@@ -66,7 +69,7 @@ pub record Steps (w : Words) (s : List Lexeme) : Type 0 where
       → w.Texts ts → w.Text body → outside_method s st at x kind ts ≡ Ok m → m.header.class ≡ Some n
       → On w.Good (outside_body lambdas_of s st n kind first m body)
   -- a class up to its brace
-  pub classes : (st : State) (at : At) (name : List ℕ) (kids : syntax.Trees) (home : Home) (r : Members) (c : Ctx) → w.Good st → w.Texts kids
+  pub classes : (st : State) (at : At) (name : List ℕ) (kids : syntax.Trees) (home : Home) (r : Members) (c : Ctx) → w.Good st → is_nothing name ≡ false → w.Texts kids
       → IsClosed s st at name kids home r c → w.Good (record r.state { ctx = c }) × w.Home (record r.state { ctx = c }) home.number
   -- behind it the initialisers of its members, and the bodies of its functions
   pub defaults : (st : State) (n i : ℕ) (name : List ℕ) (e : syntax.Tree) → w.Good st → w.Home st n → w.Text e
