@@ -1,5 +1,5 @@
 -- What the laws of expressions ask of the context of a unit, whatever function is at hand.
-use Rattle.std.specs.Prelude.{◌≡◌, ◌<◌, ℕ, nat_lt, Bool, true, false, not, ◌&&◌, ◌||◌, List, length, count_by, Option, Some, None, Ok, is_some, slice_get}
+use Rattle.std.specs.Prelude.{◌≡◌, ◌<◌, ℕ, Bool, true, false, not, ◌&&◌, ◌||◌, List, [], length, count_by, Option, Some, None, Ok, is_some, slice_get}
 use Rattle.elab_rules.specs.tx_ints.declared.kinds.IntKind.TheVariants.{Int}
 use Rattle.elab_rules.specs.cpp_types.Typ.{Typ, typ, int, enum, class}
 use Rattle.elab_rules.specs.cpp_types.Class.{Class, Member, Function, completion_of, signature_below, HoldsEarlier}
@@ -32,6 +32,7 @@ use Rattle.elab_rules.specs.Units.{start, file_declaration, alias_of, defined_wi
 use Rattle.elab_fits.specs.Standing.{On}
 use Rattle.elab_fits.specs.Objects.{IsDestructorOf, HasSpecials}
 use Rattle.elab_fits_objects.specs.Contexts.{IsCopyOf, IsDefaultOf}
+use Rattle.elab_contexts.specs.Steps.{has_name, is_written}
 use Rattle.elab_contexts.specs.Texts.{is_no_name, have_class_names}
 
 -- Enumerators
@@ -63,24 +64,20 @@ pub record IsOfClass (classes : List Class) (n : ℕ) (f : Func) : Type 0 where
   pub call : is_no_name class.name ≡ true → f.kind ≡ ClosureCall
 
 -- a function in the record of a class: one of this unit, or one whose types name classes of the list
-pub data IsRecorded (c : Ctx) (n : ℕ) (g : Function) : Type 0 where
-  of_unit : (k : ℕ) (f : Func) → slice_get c.funcs k ≡ Some f → f.class ≡ Some n → f.declared ≡ g → IsRecorded c n g
-  of_another : signature_below (length c.classes) g.signature ≡ true → IsRecorded c n g
+pub data IsRecorded (classes : List Class) (funcs : List Func) (n : ℕ) (g : Function) : Type 0 where
+  of_unit : (k : ℕ) (f : Func) → slice_get funcs k ≡ Some f → f.class ≡ Some n → f.declared ≡ g → IsRecorded classes funcs n g
+  of_another : signature_below (length classes) g.signature ≡ true → IsRecorded classes funcs n g
 
 -- Members
 
-abbrev pub is_object_member : Member → Bool
-is_object_member m = is_no_name m.name || not (is_reference m.typ)
+-- only what a lambda captured is a reference: neither its class nor its members have names
+abbrev pub is_object_member : Class → Member → Bool
+is_object_member k m = is_no_name k.name && is_no_name m.name || not (is_reference m.typ)
 
--- Names of types
-
--- a class is one of the list
-abbrev pub is_listed_class : List Class → Typ → Bool
-is_listed_class classes (typ (class n) c v) = nat_lt n (length classes)
-is_listed_class classes t = true
+-- Names of types: a class for which one stands has a name itself
 
 abbrev pub HasTypeNames : List Class → List Named → Type 0
-HasTypeNames classes ns = (i : ℕ) (x : Named) → slice_get ns i ≡ Some x → is_listed_class classes x.typ ≡ true
+HasTypeNames classes ns = (i : ℕ) (x : Named) → slice_get ns i ≡ Some x → is_written classes x.typ ≡ true
 
 -- Contexts
 
@@ -97,20 +94,25 @@ pub record UnitHolds (c : Ctx) : Type 0 where
   pub free : (k : ℕ) (f : Func) → slice_get c.funcs k ≡ Some f → f.class ≡ None → f.kind ≡ Plain
   pub owned : (k : ℕ) (f : Func) (n : ℕ) → slice_get c.funcs k ≡ Some f → f.class ≡ Some n → IsOfClass c.classes n f
   -- the record of a class has functions that were declared
-  pub recorded : (n i : ℕ) (k : Class) (g : Function) → slice_get c.classes n ≡ Some k → slice_get k.functions i ≡ Some g → IsRecorded c n g
-  -- a data member that has a name is an object; those of lambdas have none
-  pub objects : (n i : ℕ) (k : Class) (m : Member) → slice_get c.classes n ≡ Some k → slice_get k.members i ≡ Some m → is_object_member m ≡ true
+  pub recorded : (n i : ℕ) (k : Class) (g : Function) → slice_get c.classes n ≡ Some k → slice_get k.functions i ≡ Some g
+      → IsRecorded c.classes c.funcs n g
+  -- a data member is an object, but for what a lambda captured
+  pub objects : (n i : ℕ) (k : Class) (m : Member) → slice_get c.classes n ≡ Some k → slice_get k.members i ≡ Some m → is_object_member k m ≡ true
   -- what a complete class holds by value was complete before it
   pub numbered : (n k : ℕ) → completion_of c.classes n ≡ Some k → k < count_by is_completed c.classes
   pub earlier : (n : ℕ) (k : Class) (i : ℕ) → slice_get c.classes n ≡ Some k → k.complete ≡ Some i → HoldsEarlier c.classes i k
-  -- a class that has a base is complete
+  -- a class that has a base is complete, and the base has a name
   pub based : (n b : ℕ) (k : Class) → slice_get c.classes n ≡ Some k → k.base ≡ Some b → is_some k.complete ≡ true
+  pub bases : (n b : ℕ) (k : Class) → slice_get c.classes n ≡ Some k → k.base ≡ Some b → has_name c.classes b ≡ true
+  -- the members of a class that has a name have types that a text can write
+  pub members : (n i : ℕ) (k : Class) (m : Member) → slice_get c.classes n ≡ Some k → is_no_name k.name ≡ false → slice_get k.members i ≡ Some m
+      → is_written c.classes m.typ ≡ true
   -- the class of a lambda, which has no name, is complete
   pub nameless : (n : ℕ) (k : Class) → slice_get c.classes n ≡ Some k → is_no_name k.name ≡ true → is_some k.complete ≡ true
   -- objects of a complete class have a size
   pub sized : (n : ℕ) (k : Class) → slice_get c.classes n ≡ Some k → is_some k.complete ≡ true → is_some (size_in c.classes (plain (class n))) ≡ true
   pub enumerators : HasEnumerators c.enumerators
-  -- a class for which a name of a type stands is one of the list
+  -- what a name of a type stands for can be written
   pub types : HasTypeNames c.classes c.types
 
 -- Laws

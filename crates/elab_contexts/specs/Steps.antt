@@ -1,13 +1,14 @@
 -- What the declarations of a unit make, step by step, of its classes and functions.
-use Rattle.std.specs.Prelude.{◌≡◌, ℕ, Bool, ◌&&◌, true, false, nat_le, List, [], ◌∷◌, ◌++◌, length, Option, Some, None, is_some, slice_get, slice_set}
+use Rattle.std.specs.Prelude.{◌≡◌, ℕ, Bool, ◌&&◌, true, false, not, nat_le, List, [], ◌∷◌, ◌++◌, length, Option, Some, None, is_some, slice_get, slice_set}
 use Rattle.std.specs.Str.{bytes_eq}
+use Rattle.elab_rules.specs.cpp_types.Typ.{Typ, typ, class, closure}
 use Rattle.elab_rules.specs.cpp_types.Equal.{typs_eq, flag_eq}
 use Rattle.elab_rules.specs.cpp_types.Class.{Class, Member, Function, completion_of, held}
 use Rattle.elab_rules.specs.cpp_types.declared.classes.At.{At}
 use Rattle.elab_rules.specs.cpp_layout.Layout.{class_extent}
 use Rattle.elab_rules.specs.cpp_layout.declared.extents.TheConstants.{GREATEST_SIZE}
 use Rattle.elab_rules.specs.cpp_tree.declared.program.FuncKind.TheVariants.{Plain}
-use Rattle.elab_rules.specs.cpp_tree.Typing.{is_reference}
+use Rattle.elab_rules.specs.cpp_tree.Typing.{passes, is_reference}
 use Rattle.elab_rules.specs.cpp_tree.Units.{SlotFunc}
 use Rattle.elab_rules.specs.elab_ctx.Ctx.{Ctx, Func, Traits, Capture}
 use Rattle.elab_rules.specs.Objects.{no_traits}
@@ -84,8 +85,23 @@ pub record ClassNamed (a b : View) : Type 0 where
 abbrev pub IsWhole : List Class → Option ℕ → Type 0
 IsWhole classes o = (n : ℕ) → o ≡ Some n → is_some (completion_of classes n) ≡ true
 
+-- a class of the list that has a name
+abbrev pub has_name : List Class → ℕ → Bool
+has_name classes n = passes (λ (k : Class). not (is_no_name k.name)) (slice_get classes n)
+
+-- the type of a lambda's object is not written in a text, and a class that is has a name
+abbrev pub is_written : List Class → Typ → Bool
+is_written classes (typ (class n) c v) = has_name classes n
+is_written classes (typ (closure n) c v) = false
+is_written classes t = true
+
+-- a base has a name
+abbrev pub IsBase : List Class → Option ℕ → Type 0
+IsBase classes o = (n : ℕ) → o ≡ Some n → has_name classes n ≡ true
+
 -- a data member is an object
 pub record IsMember (classes : List Class) (m : Member) : Type 0 where
+  pub written : is_written classes m.typ ≡ true
   pub object : is_reference m.typ ≡ false
   pub bounded : is_bounded m.typ ≡ true
   pub whole : IsWhole classes (held m.typ)
@@ -102,6 +118,7 @@ pub record ClassCompleted (a b : View) : Type 0 where
   pub unclosed : IsOpen a.classes home.number
   pub named : is_no_name home.name ≡ false
   pub based : IsWhole a.classes home.base
+  pub base : IsBase a.classes home.base
   pub are : (i : ℕ) (m : Member) → slice_get members i ≡ Some m → IsMember a.classes m
   pub sized : nat_le (class_extent b.classes home.number).size GREATEST_SIZE ≡ true
 
