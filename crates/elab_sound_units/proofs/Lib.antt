@@ -1,0 +1,14 @@
+pub mod Adding
+pub mod Below
+pub mod Bodies
+pub mod Classes
+pub mod Completing
+pub mod Contexts
+pub mod Enums
+pub mod Globals
+pub mod Headers
+pub mod Implied
+pub mod Outside
+pub mod Programs
+pub mod Steps
+pub mod Units
