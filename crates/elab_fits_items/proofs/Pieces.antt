@@ -79,9 +79,10 @@ none_is (Some n) h = absurd cc
 
 module _ (s : Setting) (c : Ctx) (w : Work) (h : Holds s c w) (single : MembersSingle c) where
   -- the types that braces initialise
-  pub data Taken : Typ → Type 0 where
-    of_array : {e : Typ} {n : ℕ} → IsItem c (typ (array e n) false false) → Taken (typ (array e n) false false)
-    of_class : {n : ℕ} {q v : Bool} → IsItem c (typ (class n) q v) → IsAggregate s c w h n → Taken (typ (class n) q v)
+  abbrev pub Taken : Typ → Type 0
+  Taken (typ (array e n) false false) = IsItem c (typ (array e n) false false)
+  Taken (typ (class n) q v) = IsAggregate s c w h n
+  Taken t = ⊥
 
   class_taken : (n : ℕ) (q v : Bool) → IsItem c (typ (class n) q v) → is_some (completion_of c.classes n) ≡ true → is_aggregate_class c n ≡ true
       → Taken (typ (class n) q v)
@@ -96,18 +97,18 @@ module _ (s : Setting) (c : Ctx) (w : Work) (h : Holds s c w) (single : MembersS
       named false e = refl
 
       by : (o : Option Class) → slice_get c.classes n ≡ o → has_no_base o ≡ true → Taken (typ (class n) q v)
-      by (Some k) e f = of_class i (record {
+      by (Some k) e f = record {
         owner = k;
         found = e;
         base = none_is k.base f;
         complete = d;
         named = named (is_lambda c.classes n) i.target;
         laid = laid_from c.classes n q v i.sized;
-      })
+      }
       by None e f = absurd cc
 
   pub taken_is : (t : Typ) (at : At) → IsItem c t → On (λ (b : Bool). Taken t) (braceable c at (form_in t))
-  taken_is (typ (array e n) false false) at i = of_array i
+  taken_is (typ (array e n) false false) at i = i
   taken_is (typ (array e n) true v) at i = let a = i.ready in absurd cc
   taken_is (typ (array e n) false true) at i = let a = i.ready in absurd cc
   taken_is (typ (class n) q v) at i = checked (λ (b : Bool). Taken (typ (class n) q v)) at Incomplete (is_some (completion_of c.classes n)) _
@@ -174,8 +175,9 @@ module _ (s : Setting) (c : Ctx) (w : Work) (h : Holds s c w) (single : MembersS
       by None k f = absurd cc
 
   pub placed : (t : Typ) (i : ℕ) (p : Part) → Taken t → part_in c t (form_in t) i ≡ Some p → IsPlaced c t i p
-  placed (typ (array e n) false false) i p (of_array x) g = element_placed e n i p x g
-  placed (typ (class n) q v) i p (of_class x a) g = member_placed n i q v p a g
+  placed (typ (array e n) false false) i p x g = element_placed e n i p x g
+  placed (typ (class n) q v) i p x g = member_placed n i q v p x g
+  placed t i p x g = absurd x
 
   -- Pieces
 
@@ -197,9 +199,10 @@ module _ (s : Setting) (c : Ctx) (w : Work) (h : Holds s c w) (single : MembersS
   -- The object of all pieces
 
   are_pieces_of : (t : Typ) (hs : List Head) → Taken t → Agree c.classes t 0 hs → are_pieces c.classes t hs ≡ true
-  are_pieces_of (typ (array e n) false false) hs (of_array x) r =
+  are_pieces_of (typ (array e n) false false) hs x r =
       ap (passes (λ (size : ℕ). are_element_pieces e size n 0 hs)) (size_is c.classes e (element_item c e n false false x).item.sized) ∙ r
-  are_pieces_of (typ (class n) q v) hs (of_class x a) r = both (ap is_some (sized_class_is c.classes n a.laid)) r
+  are_pieces_of (typ (class n) q v) hs x r = both (ap is_some (sized_class_is c.classes n x.laid)) r
+  are_pieces_of t hs x r = absurd x
 
   pub object_made : (t : Typ) (at : At) (ts : Trees) → Taken t → PiecesFrom s c.classes t 0 ts → BuildsOne s t (node Pieces t Prvalue at ts)
   object_made t at ts x r = record {

@@ -42,7 +42,7 @@ use Rattle.elab_fits_braces.proofs.Pliable.{defaults_qualified}
 use Rattle.elab_fits_braces.proofs.This.{object_is_this}
 use Rattle.elab_fits_items.specs.Items.{MembersSingle, PartBuilt}
 use Rattle.elab_fits_items.proofs.Types.{IsItem, element_item, fewer_item, object_is, IsAggregate, IsMember, member_is, count_members}
-use Rattle.elab_fits_items.proofs.Pieces.{Agree, PiecesFrom, IsIndex, IsPlaced, Taken, of_array, of_class, member_joins, piece_fits, joined}
+use Rattle.elab_fits_items.proofs.Pieces.{Agree, PiecesFrom, IsIndex, IsPlaced, Taken, member_joins, piece_fits, joined}
 
 -- parts that are made stand behind what was made before
 pub record AllBuilt (s : Setting) (c : Ctx) (w : Work) (t : Typ) (i : ℕ) (r : MadeAll) : Type 0 where
@@ -71,13 +71,14 @@ record DefaultAt (n i : ℕ) (ds : List Default) (d : Default) : Type 0 where
 
 default_found : (n i : ℕ) (ds : List Default) (d : Default) → default_at n i ds ≡ Some d → DefaultAt n i ds d
 default_found n i [] d h = absurd cc
-default_found n i (x ∷ ds) d h = by (x.class == n && x.member == i) refl h
+default_found n i (x ∷ ds) d h = by (x.class == n && x.member == i) refl h (λ g. default_found n i ds d g)
   where
     later : DefaultAt n i ds d → DefaultAt n i (x ∷ ds) d
     later y = record { index = suc y.index; at = y.at; class = y.class; member = y.member }
 
-    by : (b : Bool) → (x.class == n && x.member == i) ≡ b → (if b then Some x else default_at n i ds) ≡ Some d → DefaultAt n i (x ∷ ds) d
-    by true e g =
+    by : (b : Bool) → (x.class == n && x.member == i) ≡ b → (if b then Some x else default_at n i ds) ≡ Some d
+        → (default_at n i ds ≡ Some d → DefaultAt n i ds d) → DefaultAt n i (x ∷ ds) d
+    by true e g f =
         let a = and_parts (x.class == n) (x.member == i) e in
         let q : x ≡ d = cc in
         record {
@@ -86,7 +87,7 @@ default_found n i (x ∷ ds) d h = by (x.class == n && x.member == i) refl h
           class = ap (λ (y : Default). y.class) (sym q) ∙ eqb-true x.class n a.0;
           member = ap (λ (y : Default). y.member) (sym q) ∙ eqb-true x.member i a.1;
         }
-    by false e g = later (default_found n i ds d g)
+    by false e g f = later (f g)
 
 module _ (s : Setting) (c : Ctx) (w0 : Work) (h : Holds s c w0) (single : MembersSingle c) (defaults : AllDefaultsFit s c.defaults) where
   -- from nothing
@@ -208,10 +209,10 @@ module _ (s : Setting) (c : Ctx) (w0 : Work) (h : Holds s c w0) (single : Member
 
   pub rest_made : (t : Typ) (i : ℕ) (object : Tree) (w : Work) (at : At) → Taken s c w0 h single t → IsIndex c.classes t i → FitsAs s Value object
       → cat_of object ≡ Lvalue → On (AllBuilt s c w t i) (rest_in c w at object t (form_in t) i)
-  rest_made (typ (array e n) false false) i object w at (of_array x) l f k =
+  rest_made (typ (array e n) false false) i object w at x l f k =
       subst (λ (u : Typ). On (AllBuilt s c w (typ (array e n) false false) i) (rest_piece c w u i (n - i) at)) (sym (qualified_none e))
       (elements_by e n i (n - i) w at x (omega arith))
-  rest_made (typ (class n) q v) i object w at (of_class x a) l f k =
+  rest_made (typ (class n) q v) i object w at a l f k =
       let b = count_members s c w0 h n a in
       let d : members_in (slice_get c.classes n) ≡ a.owner.members = ap members_in a.found in
       let g : i ≤ length (members_in (slice_get c.classes n)) = let y = ap length d in omega arith in
@@ -221,3 +222,4 @@ module _ (s : Setting) (c : Ctx) (w0 : Work) (h : Holds s c w0) (single : Member
         found = λ j m e. ap (λ (ms : List Member). slice_get ms (i + j)) (sym d) ∙ drop_found i (members_in (slice_get c.classes n)) j m e;
         many = omega arith;
       }) f k
+  rest_made t i object w at x l f k = absurd x

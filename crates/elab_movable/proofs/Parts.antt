@@ -1,0 +1,194 @@
+-- What is done to each part of an object has no places: zeros, copies, destructions, and the scalars of an exception.
+use Rattle.std.proofs.Common.{◌≡◌, refl, ◌∙◌, ℕ, zero, suc, ◌+◌, Bool, false, ◌||◌, List, [], ◌∷◌, length, Option, Some, None, arith}
+use Rattle.elab_rules.specs.tx_ints.declared.kinds.IntKind.{IntKind}
+use Rattle.elab_rules.specs.cpp_types.Typ.{Typ, typ, Form, void, int, ref, array, func, class, closure, tx_ex}
+use Rattle.elab_rules.specs.cpp_types.Class.{Class}
+use Rattle.elab_rules.specs.cpp_types.declared.classes.At.{At}
+use Rattle.elab_rules.specs.cpp_tree.Trees.{Tree, node, Trees, none, more}
+use Rattle.elab_rules.specs.cpp_tree.Typing.{form_in, kind_in, qualified, unqualified}
+use Rattle.elab_rules.specs.cpp_tree.Notation.{plain}
+use Rattle.elab_rules.specs.cpp_tree.declared.kinds.TKind.TheVariants.{Literal}
+use Rattle.elab_rules.specs.cpp_types.declared.ranks.Cat.TheVariants.{Prvalue}
+use Rattle.elab_rules.specs.tx_ints.declared.kinds.IntKind.TheVariants.{ULong}
+use Rattle.elab_rules.specs.elab_ctx.Ctx.{Ctx, Special, absent, trivial, function}
+use Rattle.elab_rules.specs.Objects
+use Rattle.elab_rules.specs.Objects.{Part, Leaf, parts_of, element_of, is_array}
+use Rattle.elab_rules.specs.Values
+use Rattle.elab_rules.specs.Initialising
+use Rattle.elab_movable.specs.Movable.{Sought, held, all_held}
+use Rattle.elab_movable.proofs.Steps.{On, skip, choose}
+
+module _ (g : Sought) where
+  pub followed : (ts us : Trees) → all_held g (Objects.followed_by ts us) ≡ all_held g ts + all_held g us
+  followed none us = omega arith
+  followed (more t ts) us = omega (arith, followed ts us)
+
+  -- Destructions
+
+  destroyed : (s : Special) (offset count stride : ℕ) (at : At) → all_held g (Objects.destroyed s offset count stride at) ≡ 0
+  destroyed absent offset count stride at = refl
+  destroyed trivial offset count stride at = refl
+  destroyed (function k) offset count stride at = refl
+
+  destroys_in : (c : Ctx) (offset : ℕ) (at : At) (t : Typ) (f : Form) → all_held g (Objects.destroys_in c offset at t f) ≡ 0
+  destroys_in c offset at t (class n) = destroyed (Objects.traits_at c n).destructor offset (Objects.count_in t) (Objects.stride_of c.classes t) at
+  destroys_in c offset at t (tx_ex e) = refl
+  destroys_in c offset at t f = refl
+
+  backwards : (each : Part → Trees) (ps : List Part) → ((p : Part) → all_held g (each p) ≡ 0) → all_held g (Objects.backwards each ps) ≡ 0
+  backwards each [] h = refl
+  backwards each (p ∷ ps) h = omega (arith, followed (Objects.backwards each ps) (each p), backwards each ps h, h p)
+
+  destroys_of : (c : Ctx) (at : At) (t : Typ) (f : Form) → all_held g (Objects.destroys_of c at t f) ≡ 0
+  destroys_of c at t (closure n) =
+      backwards (Objects.destroys_at c at) (parts_of c.classes n) (λ p. destroys_in c p.offset at p.typ (form_in (element_of p.typ)))
+  destroys_of c at t f = destroys_in c 0 at t f
+
+  pub destroys : (c : Ctx) (at : At) (t : Typ) → all_held g (Objects.destroys c at t) ≡ 0
+  destroys c at t = destroys_of c at t (form_in (element_of t))
+
+  -- Scalars of an exception
+
+  scalar_field : (at : At) (offset : ℕ) (o : Option IntKind) → all_held g (Objects.scalar_field at offset o) ≡ 0
+  scalar_field at offset (Some k) = refl
+  scalar_field at offset None = refl
+
+  fields_of_parts : (each : Part → Trees) (ps : List Part) → ((p : Part) → all_held g (each p) ≡ 0) → all_held g (Objects.fields_of_parts each ps) ≡ 0
+  fields_of_parts each [] h = refl
+  fields_of_parts each (p ∷ ps) h = omega (arith, followed (each p) (Objects.fields_of_parts each ps), fields_of_parts each ps h, h p)
+
+  repeated : (each : ℕ → Trees) (offset stride n : ℕ) → ((o : ℕ) → all_held g (each o) ≡ 0) → all_held g (Objects.repeated each offset stride n) ≡ 0
+  repeated each offset stride zero h = refl
+  repeated each offset stride (suc n) h =
+      omega (arith, followed (each offset) (Objects.repeated each (offset + stride) stride n), repeated each (offset + stride) stride n h, h offset)
+
+  mutual
+    fields_in : (each : ℕ → ℕ → Trees) (classes : List Class) (at : At) (offset : ℕ) (t : Typ) → ((n o : ℕ) → all_held g (each n o) ≡ 0)
+        → all_held g (Objects.fields_in each classes at offset t) ≡ 0
+    fields_in each classes at offset (typ f c v) h = fields_form each classes at offset f h
+
+    fields_form : (each : ℕ → ℕ → Trees) (classes : List Class) (at : At) (offset : ℕ) (f : Form) → ((n o : ℕ) → all_held g (each n o) ≡ 0)
+        → all_held g (Objects.fields_form each classes at offset f) ≡ 0
+    fields_form each classes at offset (array t n) h =
+        repeated (λ o. Objects.fields_in each classes at o t) offset (Objects.size_of classes t) n (λ o. fields_in each classes at o t h)
+    fields_form each classes at offset (class n) h = h n offset
+    fields_form each classes at offset (closure n) h = h n offset
+    fields_form each classes at offset (tx_ex t) h = fields_in each classes at offset t h
+    fields_form each classes at offset f h = scalar_field at offset (kind_in f)
+
+  class_fields : (depth : ℕ) (classes : List Class) (at : At) (n offset : ℕ) → all_held g (Objects.class_fields depth classes at n offset) ≡ 0
+  class_fields zero classes at n offset = refl
+  class_fields (suc depth) classes at n offset =
+      fields_of_parts (λ (p : Part). Objects.fields_in (Objects.class_fields depth classes at) classes at (offset + p.offset) p.typ) (parts_of classes n)
+      (λ p. fields_in (Objects.class_fields depth classes at) classes at (offset + p.offset) p.typ (class_fields depth classes at))
+
+  pub fields : (classes : List Class) (at : At) (t : Typ) → all_held g (Objects.fields classes at t) ≡ 0
+  fields classes at t = fields_in (Objects.class_fields (length classes) classes at) classes at 0 t (class_fields (length classes) classes at)
+
+  -- What is done to each scalar
+
+  -- objects of classes, as those of lambdas too
+  record Bare (each : ℕ → Bool → Bool → Tree) : Type 0 where
+    class : (n : ℕ) (c v : Bool) → held g (each n c v) ≡ 0
+    closure : (n : ℕ) (c v : Bool) → held g (Objects.as_closure n c v (each n c v)) ≡ 0
+
+  mutual
+    whole : (each : ℕ → Bool → Bool → Tree) (leaf : Leaf) (classes : List Class) (at : At) (c v : Bool) (t : Typ)
+        → Bare each → ((u : Typ) (p : At) → held g (leaf u p) ≡ 0)
+        → held g (Objects.whole each leaf classes at c v t) ≡ 0
+    whole each leaf classes at c v (typ f d w) h i = whole_form each leaf classes at (c || d) (v || w) f h i
+
+    whole_form : (each : ℕ → Bool → Bool → Tree) (leaf : Leaf) (classes : List Class) (at : At) (c v : Bool) (f : Form)
+        → Bare each → ((u : Typ) (p : At) → held g (leaf u p) ≡ 0)
+        → held g (Objects.whole_form each leaf classes at c v f) ≡ 0
+    whole_form each leaf classes at c v (array t n) h i = omega (arith, whole each leaf classes at c v t h i)
+    whole_form each leaf classes at c v (class n) h i = h.class n c v
+    whole_form each leaf classes at c v (closure n) h i = h.closure n c v
+    whole_form each leaf classes at c v (tx_ex (typ f d w)) h i = whole_form each leaf classes at c v f h i
+    whole_form each leaf classes at c v f h i = i _ at
+
+  pieces : (each : Part → Tree) (type : Part → Typ) (at : At) (ps : List Part) → ((p : Part) → held g (each p) ≡ 0)
+      → all_held g (Objects.pieces each type at ps) ≡ 0
+  pieces each type at [] h = refl
+  pieces each type at (p ∷ ps) h = omega (arith, pieces each type at ps h, h p)
+
+  class_pieces : (depth : ℕ) (leaf : Leaf) (classes : List Class) (at : At) (n : ℕ) (c v : Bool) → Bare (Objects.class_whole depth leaf classes at)
+      → ((u : Typ) (p : At) → held g (leaf u p) ≡ 0)
+      → all_held g (Objects.pieces (λ (p : Part). Objects.whole (Objects.class_whole depth leaf classes at) leaf classes at c v p.typ)
+      (λ (p : Part). qualified c v p.typ) at (parts_of classes n)) ≡ 0
+  class_pieces depth leaf classes at n c v h i = pieces
+      (λ (p : Part). Objects.whole (Objects.class_whole depth leaf classes at) leaf classes at c v p.typ) (λ (p : Part). qualified c v p.typ) at
+      (parts_of classes n) (λ p. whole (Objects.class_whole depth leaf classes at) leaf classes at c v p.typ h i)
+
+  class_whole : (depth : ℕ) (leaf : Leaf) (classes : List Class) (at : At) → ((u : Typ) (p : At) → held g (leaf u p) ≡ 0)
+      → Bare (Objects.class_whole depth leaf classes at)
+  class_whole zero leaf classes at i = record { class = λ n c v. refl; closure = λ n c v. refl }
+  class_whole (suc depth) leaf classes at i = record {
+    class = λ n c v. omega (arith, class_pieces depth leaf classes at n c v (class_whole depth leaf classes at i) i);
+    closure = λ n c v. omega (arith, class_pieces depth leaf classes at n c v (class_whole depth leaf classes at i) i);
+  }
+
+  each_scalar : (leaf : Leaf) (classes : List Class) (at : At) (t : Typ) → ((u : Typ) (p : At) → held g (leaf u p) ≡ 0)
+      → held g (Objects.each_scalar leaf classes at t) ≡ 0
+  each_scalar leaf classes at t i = whole (Objects.class_whole (length classes) leaf classes at) leaf classes at false false t
+      (class_whole (length classes) leaf classes at i) i
+
+  stored_as : (at : At) (o : Option IntKind) (t : Typ) (v : Tree) → held g (Values.stored_as at o t v) ≡ held g v
+  stored_as at (Some k) t v = omega arith
+  stored_as at None t v = refl
+
+  pub stored : (at : At) (t : Typ) (v : Tree) → held g (Values.stored at t v) ≡ held g v
+  stored at t v = stored_as at (kind_in (form_in t)) t v
+
+  zero_leaf : (t : Typ) (at : At) → held g (Objects.zero_leaf t at) ≡ 0
+  zero_leaf (typ (ref u) c v) at = stored at (typ (ref u) c v) (node (Literal 0) (plain (int ULong)) Prvalue at none)
+  zero_leaf (typ f c v) at = stored at (typ f c v) (node (Literal 0) (unqualified (typ f c v)) Prvalue at none)
+
+  pub zeros : (classes : List Class) (at : At) (t : Typ) → held g (Objects.zeros classes at t) ≡ 0
+  zeros classes at t = each_scalar Objects.zero_leaf classes at t zero_leaf
+
+  copied_scalar : (o : Option IntKind) (t : Typ) (at : At) → held g (Objects.copied_scalar o t at) ≡ 0
+  copied_scalar (Some k) t at = refl
+  copied_scalar None t at = refl
+
+  pub copies : (classes : List Class) (at : At) (t : Typ) → held g (Objects.copies classes at t) ≡ 0
+  copies classes at t = each_scalar Objects.copy_leaf classes at t (λ u p. copied_scalar (kind_in (form_in u)) u p)
+
+  -- Copies of lambdas' objects
+
+  copied_part : (c : Ctx) (at : At) (t : Typ) (s : Special) → held g (Initialising.copied_part c at t s) ≡ 0
+  copied_part c at t (function k) = choose (λ (e : Tree). held g e ≡ 0) (is_array t) _ _ (omega (arith, destroys c at (element_of t))) refl
+  copied_part c at t absent = copies c.classes at t
+  copied_part c at t trivial = copies c.classes at t
+
+  pub closure_part : (c : Ctx) (at : At) (p : Part) → held g (Initialising.closure_part c at p) ≡ 0
+  closure_part c at p = copied_part c at p.typ (Initialising.copy_of_held c (Initialising.class_number (element_of p.typ)))
+
+  closure_piece : (c : Ctx) (at : At) (p : Part) → held g (Initialising.closure_piece c at p) ≡ 0
+  closure_piece c at p = omega (arith, closure_part c at p, destroys c at p.typ)
+
+  pub closure_pieces : (c : Ctx) (at : At) (q v : Bool) (ps : List Part) → all_held g (Initialising.closure_pieces c at q v ps) ≡ 0
+  closure_pieces c at q v [] = refl
+  closure_pieces c at q v (p ∷ ps) = omega (arith, closure_piece c at (Initialising.qualified_part q v p), closure_pieces c at q v ps)
+
+  -- Nothing
+
+  each_constructed : (c : Ctx) (k : ℕ) (t : Typ) (at : At) → held g (Initialising.each_constructed c k t at) ≡ 0
+  each_constructed c k t at = choose (λ (e : Tree). held g e ≡ 0) (is_array t) _ _ (omega (arith, destroys c at (element_of t))) refl
+
+  default_by : (c : Ctx) (t : Typ) (at : At) (s : Special) → On (λ (e : Tree). held g e ≡ 0) (Initialising.default_by c t at s)
+  default_by c t at absent = tt
+  default_by c t at trivial = zeros c.classes at t
+  default_by c t at (function k) = each_constructed c k t at
+
+  default_in : (c : Ctx) (t : Typ) (at : At) (f : Form) → On (λ (e : Tree). held g e ≡ 0) (Initialising.default_in c t at f)
+  default_in c t at (class n) = skip (λ (e : Tree). held g e ≡ 0) (Initialising.makeable c at n) _ (λ k. default_by c t at (Objects.traits_at c n).default)
+  default_in c t at (tx_ex e) = tt
+  default_in c t at (closure n) = tt
+  default_in c t at (ref e) = tt
+  default_in c t at void = tt
+  default_in c t at (func s) = tt
+  default_in c t at f = zeros c.classes at t
+
+  pub from_nothing : (c : Ctx) (t : Typ) (at : At) → On (λ (e : Tree). held g e ≡ 0) (Initialising.from_nothing c t at)
+  from_nothing c t at = default_in c t at (form_in (element_of t))
