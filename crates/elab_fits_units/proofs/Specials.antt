@@ -52,6 +52,20 @@ within [] n x h = absurd cc
 within (y ∷ ys) zero x h = lt-ltb 0 (suc (length ys)) (omega arith)
 within (y ∷ ys) (suc n) x h = let lt = ltb-true n (length ys) (within ys n x h) in lt-ltb (suc n) (suc (length ys)) (omega arith)
 
+-- a class that is complete is the same where the unit has grown
+pub class_kept : (cs ds : List Class) (n : ℕ) → ClassesGrow cs ds → IsHome cs n → slice_get ds n ≡ slice_get cs n
+class_kept cs ds n g h = by (slice_get cs n) refl
+  where
+    by_class : (x : Class) → slice_get cs n ≡ Some x → (o : Option ℕ) → x.complete ≡ o → slice_get ds n ≡ slice_get cs n
+    by_class x e (Some k) f = g.complete n k x e f ∙ sym e
+    by_class x e None f = clash (slice_get ds n ≡ slice_get cs n) (is_some (completion_of cs n))
+        (ap (λ (o : Option Class). is_some (option_and_then (λ (y : Class). y.complete) o)) e ∙ ap is_some f) h.complete
+
+    by : (o : Option Class) → slice_get cs n ≡ o → slice_get ds n ≡ slice_get cs n
+    by (Some x) e = by_class x e x.complete refl
+    by None e = clash (slice_get ds n ≡ slice_get cs n) (is_some (completion_of cs n))
+        (ap (λ (o : Option Class). is_some (option_and_then (λ (y : Class). y.complete) o)) e) h.complete
+
 home_still : (cs ds : List Class) (n : ℕ) → ClassesGrow cs ds → IsHome cs n → is_class ds n ≡ true
 home_still cs ds n g h = by (slice_get cs n) refl
   where

@@ -1,5 +1,5 @@
 -- What crates beside this one prove of the states of elaboration.
-use Rattle.std.specs.Prelude.{◌≡◌, ℕ, true, List, Some, is_some, slice_get}
+use Rattle.std.specs.Prelude.{◌≡◌, ℕ, true, List, Some, Ok, is_some, slice_get}
 use Rattle.elab_rules.specs.tx_ints.declared.kinds.IntKind.TheVariants.{ULong}
 use Rattle.elab_rules.specs.cpp_types.Class.{Class, Member, completion_of}
 use Rattle.elab_rules.specs.cpp_types.Typ.{Typ, class}
@@ -18,7 +18,12 @@ use Rattle.elab_rules.specs.cpp_lex.Tokens.{Lexeme}
 use Rattle.elab_rules.specs.cpp_ast.Trees as syntax
 use Rattle.elab_rules.specs.cpp_tree.Units.{Func as UnitFunc}
 use Rattle.elab_rules.specs.elab_ctx.Ctx.{Ctx, Work}
-use Rattle.elab_rules.specs.Statements.{State, statements_of}
+use Rattle.elab_rules.specs.cpp_types.declared.classes.At.{At}
+use Rattle.elab_rules.specs.elab_ctx.Steps.{Made, TypedAll}
+use Rattle.elab_rules.specs.Expressions.{operands_of}
+use Rattle.elab_rules.specs.Objects.{destroys}
+use Rattle.elab_rules.specs.Members.{as_base_of}
+use Rattle.elab_rules.specs.Statements.{State, statements_of, all_lambdas, directly_initialised, with_work}
 use Rattle.elab_rules.specs.Lambdas.{lambdas_of}
 use Rattle.elab_fits.specs.Standing.{On}
 use Rattle.elab_contexts.specs.Holding.{UnitHolds}
@@ -30,8 +35,8 @@ use Rattle.elab_fits_forms.specs.Types as forms
 use Rattle.elab_fits_braces.specs.Defaults.{DefaultsStay}
 use Rattle.elab_fits_bodies.specs.Functions.{FunctionsFit}
 use Rattle.elab_fits_bodies.specs.Parts.{ConstructorsFit, DestructorsFit}
-use Rattle.elab_fits_statements.specs.Discipline.{Discipline}
-use Rattle.elab_fits_states.specs.States.{AreTexts, IsSettled, words}
+use Rattle.elab_fits_statements.specs.Discipline.{Discipline, BuildsAll}
+use Rattle.elab_fits_states.specs.States.{AreTexts, IsSettled, IsVariableType, words}
 use Rattle.elab_fits_states.specs.Bodies.{BodyFits, StandsAlone}
 
 -- the parts of a class lie at words, and each has a type of which objects can be made, copied and destroyed
@@ -59,6 +64,10 @@ pub record Below (s : List Lexeme) : Type 0 where
   pub parts : (c : Ctx) (w : Work) (n : ℕ) → UnitHolds c → HasSoundTypes c w → IsHome c.classes n → ArePartsOf c n
   -- a sound object type is one of which objects can be made
   pub objects : (s : Setting) (c : Ctx) (w : Work) (t : Typ) → Holds s c w → is_sound c.classes object t ≡ true → IsObjectTyp c (is_lambda c.classes) t
+  -- what parenthesised values build as the base of an object, which may be abstract
+  pub bases : (f : UnitFunc) (a x : State) (n : ℕ) (t : Typ) (p q : At) (es : syntax.Trees) (xs : TypedAll) (m : Made) → IsSettled f a → IsVariableType a t
+      → AreTexts s es → all_lambdas lambdas_of s a es ≡ Ok x → operands_of s x.ctx x.work es ≡ Ok xs
+      → directly_initialised (as_base_of x.ctx n) xs.work t p xs.operands ≡ Ok m → BuildsAll (words f s) a (with_work x m.work) t m.tree (destroys x.ctx q t)
   -- initialisers of members where the unit has grown
   pub defaults : DefaultsStay
   -- trees of bodies
