@@ -1,7 +1,10 @@
 -- What is written for the parts of an object under construction builds them.
 use Rattle.std.proofs.Common.{◌≡◌, refl, sym, ap, ◌∙◌, subst, ℕ, zero, suc, Bool, true, false, not, List, [], ◌∷◌, ◌++◌, slice_get, Option, Some, None, is_some, is_none, Result, Ok}
 use Rattle.std.specs.Prelude.{if◌then◌else◌, ◌==◌}
-use Rattle.std.proofs.Common.{eqb-true}
+use Rattle.std.proofs.Common.{eqb-true, ◌+◌, arith}
+use Rattle.std.specs.Str.{bytes_eq}
+use Rattle.elab_fits.proofs.Nodes.{clash}
+use Rattle.elab_rules.specs.Initialising.{class_number, same_number}
 use Rattle.std.proofs.lemmas.Option.{same_Some}
 use Rattle.elab_rules.specs.cpp_types.Typ.{Typ, class}
 use Rattle.elab_rules.specs.cpp_types.Class.{Class, Member}
@@ -27,7 +30,7 @@ use Rattle.elab_rules.specs.Lambdas.{lambdas_of}
 use Rattle.elab_rules.specs.Members.{Given, Giving, given_for, same_part, giving_more, for_part, for_base, as_base_of, given_values, given_part, is_named_class, is_base_type, given_base}
 use Rattle.elab_rules.specs.Members.{member_index, member_type, given_member, given_by, all_given}
 use Rattle.elab_fits.specs.Standing.{On}
-use Rattle.elab_sound_types.specs.Types.{is_sound, object, variable as a_variable}
+use Rattle.elab_sound_types.specs.Types.{is_sound, denoted}
 use Rattle.elab_fits_statements.specs.Anywhere.{BuildsAnywhere}
 use Rattle.elab_fits_statements.specs.Variables.{BuildsWhole}
 use Rattle.elab_fits_statements.specs.Discipline.{Goes, BuildsAll}
@@ -42,9 +45,9 @@ use Rattle.elab_fits_states.specs.States.{setting, IsText, AreTexts, IsSettled, 
 use Rattle.elab_fits_units.specs.Below.{Below, IsHome, ArePartsOf}
 use Rattle.elab_fits_units.proofs.Bodies.{came}
 use Rattle.elab_fits_units.proofs.Growing.{held_earlier}
-use Rattle.elab_fits_units.proofs.Headers.{answered, skip, checked}
+use Rattle.elab_fits_units.proofs.Headers.{answered, skip, checked, expected}
 use Rattle.elab_fits_units.proofs.Specials.{home_over, class_kept}
-use Rattle.elab_fits_units.proofs.Types.{object_variable, variable_type}
+use Rattle.elab_fits_units.proofs.Types.{variable_type, named_class, named_sound}
 use Rattle.elab_fits_units.proofs.Walk.{told, bind, each_holds}
 
 -- what is written for parts builds them
@@ -72,6 +75,21 @@ given_more P i (y ∷ gs) x g h f r = more_by P i y gs x g (same_part i y.member
 part_number : (i j : ℕ) → same_part (Some i) (Some j) ≡ true → i ≡ j
 part_number i j h = eqb-true i j h
 
+record FoundMember (ms : List Member) (k i : ℕ) : Type 0 where
+  off : ℕ
+  is : i ≡ k + off
+  member : Member
+  at : slice_get ms off ≡ Some member
+
+member_by : (name : List ℕ) (k i : ℕ) (m : Member) (ms : List Member) (b : Bool) → (member_index (suc k) name ms ≡ Some i → FoundMember ms (suc k) i)
+    → (if b then Some k else member_index (suc k) name ms) ≡ Some i → FoundMember (m ∷ ms) k i
+member_by name k i m ms true f h = let g = same_Some k i h in record { off = 0; is = omega arith; member = m; at = refl }
+member_by name k i m ms false f h = let r = f h in let g = r.is in record { off = suc r.off; is = omega arith; member = r.member; at = r.at }
+
+member_found : (ms : List Member) (name : List ℕ) (k i : ℕ) → member_index k name ms ≡ Some i → FoundMember ms k i
+member_found [] name k i h = absurd cc
+member_found (m ∷ ms) name k i h = member_by name k i m ms (bytes_eq m.name name) (member_found ms name (suc k) i) h
+
 module _ (s : List Lexeme) (b : Below s) (f : UnitFunc) (n : ℕ) where
   -- so far
   pub record Gives (a : State) (g : Giving) : Type 0 where
@@ -85,9 +103,9 @@ module _ (s : List Lexeme) (b : Below s) (f : UnitFunc) (n : ℕ) where
   class_then : (a z : State) → Comes a z → IsHome a.ctx.classes n → slice_get z.ctx.classes n ≡ slice_get a.ctx.classes n
   class_then a z l h = class_kept a.ctx.classes z.ctx.classes n l.goes.grows.unit.classes h
 
-  all_still : (a z : State) (gs : List Given) → IsSettled f a → Comes a z → IsHome a.ctx.classes n → GivenFits (setting f a) a.ctx n gs
+  pub givens_still : (a z : State) (gs : List Given) → IsSettled f a → Comes a z → IsHome a.ctx.classes n → GivenFits (setting f a) a.ctx n gs
       → GivenFits (setting f z) z.ctx n gs
-  all_still a z gs g l o h = let q = class_then a z l o in record {
+  givens_still a z gs g l o h = let q = class_then a z l o in record {
     base = λ i x e u. still a z g l (plain (class i)) x.tree (h.base i x (ap base_of_class (sym q) ∙ e) u);
     member = λ i m x e u. still a z g l m.typ x.tree (h.member i m x (ap (λ (c : Option Class). slice_get (members_in c) i) (sym q) ∙ e) u);
   }
@@ -110,7 +128,7 @@ module _ (s : List Lexeme) (b : Below s) (f : UnitFunc) (n : ℕ) where
       → IsPart g.state.ctx i t → BuildsWhole (setting f (with_work z m.work)) t m.tree → Gives a (giving_more g z i at p m)
   one_given a g z i at p t m h k q w = let now : State = with_work z m.work in
       let same : slice_get now.ctx.classes n ≡ slice_get g.state.ctx.classes n = class_then g.state now k.leads h.home in
-      let old : GivenFits (setting f now) now.ctx n g.given = all_still g.state now g.given h.goes.good k.leads h.home h.given in
+      let old : GivenFits (setting f now) now.ctx n g.given = givens_still g.state now g.given h.goes.good k.leads h.home h.given in
       let new : BuildsAnywhere (setting f now) t (full p m.tree) = whole_object (setting f now) p t m.tree w.one w.no_throw in
       let x : Given = record { member = i; at = at; tree = full p m.tree } in record {
         goes = goes_then (words f s) lambdas_of s (b.discipline f) a g.state now h.goes k;
@@ -169,8 +187,34 @@ module _ (s : List Lexeme) (b : Below s) (f : UnitFunc) (n : ℕ) where
 
   -- Initialisers in the order of the text
 
+  -- the base that is named
+  named_number : (x : ℕ) (o : Option ℕ) → same_number x o ≡ true → o ≡ Some x
+  named_number x (Some y) e = ap Some (eqb-true y x e)
+  named_number x None e = absurd cc
+
+  base_by : (a : State) (g : Giving) (at : At) (t : Typ) (es : syntax.Trees) → Gives a g → AreTexts s es → is_sound g.state.ctx.classes denoted t ≡ true
+      → (o : Option ℕ) → base_of_class (slice_get g.state.ctx.classes n) ≡ o → On (Gives a) (given_base lambdas_of s n g at t es)
+  base_by a g at t es h q d (Some x) e = skip (Gives a) (check at OutOfProfile (not (is_named_class n t))) _
+      (λ y. checked (Gives a) at NoMember (is_base_type (base_of_class (slice_get g.state.ctx.classes n)) t) _
+      (λ z. base_given a g at x (unqualified t) es h q e
+      (named_class g.state.ctx.classes t x d (named_number x (class_number t) (ap (λ (o : Option ℕ). is_base_type o t) (sym e) ∙ z)))))
+  base_by a g at t es h q d None e = skip (Gives a) (check at OutOfProfile (not (is_named_class n t))) _
+      (λ y. checked (Gives a) at NoMember (is_base_type (base_of_class (slice_get g.state.ctx.classes n)) t) _
+      (λ z. clash _ (is_base_type (base_of_class (slice_get g.state.ctx.classes n)) t) (ap (λ (o : Option ℕ). is_base_type o t) e) z))
+
   by_given : (a : State) (g : Giving) (t : syntax.Tree) → Gives a g → IsText s t → On (Gives a) (given_by lambdas_of s n g t)
-  by_given a g t h q = ?
+  by_given a g (syntax.node k.MemberInitializer p (Some t) es) h q = let ms = members_in (slice_get g.state.ctx.classes n) in
+      told (Gives a) (expect (at_of p) NoMember (member_index 0 (spelling s t) ms)) _
+      (λ i e. let m = member_found ms (spelling s t) 0 i (expected (at_of p) NoMember (member_index 0 (spelling s t) ms) i e) in let z = m.is in
+      let u : slice_get ms i ≡ Some m.member = ap (λ (j : ℕ). slice_get ms j) (omega arith) ∙ m.at in
+      subst (λ (r : Typ). On (Gives a) (given_part lambdas_of s n g (Some i) (at_of p) r es)) (sym (ap member_type u))
+      (member_given a g (at_of p) i m.member es h ((b.discipline f).kids k.MemberInitializer p (Some t) es q) u))
+  by_given a g (syntax.node k.BaseInitializer p (Some t) es) h q = let types = g.state.ctx.types in
+      told (Gives a) (expect (at_of p) UnknownName (type_named (spelling s t) types)) _
+      (λ u e. base_by a g (at_of p) u es h ((b.discipline f).kids k.BaseInitializer p (Some t) es q)
+      (named_sound g.state.ctx.classes (spelling s t) types u h.goes.good.good.sound.context.types (expected (at_of p) UnknownName (type_named (spelling s t) types) u e))
+      (base_of_class (slice_get g.state.ctx.classes n)) refl)
+  by_given a g (syntax.node kind p token es) h q = h
 
   pub all_by : (a : State) (g : Giving) (ts : syntax.Trees) → Gives a g → AreTexts s ts → On (Gives a) (all_given lambdas_of s n g ts)
   all_by a g ts h q = each_holds (Gives a) (AreTexts s) (given_by lambdas_of s n) g ts h q

@@ -175,7 +175,7 @@ declared_law c h text closed p e = let r = answered (Placed_as h) (function_decl
 
 -- In a class
 
-expected : (at : At) (rule : IllRule) (o : Option ℕ) (n : ℕ) → expect at rule o ≡ Ok n → o ≡ Some n
+pub expected : {A : Type 0} (at : At) (rule : IllRule) (o : Option A) (n : A) → expect at rule o ≡ Ok n → o ≡ Some n
 expected at rule (Some m) n h = cc
 expected at rule None n h = absurd cc
 

@@ -88,7 +88,7 @@ pub item_at : (frame : List Typ) (t : Typ) → slice_get frame 0 ≡ Some t → 
 item_at frame t h = ap (passes (typ_eq t)) h ∙ typ_refl t
 
 -- the object at hand and its parts
-has_parts : (s : List Lexeme) (b : Below s) (f : UnitFunc) (st : State) (n : ℕ) → IsGood f st → IsHome st.ctx.classes n
+pub has_parts : (s : List Lexeme) (b : Below s) (f : UnitFunc) (st : State) (n : ℕ) → IsGood f st → IsHome st.ctx.classes n
     → at_place st.work.frame 0 (plain (ptr (plain (class n)))) ≡ true → HasParts (setting f st) st.ctx n
 has_parts s b f st n g h t = let x : ArePartsOf st.ctx n = b.parts st.ctx st.work n g.unit g.sound.context h in record {
   this = t;

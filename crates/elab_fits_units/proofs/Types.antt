@@ -1,5 +1,13 @@
 -- Types of parts and of variables.
-use Rattle.std.proofs.Common.{◌≡◌, refl, sym, ap, ◌∙◌, ℕ, Bool, true, false, List, slice_get, Option, Some, None, is_some}
+use Rattle.std.proofs.Common.{◌≡◌, refl, sym, ap, ◌∙◌, ℕ, Bool, true, false, ◌&&◌, List, [], ◌∷◌, slice_get, Option, Some, None, is_some}
+use Rattle.std.specs.Prelude.{if◌then◌else◌}
+use Rattle.std.specs.List.{list_all}
+use Rattle.std.specs.Str.{bytes_eq}
+use Rattle.std.proofs.lemmas.Bool.{and_parts}
+use Rattle.std.proofs.lemmas.Option.{same_Some}
+use Rattle.elab_rules.specs.elab_ctx.Types.{Named, type_called}
+use Rattle.elab_rules.specs.Types.{type_named}
+use Rattle.elab_sound_types.specs.Contexts.{is_sound_name}
 use Rattle.elab_rules.specs.cpp_types.Typ.{Typ, typ, void, int, enum, null, ptr, ref, array, func, class, closure, tx_ex}
 use Rattle.elab_rules.specs.cpp_types.Class.{Class}
 use Rattle.elab_rules.specs.cpp_tree.Notation.{plain}
@@ -59,3 +67,15 @@ named_class classes (typ (ref t) c v) n h e = absurd cc
 named_class classes (typ (array t k) c v) n h e = absurd cc
 named_class classes (typ (func g) c v) n h e = absurd cc
 named_class classes (typ (tx_ex t) c v) n h e = absurd cc
+
+name_sound : (classes : List Class) (name : List ℕ) (x : Named) (ns : List Named) (t : Typ) (b : Bool) → is_sound_name classes x ≡ true
+    → (if b then Some x.typ else type_called name ns) ≡ Some t → (type_called name ns ≡ Some t → is_sound classes denoted t ≡ true)
+    → is_sound classes denoted t ≡ true
+name_sound classes name x ns t true h e f = ap (is_sound classes denoted) (sym (same_Some x.typ t e)) ∙ h
+name_sound classes name x ns t false h e f = f e
+
+pub named_sound : (classes : List Class) (name : List ℕ) (ns : List Named) (t : Typ) → list_all (is_sound_name classes) ns ≡ true → type_named name ns ≡ Some t
+    → is_sound classes denoted t ≡ true
+named_sound classes name [] t h e = absurd cc
+named_sound classes name (x ∷ ns) t h e = let a = and_parts (is_sound_name classes x) (list_all (is_sound_name classes) ns) h in
+    name_sound classes name x ns t (bytes_eq name x.name) a.0 e (λ q. named_sound classes name ns t a.1 q)

@@ -12,29 +12,33 @@ use Rattle.elab_fits_objects.specs.Contexts.{IsObjectTyp}
 use Rattle.elab_fits_forms.specs.Context.{Holds}
 use Rattle.elab_fits_forms.specs.Types.{is_lambda}
 use Rattle.elab_sound_types.specs.Contexts.{HasSoundTypes}
-use Rattle.elab_fits_bodies.specs.Built.{IsMember}
+use Rattle.elab_fits_bodies.specs.Built.{IsMember, PartsBuild, own_default}
 use Rattle.elab_fits_bodies.specs.Copied.{IsCopied}
 use Rattle.elab_rules.specs.cpp_lex.Tokens.{Lexeme}
 use Rattle.elab_rules.specs.cpp_ast.Trees as syntax
 use Rattle.elab_rules.specs.cpp_tree.Units.{Func as UnitFunc}
-use Rattle.elab_rules.specs.elab_ctx.Ctx.{Ctx, Work}
+use Rattle.elab_rules.specs.elab_ctx.Ctx.{Ctx, Work, Default}
 use Rattle.elab_rules.specs.cpp_types.declared.classes.At.{At}
 use Rattle.elab_rules.specs.elab_ctx.Steps.{Made, TypedAll}
 use Rattle.elab_rules.specs.Expressions.{operands_of}
 use Rattle.elab_rules.specs.Objects.{destroys}
+use Rattle.elab_rules.specs.Names.{members_in}
+use Rattle.elab_rules.specs.Braces.{default_at}
+use Rattle.elab_fits_statements.specs.Anywhere.{BuildsAnywhere}
+use Rattle.elab_sound_units.specs.Steps.{PartsKeepSound}
 use Rattle.elab_rules.specs.Members.{as_base_of}
 use Rattle.elab_rules.specs.Statements.{State, statements_of, all_lambdas, directly_initialised, with_work}
 use Rattle.elab_rules.specs.Lambdas.{lambdas_of}
-use Rattle.elab_fits.specs.Standing.{On}
+use Rattle.elab_fits.specs.Standing.{On, Reaches}
 use Rattle.elab_contexts.specs.Holding.{UnitHolds}
 use Rattle.elab_contexts.specs.Steps.{view}
 use Rattle.elab_holds.specs.Contexts.{ContextsHold}
-use Rattle.elab_holds.specs.Locals.{FunctionsEntered, ParametersPlaced}
+use Rattle.elab_holds.specs.Locals.{FunctionsEntered, ParametersPlaced, LocalsStay}
 use Rattle.elab_sound_types.specs.Types.{Use, is_sound, is_class, object}
 use Rattle.elab_fits_forms.specs.Types as forms
-use Rattle.elab_fits_braces.specs.Defaults.{DefaultsStay}
+use Rattle.elab_fits_braces.specs.Defaults.{DefaultsStay, AllDefaultsFit}
 use Rattle.elab_fits_bodies.specs.Functions.{FunctionsFit}
-use Rattle.elab_fits_bodies.specs.Parts.{ConstructorsFit, DestructorsFit}
+use Rattle.elab_fits_bodies.specs.Parts.{ConstructorsFit, DestructorsFit, HasThis}
 use Rattle.elab_fits_statements.specs.Discipline.{Discipline, BuildsAll}
 use Rattle.elab_fits_states.specs.States.{AreTexts, IsSettled, IsVariableType, words}
 use Rattle.elab_fits_states.specs.Bodies.{BodyFits, StandsAlone}
@@ -70,6 +74,15 @@ pub record Below (s : List Lexeme) : Type 0 where
       → directly_initialised (as_base_of x.ctx n) xs.work t p xs.operands ≡ Ok m → BuildsAll (words f s) a (with_work x m.work) t m.tree (destroys x.ctx q t)
   -- initialisers of members where the unit has grown
   pub defaults : DefaultsStay
+  -- the own initialiser of a member builds it, outside of a full-expression too
+  pub own : (x : Setting) (ds : List Default) (n i : ℕ) (m : Member) (d : Default) (w : Work) → AllDefaultsFit x ds → HasThis x n
+      → slice_get (members_in (slice_get x.classes n)) i ≡ Some m → default_at n i ds ≡ Some d → Reaches x (own_default w d).work
+      → BuildsAnywhere x m.typ (own_default w d).tree
+  -- what builds parts, and behind it the state is sound
+  pub builds : PartsBuild
+  pub built : PartsKeepSound
+  -- where items stay in the frame
+  pub stays : LocalsStay
   -- trees of bodies
   pub functions : FunctionsFit
   pub constructors : ConstructorsFit
