@@ -5,6 +5,7 @@ pub mod Constructors
 pub mod Entering
 pub mod Growing
 pub mod Headers
+pub mod Leaves
 pub mod Methods
 pub mod Quiet
 pub mod Results

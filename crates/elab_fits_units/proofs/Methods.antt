@@ -50,7 +50,7 @@ module _ (Texts : syntax.Trees → Type 0) (rest : (t : syntax.Tree) (ts : synta
   -- a member of this kind, with a text behind its declarator
   pub record IsMethod (kind : FuncKind) (m : Method) : Type 0 where
     pub kind_is : m.header.kind ≡ kind
-    pub rest : Texts m.rest
+    pub behind : Texts m.rest
 
   plain_is : (st : State) (n : ℕ) (at : At) (x : Storage) (ts : syntax.Trees) → Texts ts → On (IsMethod Plain) (plain_method s st n at x ts)
   plain_is st n at x syntax.none q = tt
@@ -58,14 +58,14 @@ module _ (Texts : syntax.Trees → Type 0) (rest : (t : syntax.Tree) (ts : synta
   plain_is st n at x (syntax.more base (syntax.more d ts)) q = skip (IsMethod Plain) (type_of_specifiers s st.ctx st.work base) _
       (λ t. skip (IsMethod Plain) (declared_by s st.ctx st.work at t d) _
       (λ r. bind (OfKind Plain) (IsMethod Plain) (header_in n x Plain at (name_of s r.name) r (form_in r.typ)) _
-      (header_kind n x Plain at (name_of s r.name) r (form_in r.typ)) (λ h i. record { kind_is = i; rest = rest d ts (rest base _ q) })))
+      (header_kind n x Plain at (name_of s r.name) r (form_in r.typ)) (λ h i. record { kind_is = i; behind = rest d ts (rest base _ q) })))
 
   special_is : (st : State) (n : ℕ) (class_name : List ℕ) (at : At) (x : Storage) (kind : FuncKind) (ts : syntax.Trees) → Texts ts
       → On (IsMethod kind) (special_method s st n class_name at x kind ts)
   special_is st n class_name at x kind syntax.none q = tt
   special_is st n class_name at x kind (syntax.more d ts) q = skip (IsMethod kind) (declared_by s st.ctx st.work at (plain void) d) _
       (λ r. bind (OfKind kind) (IsMethod kind) (special_header n class_name at x kind r (name_of s r.name)) _
-      (special_kind n class_name at x kind r (name_of s r.name)) (λ h i. record { kind_is = i; rest = rest d ts q }))
+      (special_kind n class_name at x kind r (name_of s r.name)) (λ h i. record { kind_is = i; behind = rest d ts q }))
 
   started_is : (st : State) (n : ℕ) (class_name : List ℕ) (at : At) (kind : FuncKind) (x : Started) → Texts x.rest
       → On (IsMethod kind) (method_started s st n class_name at kind x)
@@ -89,12 +89,12 @@ module _ (Texts : syntax.Trees → Type 0) (rest : (t : syntax.Tree) (ts : synta
       → On (IsMethod kind) (outside_special s st at x kind ts r)
   outer_special st at x kind ts r q = skip (IsMethod kind) (owner_named s st.ctx at r.owner) _
       (λ n. bind (OfKind kind) (IsMethod kind) (special_header n (name_of_class (slice_get st.ctx.classes n)) at x kind r (name_of s r.name)) _
-      (special_kind n (name_of_class (slice_get st.ctx.classes n)) at x kind r (name_of s r.name)) (λ h i. record { kind_is = i; rest = q }))
+      (special_kind n (name_of_class (slice_get st.ctx.classes n)) at x kind r (name_of s r.name)) (λ h i. record { kind_is = i; behind = q }))
 
   outer_plain : (st : State) (at : At) (x : Storage) (ts : syntax.Trees) (r : Declared) → Texts ts → On (IsMethod Plain) (outside_plain s st at x ts r)
   outer_plain st at x ts r q = skip (IsMethod Plain) (owner_named s st.ctx at r.owner) _
       (λ n. bind (OfKind Plain) (IsMethod Plain) (header_in n x Plain at (name_of s r.name) r (form_in r.typ)) _
-      (header_kind n x Plain at (name_of s r.name) r (form_in r.typ)) (λ h i. record { kind_is = i; rest = q }))
+      (header_kind n x Plain at (name_of s r.name) r (form_in r.typ)) (λ h i. record { kind_is = i; behind = q }))
 
   outer_by : (st : State) (at : At) (x : Storage) (kind : FuncKind) (d : syntax.Tree) (ts : syntax.Trees) → Texts (syntax.more d ts)
       → On (IsMethod kind) (and_then (declared_by s st.ctx st.work at (plain void) d) (λ (r : Declared). outside_special s st at x kind ts r))

@@ -113,7 +113,7 @@ module _ (s : List Lexeme) (b : Below s) (st : State) (h : Header) (n place : �
       (no_result def.func.kind def.func.declared.signature (ap is_special def.kind ∙ k)) refl home.named
       (λ m e. subst (λ (i : ℕ). is_some (completion_of st.ctx.classes i) ≡ true) (same_Some n m e) home.complete) refl start refl
 
-  destructor_left : h.kind ≡ Destructor → (body : syntax.Tree) → IsText s body → On (Left st) (destructor_body lambdas_of s st h n place body)
+  pub destructor_left : h.kind ≡ Destructor → (body : syntax.Tree) → IsText s body → On (Left st) (destructor_body lambdas_of s st h n place body)
   destructor_left k (syntax.node kind p token kids) t = let i : Begins f st start = object_begins (ap is_special k) in
       bind (BodyFits f start) (Left st) (statements_of lambdas_of s start kids) _
       (b.bodies f start kids i.settled i.alone ((b.discipline f).kids kind p token kids t))

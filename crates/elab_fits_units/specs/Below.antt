@@ -12,6 +12,7 @@ use Rattle.elab_fits_objects.specs.Contexts.{IsObjectTyp}
 use Rattle.elab_fits_forms.specs.Context.{Holds}
 use Rattle.elab_fits_forms.specs.Types.{is_lambda}
 use Rattle.elab_sound_types.specs.Contexts.{HasSoundTypes}
+use Rattle.elab_sound_types.specs.States.{TypesStay}
 use Rattle.elab_fits_bodies.specs.Built.{IsMember, PartsBuild, own_default}
 use Rattle.elab_fits_bodies.specs.Copied.{IsCopied}
 use Rattle.elab_rules.specs.cpp_lex.Tokens.{Lexeme}
@@ -72,6 +73,7 @@ pub record Below (s : List Lexeme) : Type 0 where
   pub bases : (f : UnitFunc) (a x : State) (n : ℕ) (t : Typ) (p q : At) (es : syntax.Trees) (xs : TypedAll) (m : Made) → IsSettled f a → IsVariableType a t
       → AreTexts s es → all_lambdas lambdas_of s a es ≡ Ok x → operands_of s x.ctx x.work es ≡ Ok xs
       → directly_initialised (as_base_of x.ctx n) xs.work t p xs.operands ≡ Ok m → BuildsAll (words f s) a (with_work x m.work) t m.tree (destroys x.ctx q t)
+  pub types : TypesStay
   -- initialisers of members where the unit has grown
   pub defaults : DefaultsStay
   -- the own initialiser of a member builds it, outside of a full-expression too

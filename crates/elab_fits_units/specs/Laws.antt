@@ -23,7 +23,7 @@ use Rattle.elab_fits.specs.Standing.{On}
 use Rattle.elab_contexts.specs.Holding.{UnitHolds}
 use Rattle.elab_contexts.specs.Steps.{view, Steps as Goes}
 use Rattle.elab_holds.specs.Contexts.{HasSlots}
-use Rattle.elab_sound_types.specs.States.{IsSoundState}
+use Rattle.elab_sound_types.specs.States.{IsSoundState, Kept}
 use Rattle.elab_sound_units.specs.Headers.{IsSoundHeader, IsRead, IsOutside}
 use Rattle.state_growth.specs.States.{Gone}
 use Rattle.elab_fits_states.specs.States.{IsText, AreTexts}
@@ -35,6 +35,7 @@ pub record Leads (a b : State) : Type 0 where
   pub walk : Goes (view a.ctx) (view b.ctx)
   pub unit : UnitHolds b.ctx
   pub sound : IsSoundState b
+  pub kept : Kept a.ctx.classes b.ctx.classes
   pub gone : Gone a b
 
 pub record Laws (s : List Lexeme) : Type 0 where
