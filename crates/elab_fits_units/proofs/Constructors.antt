@@ -60,13 +60,13 @@ use Rattle.elab_fits_units.proofs.Walk.{told, bind}
 
 -- Where parts are built, the work alone is another
 
-abbrev Same : State → Type 0
+abbrev pub Same : State → Type 0
 Same st = st ≡ with_work st st.work
 
-abbrev Works : State → Done → Type 0
+abbrev pub Works : State → Done → Type 0
 Works st d = d.state ≡ with_work st d.state.work
 
-settled_same : (st : State) → st.ctx.closures ≡ [] → Same st
+pub settled_same : (st : State) → st.ctx.closures ≡ [] → Same st
 settled_same st e = ap (λ (l : List Closure). record st { ctx = record st.ctx { closures = l } }) e
 
 member_works : (st : State) (at : At) (n i : ℕ) (t : Typ) (g : Option Given) → Same st → On (Works st) (member_built st at n i t g)
@@ -87,7 +87,7 @@ parts_work st at n gs h = skip (Works st) (base_built st at n (base_of_class (sl
     (members_work at n gs st 0 (members_in (slice_get st.ctx.classes n)) h) (λ d e. e))
 
 -- a state in which more is made
-first_kept : (a b : List Typ) → ((i : ℕ) (t : Typ) → slice_get a i ≡ Some t → slice_get b i ≡ Some t) → (t : Typ) → at_place a 0 t ≡ true → at_place b 0 t ≡ true
+pub first_kept : (a b : List Typ) → ((i : ℕ) (t : Typ) → slice_get a i ≡ Some t → slice_get b i ≡ Some t) → (t : Typ) → at_place a 0 t ≡ true → at_place b 0 t ≡ true
 first_kept a b k t h = by (slice_get a 0) refl
   where
     by : (o : Option Typ) → slice_get a 0 ≡ o → at_place b 0 t ≡ true
@@ -95,7 +95,7 @@ first_kept a b k t h = by (slice_get a 0) refl
     by None e = clash (at_place b 0 t ≡ true) (at_place a 0 t) (ap (passes (typ_eq t)) e) h
 
 module _ (s : List Lexeme) (b : Below s) (f : UnitFunc) where
-  settled_with : (a : State) (v : Work) → IsSettled f a → IsSoundState (with_work a v) → Leaves a (with_work a v) → IsSettled f (with_work a v)
+  pub settled_with : (a : State) (v : Work) → IsSettled f a → IsSoundState (with_work a v) → Leaves a (with_work a v) → IsSettled f (with_work a v)
   settled_with a v h g l = let z : State = with_work a v in record {
     good = record {
       unit = b.unit_same a.ctx z.ctx refl refl refl h.good.unit;

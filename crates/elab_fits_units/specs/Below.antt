@@ -14,7 +14,7 @@ use Rattle.elab_fits_forms.specs.Types.{is_lambda}
 use Rattle.elab_sound_types.specs.Contexts.{HasSoundTypes}
 use Rattle.elab_sound_types.specs.States.{TypesStay}
 use Rattle.elab_fits_bodies.specs.Built.{IsMember, PartsBuild, own_default}
-use Rattle.elab_fits_bodies.specs.Copied.{IsCopied}
+use Rattle.elab_fits_bodies.specs.Copied.{IsCopied, PartsCopied, SourcesStand}
 use Rattle.elab_rules.specs.cpp_lex.Tokens.{Lexeme}
 use Rattle.elab_rules.specs.cpp_ast.Trees as syntax
 use Rattle.elab_rules.specs.cpp_tree.Units.{Func as UnitFunc}
@@ -26,7 +26,7 @@ use Rattle.elab_rules.specs.Objects.{destroys}
 use Rattle.elab_rules.specs.Names.{members_in}
 use Rattle.elab_rules.specs.Braces.{default_at}
 use Rattle.elab_fits_statements.specs.Anywhere.{BuildsAnywhere}
-use Rattle.elab_sound_units.specs.Steps.{PartsKeepSound}
+use Rattle.elab_sound_units.specs.Steps.{PartsKeepSound, CopiesKeepSound}
 use Rattle.elab_rules.specs.Members.{as_base_of}
 use Rattle.elab_rules.specs.Statements.{State, statements_of, all_lambdas, directly_initialised, with_work}
 use Rattle.elab_rules.specs.Lambdas.{lambdas_of}
@@ -83,6 +83,9 @@ pub record Below (s : List Lexeme) : Type 0 where
   -- what builds parts, and behind it the state is sound
   pub builds : PartsBuild
   pub built : PartsKeepSound
+  pub copies : PartsCopied
+  pub copied : CopiesKeepSound
+  pub sources : SourcesStand
   -- where items stay in the frame
   pub stays : LocalsStay
   -- trees of bodies
