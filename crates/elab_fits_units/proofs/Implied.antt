@@ -47,6 +47,9 @@ use Rattle.elab_fits_units.specs.Good.{IsImplied, default, copy, destructor, IsI
 use Rattle.elab_fits_units.specs.Laws.{Leads, Laws}
 use Rattle.elab_fits_units.proofs.Bodies.{Left, made_left, came}
 use Rattle.elab_fits_units.proofs.Constructors.{PartsStand, parts_stand, settled_with, settled_same, first_kept}
+use Rattle.elab_fits_units.proofs.Copying.{copies_stand}
+use Rattle.elab_rules.specs.cpp_types.Equal.{typ_eq}
+use Rattle.elab_rules.specs.cpp_tree.Typing.{passes}
 use Rattle.elab_fits_units.proofs.Entering.{Begins, begins, over_same}
 use Rattle.elab_fits_units.proofs.Growing.{Over, over, over_then}
 use Rattle.elab_fits_units.proofs.Headers.{answered, skip, at_func}
@@ -54,6 +57,9 @@ use Rattle.elab_fits_units.proofs.Leaves.{Ended, good_on}
 use Rattle.elab_fits_units.proofs.Results.{holds, no_result}
 use Rattle.elab_fits_units.proofs.Specials.{has_parts, home_over}
 use Rattle.elab_fits_units.proofs.Walk.{told, bind}
+
+source_at : (frame : List Typ) (t : Typ) → slice_get frame 1 ≡ Some t → at_place frame 1 t ≡ true
+source_at frame t h = ap (passes (typ_eq t)) h ∙ typ_refl t
 
 module _ (s : List Lexeme) (b : Below s) (st : State) (k : ℕ) (f : Func) (e : slice_get st.ctx.funcs k ≡ Some f) (n : ℕ) (home : IsHome st.ctx.classes n)
     (g : UnitGood st) where
@@ -93,7 +99,35 @@ module _ (s : List Lexeme) (b : Below s) (st : State) (k : ℕ) (f : Func) (e : 
       (parts_stand s b shows start at n [] i.settled home (typ_refl item) (record { base = λ c y a z. absurd cc; member = λ j m y a z. absurd cc }) d q))
 
   copy_left : (at : At) (q : Bool) → f.kind ≡ Constructor → On (Left st) (constructor_implied st at k n (and_typ (own_reference n q) no_typs))
-  copy_left at q h = ?
+  copy_left at q h =
+      let i : Begins shows st start = starts (ap is_special h) in
+      let t : Typ = own_reference n q in
+      let w : Work = with_item start.work t in
+      let a : State = with_work start w in
+      let grows : Leaves start a = work_kept start w (one_item start.work t) in
+      let x = i.settled.good.sound.context in
+      let sound : IsSoundState a = record {
+        context = record {
+          types = x.types;
+          members = x.members;
+          functions = x.functions;
+          enumerators = x.enumerators;
+          variables = x.variables;
+          this = x.this;
+          captures = x.captures;
+          globals = x.globals;
+          many = x.many;
+          copied = x.copied;
+        };
+        closures = refl;
+        returned = i.settled.good.sound.returned;
+      } in
+      let settled : IsSettled shows a = settled_with s b shows start w i.settled sound grows in
+      let same : with_source start t ≡ a = ap (λ (l : List Closure). record start { ctx = record start.ctx { closures = l }; work = w }) i.settled.none in
+      subst (λ (y : State). On (Left st) (and_then (parts_copied y at n (source_object n t at) (source_const t)) (λ (d : Done). constructor_made st at k d))) (sym same)
+      (told (Left st) (parts_copied a at n (source_object n t at) q) _ (λ d u. made a at d h (over_then st start a i.over (over start a grows))
+      (copies_stand s b shows a at n (source_object n t at) q settled home (typ_refl item)
+      (λ z y. b.sources (setting shows z) n (class n) q false false false at (source_at z.work.frame t (y.kept.frame 1 t refl))) refl d u)))
 
   implied_left : (at : At) (kind : FuncKind) (sig : Signature) → f.kind ≡ kind → IsImplied n kind sig → On (Left st) (body_implied st at k n kind (signature_parameters sig))
   implied_left at kind sig h (default safe) = default_left at h

@@ -2,6 +2,7 @@ pub use Rattle.elab_rules.proofs as elab_rules
 pub mod Bodies
 pub mod Constructing
 pub mod Constructors
+pub mod Copying
 pub mod Defaults
 pub mod Entering
 pub mod Growing
