@@ -1,5 +1,5 @@
 -- Initialisers of members, moved to where they stand, can have the qualifiers of the object.
-use Rattle.std.proofs.Common.{◌≡◌, refl, sym, ap, ◌∙◌, subst, ℕ, zero, Bool, true, false, not, ◌&&◌, length}
+use Rattle.std.proofs.Common.{◌≡◌, refl, ap, ◌∙◌, ℕ, zero, Bool, true, false, ◌&&◌, length}
 use Rattle.std.proofs.lemmas.Bool.{and_parts}
 use Rattle.std.specs.Prelude.{if◌then◌else◌}
 use Rattle.elab_rules.specs.cpp_types.Typ.{Typ}
@@ -8,8 +8,8 @@ use Rattle.elab_rules.specs.cpp_types.declared.ranks.Cat.TheVariants.{Prvalue}
 use Rattle.elab_rules.specs.cpp_tree.declared.kinds.TKind.{TKind}
 use Rattle.elab_rules.specs.cpp_tree.declared.kinds.TKind.TheVariants.{Local, Load, Retype, Materialize, Pieces, Piece, Elements}
 use Rattle.elab_rules.specs.cpp_tree.Trees.{Tree, node, Trees, none, more, kind_of, typ_in}
-use Rattle.elab_rules.specs.cpp_tree.Typing.{goes_both_ways, is_class_typ, same_shape, qualified}
-use Rattle.elab_rules.specs.Braces.{ThisAt, relocated, all_relocated, as_part, default_made, requalified}
+use Rattle.elab_rules.specs.cpp_tree.Typing.{goes_both_ways, is_class_typ, same_shape}
+use Rattle.elab_rules.specs.Braces.{ThisAt, relocated, all_relocated, as_part, default_made}
 use Rattle.elab_fits.specs.Standing.{BuildsOne}
 use Rattle.elab_fits.proofs.Nodes.{both}
 use Rattle.elab_fits_braces.specs.Moving.{is_read, DefaultsQualified}

@@ -1,11 +1,10 @@
 -- What builds an object builds one with more qualifiers.
-use Rattle.std.proofs.Common.{◌≡◌, refl, sym, ap, ◌∙◌, subst, ℕ, zero, suc, Bool, true, false, not, ◌&&◌, ◌||◌, nat_lt, List, [], ◌∷◌, map, length, None, is_some, slice_get, arith, le-leb}
+use Rattle.std.proofs.Common.{◌≡◌, refl, sym, ap, ◌∙◌, subst, ℕ, suc, Bool, true, false, not, ◌&&◌, ◌||◌, nat_lt, List, [], ◌∷◌, map, length, None, is_some, slice_get, arith, le-leb}
 use Rattle.std.proofs.lemmas.Bool.{and_parts}
-use Rattle.std.specs.List.{list_all}
 use Rattle.std.specs.Prelude.{if◌then◌else◌}
 use Rattle.elab_rules.specs.tx_ints.declared.kinds.IntKind.{IntKind}
 use Rattle.elab_rules.specs.cpp_types.Typ.{Typ, typ, Form, void, int, enum, null, ptr, ref, array, func, class, closure, tx_ex}
-use Rattle.elab_rules.specs.cpp_types.Class.{Class, InOrder}
+use Rattle.elab_rules.specs.cpp_types.Class.{InOrder}
 use Rattle.elab_rules.specs.cpp_types.Equal.{flag_eq}
 use Rattle.elab_rules.specs.cpp_types.Conversion.{is_lvalue}
 use Rattle.elab_rules.specs.cpp_types.declared.classes.At.{At}
@@ -17,7 +16,7 @@ use Rattle.elab_rules.specs.cpp_tree.declared.roles.Role.{Role}
 use Rattle.elab_rules.specs.cpp_tree.declared.roles.Role.TheVariants.{Value, Word, Initialiser, CopyInit, Destruction}
 use Rattle.elab_rules.specs.cpp_tree.Trees.{Tree, node, Trees, none, more, kind_of, typ_in}
 use Rattle.elab_rules.specs.cpp_tree.Typing.{Head, head_of, passes, form_in, qualified, builds, same_shape, without_exception, is_prvalue, is_class, is_class_typ}
-use Rattle.elab_rules.specs.cpp_tree.Typing.{goes_both_ways, kind_in, is_kind, initialises, is_volatile_typ, are_words}
+use Rattle.elab_rules.specs.cpp_tree.Typing.{goes_both_ways, kind_in, is_kind, initialises, are_words}
 use Rattle.elab_rules.specs.cpp_tree.Parts.{are_pieces, are_elements, size_in}
 use Rattle.elab_rules.specs.cpp_tree.Units.{Func}
 use Rattle.elab_rules.specs.cpp_tree.Roles.{Kids, only, and_any, serves, way_fits, is_piece, part_role, object_role}
@@ -28,13 +27,13 @@ use Rattle.elab_rules.specs.Braces.{requalified, all_requalified}
 use Rattle.elab_fits.specs.Standing.{BuildsOne}
 use Rattle.elab_fits.specs.Objects.{typ_ready, is_ready}
 use Rattle.elab_fits.proofs.Equal.{flag_same, flag_refl}
-use Rattle.elab_fits.proofs.Nodes.{both, or_left, or_right, node_fits, head_kind, head_typ}
+use Rattle.elab_fits.proofs.Nodes.{both, or_right, node_fits, head_kind, head_typ}
 use Rattle.elab_fits.proofs.Pieces.{object_as, part_as}
-use Rattle.elab_fits_braces.specs.Qualified.{is_made, are_made, is_pliable, QualifiedBuild}
+use Rattle.elab_fits_braces.specs.Qualified.{is_made, are_made, QualifiedBuild}
 use Rattle.elab_fits_braces.proofs.PlainRows.{passes_same}
 use Rattle.elab_fits_braces.proofs.Qualifiers.{or_swap, shape_again, class_again, number_again, destructions_again}
 use Rattle.elab_fits_braces.proofs.Depth.{ArePlain, is_plain, all_plain, ready_plain}
-use Rattle.elab_fits_braces.proofs.PartRows.{changed, Own, own_type, are_ready, pieces_ready, pieces_again, ElementAt, element_found, single_again}
+use Rattle.elab_fits_braces.proofs.PartRows.{changed, own_type, are_ready, pieces_ready, pieces_again, element_found}
 
 -- What the test of a node says
 

@@ -1,21 +1,19 @@
 -- Objects that braces initialise.
-use Rattle.std.proofs.Common.{◌≡◌, refl, ℕ, true, false, List, Option}
-use Rattle.std.proofs.lemmas.Bool.{and_from}
-use Rattle.elab_rules.specs.cpp_types.Typ.{Typ, typ, Form, ref}
+use Rattle.std.proofs.Common.{◌≡◌, refl, ℕ, true, List, Option}
+use Rattle.elab_rules.specs.cpp_types.Typ.{Typ, typ, ref}
 use Rattle.elab_rules.specs.cpp_types.declared.ranks.Cat.TheVariants.{Lvalue}
 use Rattle.elab_rules.specs.cpp_lex.Tokens.{Lexeme}
 use Rattle.elab_rules.specs.cpp_ast.declared.arena.At.{At as SyntaxAt}
 use Rattle.elab_rules.specs.cpp_ast.declared.kinds.NodeKind.TheVariants as k
 use Rattle.elab_rules.specs.cpp_ast.Trees as syntax
-use Rattle.elab_rules.specs.cpp_tree.declared.faults.ElabFault.{ElabFault}
 use Rattle.elab_rules.specs.cpp_tree.declared.roles.Role.TheVariants.{Value}
 use Rattle.elab_rules.specs.cpp_tree.Trees.{Tree, cat_of}
-use Rattle.elab_rules.specs.cpp_tree.Typing.{form_in, is_reference}
+use Rattle.elab_rules.specs.cpp_tree.Typing.{form_in}
 use Rattle.elab_rules.specs.cpp_tree.Rows.{Setting}
 use Rattle.elab_rules.specs.elab_ctx.Ctx.{Ctx, Work}
-use Rattle.elab_rules.specs.elab_ctx.Steps.{and_then, at_of, Made, MadeAll}
-use Rattle.elab_rules.specs.Braces.{item_of, items_of, braceable, pieces_made}
-use Rattle.elab_fits.specs.Standing.{FitsAs, Reaches, On}
+use Rattle.elab_rules.specs.elab_ctx.Steps.{at_of}
+use Rattle.elab_rules.specs.Braces.{item_of, items_of, braceable}
+use Rattle.elab_fits.specs.Standing.{FitsAs, On}
 use Rattle.elab_fits.proofs.Steps.{bind}
 use Rattle.elab_fits_forms.specs.Types.{is_target}
 use Rattle.elab_fits_forms.specs.Context.{Holds}

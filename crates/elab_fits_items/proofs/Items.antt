@@ -1,5 +1,5 @@
 -- Items, in braces or not.
-use Rattle.std.proofs.Common.{◌≡◌, refl, sym, ap, ◌∙◌, ℕ, zero, suc, Bool, true, false, not, ◌&&◌, List, [], ◌∷◌, Option, Some, None, is_some, Result, Ok, Err, arith}
+use Rattle.std.proofs.Common.{◌≡◌, refl, ap, ℕ, suc, Bool, true, not, ◌&&◌, List, Option, Some, None, Result, Ok, Err, arith}
 use Rattle.std.proofs.lemmas.Bool.{and_parts}
 use Rattle.std.specs.Prelude.{if◌then◌else◌}
 use Rattle.elab_rules.specs.tx_ints.declared.kinds.IntKind.TheVariants.{ULong}
@@ -15,16 +15,15 @@ use Rattle.elab_rules.specs.cpp_tree.declared.faults.ElabFault.{ElabFault}
 use Rattle.elab_rules.specs.cpp_tree.declared.faults.IllRule.TheVariants.{BadInit, Narrowing}
 use Rattle.elab_rules.specs.cpp_tree.declared.roles.Role.TheVariants.{Value}
 use Rattle.elab_rules.specs.cpp_tree.Trees.{Tree, typ_in, cat_of}
-use Rattle.elab_rules.specs.cpp_tree.Typing.{form_in, is_class_typ, is_reference, word_kind}
+use Rattle.elab_rules.specs.cpp_tree.Typing.{form_in, is_class_typ, word_kind}
 use Rattle.elab_rules.specs.cpp_tree.Rows.{Setting}
 use Rattle.elab_rules.specs.elab_ctx.Ctx.{Ctx, Work}
-use Rattle.elab_rules.specs.elab_ctx.Steps.{and_then, expect, check, at_of, spelling, Operand, Made, MadeAll, Typed}
-use Rattle.elab_rules.specs.Objects.{Part}
+use Rattle.elab_rules.specs.elab_ctx.Steps.{and_then, check, at_of, spelling, Operand, Made, Typed}
 use Rattle.elab_rules.specs.Values.{part_at}
 use Rattle.elab_rules.specs.Initialising.{class_from, scalar_from}
 use Rattle.elab_rules.specs.Strings.{string_bytes}
-use Rattle.elab_rules.specs.Expressions.{expression_with, expression_of, chosen_operand}
-use Rattle.elab_rules.specs.Braces.{item_in, item_expression, item_of, items_of, part_in, braceable, pieces_made, string_object, string_token, is_char_array}
+use Rattle.elab_rules.specs.Expressions.{expression_of, chosen_operand}
+use Rattle.elab_rules.specs.Braces.{item_in, item_expression, item_of, items_of, part_in, braceable, string_object, string_token, is_char_array}
 use Rattle.elab_rules.specs.Braces.{is_aggregate_class, is_object_of, not_narrowed, is_not_narrowed, syntax_place, tree_place}
 use Rattle.elab_fits.specs.Standing.{FitsAs, BuildsOne, Reaches, On}
 use Rattle.elab_fits.proofs.Objects.{sized_from}
@@ -38,7 +37,6 @@ use Rattle.elab_fits_forms.specs.Context.{Holds}
 use Rattle.elab_fits_forms.specs.Expressions.{is_spelled_token, is_spelled, are_spelled}
 use Rattle.elab_fits_forms.proofs.Proper.{part_fits}
 use Rattle.elab_fits_forms.proofs.Sources.{source_of}
-use Rattle.elab_fits_forms.proofs.Types.{declared_target}
 use Rattle.elab_fits_expressions.specs.Growing.{Behind}
 use Rattle.elab_fits_expressions.proofs.Behind as growing
 use Rattle.elab_fits_expressions.proofs.Behind.{same, after, made, passes, behind, either}
@@ -46,9 +44,9 @@ use Rattle.elab_fits_expressions.proofs.Growing.{chosen, expression}
 use Rattle.elab_fits_expressions.proofs.Expressions.{chosen_law}
 use Rattle.elab_fits_expressions.proofs.Holding.{held, reached}
 use Rattle.elab_fits_braces.proofs.Strings.{strings_build}
-use Rattle.elab_fits_items.specs.Items.{ItemsHold, IsBraced, Whole, PartBuilt, BracesBuild, PartsBuild}
+use Rattle.elab_fits_items.specs.Items.{ItemsHold, IsBraced, PartBuilt, PartsBuild}
 use Rattle.elab_fits_items.proofs.Types.{IsItem, initialised_is, size_some}
-use Rattle.elab_fits_items.proofs.Pieces.{IsIndex, IsPlaced, Taken, taken_is, placed, object_made}
+use Rattle.elab_fits_items.proofs.Pieces.{IsIndex, Taken, taken_is, placed, object_made}
 use Rattle.elab_fits_items.proofs.Rest.{AllBuilt, piece_made, rest_made}
 
 -- What is made for an item that is an expression stands behind it

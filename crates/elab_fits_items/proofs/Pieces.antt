@@ -1,36 +1,33 @@
 -- The parts of objects that braces initialise.
-use Rattle.std.proofs.Common.{◌≡◌, refl, sym, ap, ◌∙◌, subst, ℕ, zero, suc, ◌+◌, ◌*◌, ◌-◌, ◌<◌, ◌≤◌, ◌==◌, Bool, true, false, not, ◌&&◌, ◌||◌, nat_lt, List, [], ◌∷◌, length}
-use Rattle.std.proofs.Common.{slice_get, Option, Some, None, is_some, is_none, option_map, arith, ltb-true, lt-ltb, eq-eqb, eqb-true}
+use Rattle.std.proofs.Common.{◌≡◌, refl, sym, ap, ◌∙◌, subst, ℕ, suc, ◌*◌, ◌<◌, ◌≤◌, Bool, true, false, not, ◌&&◌, nat_lt, List, [], ◌∷◌, length}
+use Rattle.std.proofs.Common.{slice_get, Option, Some, None, is_some, is_none, option_map, arith, ltb-true, lt-ltb, eq-eqb}
 use Rattle.std.proofs.lemmas.Bool.{and_parts}
 use Rattle.std.proofs.lemmas.Option.{slice_get_within}
 use Rattle.std.specs.Prelude.{if◌then◌else◌}
 use Rattle.elab_rules.specs.tx_ints.declared.kinds.IntKind.TheVariants.{ULong}
-use Rattle.elab_rules.specs.cpp_types.Typ.{Typ, typ, Form, void, int, enum, null, ptr, ref, array, func, class, closure, tx_ex}
+use Rattle.elab_rules.specs.cpp_types.Typ.{Typ, typ, void, int, enum, null, ptr, ref, array, func, class, closure, tx_ex}
 use Rattle.elab_rules.specs.cpp_types.Class.{Class, Member, completion_of}
 use Rattle.elab_rules.specs.cpp_types.Equal.{typ_eq}
 use Rattle.elab_rules.specs.cpp_types.declared.classes.At.{At}
 use Rattle.elab_rules.specs.cpp_types.declared.ranks.Cat.TheVariants.{Prvalue}
-use Rattle.elab_rules.specs.cpp_tree.declared.faults.ElabFault.{ElabFault}
 use Rattle.elab_rules.specs.cpp_tree.declared.faults.IllRule.{IllRule}
 use Rattle.elab_rules.specs.cpp_tree.declared.faults.IllRule.TheVariants.{Incomplete, OutOfProfile}
 use Rattle.elab_rules.specs.cpp_tree.declared.kinds.TKind.TheVariants.{Pieces, Piece}
 use Rattle.elab_rules.specs.cpp_tree.declared.roles.Position.{Position}
 use Rattle.elab_rules.specs.cpp_tree.declared.roles.Role.TheVariants.{Initialiser, Part as PartRole, Destruction}
-use Rattle.elab_rules.specs.cpp_tree.Notation.{plain}
-use Rattle.elab_rules.specs.cpp_tree.Trees.{Tree, node, Trees, none, more}
+use Rattle.elab_rules.specs.cpp_tree.Trees.{Tree, node, Trees, more}
 use Rattle.elab_rules.specs.cpp_tree.Typing.{Head, head_of, passes, form_in, qualified, is_word_of}
-use Rattle.elab_rules.specs.cpp_tree.Parts.{size_in, sized_class, part_of, count_of_parts, are_part_pieces, are_element_pieces, are_pieces, is_piece_at, is_piece_of, is_last}
+use Rattle.elab_rules.specs.cpp_tree.Parts.{count_of_parts, are_part_pieces, are_element_pieces, are_pieces, is_piece_of}
 use Rattle.elab_rules.specs.cpp_tree.Roles.{and_any}
 use Rattle.elab_rules.specs.cpp_tree.Rows.{Setting}
 use Rattle.elab_rules.specs.cpp_tree.WellFormed.{fits, kids_fit, heads_of}
 use Rattle.elab_rules.specs.elab_ctx.Ctx.{Ctx, Work}
-use Rattle.elab_rules.specs.elab_ctx.Steps.{and_then, check}
+use Rattle.elab_rules.specs.elab_ctx.Steps.{check}
 use Rattle.elab_rules.specs.Objects.{Part, size_of, destroys}
 use Rattle.elab_rules.specs.Names.{members_in, offset_at}
 use Rattle.elab_rules.specs.Braces.{part_in, piece, braceable, is_aggregate_class, has_no_base, is_empty, is_virtual_member, is_written_constructor}
 use Rattle.elab_rules.specs.Initialising.{places_from}
 use Rattle.elab_fits.specs.Standing.{BuildsOne, On}
-use Rattle.elab_fits.specs.Objects.{AllFit}
 use Rattle.elab_fits.proofs.Equal.{typ_refl}
 use Rattle.elab_fits.proofs.Nodes.{both, or_left, or_right, node_fits}
 use Rattle.elab_fits.proofs.Objects.{laid_from, sized_class_is, size_is}
@@ -41,7 +38,7 @@ use Rattle.elab_fits_objects.proofs.Fits.{object_kids, at_least_one, any_many}
 use Rattle.elab_fits_forms.specs.Types.{is_lambda}
 use Rattle.elab_fits_forms.specs.Context.{Holds}
 use Rattle.elab_fits_items.specs.Items.{MembersSingle}
-use Rattle.elab_fits_items.proofs.Types.{IsItem, element_item, fewer_item, offset_small, destroyed, IsAggregate, IsMember, member_is, count_members, no_flags}
+use Rattle.elab_fits_items.proofs.Types.{IsItem, element_item, offset_small, destroyed, IsAggregate, IsMember, member_is, count_members}
 
 -- what is said of the pieces from one on
 abbrev pub Agree : List Class → Typ → ℕ → List Head → Type 0

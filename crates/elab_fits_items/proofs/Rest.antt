@@ -1,29 +1,27 @@
 -- Parts behind the last item.
-use Rattle.std.proofs.Common.{◌≡◌, refl, sym, ap, ◌∙◌, subst, ℕ, zero, suc, ◌+◌, ◌*◌, ◌-◌, ◌<◌, ◌≤◌, ◌==◌, Bool, true, false, ◌&&◌, List, [], ◌∷◌, ◌++◌, length, drop}
-use Rattle.std.proofs.Common.{slice_get, Option, Some, None, is_some, Result, Ok, Err, arith, lt-ltb, eq-eqb, eqb-true}
+use Rattle.std.proofs.Common.{◌≡◌, refl, sym, ap, ◌∙◌, subst, ℕ, zero, suc, ◌+◌, ◌*◌, ◌-◌, ◌≤◌, ◌==◌, Bool, true, false, ◌&&◌, List, [], ◌∷◌, length, drop}
+use Rattle.std.proofs.Common.{slice_get, Option, Some, None, is_some, Result, Ok, arith, lt-ltb, eq-eqb, eqb-true}
 use Rattle.std.proofs.lemmas.Bool.{and_parts}
 use Rattle.std.specs.Prelude.{if◌then◌else◌}
-use Rattle.elab_rules.specs.cpp_types.Typ.{Typ, typ, Form, array, class, ptr}
+use Rattle.elab_rules.specs.cpp_types.Typ.{Typ, typ, array, class, ptr}
 use Rattle.elab_rules.specs.cpp_types.Class.{Class, Member, InOrder}
 use Rattle.elab_rules.specs.cpp_types.Equal.{typ_eq}
 use Rattle.elab_rules.specs.cpp_types.declared.classes.At.{At}
 use Rattle.elab_rules.specs.cpp_types.declared.ranks.Cat.TheVariants.{Lvalue}
 use Rattle.elab_rules.specs.cpp_tree.declared.faults.ElabFault.{ElabFault}
-use Rattle.elab_rules.specs.cpp_tree.declared.roles.Position.{Position}
-use Rattle.elab_rules.specs.cpp_tree.declared.roles.Role.TheVariants.{Value, Part as PartRole}
+use Rattle.elab_rules.specs.cpp_tree.declared.roles.Role.TheVariants.{Value}
 use Rattle.elab_rules.specs.cpp_tree.Notation.{plain}
-use Rattle.elab_rules.specs.cpp_tree.Trees.{Tree, Trees, none, more, one, cat_of}
-use Rattle.elab_rules.specs.cpp_tree.Typing.{Head, form_in, qualified}
-use Rattle.elab_rules.specs.cpp_tree.Parts.{size_in, count_of_parts, are_part_pieces, are_element_pieces, is_piece_at}
+use Rattle.elab_rules.specs.cpp_tree.Trees.{Tree, cat_of}
+use Rattle.elab_rules.specs.cpp_tree.Typing.{form_in, qualified}
+use Rattle.elab_rules.specs.cpp_tree.Parts.{size_in, count_of_parts}
 use Rattle.elab_rules.specs.cpp_tree.Rows.{Setting}
-use Rattle.elab_rules.specs.cpp_tree.WellFormed.{heads_of}
 use Rattle.elab_rules.specs.elab_ctx.Ctx.{Ctx, Work, Default}
 use Rattle.elab_rules.specs.elab_ctx.Steps.{and_then, Made, MadeAll}
 use Rattle.elab_rules.specs.Objects.{Part, size_of}
 use Rattle.elab_rules.specs.Initialising.{from_nothing}
 use Rattle.elab_rules.specs.Names.{members_in, offset_at}
-use Rattle.elab_rules.specs.Braces.{ThisAt, this_of, piece, with_piece, rest_piece, rest_members, rest_in, default_at, default_member, default_whole, tree_place}
-use Rattle.elab_fits.specs.Standing.{FitsAs, BuildsOne, Reaches, On}
+use Rattle.elab_rules.specs.Braces.{this_of, with_piece, rest_piece, rest_members, rest_in, default_at, default_member, tree_place}
+use Rattle.elab_fits.specs.Standing.{FitsAs, Reaches, On}
 use Rattle.elab_fits.specs.Objects.{is_ready}
 use Rattle.elab_fits.proofs.Equal.{typ_refl}
 use Rattle.elab_fits.proofs.Nodes.{both, or_left}
@@ -37,12 +35,13 @@ use Rattle.elab_fits_expressions.specs.Growing.{Behind}
 use Rattle.elab_fits_expressions.proofs.Behind.{found_before, same, after}
 use Rattle.elab_fits_expressions.proofs.Holding.{reached}
 use Rattle.elab_fits_braces.specs.Moving.{IsThis, DefaultFits, this_typ}
-use Rattle.elab_fits_braces.specs.Defaults.{IsDefault, AllDefaultsFit}
+use Rattle.elab_fits_braces.specs.Defaults.{AllDefaultsFit}
+use Rattle.elab_fits_braces.proofs.Found.{DefaultAt, default_found}
 use Rattle.elab_fits_braces.proofs.Pliable.{defaults_qualified}
 use Rattle.elab_fits_braces.proofs.This.{object_is_this}
 use Rattle.elab_fits_items.specs.Items.{MembersSingle, PartBuilt}
-use Rattle.elab_fits_items.proofs.Types.{IsItem, element_item, fewer_item, object_is, IsAggregate, IsMember, member_is, count_members}
-use Rattle.elab_fits_items.proofs.Pieces.{Agree, PiecesFrom, IsIndex, IsPlaced, Taken, member_joins, piece_fits, joined}
+use Rattle.elab_fits_items.proofs.Types.{IsItem, fewer_item, object_is, IsAggregate, member_is, count_members}
+use Rattle.elab_fits_items.proofs.Pieces.{PiecesFrom, IsIndex, IsPlaced, Taken, member_joins, piece_fits, joined}
 
 -- parts that are made stand behind what was made before
 pub record AllBuilt (s : Setting) (c : Ctx) (w : Work) (t : Typ) (i : ℕ) (r : MadeAll) : Type 0 where
@@ -61,33 +60,6 @@ drop_many : {A : Type 0} (i : ℕ) (xs : List A) → i ≤ length xs → i + len
 drop_many {A} zero xs l = omega arith
 drop_many {A} (suc i) [] l = absurd (omega arith)
 drop_many {A} (suc i) (y ∷ xs) l = let h = drop_many i xs (omega arith) in omega arith
-
--- the initialiser that is kept for a member
-record DefaultAt (n i : ℕ) (ds : List Default) (d : Default) : Type 0 where
-  index : ℕ
-  at : slice_get ds index ≡ Some d
-  class : d.class ≡ n
-  member : d.member ≡ i
-
-default_found : (n i : ℕ) (ds : List Default) (d : Default) → default_at n i ds ≡ Some d → DefaultAt n i ds d
-default_found n i [] d h = absurd cc
-default_found n i (x ∷ ds) d h = by (x.class == n && x.member == i) refl h (λ g. default_found n i ds d g)
-  where
-    later : DefaultAt n i ds d → DefaultAt n i (x ∷ ds) d
-    later y = record { index = suc y.index; at = y.at; class = y.class; member = y.member }
-
-    by : (b : Bool) → (x.class == n && x.member == i) ≡ b → (if b then Some x else default_at n i ds) ≡ Some d
-        → (default_at n i ds ≡ Some d → DefaultAt n i ds d) → DefaultAt n i (x ∷ ds) d
-    by true e g f =
-        let a = and_parts (x.class == n) (x.member == i) e in
-        let q : x ≡ d = cc in
-        record {
-          index = 0;
-          at = ap Some q;
-          class = ap (λ (y : Default). y.class) (sym q) ∙ eqb-true x.class n a.0;
-          member = ap (λ (y : Default). y.member) (sym q) ∙ eqb-true x.member i a.1;
-        }
-    by false e g f = later (f g)
 
 module _ (s : Setting) (c : Ctx) (w0 : Work) (h : Holds s c w0) (single : MembersSingle c) (defaults : AllDefaultsFit s c.defaults) where
   -- from nothing

@@ -1,29 +1,28 @@
 -- Types of items: objects of them can be made, and so can their elements and members.
-use Rattle.std.proofs.Common.{◌≡◌, refl, sym, ap, ◌∙◌, subst, ℕ, zero, suc, ◌+◌, ◌*◌, ◌<◌, ◌≤◌, Bool, true, false, not, ◌&&◌, ◌||◌, nat_le, nat_lt, List, [], ◌∷◌, ◌++◌}
+use Rattle.std.proofs.Common.{◌≡◌, refl, sym, ap, ◌∙◌, ℕ, zero, suc, ◌+◌, ◌*◌, ◌<◌, ◌≤◌, Bool, true, false, not, ◌&&◌, ◌||◌, nat_le, nat_lt, List, [], ◌∷◌, ◌++◌}
 use Rattle.std.proofs.Common.{length, slice_get, Option, Some, None, is_some, arith, ltb-true, lt-ltb, le-leb, option_and_then}
 use Rattle.std.proofs.lemmas.Bool.{and_parts}
 use Rattle.std.proofs.lemmas.Nat.{mul-le}
 use Rattle.std.specs.List.{list_all}
-use Rattle.elab_rules.specs.cpp_types.Typ.{Typ, typ, Form, void, int, enum, null, ptr, ref, array, func, class, closure, tx_ex}
-use Rattle.elab_rules.specs.cpp_types.Class.{Class, Member, InOrder, completion_of}
+use Rattle.elab_rules.specs.cpp_types.Typ.{Typ, typ, void, int, enum, null, ptr, ref, array, func, class, closure, tx_ex}
+use Rattle.elab_rules.specs.cpp_types.Class.{Class, Member, completion_of}
 use Rattle.elab_rules.specs.cpp_types.declared.classes.At.{At}
-use Rattle.elab_rules.specs.cpp_layout.Layout.{extent_of}
 use Rattle.elab_rules.specs.cpp_layout.Measured.{member_offset}
 use Rattle.elab_rules.specs.cpp_tree.Notation.{plain}
 use Rattle.elab_rules.specs.cpp_tree.Typing.{form_in, qualified, is_reference}
 use Rattle.elab_rules.specs.cpp_tree.Parts.{size_in, part_of, count_of_parts}
 use Rattle.elab_rules.specs.cpp_tree.Rows.{Setting}
 use Rattle.elab_rules.specs.elab_ctx.Ctx.{Ctx, Work}
-use Rattle.elab_rules.specs.Objects.{Part, parts_of, parts_in, members_from, base_part, element_of, is_array, size_of, destroys}
+use Rattle.elab_rules.specs.Objects.{Part, parts_in, members_from, base_part, element_of, is_array, size_of, destroys}
 use Rattle.elab_rules.specs.Names.{members_in, offset_of_member, offset_at}
 use Rattle.elab_fits.specs.Objects.{typ_ready, part_ready, class_ready, is_ready, is_closure, has_lambdas, DestroysOne}
 use Rattle.elab_fits.proofs.Nodes.{both}
-use Rattle.elab_fits.proofs.Objects.{Sized, sized_from, size_is, qualified_sized, element_sized, Laid, laid_from, member_sized, few_members, IsPart, part_is, shown, count_is}
+use Rattle.elab_fits.proofs.Objects.{Sized, size_is, qualified_sized, element_sized, Laid, member_sized, few_members, part_is, shown, count_is}
 use Rattle.elab_fits.proofs.Wholes.{qualified_none}
 use Rattle.elab_fits.proofs.Destructions.{destructions_law}
-use Rattle.elab_fits_objects.specs.Contexts.{refers, is_whole, is_named_class, IsObjectTyp, IsParameter, IsInitialised}
+use Rattle.elab_fits_objects.specs.Contexts.{IsObjectTyp, IsInitialised}
 use Rattle.elab_fits_objects.proofs.Captures.{qualified_ready, qualified_single}
-use Rattle.elab_fits_forms.specs.Types.{is_sound, is_target, is_parameter, is_lambda}
+use Rattle.elab_fits_forms.specs.Types.{is_target, is_parameter, is_lambda}
 use Rattle.elab_fits_forms.specs.Context.{Holds}
 use Rattle.elab_fits_forms.proofs.Readiness.{any_ready}
 use Rattle.elab_fits_forms.proofs.Sources.{sorted_typ, parameter_is}

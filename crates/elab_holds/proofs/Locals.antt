@@ -1,8 +1,8 @@
 -- What is asked of the function at hand holds from its parameters on.
-use Rattle.std.proofs.Common.{◌≡◌, refl, sym, ap, ◌∙◌, subst, ℕ, zero, suc, Bool, true, false, nat_lt, List, [], ◌∷◌, ◌++◌, length, Option, Some, None, is_some, slice_get}
+use Rattle.std.proofs.Common.{arith, lt-ltb, ◌<◌, ◌≡◌, refl, sym, ap, ◌∙◌, subst, ℕ, zero, suc, Bool, true, false, nat_lt, List, [], ◌∷◌, ◌++◌, length, Option, Some, None, is_some, slice_get}
 use Rattle.std.proofs.lemmas.Option.{same_Some}
-use Rattle.std.specs.Prelude.{if◌then◌else◌, ◌||◌, ◌&&◌}
-use Rattle.elab_rules.specs.cpp_types.Typ.{Typ, void, ptr, class}
+use Rattle.std.specs.Prelude.{if◌then◌else◌, ◌||◌, ◌&&◌, not, count_by}
+use Rattle.elab_rules.specs.cpp_types.Typ.{Typ, typ, Signature, void, ptr, class, closure}
 use Rattle.elab_rules.specs.cpp_types.Equal.{typ_eq}
 use Rattle.elab_rules.specs.cpp_types.Class.{Class, completion_of, held}
 use Rattle.elab_rules.specs.cpp_lex.Tokens.{Lexeme}
@@ -15,6 +15,8 @@ use Rattle.elab_rules.specs.Names.{is_outer}
 use Rattle.elab_rules.specs.Operators.{is_complete}
 use Rattle.elab_rules.specs.Types.{Parameter}
 use Rattle.elab_rules.specs.Statements.{State, is_fresh}
+use Rattle.elab_rules.specs.Classes.{class_named, is_completed}
+use Rattle.elab_rules.specs.Lambdas.{Written, capture_members, call_record}
 use Rattle.elab_rules.specs.Functions.{entered, result_items, this_items, this_at, word_item, with_parameters, parameter_named}
 use Rattle.elab_fits.specs.Standing.{On}
 use Rattle.elab_fits.proofs.Equal.{typ_refl}
@@ -22,7 +24,7 @@ use Rattle.elab_fits_forms.specs.Context.{is_item_of}
 use Rattle.elab_contexts.proofs.Walking.{bind, skip}
 use Rattle.elab_contexts.proofs.Lists.{one_more_at}
 use Rattle.elab_contexts.proofs.Found.{before_it, at_the_end}
-use Rattle.elab_holds.specs.Locals.{Locals, HoldIn, HasItemOf, LocalsHold, Stays, LocalsStay, FunctionsEntered, ObjectsEntered, ParametersPlaced}
+use Rattle.elab_holds.specs.Locals.{Locals, locals, HoldIn, HasItemOf, LocalsHold, Stays, LocalsStay, FunctionsEntered, ObjectsEntered, ParametersPlaced}
 use Rattle.elab_holds.specs.Locals.{LambdasEntered, VariablesPlaced, VariablesDeclared}
 
 -- What stays
@@ -64,7 +66,7 @@ placed_law st name t h = variable_placed _ st.work.frame t t (by (typ_eq t t) (t
 
 pub declared_law : VariablesDeclared
 declared_law st name h = record {
-  variables = λ i w u o e k. one_more_at (HasItems _ st.work.frame) st.ctx.variables (record { typ = None; place = length st.work.frame })
+  variables = λ i w u o e k. one_more_at (HasItems (locals st.ctx) st.work.frame) st.ctx.variables (record { typ = None; place = length st.work.frame })
       (λ j y g u p m. h.variables j y u p g m) (λ u p m. absurd cc) i w e u o k;
   this = h.this;
   inside = h.inside;
@@ -105,7 +107,7 @@ this_placed before (Some u) t e = subst (λ (x : This). slice_get (before ++ pla
     (at_the_end before (plain (ptr u)))
 
 pub entered_law : FunctionsEntered
-entered_law st r this class h = record {
+entered_law st r this home h = record {
   variables = λ i v t o e k. absurd cc;
   this = λ t e. this_placed (result_items r) this t e;
   inside = h;
@@ -127,19 +129,32 @@ end_complete [] c h = h
 end_complete (d ∷ cs) c h = end_complete cs c h
 
 -- all variables around it are outer ones
+place_within : {A : Type 0} (xs : List A) (i : ℕ) (x : A) → slice_get xs i ≡ Some x → i < length xs
+place_within [] i x h = absurd cc
+place_within (y ∷ xs) zero x h = omega arith
+place_within (y ∷ xs) (suc i) x h = let l = place_within xs i x h in omega (arith, l)
+
 within_list : {A : Type 0} (xs : List A) (i : ℕ) (x : A) → slice_get xs i ≡ Some x → nat_lt i (length xs) ≡ true
-within_list [] i x h = absurd cc
-within_list (y ∷ xs) zero x h = refl
-within_list (y ∷ xs) (suc i) x h = within_list xs i x h
+within_list xs i x h = lt-ltb i (length xs) (place_within xs i x h)
 
 outer_by : (b : Bool) (l : Lambda) (A : Type 0) → b ≡ true → (if b then Some l else None) ≡ None → A
 outer_by true l A h e = absurd cc
 outer_by false l A h e = absurd cc
 
+abbrev closure_class : State → Written → Signature → Class
+closure_class st x sig = class_named [] None false (capture_members x.captures) (call_record x.at sig x.qualifiers x.is_mutable ∷ [])
+    (Some (count_by is_completed st.ctx.classes))
+
 pub lambdas_law : LambdasEntered
-lambdas_law st before x rs r sig h = record {
-  variables = λ i v t o e k. outer_by (nat_lt i (length st.ctx.variables)) _ _ (within_list st.ctx.variables i v e) o;
-  this = λ t e. subst (λ (y : This). slice_get _ y.place ≡ Some (plain (ptr y.typ))) (same_Some _ t e) (at_the_end (result_items r) _);
-  inside = λ n e. still_complete st.ctx.classes _ n (h.inside n e);
-  lambda = λ y e. subst (λ (z : Lambda). is_some (completion_of _ z.class) ≡ true) (same_Some _ y e) (end_complete st.ctx.classes _ refl);
-}
+lambdas_law st before x rs r sig h =
+    let own : Typ = typ (closure (length st.ctx.classes)) (not x.is_mutable) false in
+    let l : Lambda = record { class = length st.ctx.classes; outer = length st.ctx.variables; captures = x.captures } in
+    let cs : List Class = st.ctx.classes ++ closure_class st x sig ∷ [] in
+    record {
+      variables = λ i v t o e k. outer_by (nat_lt i (length st.ctx.variables)) l _ (within_list st.ctx.variables i v e) o;
+      this = λ t e. subst (λ (y : This). slice_get (result_items r ++ plain (ptr own) ∷ []) y.place ≡ Some (plain (ptr y.typ)))
+          (same_Some (record { typ = own; place = length (result_items r) }) t e) (at_the_end (result_items r) (plain (ptr own)));
+      inside = λ n e. still_complete st.ctx.classes (closure_class st x sig) n (h.inside n e);
+      lambda = λ y e. subst (λ (z : Lambda). is_some (completion_of cs z.class) ≡ true) (same_Some l y e)
+          (end_complete st.ctx.classes (closure_class st x sig) refl);
+    }

@@ -1,5 +1,5 @@
 -- Types that are sound pass the tests that the laws of expressions make.
-use Rattle.std.proofs.Common.{◌≡◌, refl, sym, ap, ◌∙◌, subst, ℕ, zero, suc, Bool, true, false, not, ◌&&◌, ◌||◌, nat_lt, List, [], ◌∷◌, length, Option, Some, None, is_some, slice_get, option_and_then}
+use Rattle.std.proofs.Common.{arith, ltb-true, lt-ltb, ◌<◌, ◌≡◌, refl, sym, ap, ◌∙◌, subst, ℕ, zero, suc, Bool, true, false, not, ◌&&◌, ◌||◌, nat_lt, List, [], ◌∷◌, length, Option, Some, None, is_some, slice_get, option_and_then}
 use Rattle.std.proofs.lemmas.Bool.{and_parts, and_from}
 use Rattle.elab_rules.specs.cpp_types.Typ.{Typ, typ, Form, void, int, enum, null, ptr, ref, array, func, class, closure, tx_ex, Signature, signature, Typs, none, more}
 use Rattle.elab_rules.specs.cpp_types.Class.{Class, completion_of, typ_below, form_below, signature_below, typs_below}
@@ -49,16 +49,21 @@ no_lambda cs n h = no_lambda_by (slice_get cs n) h
 
 -- Places in the list
 
+place_within : (cs : List Class) (n : ℕ) → is_some (slice_get cs n) ≡ true → n < length cs
+place_within [] n h = absurd cc
+place_within (c ∷ cs) zero h = omega arith
+place_within (c ∷ cs) (suc n) h = let l = place_within cs n h in omega (arith, l)
+
 pub listed : (cs : List Class) (n : ℕ) → is_some (slice_get cs n) ≡ true → nat_lt n (length cs) ≡ true
-listed [] n h = absurd cc
-listed (c ∷ cs) zero h = refl
-listed (c ∷ cs) (suc n) h = listed cs n h
+listed cs n h = lt-ltb n (length cs) (place_within cs n h)
+
+within_place : (cs : List Class) (n : ℕ) → n < length cs → is_some (slice_get cs n) ≡ true
+within_place [] n h = absurd (omega (arith, h))
+within_place (c ∷ cs) zero h = refl
+within_place (c ∷ cs) (suc n) h = within_place cs n (omega (arith, h))
 
 pub found : (cs : List Class) (n : ℕ) → nat_lt n (length cs) ≡ true → is_some (slice_get cs n) ≡ true
-found [] zero h = absurd cc
-found [] (suc n) h = absurd cc
-found (c ∷ cs) zero h = refl
-found (c ∷ cs) (suc n) h = found cs n h
+found cs n h = within_place cs n (ltb-true n (length cs) h)
 
 some_by : (p : Class → Bool) (o : Option Class) → passes p o ≡ true → is_some o ≡ true
 some_by p None h = absurd cc
@@ -77,7 +82,7 @@ complete_found cs n h = complete_by (slice_get cs n) h
 pub name_found : (cs : List Class) (n : ℕ) → has_name cs n ≡ true → is_some (slice_get cs n) ≡ true
 name_found cs n h = some_by (λ (k : Class). not (is_no_name k.name)) (slice_get cs n) h
 
-not_true : (b : Bool) → not b ≡ true → b ≡ false
+pub not_true : (b : Bool) → not b ≡ true → b ≡ false
 not_true false h = refl
 not_true true h = absurd cc
 
@@ -120,11 +125,11 @@ exception_sound cs (tx_ex t) false false h = absurd cc
 abbrev no_more : Use → Type 0
 no_more way = (sound.may_be_void way ≡ false) × (sound.may_refer way ≡ false)
 
-both_true : (a b : Bool) (A : Type 0) → a ≡ false → (a && b) ≡ true → A
+pub both_true : (a b : Bool) (A : Type 0) → a ≡ false → (a && b) ≡ true → A
 both_true false b A e h = absurd cc
 both_true true b A e h = absurd cc
 
-is_true : (a : Bool) (A : Type 0) → a ≡ false → a ≡ true → A
+pub is_true : (a : Bool) (A : Type 0) → a ≡ false → a ≡ true → A
 is_true false A e h = absurd cc
 is_true true A e h = absurd cc
 
@@ -171,8 +176,8 @@ mutual
 
   pub parameter_sound : (cs : List Class) (t : Typ) → sound.is_sound cs parameter t ≡ true → forms.is_parameter cs t ≡ true
   parameter_sound cs (typ void c v) h = absurd cc
-  parameter_sound cs (typ (array t n) c v) h = both_true false _ _ refl h
-  parameter_sound cs (typ (func s) c v) h = both_true false _ _ refl h
+  parameter_sound cs (typ (array t n) c v) h = is_true false _ refl h
+  parameter_sound cs (typ (func s) c v) h = is_true false _ refl h
   parameter_sound cs (typ (int k) c v) h = refl
   parameter_sound cs (typ (enum n s) c v) h = refl
   parameter_sound cs (typ null c v) h = refl
@@ -183,8 +188,8 @@ mutual
   parameter_sound cs (typ (tx_ex t) c v) h = form_sound cs parameter (c || v) (tx_ex t) h
 
   pub result_sound : (cs : List Class) (t : Typ) → sound.is_sound cs result t ≡ true → forms.is_result cs t ≡ true
-  result_sound cs (typ (array t n) c v) h = both_true false _ _ refl h
-  result_sound cs (typ (func s) c v) h = both_true false _ _ refl h
+  result_sound cs (typ (array t n) c v) h = is_true false _ refl h
+  result_sound cs (typ (func s) c v) h = is_true false _ refl h
   result_sound cs (typ void c v) h = refl
   result_sound cs (typ (int k) c v) h = refl
   result_sound cs (typ (enum n s) c v) h = refl

@@ -38,7 +38,7 @@ module _ (g : Sought) where
 
   -- a kind of nodes that hold what their kids hold
   record IsOpen (kind : TKind) : Type 0 where
-    holds : (ts : Trees) (t : Typ) (cat : Cat) (at : At) → held g (node kind t cat at ts) ≡ all_held g ts
+    holds : (ts : Trees) (t : Typ) (cat : Cat) (at : At) → held g (node kind t cat at ts) ≡ 0 + all_held g ts
 
   -- a call of such a kind
   called : (c : Ctx) (w : Work) (at : At) (kind : TKind) (sig : Signature) (self : Trees) (os : List Operand)
@@ -46,7 +46,7 @@ module _ (g : Sought) where
       → On (Gives g (all_held g self + operands_held g os) w) (Calls.called c w at kind sig self os)
   called c w at kind sig self os k = skip P (Calls.complete_result c at (signature_result sig)) _
       (λ y. bind (GiveAll g (operands_held g os) w) P (Initialising.words c w (signature_parameters sig) os) _ (initials.words g c w (signature_parameters sig) os)
-      (λ m h. omega (arith, k.holds (followed_by self m.trees) _ _ at, parts.followed g self m.trees)))
+      (λ m h. omega (arith, k.holds (followed_by self m.trees) (Calls.result_type (signature_result sig)) (Calls.result_category (signature_result sig)) at, parts.followed g self m.trees)))
     where
       P : Made → Type 0
       P = Gives g (all_held g self + operands_held g os) w

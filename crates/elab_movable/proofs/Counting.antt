@@ -1,13 +1,13 @@
 -- Nodes that hold a tree where it is: items of the frame but for the pointer `this` that is read, and nodes that say something of their function.
 -- A tree with `held` of them that is made of trees that hold `b`, behind a frame with an item, holds at most as many.
-use Rattle.std.proofs.Common.{◌≡◌, refl, ℕ, ◌+◌, ◌≤◌, Bool, true, false, not, cond, eqb, ltb, List, [], ◌∷◌}
+use Rattle.std.proofs.Common.{◌≡◌, ap, ℕ, ◌+◌, ◌≤◌, lt-ltb, le-ltb, Bool, true, false, cond, eqb, ltb, List, [], ◌∷◌}
 use Rattle.std.proofs.Common.{◌++◌, length, length-append, zero, suc, arith}
 use Rattle.std.proofs.lemmas.Bool.Decides.{nat_tests}
 use Rattle.elab_rules.specs.cpp_types.Typ.{Typ}
 use Rattle.elab_rules.specs.elab_ctx.Ctx.{Work, with_item, next_place}
 use Rattle.elab_rules.specs.elab_ctx.Steps.{Operand, Made, MadeAll}
 use Rattle.elab_rules.specs.cpp_tree.Trees.{Tree}
-use Rattle.elab_movable.specs.Movable.{Sought, one_if, at_place, own_count, held, all_held}
+use Rattle.elab_movable.specs.Movable.{Sought, one_if, at_place, held, all_held}
 
 unfoldable pub room : Sought → ℕ → ℕ
 room g n = one_if (ltb 0 n)
@@ -53,8 +53,8 @@ none_held g w n b l h = by (length w.frame) (ltb 0 n) l h
   where
     by : (k : ℕ) (x : Bool) → 1 ≤ k → b + one_if (ltb 0 k) ≤ 0 + one_if x → b ≡ 0
     by zero x m i = absurd (omega arith)
-    by (suc k) true m i = omega arith
-    by (suc k) false m i = absurd (omega arith)
+    by (suc k) true m i = let e : one_if (ltb 0 (suc k)) ≡ 1 = ap one_if (lt-ltb 0 (suc k) (omega arith)) in omega arith
+    by (suc k) false m i = let e : one_if (ltb 0 (suc k)) ≡ 1 = ap one_if (lt-ltb 0 (suc k) (omega arith)) in absurd (omega arith)
 
 pub some_left : (g : Sought) (w : Work) (n b : ℕ) → 1 ≤ length w.frame → b + used g w ≤ 0 + room g n → 1 ≤ n
 unfolding room
@@ -62,5 +62,6 @@ some_left g w n b l h = by (length w.frame) n l h
   where
     by : (k m : ℕ) → 1 ≤ k → b + one_if (ltb 0 k) ≤ 0 + one_if (ltb 0 m) → 1 ≤ m
     by zero m i j = absurd (omega arith)
-    by (suc k) zero i j = absurd (omega arith)
+    by (suc k) zero i j = let e : one_if (ltb 0 (suc k)) ≡ 1 = ap one_if (lt-ltb 0 (suc k) (omega arith)) in
+        let f : one_if (ltb 0 0) ≡ 0 = ap one_if (le-ltb 0 0 (omega arith)) in absurd (omega arith)
     by (suc k) (suc m) i j = omega arith

@@ -1,8 +1,8 @@
 -- Initialisers of members can be moved.
-use Rattle.std.proofs.Common.{◌≡◌, refl, sym, ap, ◌∙◌, subst, ℕ, zero, suc, ◌+◌, ◌≤◌, ◌-◌, Bool, true, false, not, List, [], ◌∷◌, length, Option, Some, None}
+use Rattle.std.proofs.Common.{◌≡◌, refl, sym, ap, ◌∙◌, ℕ, zero, suc, ◌+◌, ◌≤◌, ◌-◌, List, [], ◌∷◌, length, nat_lt, Some}
 use Rattle.std.proofs.Common.{slice_get, Result, Ok, Err, arith}
 use Rattle.std.specs.Prelude.{if◌then◌else◌}
-use Rattle.elab_rules.specs.cpp_types.Typ.{Typ, typ, Form, void, int, enum, null, ptr, ref, array, func, class, closure, tx_ex}
+use Rattle.elab_rules.specs.cpp_types.Typ.{Typ, typ, void, int, enum, null, ptr, ref, array, func, class, closure, tx_ex}
 use Rattle.elab_rules.specs.cpp_types.declared.classes.At.{At}
 use Rattle.elab_rules.specs.cpp_types.declared.ranks.Cat.TheVariants.{Prvalue}
 use Rattle.elab_rules.specs.cpp_lex.Tokens.{Lexeme}
@@ -11,17 +11,17 @@ use Rattle.elab_rules.specs.cpp_tree.declared.faults.ElabFault.{ElabFault}
 use Rattle.elab_rules.specs.cpp_tree.declared.faults.IllRule.TheVariants.{BadInit, OutOfProfile}
 use Rattle.elab_rules.specs.cpp_tree.declared.kinds.TKind.TheVariants.{Literal}
 use Rattle.elab_rules.specs.cpp_tree.Notation.{plain}
-use Rattle.elab_rules.specs.cpp_tree.Trees.{Tree, node, Trees, none, more}
+use Rattle.elab_rules.specs.cpp_tree.Trees.{node, Trees, none, more}
 use Rattle.elab_rules.specs.cpp_tree.Typing.{form_in, kind_in, unqualified, is_class_typ}
-use Rattle.elab_rules.specs.elab_ctx.Ctx.{Ctx, Work, This, Variable, Closure}
-use Rattle.elab_rules.specs.elab_ctx.Steps.{and_then, check, Operand, Made, Typed}
+use Rattle.elab_rules.specs.elab_ctx.Ctx.{Ctx, Work, This, Variable}
+use Rattle.elab_rules.specs.elab_ctx.Steps.{and_then, check, Operand, Typed}
 use Rattle.elab_rules.specs.Braces
 use Rattle.elab_rules.specs.Expressions.{expression_with, expression_of, chosen_operand}
 use Rattle.elab_rules.specs.Initialising
 use Rattle.elab_rules.specs.Members.{in_object}
 use Rattle.elab_rules.specs.Statements
 use Rattle.elab_rules.specs.Statements.{State, Full, Lambdas, with_work}
-use Rattle.elab_movable.specs.Movable.{Sought, held, all_held, IsFirst, OnlyThis, LeavesThis, KeepsThis, ExpressionsMove, CopiesMove, StringsMove}
+use Rattle.elab_movable.specs.Movable.{Sought, held, all_held, OnlyThis, LeavesThis, KeepsThis, ExpressionsMove, CopiesMove, StringsMove}
 use Rattle.elab_movable.proofs.Counting.{Gives, none_held, some_left}
 use Rattle.elab_movable.proofs.Steps.{On, bind, skip, either, held_by}
 use Rattle.elab_movable.proofs.Parts as parts
@@ -54,7 +54,7 @@ module _ (g : Sought) where
   followed (more t ts) us = omega (arith, followed ts us)
 
   string_object : (c : Ctx) (t : Typ) (at : At) (bytes : List ℕ) → On (names.Bare g) (Braces.string_object c t at bytes)
-  string_object c (typ (array e n) d v) at bytes = skip (names.Bare g) (check at BadInit _) _
+  string_object c (typ (array e n) d v) at bytes = skip (names.Bare g) (check at BadInit (nat_lt (length bytes) n)) _
       (λ y. omega (
         arith,
         followed (Braces.byte_pieces e at 0 bytes) (Braces.zero_rest c e at (length bytes) (n - length bytes)),

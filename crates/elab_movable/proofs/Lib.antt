@@ -4,6 +4,7 @@ pub mod Counting
 pub mod Defaults
 pub mod Expressions
 pub mod Initials
+pub mod Lambdas
 pub mod Names
 pub mod Operators
 pub mod Parts

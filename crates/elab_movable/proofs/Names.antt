@@ -1,6 +1,5 @@
 -- Names, members and `this` have no places of their own.
-use Rattle.std.proofs.Common.{◌≡◌, refl, sym, ap, ◌∙◌, ℕ, zero, suc, ◌≤◌, Bool, true, false, not, ◌&&◌, List, [], ◌∷◌, Option, Some, None, is_some, Result, Ok, Err, arith, slice_get, codes}
-use Rattle.std.specs.Prelude.{if◌then◌else◌}
+use Rattle.std.proofs.Common.{◌≡◌, refl, sym, ap, ◌∙◌, ℕ, zero, suc, ◌≤◌, Bool, true, false, not, List, [], ◌∷◌, Option, Some, None, is_some, Result, Ok, Err, arith, slice_get, codes}
 use Rattle.std.specs.Str.{bytes_eq}
 use Rattle.elab_rules.specs.cpp_types.Typ.{Typ, typ, void, ptr}
 use Rattle.elab_rules.specs.cpp_types.Equal.{typ_eq}
@@ -31,7 +30,6 @@ use Rattle.elab_rules.proofs.cpp_types.EqualTests.{typ_eq_is}
 use Rattle.elab_movable.specs.Movable.{Sought, one_if, held, IsFirst, OnlyThis}
 use Rattle.elab_movable.proofs.Counting.{Gives, HoldsAtMost, same}
 use Rattle.elab_movable.proofs.Steps.{On, bind, skip, either}
-use Rattle.elab_movable.proofs.Values as values
 use Rattle.elab_movable.proofs.Initials as initials
 
 typ_refl : (t : Typ) → typ_eq t t ≡ true

@@ -1,13 +1,13 @@
 -- What is done to each part of an object has no places: zeros, copies, destructions, and the scalars of an exception.
-use Rattle.std.proofs.Common.{◌≡◌, refl, ◌∙◌, ℕ, zero, suc, ◌+◌, Bool, false, ◌||◌, List, [], ◌∷◌, length, Option, Some, None, arith}
+use Rattle.std.proofs.Common.{◌≡◌, refl, ap, ◌∙◌, ℕ, zero, suc, ◌+◌, Bool, true, false, not, ◌&&◌, ◌||◌, List, [], ◌∷◌, length, Option, Some, None, arith}
 use Rattle.elab_rules.specs.tx_ints.declared.kinds.IntKind.{IntKind}
-use Rattle.elab_rules.specs.cpp_types.Typ.{Typ, typ, Form, void, int, ref, array, func, class, closure, tx_ex}
+use Rattle.elab_rules.specs.cpp_types.Typ.{Typ, typ, Form, void, int, enum, null, ptr, ref, array, func, class, closure, tx_ex}
 use Rattle.elab_rules.specs.cpp_types.Class.{Class}
 use Rattle.elab_rules.specs.cpp_types.declared.classes.At.{At}
 use Rattle.elab_rules.specs.cpp_tree.Trees.{Tree, node, Trees, none, more}
 use Rattle.elab_rules.specs.cpp_tree.Typing.{form_in, kind_in, qualified, unqualified}
 use Rattle.elab_rules.specs.cpp_tree.Notation.{plain}
-use Rattle.elab_rules.specs.cpp_tree.declared.kinds.TKind.TheVariants.{Literal}
+use Rattle.elab_rules.specs.cpp_tree.declared.kinds.TKind.TheVariants.{Literal, Pieces}
 use Rattle.elab_rules.specs.cpp_types.declared.ranks.Cat.TheVariants.{Prvalue}
 use Rattle.elab_rules.specs.tx_ints.declared.kinds.IntKind.TheVariants.{ULong}
 use Rattle.elab_rules.specs.elab_ctx.Ctx.{Ctx, Special, absent, trivial, function}
@@ -15,7 +15,9 @@ use Rattle.elab_rules.specs.Objects
 use Rattle.elab_rules.specs.Objects.{Part, Leaf, parts_of, element_of, is_array}
 use Rattle.elab_rules.specs.Values
 use Rattle.elab_rules.specs.Initialising
-use Rattle.elab_movable.specs.Movable.{Sought, held, all_held}
+use Rattle.std.proofs.lemmas.Bool.{and_from}
+use Rattle.elab_fits_braces.specs.Qualified.{is_made, are_made}
+use Rattle.elab_movable.specs.Movable.{Sought, one_if, is_named_class, held, all_held}
 use Rattle.elab_movable.proofs.Steps.{On, skip, choose}
 
 module _ (g : Sought) where
@@ -85,51 +87,74 @@ module _ (g : Sought) where
   pub fields : (classes : List Class) (at : At) (t : Typ) → all_held g (Objects.fields classes at t) ≡ 0
   fields classes at t = fields_in (Objects.class_fields (length classes) classes at) classes at 0 t (class_fields (length classes) classes at)
 
-  -- What is done to each scalar
+  -- What is done to each scalar: it holds nothing, and is made by itself
+
+  abbrev IsBare : Tree → Type 0
+  IsBare e = (held g e ≡ 0) × (is_made e ≡ true)
 
   -- objects of classes, as those of lambdas too
   record Bare (each : ℕ → Bool → Bool → Tree) : Type 0 where
-    class : (n : ℕ) (c v : Bool) → held g (each n c v) ≡ 0
-    closure : (n : ℕ) (c v : Bool) → held g (Objects.as_closure n c v (each n c v)) ≡ 0
+    class : (n : ℕ) (c v : Bool) → IsBare (each n c v)
+    closure : (n : ℕ) (c v : Bool) → IsBare (Objects.as_closure n c v (each n c v))
+
+  none_of : (b : Bool) → one_if (b && false) ≡ 0
+  none_of true = refl
+  none_of false = refl
 
   mutual
     whole : (each : ℕ → Bool → Bool → Tree) (leaf : Leaf) (classes : List Class) (at : At) (c v : Bool) (t : Typ)
-        → Bare each → ((u : Typ) (p : At) → held g (leaf u p) ≡ 0)
-        → held g (Objects.whole each leaf classes at c v t) ≡ 0
+        → Bare each → ((u : Typ) (p : At) → IsBare (leaf u p)) → IsBare (Objects.whole each leaf classes at c v t)
     whole each leaf classes at c v (typ f d w) h i = whole_form each leaf classes at (c || d) (v || w) f h i
 
     whole_form : (each : ℕ → Bool → Bool → Tree) (leaf : Leaf) (classes : List Class) (at : At) (c v : Bool) (f : Form)
-        → Bare each → ((u : Typ) (p : At) → held g (leaf u p) ≡ 0)
-        → held g (Objects.whole_form each leaf classes at c v f) ≡ 0
-    whole_form each leaf classes at c v (array t n) h i = omega (arith, whole each leaf classes at c v t h i)
+        → Bare each → ((u : Typ) (p : At) → IsBare (leaf u p)) → IsBare (Objects.whole_form each leaf classes at c v f)
+    whole_form each leaf classes at c v (array t n) h i = let a = whole each leaf classes at c v t h i in let x = a.0 in (omega arith, a.1)
     whole_form each leaf classes at c v (class n) h i = h.class n c v
     whole_form each leaf classes at c v (closure n) h i = h.closure n c v
     whole_form each leaf classes at c v (tx_ex (typ f d w)) h i = whole_form each leaf classes at c v f h i
-    whole_form each leaf classes at c v f h i = i _ at
+    whole_form each leaf classes at c v void h i = i _ at
+    whole_form each leaf classes at c v (int k) h i = i _ at
+    whole_form each leaf classes at c v (enum n s) h i = i _ at
+    whole_form each leaf classes at c v null h i = i _ at
+    whole_form each leaf classes at c v (ptr t) h i = i _ at
+    whole_form each leaf classes at c v (ref t) h i = i _ at
+    whole_form each leaf classes at c v (func s) h i = i _ at
 
-  pieces : (each : Part → Tree) (type : Part → Typ) (at : At) (ps : List Part) → ((p : Part) → held g (each p) ≡ 0)
-      → all_held g (Objects.pieces each type at ps) ≡ 0
-  pieces each type at [] h = refl
-  pieces each type at (p ∷ ps) h = omega (arith, pieces each type at ps h, h p)
+  abbrev AreBare : Trees → Type 0
+  AreBare ts = (all_held g ts ≡ 0) × (are_made ts ≡ true)
+
+  pieces : (each : Part → Tree) (type : Part → Typ) (at : At) (ps : List Part) → ((p : Part) → IsBare (each p)) → AreBare (Objects.pieces each type at ps)
+  pieces each type at [] h = (refl, refl)
+  pieces each type at (p ∷ ps) h = let a = h p in let b = pieces each type at ps h in let x = a.0 in let y = b.0 in
+      (omega arith, and_from (is_made (each p)) (are_made (Objects.pieces each type at ps)) a.1 b.1)
 
   class_pieces : (depth : ℕ) (leaf : Leaf) (classes : List Class) (at : At) (n : ℕ) (c v : Bool) → Bare (Objects.class_whole depth leaf classes at)
-      → ((u : Typ) (p : At) → held g (leaf u p) ≡ 0)
-      → all_held g (Objects.pieces (λ (p : Part). Objects.whole (Objects.class_whole depth leaf classes at) leaf classes at c v p.typ)
-      (λ (p : Part). qualified c v p.typ) at (parts_of classes n)) ≡ 0
+      → ((u : Typ) (p : At) → IsBare (leaf u p))
+      → AreBare (Objects.pieces (λ (p : Part). Objects.whole (Objects.class_whole depth leaf classes at) leaf classes at c v p.typ)
+      (λ (p : Part). qualified c v p.typ) at (parts_of classes n))
   class_pieces depth leaf classes at n c v h i = pieces
       (λ (p : Part). Objects.whole (Objects.class_whole depth leaf classes at) leaf classes at c v p.typ) (λ (p : Part). qualified c v p.typ) at
       (parts_of classes n) (λ p. whole (Objects.class_whole depth leaf classes at) leaf classes at c v p.typ h i)
 
-  class_whole : (depth : ℕ) (leaf : Leaf) (classes : List Class) (at : At) → ((u : Typ) (p : At) → held g (leaf u p) ≡ 0)
+  object_bare : (t : Typ) (at : At) (ts : Trees) → AreBare ts → IsBare (node Pieces t Prvalue at ts)
+  object_bare t at ts h =
+      let m = h.1 in let x = h.0 in
+      let a : one_if (is_named_class t && not (are_made ts)) ≡ 0 = ap (λ (b : Bool). one_if (is_named_class t && not b)) m ∙ none_of (is_named_class t) in
+      (omega arith, m)
+
+  class_whole : (depth : ℕ) (leaf : Leaf) (classes : List Class) (at : At) → ((u : Typ) (p : At) → IsBare (leaf u p))
       → Bare (Objects.class_whole depth leaf classes at)
-  class_whole zero leaf classes at i = record { class = λ n c v. refl; closure = λ n c v. refl }
+  class_whole zero leaf classes at i = record {
+    class = λ n c v. object_bare (typ (class n) c v) at none (refl, refl);
+    closure = λ n c v. object_bare (typ (closure n) c v) at none (refl, refl);
+  }
   class_whole (suc depth) leaf classes at i = record {
-    class = λ n c v. omega (arith, class_pieces depth leaf classes at n c v (class_whole depth leaf classes at i) i);
-    closure = λ n c v. omega (arith, class_pieces depth leaf classes at n c v (class_whole depth leaf classes at i) i);
+    class = λ n c v. object_bare (typ (class n) c v) at _ (class_pieces depth leaf classes at n c v (class_whole depth leaf classes at i) i);
+    closure = λ n c v. object_bare (typ (closure n) c v) at _ (class_pieces depth leaf classes at n c v (class_whole depth leaf classes at i) i);
   }
 
-  each_scalar : (leaf : Leaf) (classes : List Class) (at : At) (t : Typ) → ((u : Typ) (p : At) → held g (leaf u p) ≡ 0)
-      → held g (Objects.each_scalar leaf classes at t) ≡ 0
+  each_scalar : (leaf : Leaf) (classes : List Class) (at : At) (t : Typ) → ((u : Typ) (p : At) → IsBare (leaf u p))
+      → IsBare (Objects.each_scalar leaf classes at t)
   each_scalar leaf classes at t i = whole (Objects.class_whole (length classes) leaf classes at) leaf classes at false false t
       (class_whole (length classes) leaf classes at i) i
 
@@ -137,22 +162,29 @@ module _ (g : Sought) where
   stored_as at (Some k) t v = omega arith
   stored_as at None t v = refl
 
+  made_as : (at : At) (o : Option IntKind) (t : Typ) (v : Tree) → is_made v ≡ true → is_made (Values.stored_as at o t v) ≡ true
+  made_as at (Some k) t v h = refl
+  made_as at None t v h = h
+
   pub stored : (at : At) (t : Typ) (v : Tree) → held g (Values.stored at t v) ≡ held g v
   stored at t v = stored_as at (kind_in (form_in t)) t v
 
-  zero_leaf : (t : Typ) (at : At) → held g (Objects.zero_leaf t at) ≡ 0
-  zero_leaf (typ (ref u) c v) at = stored at (typ (ref u) c v) (node (Literal 0) (plain (int ULong)) Prvalue at none)
-  zero_leaf (typ f c v) at = stored at (typ f c v) (node (Literal 0) (unqualified (typ f c v)) Prvalue at none)
+  stored_bare : (at : At) (t : Typ) (v : Tree) → held g v ≡ 0 → is_made v ≡ true → IsBare (Values.stored at t v)
+  stored_bare at t v h m = (stored at t v ∙ h, made_as at (kind_in (form_in t)) t v m)
+
+  zero_leaf : (t : Typ) (at : At) → IsBare (Objects.zero_leaf t at)
+  zero_leaf (typ (ref u) c v) at = stored_bare at (typ (ref u) c v) (node (Literal 0) (plain (int ULong)) Prvalue at none) refl refl
+  zero_leaf (typ f c v) at = stored_bare at (typ f c v) (node (Literal 0) (unqualified (typ f c v)) Prvalue at none) refl refl
 
   pub zeros : (classes : List Class) (at : At) (t : Typ) → held g (Objects.zeros classes at t) ≡ 0
-  zeros classes at t = each_scalar Objects.zero_leaf classes at t zero_leaf
+  zeros classes at t = (each_scalar Objects.zero_leaf classes at t zero_leaf).0
 
-  copied_scalar : (o : Option IntKind) (t : Typ) (at : At) → held g (Objects.copied_scalar o t at) ≡ 0
-  copied_scalar (Some k) t at = refl
-  copied_scalar None t at = refl
+  copied_scalar : (o : Option IntKind) (t : Typ) (at : At) → IsBare (Objects.copied_scalar o t at)
+  copied_scalar (Some k) t at = (refl, refl)
+  copied_scalar None t at = object_bare t at none (refl, refl)
 
   pub copies : (classes : List Class) (at : At) (t : Typ) → held g (Objects.copies classes at t) ≡ 0
-  copies classes at t = each_scalar Objects.copy_leaf classes at t (λ u p. copied_scalar (kind_in (form_in u)) u p)
+  copies classes at t = (each_scalar Objects.copy_leaf classes at t (λ u p. copied_scalar (kind_in (form_in u)) u p)).0
 
   -- Copies of lambdas' objects
 

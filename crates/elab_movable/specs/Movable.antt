@@ -1,20 +1,22 @@
 -- Trees that can be moved to another function: of the frame they have only the pointer `this`, which is read, and what they make themselves behind it.
-use Rattle.std.specs.Prelude.{◌≡◌, ℕ, zero, suc, ◌+◌, ◌≤◌, ◌==◌, Bool, true, false, not, List, length, Option, Some, None, slice_get, cond, Ok}
-use Rattle.elab_rules.specs.cpp_types.Typ.{Typ, ptr, class}
+use Rattle.std.specs.Prelude.{◌≡◌, ℕ, zero, ◌+◌, ◌≤◌, ◌==◌, Bool, true, false, not, ◌&&◌, List, length, Some, None, slice_get, cond, Ok}
+use Rattle.elab_rules.specs.cpp_types.Typ.{Typ, typ, ptr, class}
 use Rattle.elab_rules.specs.cpp_types.Equal.{typ_eq}
 use Rattle.elab_rules.specs.cpp_types.declared.classes.At.{At}
 use Rattle.elab_rules.specs.cpp_types.declared.ranks.Cat.TheVariants.{Prvalue}
 use Rattle.elab_rules.specs.cpp_lex.Tokens.{Lexeme}
 use Rattle.elab_rules.specs.cpp_ast.Trees as syntax
 use Rattle.elab_rules.specs.cpp_tree.declared.kinds.TKind.{TKind}
-use Rattle.elab_rules.specs.cpp_tree.declared.kinds.TKind.TheVariants.{Local, Load, Materialize, FullExpression, Init, Defer, Switch, Return, Handler}
+use Rattle.elab_rules.specs.cpp_tree.declared.kinds.TKind.TheVariants.{Local, Load, Materialize, FullExpression, Pieces, Init, Defer, Switch, Return, Handler}
 use Rattle.elab_rules.specs.cpp_tree.Notation.{plain}
 use Rattle.elab_rules.specs.cpp_tree.Trees.{Tree, node, Trees, none, more}
 use Rattle.elab_rules.specs.elab_ctx.Ctx.{Ctx, Work, This, Closure}
 use Rattle.elab_rules.specs.elab_ctx.Steps.{Made, Typed}
 use Rattle.elab_rules.specs.Expressions.{expression_with}
 use Rattle.elab_rules.specs.Braces.{string_object}
+use Rattle.elab_rules.specs.Lambdas.{lambdas_of}
 use Rattle.elab_rules.specs.Members.{in_object}
+use Rattle.elab_fits_braces.specs.Qualified.{are_made}
 use Rattle.elab_rules.specs.Statements.{State, Full, Lambdas, full_operand, copy_initialised}
 
 -- the type of the pointer `this`
@@ -28,23 +30,29 @@ one_if b = cond b 1 0
 unfoldable pub at_place : ℕ → ℕ
 at_place q = one_if (q == 0)
 
--- nodes that can't be moved: a full-expression in another, and what says something of its function
-abbrev pub own_count : TKind → ℕ
-own_count (Local q) = 1
-own_count (Materialize q argument) = at_place q
-own_count FullExpression = 1
-own_count Init = 1
-own_count Defer = 1
-own_count Switch = 1
-own_count Return = 1
-own_count (Handler q) = 1
-own_count kind = 0
+abbrev pub is_named_class : Typ → Bool
+is_named_class (typ (class n) c v) = true
+is_named_class t = false
+
+-- nodes that can't be moved, nor made anew with more qualifiers: a full-expression in another, what says something of its function, and an object of a class
+-- a part of which is built by what stands for a value elsewhere too
+abbrev pub own_count : TKind → Typ → Trees → ℕ
+own_count (Local q) t kids = 1
+own_count (Materialize q argument) t kids = at_place q
+own_count FullExpression t kids = 1
+own_count Init t kids = 1
+own_count Defer t kids = 1
+own_count Switch t kids = 1
+own_count Return t kids = 1
+own_count (Handler q) t kids = 1
+own_count Pieces t kids = one_if (is_named_class t && not (are_made kids))
+own_count kind t kids = 0
 
 -- how many of them a tree holds; `this` that is read is none
 abbrev mutual
   pub held : Sought → Tree → ℕ
   held g (node (Load k false) t Prvalue at (more (node (Local zero) u cat p kids) none)) = one_if (not (typ_eq g t))
-  held g (node kind t cat at kids) = own_count kind + all_held g kids
+  held g (node kind t cat at kids) = own_count kind t kids + all_held g kids
 
   pub all_held : Sought → Trees → ℕ
   all_held g none = 0
@@ -75,6 +83,9 @@ pub record LeavesThis (a b : State) : Type 0 where
 
 abbrev pub KeepsThis : Lambdas → Type 0
 KeepsThis lams = (s : List Lexeme) (st : State) (e : syntax.Tree) (x : State) → lams s st e ≡ Ok x → LeavesThis st x
+
+abbrev pub LambdasKeepThis : Type 0
+LambdasKeepThis = KeepsThis lambdas_of
 
 -- what initialises a member by an expression
 abbrev pub CopiesMove : Type 0

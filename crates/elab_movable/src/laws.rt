@@ -1,6 +1,6 @@
 //! Laws of trees that can be moved. A function here does nothing: its clauses are the laws.
 
-ghost use Rattle.elab_movable.specs.Movable.{ExpressionsMove, CopiesMove, StringsMove};
+ghost use Rattle.elab_movable.specs.Movable.{ExpressionsMove, LambdasKeepThis, CopiesMove, StringsMove};
 
 /// Expressions in a function that has only `this`.
 pub fn expressions()
@@ -9,6 +9,7 @@ pub fn expressions()
 
 /// Initialisers of members.
 pub fn values()
+    ensures lambdas { LambdasKeepThis }
     ensures copies { CopiesMove }
     ensures strings { StringsMove }
 {}
