@@ -1,7 +1,7 @@
 -- A class is named for the first time, and a class gets its brace: the types that were sound are so still.
-use Rattle.std.proofs.Common.{◌≡◌, refl, sym, ap, ◌∙◌, subst, ℕ, zero, suc, pred, ◌≤◌, Bool, true, false, List, [], ◌∷◌, ◌++◌, length, Option, Some, None}
-use Rattle.std.proofs.Common.{unwrap_or, is_some, option_and_then, nat_lt}
-use Rattle.std.specs.Prelude.{slice_set, slice_get, ◌&&◌, not}
+use Rattle.std.proofs.Common.{◌≡◌, refl, sym, ap, ◌∙◌, subst, ℕ, zero, suc, pred, ◌≤◌, true, false, List, [], ◌∷◌, ◌++◌, length, Option, Some, None}
+use Rattle.std.proofs.Common.{unwrap_or, is_some, nat_lt}
+use Rattle.std.specs.Prelude.{slice_set, slice_get, not}
 use Rattle.std.specs.List.{list_all}
 use Rattle.std.proofs.lemmas.Bool.{and_parts, lt-ltb}
 use Rattle.std.proofs.Math.Nat.{le_refl, lt-suc_self}
@@ -18,7 +18,8 @@ use Rattle.elab_sound_types.specs.Types.{is_lambda, is_class}
 use Rattle.elab_sound_types.specs.Contexts.{HasSoundTypes, has_sound_members, is_sound_member}
 use Rattle.elab_sound_types.specs.States.{Kept}
 use Rattle.elab_sound_types.proofs.Sound.{both}
-use Rattle.elab_sound_types.proofs.Closures.{names_more, classes_more, functions_more, variables_more, this_more, captures_more, globals_more, all_and_one, length_one, one_kept}
+use Rattle.elab_sound_types.proofs.Closures.{names_more, classes_more, functions_more, variables_more, this_more, captures_more, globals_more, all_and_one}
+use Rattle.elab_sound_types.proofs.Closures.{length_one, one_kept}
 use Rattle.elab_sound_types.proofs.Objects.{not_true}
 use Rattle.elab_sound_types.proofs.States.{all_but}
 use Rattle.elab_sound_units.proofs.Contexts.{names_with}

@@ -1,5 +1,5 @@
 -- What the crate below says, as answers are followed here.
-use Rattle.std.proofs.Common.{◌≡◌, refl, ℕ, true, false, List, Option, Result, Ok, Err}
+use Rattle.std.proofs.Common.{◌≡◌, ℕ, true, false, List, Option}
 use Rattle.std.specs.List.{list_all}
 use Rattle.elab_rules.specs.cpp_types.Typ.{Typ}
 use Rattle.elab_rules.specs.cpp_types.Class.{Class}
@@ -8,7 +8,7 @@ use Rattle.elab_rules.specs.cpp_lex.Tokens.{Lexeme}
 use Rattle.elab_rules.specs.cpp_ast.Trees as syntax
 use Rattle.elab_rules.specs.elab_ctx.Ctx.{Ctx, Work}
 use Rattle.elab_rules.specs.elab_ctx.Steps.{and_then, Typed, TypedAll, Made}
-use Rattle.elab_rules.specs.Types.{Parameter, Declared}
+use Rattle.elab_rules.specs.Types.{Parameter}
 use Rattle.elab_rules.specs.Expressions.{expression_of, operands_of, chosen_operand, type_id_of, type_of_specifiers, declared_by}
 use Rattle.elab_rules.specs.Statements.{State, Done, Full, Lambdas, full_operand, all_lambdas, statements_of}
 use Rattle.elab_rules.specs.Functions.{Header, with_parameters, function_body}
@@ -16,7 +16,7 @@ use Rattle.elab_rules.specs.Lambdas.{lambdas_of}
 use Rattle.elab_fits.specs.Standing.{On}
 use Rattle.elab_sound_types.specs.Types.{is_sound, denoted}
 use Rattle.elab_sound_types.specs.Laws.{IsSoundDeclared}
-use Rattle.elab_sound_types.specs.Contexts.{HasSoundTypes, is_spelled, are_spelled, are_sound_globals, is_sound_parameter}
+use Rattle.elab_sound_types.specs.Contexts.{HasSoundTypes, is_spelled, are_spelled, is_sound_parameter}
 use Rattle.elab_sound_types.specs.States.{IsSoundState, IsSoundAfter, KeepsSound, is_sound_object}
 use Rattle.elab_fits.proofs.Steps.{bind}
 use Rattle.elab_sound_types.proofs.Globals.{Behind}

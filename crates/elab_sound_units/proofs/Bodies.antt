@@ -1,7 +1,6 @@
 -- Bodies of members, and initialisers of members, keep the types of the context around them sound.
-use Rattle.std.proofs.Common.{◌≡◌, refl, sym, ◌∙◌, subst, ap, ℕ, suc, Bool, true, false, List, [], ◌∷◌, ◌++◌, length, drop, Option, Some, None, Result, Ok, Err}
+use Rattle.std.proofs.Common.{◌≡◌, refl, sym, ◌∙◌, subst, ap, ℕ, suc, Bool, true, false, List, [], ◌∷◌, Option, Some, None, Result, Ok, Err}
 use Rattle.std.specs.Prelude.{slice_get, slice_set, is_none, not}
-use Rattle.std.specs.List.{list_all}
 use Rattle.elab_rules.specs.cpp_types.Typ.{Typ, void, class}
 use Rattle.elab_rules.specs.cpp_types.Class.{Class, Member}
 use Rattle.elab_rules.specs.cpp_types.Equal.{typ_eq}
@@ -25,14 +24,17 @@ use Rattle.elab_rules.specs.Types.{type_named}
 use Rattle.elab_rules.specs.Strings.{string_bytes}
 use Rattle.elab_rules.specs.Braces.{default_at, string_object, string_token, syntax_place, is_char_array}
 use Rattle.elab_rules.specs.Expressions.{operands_of}
-use Rattle.elab_rules.specs.Statements.{State, Done, Body, Lambdas, with_work, all_lambdas, default_object, directly_initialised, statements_of, full_operand, copy_initialised}
+use Rattle.elab_rules.specs.Statements.{State, Done, Body, Lambdas, with_work, all_lambdas, default_object, directly_initialised, statements_of, full_operand}
+use Rattle.elab_rules.specs.Statements.{copy_initialised}
 use Rattle.elab_rules.specs.Functions.{this_at, result_items}
-use Rattle.elab_rules.specs.Functions.{Header, entered, leaving, with_parameters, within_frame, body_made, function_body, defines_well, with_definition, defined_function}
+use Rattle.elab_rules.specs.Functions.{Header, entered, leaving, with_parameters, within_frame, body_made, defines_well, with_definition, defined_function}
 use Rattle.elab_rules.specs.Classes.{Method, method_of, body_in}
 use Rattle.elab_rules.specs.Members.{Given, Giving, member_index, member_type, given_part, given_base, is_named_class, is_base_type, given_for}
-use Rattle.elab_rules.specs.Members.{for_part, given_by, all_given, default_built, base_built, member_built, members_built, parts_built, in_object, with_default_member}
-use Rattle.elab_rules.specs.Members.{this_type, constructor_body, destructor_body, body_by_kind, method_body, default_value, default_made, default_for, default_of}
-use Rattle.elab_rules.specs.Members.{defaults_of, all_defaults, initialiser_in, place_of_header, late_kept, late_method, late_function, late_of, all_late}
+use Rattle.elab_rules.specs.Members.{for_part, given_by, all_given, default_built, base_built, member_built, members_built, parts_built, in_object}
+use Rattle.elab_rules.specs.Members.{with_default_member}
+use Rattle.elab_rules.specs.Members.{this_type, constructor_body, destructor_body, body_by_kind, method_body, default_value, default_made, default_for}
+use Rattle.elab_rules.specs.Members.{default_of}
+use Rattle.elab_rules.specs.Members.{defaults_of, all_defaults, initialiser_in, place_of_header, late_method, late_function, late_of, all_late}
 use Rattle.elab_fits.specs.Standing.{On}
 use Rattle.elab_fits.proofs.Steps.{bind, skip}
 use Rattle.elab_sound_types.specs.Types.{is_class}
@@ -274,7 +276,8 @@ module _ (lams : Lambdas) (s : List Lexeme) (keeps : KeepsSound true s lams) whe
   given_behind : (a : State) (x : Giving) (r : Result Giving ElabFault) → After a x.state → On (GivingAfter x.state) r → On (GivingAfter a) r
   given_behind a x r h g = since (GivingAfter x.state) (GivingAfter a) r g (λ y i. later true a x.state y.state h i)
 
-  pub given_after : (n : ℕ) (g : Giving) (ts : syntax.Trees) → IsSoundState g.state → are_spelled s ts ≡ true → On (GivingAfter g.state) (all_given lams s n g ts)
+  pub given_after : (n : ℕ) (g : Giving) (ts : syntax.Trees) → IsSoundState g.state → are_spelled s ts ≡ true
+      → On (GivingAfter g.state) (all_given lams s n g ts)
   given_after n g ts h j = each_sound (GivingAfter g.state) s (given_by lams s n) g ts (nothing true g.state h) j
       (λ x t i m. given_behind g.state x (given_by lams s n x t) i (by_after n x t i.sound m))
 

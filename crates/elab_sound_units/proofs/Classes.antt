@@ -1,11 +1,11 @@
 -- A class keeps the types of the context sound: it is named, its members are declared, and behind its brace stand initialisers and bodies.
-use Rattle.std.proofs.Common.{◌≡◌, refl, sym, ap, ◌∙◌, subst, ℕ, Bool, true, false, List, [], ◌∷◌, ◌++◌, length, Option, Some, None, Result, Ok}
+use Rattle.std.proofs.Common.{◌≡◌, refl, sym, ap, subst, ℕ, Bool, true, false, List, [], ◌∷◌, ◌++◌, Option, Some, None}
 use Rattle.std.specs.Prelude.{◌&&◌, ◌||◌, not, is_none, is_some, if◌then◌else◌}
 use Rattle.std.specs.List.{list_all}
 use Rattle.std.specs.Str.{bytes_eq}
 use Rattle.std.proofs.lemmas.Bool.{and_parts}
 use Rattle.elab_rules.specs.cpp_types.Typ.{Typ, typ, Form, void, int, enum, null, ptr, ref, array, func, class, closure, tx_ex}
-use Rattle.elab_rules.specs.cpp_types.Class.{Class, Member, completion_of, held}
+use Rattle.elab_rules.specs.cpp_types.Class.{Class, completion_of, held}
 use Rattle.elab_rules.specs.cpp_types.declared.classes.At.{At}
 use Rattle.elab_rules.specs.cpp_lex.Tokens.{Lexeme}
 use Rattle.elab_rules.specs.cpp_ast.declared.kinds.NodeKind.TheVariants as k
@@ -13,38 +13,38 @@ use Rattle.elab_rules.specs.cpp_ast.Trees as syntax
 use Rattle.elab_rules.specs.cpp_tree.declared.program.FuncKind.{FuncKind}
 use Rattle.elab_rules.specs.cpp_tree.declared.program.FuncKind.TheVariants.{Plain, Constructor, Destructor}
 use Rattle.elab_rules.specs.cpp_tree.declared.faults.IllRule.TheVariants.{AbstractObject, BadDeclaration, Incomplete, OutOfProfile, Redeclared}
-use Rattle.elab_rules.specs.cpp_tree.Typing.{form_in, is_void}
+use Rattle.elab_rules.specs.cpp_tree.Typing.{form_in}
 use Rattle.elab_rules.specs.elab_ctx.Ctx.{Ctx, Func}
 use Rattle.elab_rules.specs.elab_ctx.Types.{Named, type_called}
 use Rattle.elab_rules.specs.elab_ctx.Steps.{and_then, at_of, check, each_of}
 use Rattle.elab_rules.specs.Objects.{element_of}
 use Rattle.elab_rules.specs.Operators.{is_complete}
 use Rattle.elab_rules.specs.Sizes.{typ_sized}
-use Rattle.elab_rules.specs.Types.{Declared, has_auto, is_bounded, is_nothing, is_abstract_type, is_reference_form, is_function_form, type_named}
+use Rattle.elab_rules.specs.Types.{Declared, has_auto, is_bounded, is_nothing, is_abstract_type, is_function_form, type_named}
 use Rattle.elab_rules.specs.Expressions.{declared_by, type_of_specifiers}
 use Rattle.elab_rules.specs.Statements.{State, Lambdas, is_own_name, name_of}
 use Rattle.elab_rules.specs.Functions.{Header, Storage, first_from, header_sized, is_same_function, new_function, no_storage, text_sized}
-use Rattle.elab_rules.specs.Classes.{Home, Members, Begun, begun, begun_by, begun_in, with_class, members_of, member_of, completed, closed_class, Method, method_of}
+use Rattle.elab_rules.specs.Classes.{Home, Members, Begun, begun, begun_by, begun_in, with_class, members_of, member_of, completed, closed_class, Method}
+use Rattle.elab_rules.specs.Classes.{method_of}
 use Rattle.elab_rules.specs.Classes.{body_in, class_text, Marks, Definition, Started, data_member, member_function, declared_method, declared_member}
 use Rattle.elab_rules.specs.Classes.{member_declarator, member_declarators, declarator_among, definition_between, definition_sized, has_equal, has_function}
 use Rattle.elab_rules.specs.Classes.{has_initialiser, has_member, header_in, last_token, marks_fit, marks_from, member_form, member_named, no_function_words}
-use Rattle.elab_rules.specs.Classes.{no_marks, overridden, overrides_well, started_from, within_bounds, with_function, as_defined, member_func, with_member}
+use Rattle.elab_rules.specs.Classes.{no_marks, overridden, overrides_well, started_from, within_bounds, with_function, as_defined, member_func}
 use Rattle.elab_rules.specs.Members.{declared_only, class_closed, class_with, class_defined, all_defaults, all_late, base_named, has_final, members_among}
-use Rattle.elab_rules.specs.cpp_types.Class.{Function}
 use Rattle.elab_fits.specs.Standing.{On}
 use Rattle.elab_fits.proofs.Steps.{bind, skip, checked}
-use Rattle.elab_sound_types.specs.Types.{is_class, is_sound, is_sound_signature, object, variable}
+use Rattle.elab_sound_types.specs.Types.{is_class, is_sound, object, variable}
 use Rattle.elab_sound_types.specs.Laws.{IsSoundDeclared}
-use Rattle.elab_sound_types.specs.Contexts.{HasSoundTypes, is_sound_function, is_sound_name, is_sound_member, member_use, is_spelled, are_spelled}
+use Rattle.elab_sound_types.specs.Contexts.{is_sound_function, is_sound_name, is_sound_member, member_use, is_spelled, are_spelled}
 use Rattle.elab_sound_types.specs.States.{IsSoundState, IsSoundAfter, Grown, KeepsSound}
-use Rattle.elab_sound_types.proofs.Sound.{both, sound_as, object_variable, denoted_object}
+use Rattle.elab_sound_types.proofs.Sound.{sound_as, object_variable, denoted_object}
 use Rattle.elab_sound_types.proofs.Growth.{grown_same, class_more}
 use Rattle.elab_sound_types.proofs.Closures.{all_and_one, one_kept, closures_more, return_more}
 use Rattle.elab_sound_types.proofs.Expressions.{first_spelled, rest_spelled, kids_spelled}
 use Rattle.elab_sound_types.proofs.States.{nothing, later}
 use Rattle.elab_sound_units.specs.Headers.{IsSoundHeader, IsOwnHeader, IsRead, IsSoundClass}
 use Rattle.elab_sound_units.proofs.Below.{After, IsDenoted, specifiers_sound, declarator_sound}
-use Rattle.elab_sound_units.proofs.Contexts.{functions_state}
+use Rattle.elab_sound_units.proofs.Contexts.{functions_state, IsPlainForm}
 use Rattle.elab_sound_units.proofs.Adding.{named_sound, last_class}
 use Rattle.elab_sound_units.proofs.Headers.{header_sound, method_read}
 use Rattle.elab_sound_units.proofs.Bodies.{each_sound, behind, defaults_after, all_late_after}
@@ -106,10 +106,6 @@ declared_after st at name e h = bind (IsBegun st) (After st) (begun st.ctx at na
 object_member : (classes : List Class) (b : Bool) (t : Typ) → is_sound classes object t ≡ true → is_sound classes (member_use b) t ≡ true
 object_member classes true t h = sound_as classes object variable t object_variable h
 object_member classes false t h = h
-
-record IsPlainForm (t : Typ) : Type 0 where
-  no_reference : is_reference_form (form_in t) ≡ false
-  no_void : is_void t ≡ false
 
 plain_form : (at : At) (t : Typ) → On (λ (b : Bool). IsPlainForm t) (member_form at (form_in t))
 plain_form at (typ void c v) = tt
@@ -273,7 +269,8 @@ module _ (lams : Lambdas) (s : List Lexeme) (keeps : KeepsSound true s lams) whe
       → On (After st) (class_closed lams s home at r members)
   class_closed_after st home at r members c e h i =
       let d : is_class r.state.ctx.classes home.number ≡ true = subst (λ (cs : List Class). is_class cs home.number ≡ true) (sym h.same) c in
-      bind (λ (x : Ctx). After r.state (record r.state { ctx = x })) (After st) (closed_class at home.number (completed r.state.ctx home at r.members r.initialised)) _
+      bind (λ (x : Ctx). After r.state (record r.state { ctx = x })) (After st)
+      (closed_class at home.number (completed r.state.ctx home at r.members r.initialised)) _
       (closed_after r.state home at r.members r.initialised h.state d e
       (subst (λ (cs : List Class). list_all (is_sound_member cs) r.members ≡ true) (sym h.same) h.members))
       (λ x j. let y : State = record r.state { ctx = x } in
@@ -285,7 +282,8 @@ module _ (lams : Lambdas) (s : List Lexeme) (keeps : KeepsSound true s lams) whe
       → is_nothing home.name ≡ false → are_spelled s members ≡ true → On (After st) (class_with lams s st at home members)
   class_with_after st at home members h c e i =
       bind (IsSoundClass st.ctx.classes) (After st) (members_of s home (record { state = st; members = []; initialised = [] }) members) _
-      (members_sound st.ctx.classes s home (record { state = st; members = []; initialised = [] }) members (record { state = h; same = refl; members = refl }) i)
+      (members_sound st.ctx.classes s home (record { state = st; members = []; initialised = [] }) members
+      (record { state = h; same = refl; members = refl }) i)
       (λ r j. class_closed_after st home at r members c e j i)
 
   pub class_after : (st : State) (at : At) (name : List ℕ) (kids : syntax.Trees) → IsSoundState st → is_nothing name ≡ false → are_spelled s kids ≡ true

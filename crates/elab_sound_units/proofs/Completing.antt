@@ -1,9 +1,8 @@
 -- At the brace of a class implicit members are added, and the class is complete.
 use Rattle.std.proofs.Common.{◌≡◌, refl, sym, ap, ◌∙◌, subst, ℕ, Bool, true, false, List, [], ◌∷◌, ◌++◌, Option, Some, None, Ok, Err}
-use Rattle.std.specs.Prelude.{slice_set, ◌&&◌, not, if◌then◌else◌, nat_le}
+use Rattle.std.specs.Prelude.{◌&&◌, not, if◌then◌else◌, nat_le}
 use Rattle.std.specs.List.{list_all}
-use Rattle.elab_rules.specs.cpp_types.Typ.{none as no_typs}
-use Rattle.elab_rules.specs.cpp_types.Class.{Class, Member}
+use Rattle.elab_rules.specs.cpp_types.Class.{Member}
 use Rattle.elab_rules.specs.cpp_types.declared.classes.At.{At}
 use Rattle.elab_rules.specs.cpp_layout.Layout.{class_extent}
 use Rattle.elab_rules.specs.cpp_tree.declared.faults.ElabFault.{ElabFault}
@@ -13,13 +12,14 @@ use Rattle.elab_rules.specs.Objects.{traits_at}
 use Rattle.elab_rules.specs.Statements.{State, is_trivial}
 use Rattle.elab_rules.specs.Functions.{first_from}
 use Rattle.elab_rules.specs.Types.{is_nothing}
-use Rattle.elab_rules.specs.Classes.{Home, Specials, with_destructor, with_copy, with_default, all_held, base_default, has_no_pointer, is_destructor_of, is_no_place}
-use Rattle.elab_rules.specs.Classes.{is_trivial_default, may_copy, members_default, written_copy, completed, closed_class, takes_const, with_specials, with_record}
+use Rattle.elab_rules.specs.Classes.{Home, Specials, with_destructor, with_copy, with_default, all_held, base_default, has_no_pointer, is_destructor_of}
+use Rattle.elab_rules.specs.Classes.{is_no_place}
+use Rattle.elab_rules.specs.Classes.{is_trivial_default, may_copy, members_default, written_copy, completed, closed_class, takes_const, with_record}
 use Rattle.elab_rules.specs.Classes.{with_traits, traits_of}
 use Rattle.elab_fits.specs.Standing.{On}
 use Rattle.elab_sound_types.specs.Types.{is_class}
 use Rattle.elab_sound_types.specs.Contexts.{HasSoundTypes, is_sound_function, is_sound_member, are_sound_closures}
-use Rattle.elab_sound_types.specs.States.{IsSoundState, IsSoundAfter, Kept, Grown, is_sound_return}
+use Rattle.elab_sound_types.specs.States.{IsSoundState, Kept, is_sound_return}
 use Rattle.elab_sound_types.proofs.Sound.{both}
 use Rattle.elab_sound_types.proofs.Closures.{all_and_one, closures_more, return_more}
 use Rattle.elab_sound_units.proofs.Below.{After}
@@ -51,7 +51,8 @@ special_if c false x y h g = g
 module _ (home : Home) (at : At) (ms : List Member) where
   destructor_added : (c : Ctx) (o : Option ℕ) → list_all (is_sound_function c.classes) c.funcs ≡ true → HasSpecial c (with_destructor c home at ms o)
   destructor_added c (Some i) h = same_functions c h
-  destructor_added c None h = special_if c (all_held (λ n. is_trivial (traits_at c n).destructor) home.base ms) _ _ (same_functions c h) (one_function c _ h refl)
+  destructor_added c None h =
+      special_if c (all_held (λ n. is_trivial (traits_at c n).destructor) home.base ms) _ _ (same_functions c h) (one_function c _ h refl)
 
   copy_added : (c : Ctx) (o : Option ℕ) → is_class c.classes home.number ≡ true → list_all (is_sound_function c.classes) c.funcs ≡ true
       → HasSpecial c (with_copy c home at ms o)
@@ -132,7 +133,8 @@ completed_after st home at ms initialised h g e o =
     after_braced d b = record {
       sound = record {
         context = b.context;
-        closures = ap (λ (l : List Closure). are_sound_closures d.classes l) b.closures ∙ closures_more st.ctx.classes d.classes b.kept st.ctx.closures h.closures;
+        closures = ap (λ (l : List Closure). are_sound_closures d.classes l) b.closures
+            ∙ closures_more st.ctx.classes d.classes b.kept st.ctx.closures h.closures;
         returned = ap (λ (r : Returns). is_sound_return d.classes r) b.returns ∙ return_more st.ctx.classes d.classes b.kept st.ctx.returns h.returned;
       };
       grown = record { kept = b.kept; same = λ q. absurd cc };

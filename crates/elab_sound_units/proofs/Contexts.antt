@@ -1,6 +1,6 @@
 -- Contexts and states of which one part is another: the types in them are sound still.
 use Rattle.std.proofs.Common.{◌≡◌, refl, sym, subst, ℕ, zero, suc, Bool, true, false, List, [], ◌∷◌, unwrap_or}
-use Rattle.std.specs.Prelude.{slice_get, ◌&&◌, if◌then◌else◌}
+use Rattle.std.specs.Prelude.{slice_get, if◌then◌else◌}
 use Rattle.std.specs.List.{list_all}
 use Rattle.std.specs.Str.{bytes_eq}
 use Rattle.std.proofs.lemmas.Bool.{and_parts}
@@ -11,6 +11,8 @@ use Rattle.elab_rules.specs.elab_ctx.Ctx.{Ctx, Work, Func, Enumerator, Default, 
 use Rattle.elab_rules.specs.elab_ctx.Types.{Named, named_too}
 use Rattle.elab_rules.specs.Initialising.{func_at}
 use Rattle.elab_rules.specs.Statements.{State, Body, with_work}
+use Rattle.elab_rules.specs.cpp_tree.Typing.{form_in, is_void}
+use Rattle.elab_rules.specs.Types.{is_reference_form}
 use Rattle.elab_sound_types.specs.Types.{is_sound, is_sound_signature, denoted}
 use Rattle.elab_sound_types.specs.Contexts.{HasSoundTypes, is_sound_function, is_sound_name, is_sound_enumerator, are_sound_globals, are_sound_closures}
 use Rattle.elab_sound_types.specs.States.{IsSoundState, Grown, is_sound_return}
@@ -130,8 +132,10 @@ pub stays : (st : State) (d : Ctx) (w : Work) (bs : List Body) → HasSoundTypes
 stays st d w bs h e f g i = record {
   sound = record {
     context = h;
-    closures = subst (λ (l : List Closure). are_sound_closures d.classes l ≡ true) (sym f) (subst (λ (cs : List Class). are_sound_closures cs st.ctx.closures ≡ true) (sym e) i.closures);
-    returned = subst (λ (r : Returns). is_sound_return d.classes r ≡ true) (sym g) (subst (λ (cs : List Class). is_sound_return cs st.ctx.returns ≡ true) (sym e) i.returned);
+    closures = subst (λ (l : List Closure). are_sound_closures d.classes l ≡ true) (sym f)
+        (subst (λ (cs : List Class). are_sound_closures cs st.ctx.closures ≡ true) (sym e) i.closures);
+    returned = subst (λ (r : Returns). is_sound_return d.classes r ≡ true) (sym g)
+        (subst (λ (cs : List Class). is_sound_return cs st.ctx.returns ≡ true) (sym e) i.returned);
   };
   grown = subst (λ (cs : List Class). Grown true st.ctx.classes cs) (sym e) (grown_same true st.ctx.classes);
 }
@@ -174,3 +178,10 @@ work_state st w h g = record {
   };
   grown = grown_same true st.ctx.classes;
 }
+
+-- Forms
+
+-- what is neither a reference nor `void`
+pub record IsPlainForm (t : Typ) : Type 0 where
+  pub no_reference : is_reference_form (form_in t) ≡ false
+  pub no_void : is_void t ≡ false

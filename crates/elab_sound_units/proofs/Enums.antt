@@ -1,6 +1,6 @@
 -- Enums keep the types of the context sound.
-use Rattle.std.proofs.Common.{◌≡◌, refl, ℕ, zero, suc, Bool, true, false, List, [], ◌∷◌, length, Option, Some, None}
-use Rattle.std.specs.Prelude.{ℤ, pos, if◌then◌else◌, is_none, map, ◌++◌}
+use Rattle.std.proofs.Common.{◌≡◌, refl, ℕ, zero, suc, Bool, true, false, List, [], ◌∷◌, length, Some, None}
+use Rattle.std.specs.Prelude.{ℤ, pos, if◌then◌else◌, is_none, map}
 use Rattle.std.specs.List.{list_all}
 use Rattle.std.proofs.lemmas.Bool.{and_parts}
 use Rattle.elab_rules.specs.tx_ints.declared.kinds.IntKind.TheVariants.{Int}
@@ -27,7 +27,7 @@ use Rattle.elab_sound_types.specs.Contexts.{is_sound_enumerator}
 use Rattle.elab_sound_types.specs.States.{IsSoundState, IsSoundAfter}
 use Rattle.elab_sound_types.proofs.Sound.{both}
 use Rattle.elab_sound_types.proofs.Closures.{all_and_one}
-use Rattle.elab_sound_types.proofs.States.{nothing, later}
+use Rattle.elab_sound_types.proofs.States.{later}
 use Rattle.elab_sound_units.proofs.Below.{After}
 use Rattle.elab_sound_units.proofs.Contexts.{names_with, names_state, enumerators_state}
 

@@ -1,10 +1,8 @@
 -- Variables at file scope and names of types keep the types of the context sound.
-use Rattle.std.proofs.Common.{◌≡◌, refl, ap, ◌∙◌, ℕ, zero, suc, Bool, true, false, List, [], ◌∷◌, ◌++◌, length, Option, Some, None, unwrap_or, codes, Result, Ok, Err}
-use Rattle.std.specs.Prelude.{ℤ, pos, if◌then◌else◌, not, is_none, slice_get, map}
-use Rattle.std.specs.List.{list_all}
+use Rattle.std.proofs.Common.{◌≡◌, refl, ℕ, zero, Bool, true, false, List, [], Option, Some, None, unwrap_or, codes, Result, Ok, Err}
+use Rattle.std.specs.Prelude.{not, slice_get}
 use Rattle.std.specs.Str.{bytes_eq}
-use Rattle.std.proofs.lemmas.Bool.{and_parts}
-use Rattle.elab_rules.specs.cpp_types.Typ.{Typ, typ, Form, void, int, enum, null, ptr, ref, array, func, class, closure, tx_ex}
+use Rattle.elab_rules.specs.cpp_types.Typ.{Typ, typ, void, int, enum, null, ptr, ref, array, func, class, closure, tx_ex}
 use Rattle.elab_rules.specs.cpp_types.Class.{Class, held}
 use Rattle.elab_rules.specs.cpp_types.declared.classes.At.{At}
 use Rattle.elab_rules.specs.cpp_lex.Tokens.{Lexeme}
@@ -15,40 +13,39 @@ use Rattle.elab_rules.specs.cpp_names.declared.entity.Entity.{Entity}
 use Rattle.elab_rules.specs.cpp_names.declared.entity.EntityKind.{EntityKind}
 use Rattle.elab_rules.specs.cpp_names.declared.entity.EntityKind.TheVariants as entities
 use Rattle.elab_rules.specs.cpp_tree.declared.faults.ElabFault.{ElabFault}
-use Rattle.elab_rules.specs.cpp_tree.declared.faults.IllRule.TheVariants.{BadDeclaration, BadMain, Incomplete, Narrowing, NotConstant, OutOfProfile, Redeclared}
-use Rattle.elab_rules.specs.cpp_tree.Notation.{plain}
-use Rattle.elab_rules.specs.cpp_tree.Typing.{form_in, is_void}
-use Rattle.elab_rules.specs.cpp_tree.Units.{Cell, Global}
-use Rattle.elab_rules.specs.elab_ctx.Ctx.{Ctx, Work, Enumerator}
-use Rattle.elab_rules.specs.elab_ctx.Steps.{and_then, check, at_of, spelling, expect, Made}
+use Rattle.elab_rules.specs.cpp_tree.declared.faults.IllRule.TheVariants.{BadDeclaration, BadMain, Incomplete, NotConstant, OutOfProfile, Redeclared}
+use Rattle.elab_rules.specs.cpp_tree.Typing.{form_in}
+use Rattle.elab_rules.specs.cpp_tree.Units.{Cell}
+use Rattle.elab_rules.specs.elab_ctx.Ctx.{Ctx, Work}
+use Rattle.elab_rules.specs.elab_ctx.Steps.{and_then, check, spelling, expect, Made}
 use Rattle.elab_rules.specs.Objects.{element_of}
 use Rattle.elab_rules.specs.Initialising.{class_number}
 use Rattle.elab_rules.specs.Operators.{is_complete, within_if_sized}
 use Rattle.elab_rules.specs.Sizes.{typ_sized}
-use Rattle.elab_rules.specs.Types.{has_auto, is_bounded, is_function_form, is_reference_form, type_named}
+use Rattle.elab_rules.specs.Types.{has_auto, is_bounded, is_function_form, type_named}
 use Rattle.elab_rules.specs.Strings.{string_bytes}
 use Rattle.elab_rules.specs.Braces.{is_char_array, item_of, string_object, string_token, syntax_place}
-use Rattle.elab_rules.specs.Expressions.{chosen_operand, expression_of, operands_of, scope_name, type_id_of}
+use Rattle.elab_rules.specs.Expressions.{chosen_operand, expression_of, operands_of, type_id_of}
 use Rattle.elab_rules.specs.Statements as statements
 use Rattle.elab_rules.specs.Statements.{State, copy_initialised, default_object, directly_initialised}
 use Rattle.elab_rules.specs.Functions.{Storage}
 use Rattle.elab_rules.specs.Globals.{PlacedGlobal, added_global, global_again, global_named, global_agrees, global_declarable, global_defined}
 use Rattle.elab_rules.specs.Globals.{global_declared_as, global_declared, global_from, global_object, from_expression, defined_global, new_global}
-use Rattle.elab_rules.specs.Globals.{no_global_storage, not_void, is_definition, is_trivial_class, cells_of, alias_declared, type_agrees, with_type}
+use Rattle.elab_rules.specs.Globals.{no_global_storage, not_void, is_definition, is_trivial_class, cells_of, alias_declared, type_agrees}
 use Rattle.elab_rules.specs.Units.{alias_of}
 use Rattle.elab_fits.specs.Standing.{On}
-use Rattle.elab_fits.proofs.Steps.{bind, skip, checked, expected}
+use Rattle.elab_fits.proofs.Steps.{bind, skip, checked}
 use Rattle.elab_sound_types.specs.Types.{is_sound, object, target}
-use Rattle.elab_sound_types.specs.Contexts.{HasSoundTypes, are_sound_globals, is_sound_enumerator, is_sound_global, is_spelled, are_spelled}
+use Rattle.elab_sound_types.specs.Contexts.{HasSoundTypes, is_sound_global, is_spelled, are_spelled}
 use Rattle.elab_sound_types.specs.States.{IsSoundState, IsSoundAfter}
-use Rattle.elab_sound_types.proofs.Sound.{both, sound_as, object_target, denoted_object}
+use Rattle.elab_sound_types.proofs.Sound.{sound_as, object_target, denoted_object}
 use Rattle.elab_sound_types.proofs.Growth.{sound_more}
 use Rattle.elab_sound_types.proofs.Closures.{all_and_one}
 use Rattle.elab_sound_types.proofs.Braces.{copy_kept, direct_kept, item_kept}
-use Rattle.elab_sound_types.proofs.Expressions.{first_spelled, rest_spelled, kids_spelled}
+use Rattle.elab_sound_types.proofs.Expressions.{first_spelled, kids_spelled}
 use Rattle.elab_sound_types.proofs.States.{all_but, nothing, later, since, one_spelled}
 use Rattle.elab_sound_units.proofs.Below.{After, MadeBehind, TypedIn, AllTypedIn, IsDenoted, expression_sound, operands_sound, type_id_sound}
-use Rattle.elab_sound_units.proofs.Contexts.{at_or, moved, with_globals, names_with, names_state, enumerators_state, globals_state}
+use Rattle.elab_sound_units.proofs.Contexts.{at_or, moved, with_globals, names_with, names_state, globals_state, IsPlainForm}
 use Rattle.elab_sound_units.proofs.Bodies.{behind}
 
 -- Variables
@@ -79,10 +76,6 @@ bound_function s t
 bound_function s t (syntax.more (syntax.node k.EqualInitializer p token (syntax.more e syntax.none)) syntax.none) h =
     closed_function (statements.string_length s (string_token e)) t h
 bound_function s t kids h = h
-
-record IsPlainForm (t : Typ) : Type 0 where
-  no_reference : is_reference_form (form_in t) ≡ false
-  no_void : is_void t ≡ false
 
 plain_form : (at : At) (t : Typ) → On (λ (b : Bool). IsPlainForm t) (not_void at (form_in t))
 plain_form at (typ void c v) = tt

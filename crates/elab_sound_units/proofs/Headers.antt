@@ -1,7 +1,6 @@
 -- Headers that elaborate have sound types, and what is read of them has spellings.
-use Rattle.std.proofs.Common.{◌≡◌, refl, ap, ◌∙◌, sym, ℕ, Bool, true, false, List, Option, Some, None, Ok}
+use Rattle.std.proofs.Common.{◌≡◌, refl, ap, ◌∙◌, sym, ℕ, Bool, true, false, List, Option, Some, None}
 use Rattle.std.specs.Prelude.{◌&&◌, ◌||◌, not}
-use Rattle.std.specs.List.{list_all}
 use Rattle.std.specs.Str.{bytes_eq}
 use Rattle.std.proofs.lemmas.Bool.{and_parts}
 use Rattle.elab_rules.specs.cpp_types.Typ.{Typ, typ, Form, void, int, enum, null, ptr, ref, array, func, class, closure, tx_ex, Signature}
@@ -21,15 +20,15 @@ use Rattle.elab_rules.specs.elab_ctx.Steps.{check, spelling}
 use Rattle.elab_rules.specs.Types.{Declared, is_nothing}
 use Rattle.elab_rules.specs.Expressions.{declared_by, type_of_specifiers}
 use Rattle.elab_rules.specs.Statements.{State, name_of}
-use Rattle.elab_rules.specs.Functions.{Header, Storage, no_storage, with_specifier}
-use Rattle.elab_rules.specs.Classes.{Method, Started, started_from, body_in, header_in, plain_method, special_method, special_header, special_name, is_special}
+use Rattle.elab_rules.specs.Functions.{Storage, no_storage, with_specifier}
+use Rattle.elab_rules.specs.Classes.{Started, started_from, body_in, header_in, plain_method, special_method, special_header, special_name, is_special}
 use Rattle.elab_rules.specs.Classes.{method_started, method_of}
 use Rattle.elab_rules.specs.Units.{header_of}
 use Rattle.elab_fits.specs.Standing.{On}
 use Rattle.elab_fits.proofs.Steps.{bind, skip}
-use Rattle.elab_sound_types.specs.Types.{is_sound, is_sound_form, is_sound_signature, denoted}
+use Rattle.elab_sound_types.specs.Types.{is_sound_form, is_sound_signature, denoted}
 use Rattle.elab_sound_types.specs.Laws.{IsSoundDeclared}
-use Rattle.elab_sound_types.specs.Contexts.{is_sound_parameter, is_spelled, are_spelled}
+use Rattle.elab_sound_types.specs.Contexts.{is_spelled, are_spelled}
 use Rattle.elab_sound_types.specs.States.{IsSoundState}
 use Rattle.elab_sound_types.proofs.Objects.{not_true}
 use Rattle.elab_sound_types.proofs.Expressions.{first_spelled, rest_spelled}

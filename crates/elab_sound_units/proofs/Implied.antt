@@ -11,7 +11,6 @@ use Rattle.elab_rules.specs.cpp_tree.Trees.{Tree, none}
 use Rattle.elab_rules.specs.cpp_tree.Typing.{is_class_typ}
 use Rattle.elab_rules.specs.cpp_tree.Units.{SlotFunc}
 use Rattle.elab_rules.specs.elab_ctx.Ctx.{Ctx, Work, Func, Traits}
-use Rattle.elab_rules.specs.elab_ctx.Steps.{Operand}
 use Rattle.elab_rules.specs.Objects.{is_array}
 use Rattle.elab_rules.specs.Initialising.{as_source, class_from, func_at, signature_parameters}
 use Rattle.elab_rules.specs.Names.{members_in}
@@ -19,7 +18,8 @@ use Rattle.elab_rules.specs.Calls.{base_of_class}
 use Rattle.elab_rules.specs.Statements.{State, with_work}
 use Rattle.elab_rules.specs.Functions.{leaving, within_frame, body_made}
 use Rattle.elab_rules.specs.Members.{as_base_of, in_object, parts_built, constructor_tree, destructor_tree}
-use Rattle.elab_rules.specs.Implicit.{own_operand, part_copied, part_of_source, members_copied, base_copied, parts_copied, with_source, source_object, source_const}
+use Rattle.elab_rules.specs.Implicit.{own_operand, part_copied, part_of_source, members_copied, base_copied, parts_copied, with_source, source_object}
+use Rattle.elab_rules.specs.Implicit.{source_const}
 use Rattle.elab_rules.specs.Implicit.{constructor_implied, body_implied, implied_of, implied, implied_below, with_implied, is_referred}
 use Rattle.elab_fits.specs.Standing.{On}
 use Rattle.elab_fits.proofs.Steps.{bind, skip}
@@ -110,7 +110,8 @@ constructor_after st at k n (and_typ t ps) h =
     let c : State = with_source b t in
     bind (OnlyDone c) (After st) (parts_copied c at n (source_object n t at) (source_const t)) _ (copied_work c at n (source_object n t at) (source_const t))
     (λ d g. same_after st d.state at k (constructor_tree at d.trees none) (object_same st n c d.state g refl (record { kept = λ cs i. i })) h)
-constructor_after st at k n no_typs h = bind (OnlyDone (in_object st n)) (After st) (parts_built (in_object st n) at n []) _ (parts_work (in_object st n) at n [])
+constructor_after st at k n no_typs h =
+    bind (OnlyDone (in_object st n)) (After st) (parts_built (in_object st n) at n []) _ (parts_work (in_object st n) at n [])
     (λ d g. same_after st d.state at k (constructor_tree at d.trees none) (object_same st n (in_object st n) d.state g refl (record { kept = λ cs i. i })) h)
 
 body_after : (st : State) (at : At) (k n : ℕ) (kind : FuncKind) (ps : Typs) → IsSoundState st → On (After st) (body_implied st at k n kind ps)

@@ -1,7 +1,7 @@
 -- Functions that are declared at file scope, and members that are defined outside their class, keep the types of the context sound.
-use Rattle.std.proofs.Common.{◌≡◌, refl, sym, ap, ◌∙◌, subst, ℕ, Bool, true, false, List, [], ◌∷◌, ◌++◌, Option, Some, None}
+use Rattle.std.proofs.Common.{◌≡◌, refl, sym, ◌∙◌, subst, ℕ, Bool, true, false, List, [], ◌∷◌, ◌++◌, Option, Some, None}
 use Rattle.std.specs.Prelude.{slice_get, slice_set, not, ◌||◌, if◌then◌else◌, is_some}
-use Rattle.std.specs.List.{list_all, list_any}
+use Rattle.std.specs.List.{list_any}
 use Rattle.std.proofs.lemmas.Option.{same_Some}
 use Rattle.elab_rules.specs.cpp_types.Typ.{Typ, typ, void, int, enum, null, ptr, ref, array, func, class, closure, tx_ex}
 use Rattle.elab_rules.specs.cpp_types.Class.{Class, completion_of}
@@ -10,7 +10,8 @@ use Rattle.elab_rules.specs.cpp_lex.Tokens.{Lexeme}
 use Rattle.elab_rules.specs.cpp_ast.Trees as syntax
 use Rattle.elab_rules.specs.cpp_names.Names.{innermost_of}
 use Rattle.elab_rules.specs.cpp_names.declared.entity.Entity.{Entity}
-use Rattle.elab_rules.specs.cpp_tree.declared.faults.IllRule.TheVariants.{BadDeclaration, Incomplete, NoMember, OutOfProfile, Redeclared, TypeDiffers, UnknownName}
+use Rattle.elab_rules.specs.cpp_tree.declared.faults.IllRule.TheVariants.{BadDeclaration, Incomplete, NoMember, OutOfProfile, Redeclared, TypeDiffers}
+use Rattle.elab_rules.specs.cpp_tree.declared.faults.IllRule.TheVariants.{UnknownName}
 use Rattle.elab_rules.specs.cpp_tree.declared.program.FuncKind.{FuncKind}
 use Rattle.elab_rules.specs.cpp_tree.declared.program.FuncKind.TheVariants.{Plain, Constructor, Destructor, ClosureCall}
 use Rattle.elab_rules.specs.cpp_tree.Notation.{plain}
@@ -22,7 +23,8 @@ use Rattle.elab_rules.specs.Types.{Declared, type_named}
 use Rattle.elab_rules.specs.Expressions.{declared_by, type_of_specifiers}
 use Rattle.elab_rules.specs.Statements.{State, Lambdas, name_of}
 use Rattle.elab_rules.specs.Functions.{Storage, Header, Placed, new_function, is_same_function, first_from, agrees, is_function_entity, function_named}
-use Rattle.elab_rules.specs.Functions.{name_declared, declared_in, main_fits, may_be_c, dynamic_fits, header_sized, text_sized, function_declared, with_definition}
+use Rattle.elab_rules.specs.Functions.{name_declared, declared_in, main_fits, may_be_c, dynamic_fits, header_sized, text_sized, function_declared}
+use Rattle.elab_rules.specs.Functions.{with_definition}
 use Rattle.elab_rules.specs.Classes.{Method, Started, started_from, body_in, last_token, token_end, header_in, special_header}
 use Rattle.elab_rules.specs.Members.{outside_linkage, outside_text, linked_definition, outside_defined, outside_body, outside_words, is_member_named}
 use Rattle.elab_rules.specs.Members.{outside_agrees, outside_plain, outside_special, outside_method, outside_with, outside_started, member_defined, method_body}
@@ -34,7 +36,7 @@ use Rattle.elab_sound_types.specs.Laws.{IsSoundDeclared}
 use Rattle.elab_sound_types.specs.Contexts.{is_sound_function, is_spelled, are_spelled}
 use Rattle.elab_sound_types.specs.States.{IsSoundState, IsSoundAfter, KeepsSound}
 use Rattle.elab_sound_types.proofs.Closures.{all_and_one}
-use Rattle.elab_sound_types.proofs.Expressions.{first_spelled, rest_spelled}
+use Rattle.elab_sound_types.proofs.Expressions.{rest_spelled}
 use Rattle.elab_sound_types.proofs.States.{all_but, nothing, later}
 use Rattle.elab_sound_units.specs.Headers.{IsSoundHeader, IsOwnHeader, IsRead, IsOutside}
 use Rattle.elab_sound_units.proofs.Below.{After, IsDenoted, specifiers_sound, declarator_sound}
@@ -58,7 +60,8 @@ record IsNamed (st : State) (c : Ctx) : Type 0 where
 
 named_only : (st : State) (at : At) (name : List ℕ) (o : Option Entity) → IsSoundState st → On (IsNamed st) (function_named st.ctx at name o)
 named_only st at name None h = record { after = names_state st _ st.ctx.types h h.context.types; same = refl }
-named_only st at name (Some x) h = skip (IsNamed st) (check at Redeclared (is_function_entity x.kind)) _ (λ y. record { after = nothing true st h; same = refl })
+named_only st at name (Some x) h =
+    skip (IsNamed st) (check at Redeclared (is_function_entity x.kind)) _ (λ y. record { after = nothing true st h; same = refl })
 
 name_only : (st : State) (h : Header) (o : Option ℕ) → IsSoundState st → On (IsNamed st) (name_declared st.ctx h o)
 name_only st h (Some n) i = record { after = nothing true st i; same = refl }

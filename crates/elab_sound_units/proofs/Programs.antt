@@ -1,6 +1,6 @@
 -- Units begin with sound types, and so the classes of a program have sound members.
 use Rattle.std.proofs.Common.{◌≡◌, refl, ap, ◌∙◌, ℕ, zero, suc, true, List, [], ◌∷◌, length, unwrap_or}
-use Rattle.std.specs.Prelude.{map, slice_get, ◌&&◌}
+use Rattle.std.specs.Prelude.{map, slice_get}
 use Rattle.std.specs.List.{list_all}
 use Rattle.std.proofs.lemmas.Bool.{and_parts}
 use Rattle.elab_rules.specs.cpp_tree.Units.{TypedProgram}

@@ -19,7 +19,8 @@ use Rattle.elab_sound_units.specs.Headers.{IsSoundClass}
 use Rattle.elab_sound_units.specs.Steps.{VariablesKeepSound, AliasesKeepSound, EnumsKeepSound, NamesKeepSound, FunctionsAreSound, DefinitionsKeepSound}
 use Rattle.elab_sound_units.specs.Steps.{MethodsAreSound, OutsideMethodsAreSound, MembersAreSound, ClassesAreSound, MembersAreSpelled, EnteredIsSound}
 use Rattle.elab_sound_units.specs.Steps.{ObjectsAreSound, ParametersKeepSound, GivenKeepsSound, PartsKeepSound, CopiesKeepSound, ConstructorsKeepSound}
-use Rattle.elab_sound_units.specs.Steps.{DestructorsKeepSound, MethodsKeepSound, DefaultsKeepSound, LateMethodsKeepSound, OutsideBodiesKeepSound, ImpliedKeepsSound}
+use Rattle.elab_sound_units.specs.Steps.{DestructorsKeepSound, MethodsKeepSound, DefaultsKeepSound, LateMethodsKeepSound, OutsideBodiesKeepSound}
+use Rattle.elab_sound_units.specs.Steps.{ImpliedKeepsSound}
 use Rattle.elab_sound_units.proofs.Below.{After, DoneAfter, lambdas_keep, parameters_sound}
 use Rattle.elab_sound_units.proofs.Headers.{method_read}
 use Rattle.elab_sound_units.proofs.Bodies.{OnlyDone, entered_sound, object_sound, work_after, parts_work, given_after, constructor_after, destructor_after}
@@ -64,14 +65,14 @@ classes_law s st at name b home members r c h e i start number named read closed
     let j = on_ok (IsBegun st) (begun st.ctx at name true) b (begun_after st at name true e h) start in
     let y : State = record st { ctx = b.ctx } in
     let g = on_ok (IsSoundClass b.ctx.classes) (members_of s home (record { state = y; members = []; initialised = [] }) members) r
-        (members_sound b.ctx.classes s home (record { state = y; members = []; initialised = [] }) members
-        (record { state = j.after.sound; same = refl; members = refl }) i) read in
+    (members_sound b.ctx.classes s home (record { state = y; members = []; initialised = [] }) members
+    (record { state = j.after.sound; same = refl; members = refl }) i) read in
     let d : is_class r.state.ctx.classes home.number ≡ true = subst (λ (cs : List Class). is_class cs home.number ≡ true) (sym g.same)
-        (subst (λ (n : ℕ). is_class b.ctx.classes n ≡ true) (sym number) j.class) in
+    (subst (λ (n : ℕ). is_class b.ctx.classes n ≡ true) (sym number) j.class) in
     let a = on_ok (λ (x : Ctx). After r.state (record r.state { ctx = x }))
-        (closed_class at home.number (completed r.state.ctx home at r.members r.initialised)) c
-        (closed_after r.state home at r.members r.initialised g.state d (subst (λ (x : List ℕ). is_nothing x ≡ false) (sym named) e)
-        (subst (λ (cs : List Class). list_all (is_sound_member cs) r.members ≡ true) (sym g.same) g.members)) closed in
+    (closed_class at home.number (completed r.state.ctx home at r.members r.initialised)) c
+    (closed_after r.state home at r.members r.initialised g.state d (subst (λ (x : List ℕ). is_nothing x ≡ false) (sym named) e)
+    (subst (λ (cs : List Class). list_all (is_sound_member cs) r.members ≡ true) (sym g.same) g.members)) closed in
     record {
       after = later true st y (record r.state { ctx = c }) j.after (later true y r.state (record r.state { ctx = c }) (same_state y r g) a);
       class = class_more r.state.ctx.classes c.classes a.grown.kept home.number d;

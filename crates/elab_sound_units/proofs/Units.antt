@@ -18,7 +18,7 @@ use Rattle.elab_rules.specs.Globals.{global_declared}
 use Rattle.elab_rules.specs.Implicit.{with_implied}
 use Rattle.elab_rules.specs.Lambdas.{lambdas_of}
 use Rattle.elab_rules.specs.Units.{header_of, declared_of_type, file_declarator, file_declarators, file_declaration, definition_text, closing_offset}
-use Rattle.elab_rules.specs.Units.{is_qualified, defined_with, defined_by, function_defined, is_c, declaration_of, declarations_of, unit_from}
+use Rattle.elab_rules.specs.Units.{is_qualified, defined_with, defined_by, function_defined, is_c, declaration_of, declarations_of}
 use Rattle.elab_fits.specs.Standing.{On}
 use Rattle.elab_fits.proofs.Steps.{bind, skip}
 use Rattle.elab_sound_types.specs.Laws.{IsSoundDeclared}
@@ -77,7 +77,8 @@ type_after s st x at d (syntax.more u us) (tx_ex t) q g h i = data_after s st x 
 declarator_after : (s : List Lexeme) (x : Storage) (t : Typ) (st : State) (d : syntax.Tree) → IsDenoted st.ctx.classes t → IsSoundState st
     → is_spelled s d ≡ true → On (After st) (file_declarator s x t st d)
 declarator_after s x t st (syntax.node k.InitDeclarator p token (syntax.more d init)) g h i =
-    bind (IsSoundDeclared st.ctx.classes) (After st) (declared_by s st.ctx st.work (at_of p) t d) _ (declarator_sound s st.ctx st.work (at_of p) t d h.context g)
+    bind (IsSoundDeclared st.ctx.classes) (After st) (declared_by s st.ctx st.work (at_of p) t d) _
+    (declarator_sound s st.ctx st.work (at_of p) t d h.context g)
     (λ r j. skip (After st) (check (at_of p) BadDeclaration (is_own_name r)) _
     (λ z. type_after s st x (at_of p) r init (form_in r.typ) refl j h
     (rest_spelled s d init (kids_spelled s k.InitDeclarator p token (syntax.more d init) i))))
@@ -118,7 +119,8 @@ with_after s st x at first d body (func sig) q g h i =
     let b : State = record st { ctx = with_definition p.ctx p.place e text (closing_offset s body) } in
     let m = later true st a b j (definition_after a p.place e text (closing_offset s body) j.sound) in
     behind st b (function_body lambdas_of s b e None p.place body) m
-    (function_sound lambdas_of s (lambdas_keep s) b e None p.place body m.sound (parameters_more st.ctx.classes b.ctx.classes m.grown.kept d.params g.params) refl i))))
+    (function_sound lambdas_of s (lambdas_keep s) b e None p.place body m.sound
+    (parameters_more st.ctx.classes b.ctx.classes m.grown.kept d.params g.params) refl i))))
 with_after s st x at first d body void q g h i = tt
 with_after s st x at first d body (int k) q g h i = tt
 with_after s st x at first d body (enum e b) q g h i = tt
@@ -159,7 +161,8 @@ defined_after s st whole x at first ts h i j = tt
 -- Declarations
 
 mutual
-  declared_as : (s : List Lexeme) (x : Storage) (st : State) (t : syntax.Tree) → IsSoundState st → is_spelled s t ≡ true → On (After st) (declaration_of s x st t)
+  declared_as : (s : List Lexeme) (x : Storage) (st : State) (t : syntax.Tree) → IsSoundState st → is_spelled s t ≡ true
+      → On (After st) (declaration_of s x st t)
   declared_as s x st (syntax.node k.EmptyDeclaration p token kids) h i = nothing true st h
   declared_as s x st (syntax.node k.AliasDeclaration p (Some t) kids) h i = aliases_after s st (at_of p) (spelling s t) kids h
   declared_as s x st (syntax.node k.EnumSpecifier p (Some t) kids) h i = enum_after s st (at_of p) (spelling s t) kids h

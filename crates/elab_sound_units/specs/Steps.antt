@@ -14,7 +14,8 @@ use Rattle.elab_rules.specs.Types.{is_nothing, Declared, Parameter}
 use Rattle.elab_rules.specs.Statements.{State, Done}
 use Rattle.elab_rules.specs.Functions.{Storage, Header, Placed, entered, with_parameters, function_declared}
 use Rattle.elab_rules.specs.Classes.{Home, Members, Begun, Method, begun, members_of, completed, closed_class, method_of}
-use Rattle.elab_rules.specs.Members.{Given, Giving, in_object, all_given, parts_built, default_made, constructor_body, destructor_body, method_body, late_method}
+use Rattle.elab_rules.specs.Members.{Given, Giving, in_object, all_given, parts_built, default_made, constructor_body, destructor_body, method_body}
+use Rattle.elab_rules.specs.Members.{late_method}
 use Rattle.elab_rules.specs.Members.{outside_method, outside_body, declared_only, members_among}
 use Rattle.elab_rules.specs.Implicit.{parts_copied, implied}
 use Rattle.elab_rules.specs.Lambdas.{lambdas_of}
