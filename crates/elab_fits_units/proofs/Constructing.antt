@@ -75,18 +75,18 @@ given_more P i (y ∷ gs) x g h f r = more_by P i y gs x g (same_part i y.member
 part_number : (i j : ℕ) → same_part (Some i) (Some j) ≡ true → i ≡ j
 part_number i j h = eqb-true i j h
 
-record FoundMember (ms : List Member) (k i : ℕ) : Type 0 where
-  off : ℕ
-  is : i ≡ k + off
-  member : Member
-  at : slice_get ms off ≡ Some member
+pub record FoundMember (ms : List Member) (k i : ℕ) : Type 0 where
+  pub off : ℕ
+  pub is : i ≡ k + off
+  pub member : Member
+  pub at : slice_get ms off ≡ Some member
 
 member_by : (name : List ℕ) (k i : ℕ) (m : Member) (ms : List Member) (b : Bool) → (member_index (suc k) name ms ≡ Some i → FoundMember ms (suc k) i)
     → (if b then Some k else member_index (suc k) name ms) ≡ Some i → FoundMember (m ∷ ms) k i
 member_by name k i m ms true f h = let g = same_Some k i h in record { off = 0; is = omega arith; member = m; at = refl }
 member_by name k i m ms false f h = let r = f h in let g = r.is in record { off = suc r.off; is = omega arith; member = r.member; at = r.at }
 
-member_found : (ms : List Member) (name : List ℕ) (k i : ℕ) → member_index k name ms ≡ Some i → FoundMember ms k i
+pub member_found : (ms : List Member) (name : List ℕ) (k i : ℕ) → member_index k name ms ≡ Some i → FoundMember ms k i
 member_found [] name k i h = absurd cc
 member_found (m ∷ ms) name k i h = member_by name k i m ms (bytes_eq m.name name) (member_found ms name (suc k) i) h
 

@@ -99,7 +99,7 @@ module _ (s : List Lexeme) (b : Below s) (f : UnitFunc) where
   settled_with a v h g l = let z : State = with_work a v in record {
     good = record {
       unit = b.unit_same a.ctx z.ctx refl refl refl h.good.unit;
-      slots = λ k n x p e i j m. let y = h.good.slots k n x p e i j m in record { slot = y.slot; pointer = y.pointer };
+      overriders = h.good.overriders;
       sound = g;
       locals = b.stays (locals a.ctx) (locals z.ctx) a.work.frame v.frame (record {
         complete = λ n c. c;

@@ -23,7 +23,7 @@ use Rattle.elab_fits.specs.Standing.{On}
 use Rattle.elab_fits.proofs.Equal.{typ_refl}
 use Rattle.elab_fits.proofs.Nodes.{both, clash}
 use Rattle.elab_contexts.specs.Holding.{UnitHolds}
-use Rattle.elab_holds.specs.Contexts.{HasSlots}
+use Rattle.elab_contexts.specs.Slots.{HasOverriders}
 use Rattle.elab_holds.specs.Locals.{LocalsHold}
 use Rattle.elab_sound_types.specs.Types.{is_sound, is_sound_form, variable as a_variable, parameter as a_parameter, result as a_result}
 use Rattle.elab_sound_types.specs.Contexts.{HasSoundTypes, is_sound_variable, is_sound_this, is_sound_parameter}
@@ -89,7 +89,7 @@ over_same st = record { kept = kept_refl (bare st); tidy = λ t. t }
 -- what is asked of a state in a function, beside its variables and its object
 pub record Inside (f : UnitFunc) (st : State) : Type 0 where
   pub unit : UnitHolds st.ctx
-  pub slots : HasSlots st.ctx
+  pub overriders : HasOverriders st.ctx.funcs
   pub sound : IsSoundState st
   pub around : st.ctx.lambda ≡ None
   pub none : st.ctx.closures ≡ []
@@ -114,7 +114,7 @@ settled_inside : (f : UnitFunc) (e : State) → Inside f e → LocalsHold e.ctx 
 settled_inside f e h l = record {
   good = record {
     unit = h.unit;
-    slots = h.slots;
+    overriders = h.overriders;
     sound = h.sound;
     locals = l;
     around = λ x q. is_none e.ctx.lambda x _ h.around q;
@@ -133,7 +133,7 @@ module _ (s : List Lexeme) (b : Below s) where
       → is_sound st.ctx.classes a_result r ≡ true → is_sound_object st.ctx.classes this ≡ true → Inside f (entered st r this cls)
   entered_inside st f r this cls g q t o = record {
     unit = b.unit_same st.ctx (entered st r this cls).ctx refl refl refl g.unit;
-    slots = λ k n x a e i j l. let y = g.slots k n x a e i j l in record { slot = y.slot; pointer = y.pointer };
+    overriders = g.overriders;
     sound = record {
       context = let h = g.sound.context in record {
         types = h.types;
@@ -165,7 +165,7 @@ module _ (s : List Lexeme) (b : Below s) where
       → Inside f (with_parameter st name t)
   parameter_inside st f name t g v = record {
     unit = b.unit_same st.ctx (with_parameter st name t).ctx refl refl refl g.unit;
-    slots = λ k n x a e i j l. let y = g.slots k n x a e i j l in record { slot = y.slot; pointer = y.pointer };
+    overriders = g.overriders;
     sound = record {
       context = let h = g.sound.context in record {
         types = h.types;
@@ -195,7 +195,7 @@ module _ (s : List Lexeme) (b : Below s) where
   unnamed_inside : (st : State) (f : UnitFunc) (t : Typ) → Inside f st → is_sound st.ctx.classes a_variable t ≡ true → Inside f (unnamed_parameter st t)
   unnamed_inside st f t g v = record {
     unit = b.unit_same st.ctx (unnamed_parameter st t).ctx refl refl refl g.unit;
-    slots = λ k n x a e i j l. let y = g.slots k n x a e i j l in record { slot = y.slot; pointer = y.pointer };
+    overriders = g.overriders;
     sound = record {
       context = let h = g.sound.context in record {
         types = h.types;

@@ -45,6 +45,16 @@ pub checked : {B : Type 0} (Q : B → Type 0) (at : At) (rule : IllRule) (b : Bo
 checked Q at rule true f h = h refl
 checked Q at rule false f h = tt
 
+-- a step that is told with what is behind it
+pub record Split {A B : Type 0} (r : Result A ElabFault) (f : A → Result B ElabFault) (q : B) : Type 0 where
+  pub answer : A
+  pub is : r ≡ Ok answer
+  pub behind : f answer ≡ Ok q
+
+pub split : {A B : Type 0} (r : Result A ElabFault) (f : A → Result B ElabFault) (q : B) → and_then r f ≡ Ok q → Split r f q
+split (Ok a) f q e = record { answer = a; is = refl; behind = e }
+split (Err x) f q e = absurd cc
+
 -- Lists of functions
 
 record Found (test : Func → Bool) (fs : List Func) (i j : ℕ) : Type 0 where

@@ -138,7 +138,7 @@ module _ (s : List Lexeme) (b : Below s) (l : Laws s) where
   pub quiet_good : (a z : State) → UnitGood a → Leads a z → Quiet a z → UnitGood z
   quiet_good a z g d q = let o : Over a z = gone_over a z d.gone in record {
     unit = d.unit;
-    slots = l.slots a.ctx z.ctx d.walk g.unit g.slots;
+    overriders = d.overriders g.overriders;
     sound = d.sound;
     tidy = d.gone.tidy;
     implicits = l.implicits a.ctx z.ctx d.walk g.unit g.implicits;
@@ -156,7 +156,7 @@ module _ (s : List Lexeme) (b : Below s) (l : Laws s) where
   pub ended_good : (a z : State) → UnitGood a → Leads a z → Ended z → UnitGood z
   ended_good a z g d x = record {
     unit = d.unit;
-    slots = l.slots a.ctx z.ctx d.walk g.unit g.slots;
+    overriders = d.overriders g.overriders;
     sound = d.sound;
     tidy = d.gone.tidy;
     implicits = l.implicits a.ctx z.ctx d.walk g.unit g.implicits;

@@ -33,7 +33,7 @@ use Rattle.elab_fits_units.specs.Good.{UnitGood}
 use Rattle.elab_fits_units.specs.Laws.{Laws}
 use Rattle.elab_fits_units.specs.Programs.{AreSources, UnitFits, AllUnitsFit}
 use Rattle.elab_fits_units.proofs.Growing.{held_earlier}
-use Rattle.elab_fits_units.proofs.Headers.{answered}
+use Rattle.elab_fits_units.proofs.Headers.{answered, split}
 use Rattle.elab_fits_units.proofs.Units.{unit_keeps}
 
 -- The functions that a unit shows
@@ -106,16 +106,6 @@ all_more P [] u f h zero y e = subst P (same_Some u y e) h
 all_more P [] u f h (suc i) y e = absurd cc
 all_more P (z ∷ us) u f h zero y e = f 0 y e
 all_more P (z ∷ us) u f h (suc i) y e = all_more P us u (λ j w q. f (suc j) w q) h i y e
-
--- a step that is told with what is behind it
-record Split {A B : Type 0} (r : Result A ElabFault) (f : A → Result B ElabFault) (q : B) : Type 0 where
-  answer : A
-  is : r ≡ Ok answer
-  behind : f answer ≡ Ok q
-
-split : {A B : Type 0} (r : Result A ElabFault) (f : A → Result B ElabFault) (q : B) → and_then r f ≡ Ok q → Split r f q
-split (Ok a) f q e = record { answer = a; is = refl; behind = e }
-split (Err x) f q e = absurd cc
 
 module _ (below : (s : List Lexeme) → Below s) (laws : (s : List Lexeme) → Laws s)
     (later : (source : ℕ) (p : TypedProgram) (x : Source) (st : State) → UnitGood st → UnitGood (start_behind source (with_unit p x st) st.ctx.traits)) where

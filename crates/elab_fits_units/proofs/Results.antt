@@ -63,7 +63,7 @@ pub complete_over : (a b : State) (n : ℕ) → Over a b → is_some (completion
 complete_over a b n k h = still_complete a.ctx.classes b.ctx.classes n k.kept.classes h
 
 pub holds : (s : List Lexeme) → Below s → (f : UnitFunc) (st : State) → IsGood f st → Holds (setting f st) st.ctx st.work
-holds s b f st g = b.contexts f st.ctx st.work g.unit g.slots g.sound.context g.locals
+holds s b f st g = b.contexts f st.ctx st.work g.unit g.overriders g.sound.context g.locals
 
 module _ (s : List Lexeme) (b : Below s) (f : UnitFunc) (st : State) (g : IsGood f st)
     (c : (n : ℕ) (q v : Bool) → result_of f ≡ typ (class n) q v → is_some (completion_of st.ctx.classes n) ≡ true) where

@@ -37,7 +37,11 @@ use Rattle.elab_holds.specs.Contexts.{ContextsHold}
 use Rattle.elab_holds.specs.Locals.{FunctionsEntered, ParametersPlaced, LocalsStay}
 use Rattle.elab_sound_types.specs.Types.{Use, is_sound, is_class, object}
 use Rattle.elab_fits_forms.specs.Types as forms
-use Rattle.elab_fits_braces.specs.Defaults.{DefaultsStay, AllDefaultsFit}
+use Rattle.elab_fits_braces.specs.Defaults.{DefaultsStay}
+use Rattle.elab_fits_braces.specs.Strings.{StringsBuild}
+use Rattle.elab_fits_defaults.specs.Kept.{DefaultsMade}
+use Rattle.elab_fits_defaults.specs.Own.{OwnDefaultsBuild}
+use Rattle.elab_movable.specs.Movable.{KeepsThis}
 use Rattle.elab_fits_bodies.specs.Functions.{FunctionsFit}
 use Rattle.elab_fits_bodies.specs.Parts.{ConstructorsFit, DestructorsFit, HasThis}
 use Rattle.elab_fits_statements.specs.Discipline.{Discipline, BuildsAll}
@@ -76,10 +80,11 @@ pub record Below (s : List Lexeme) : Type 0 where
   pub types : TypesStay
   -- initialisers of members where the unit has grown
   pub defaults : DefaultsStay
-  -- the own initialiser of a member builds it, outside of a full-expression too
-  pub own : (x : Setting) (ds : List Default) (n i : ℕ) (m : Member) (d : Default) (w : Work) → AllDefaultsFit x ds → HasThis x n
-      → slice_get (members_in (slice_get x.classes n)) i ≡ Some m → default_at n i ds ≡ Some d → Reaches x (own_default w d).work
-      → BuildsAnywhere x m.typ (own_default w d).tree
+  -- the own initialiser of a member builds it, and is such an initialiser where it is made
+  pub own : OwnDefaultsBuild
+  pub moves : KeepsThis lambdas_of
+  pub made : DefaultsMade
+  pub strings : StringsBuild
   -- what builds parts, and behind it the state is sound
   pub builds : PartsBuild
   pub built : PartsKeepSound

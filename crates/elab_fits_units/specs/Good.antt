@@ -11,7 +11,7 @@ use Rattle.elab_rules.specs.elab_ctx.Ctx.{Ctx, Func}
 use Rattle.elab_rules.specs.Classes.{own_reference}
 use Rattle.elab_rules.specs.Statements.{State}
 use Rattle.elab_contexts.specs.Holding.{UnitHolds}
-use Rattle.elab_holds.specs.Contexts.{HasSlots}
+use Rattle.elab_contexts.specs.Slots.{HasOverriders}
 use Rattle.elab_sound_types.specs.States.{IsSoundState}
 use Rattle.state_growth.specs.States.{IsTidy}
 use Rattle.elab_fits_braces.specs.Defaults.{AllDefaultsFit}
@@ -38,8 +38,8 @@ HasImplicits c = (k : ℕ) (f : Func) → slice_get c.funcs k ≡ Some f → f.i
 pub record UnitGood (st : State) : Type 0 where
   -- the classes and functions of the unit are as elaboration makes them
   pub unit : UnitHolds st.ctx
-  -- virtual functions have their slots
-  pub slots : HasSlots st.ctx
+  -- what overrides is a plain function or a destructor, by its name
+  pub overriders : HasOverriders st.ctx.funcs
   -- what is declared has types that can be declared
   pub sound : IsSoundState st
   pub tidy : IsTidy st.ctx

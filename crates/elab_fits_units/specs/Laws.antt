@@ -22,7 +22,7 @@ use Rattle.elab_rules.specs.Globals.{enum_declared}
 use Rattle.elab_fits.specs.Standing.{On}
 use Rattle.elab_contexts.specs.Holding.{UnitHolds}
 use Rattle.elab_contexts.specs.Steps.{view, Steps as Goes}
-use Rattle.elab_holds.specs.Contexts.{HasSlots}
+use Rattle.elab_contexts.specs.Slots.{HasOverriders}
 use Rattle.elab_sound_types.specs.States.{IsSoundState, Kept}
 use Rattle.elab_sound_units.specs.Headers.{IsSoundHeader, IsRead, IsOutside}
 use Rattle.state_growth.specs.States.{Gone}
@@ -36,11 +36,11 @@ pub record Leads (a b : State) : Type 0 where
   pub unit : UnitHolds b.ctx
   pub sound : IsSoundState b
   pub kept : Kept a.ctx.classes b.ctx.classes
+  pub overriders : HasOverriders a.ctx.funcs → HasOverriders b.ctx.funcs
   pub gone : Gone a b
 
 pub record Laws (s : List Lexeme) : Type 0 where
-  -- behind steps virtual functions have their slots, and implicit members are what they were
-  pub slots : (a b : Ctx) → Goes (view a) (view b) → UnitHolds a → HasSlots a → HasSlots b
+  -- behind steps implicit members are what they were
   pub implicits : (a b : Ctx) → Goes (view a) (view b) → UnitHolds a → HasImplicits a → HasImplicits b
   -- headers
   pub headers : (st : State) (x : Storage) (at : At) (base d : syntax.Tree) (t : Typ) (r : Declared) (sig : Signature) → IsSoundState st → IsText s base → IsText s d
