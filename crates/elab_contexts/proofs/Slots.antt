@@ -289,7 +289,7 @@ slot_here cs ss l base n k f fs e c v a r t w =
 
 plain_old : (old : List Func) (n k : ℕ) (f : Func) → IsOldOr old n k f → f.kind ≡ Plain → slice_get old k ≡ Some f
 plain_old old n k f (is_old e) p = e
-plain_old old n k f (is_own c z) p = no_way (slice_get old k ≡ Some f) (same_kind f.kind Plain) z (ap (λ (x : FuncKind). same_kind x Plain) p)
+plain_old old n k f (is_own c z y) p = no_way (slice_get old k ≡ Some f) (same_kind f.kind Plain) z (ap (λ (x : FuncKind). same_kind x Plain) p)
 
 pub slots_closed : (c : Ctx) (n : ℕ) (name : List ℕ) (base : Option ℕ) (ms : List Member) (d : Ctx) → Closing c n name base ms d → IsOpen c.classes n
     → HasSlotsIn (view c) → HasSlotsIn (view d)

@@ -32,7 +32,8 @@ use Rattle.elab_fits.proofs.Objects.{sized_from, size_is}
 use Rattle.elab_sound_types.specs.Contexts.{HasSoundTypes}
 use Rattle.elab_contexts.specs.Steps.{view}
 use Rattle.elab_contexts.specs.Holding.{UnitHolds}
-use Rattle.elab_contexts.specs.Slots.{slots_at, HasOwnSlot, IsAlone, is_overrider, HasOverriders}
+use Rattle.elab_contexts.specs.Overriders.{is_overrider, HasOverriders}
+use Rattle.elab_contexts.specs.Slots.{slots_at, HasOwnSlot, IsAlone}
 use Rattle.elab_contexts.proofs.Functions.{Alike, alike_says, bytes_same, typs_same, kind_same}
 use Rattle.elab_holds.specs.Contexts.{HasSlots, SlotsHold}
 use Rattle.elab_holds.proofs.Order.{order_law}
@@ -107,7 +108,7 @@ alone_by c u n j k f g o e q d x p m (plain_one s t) (named a b i) (named h l r)
 
 alone : (c : Ctx) → UnitHolds c → HasOverriders c.funcs → (n k : ℕ) (f : Func) → slice_get c.funcs k ≡ Some f → f.class ≡ Some n → f.kind ≡ Plain
     → f.declared.is_virtual ≡ true → IsAlone c.funcs n k f
-alone c u h n k f e d p v j g o q x w a b = alone_by c u n j k f g o e q d x p (plain_name f p (kinds_are f v (h k f e))) (kinds_are g w (h j g q))
+alone c u h n k f e d p v j g o q x w a b = alone_by c u n j k f g o e q d x p (plain_name f p (kinds_are f v (h k n f e d))) (kinds_are g w (h j n g q x))
     (overrides_is f.declared o b) (overrides_is g.declared o a)
 
 -- Its slot

@@ -1,6 +1,8 @@
 -- What the laws of expressions ask of a context holds of those that elaboration makes.
-use Rattle.std.specs.Prelude.{◌≡◌, ℕ, true, is_some, Some, slice_get}
+use Rattle.std.specs.Prelude.{◌≡◌, ℕ, true, List, is_some, Some, slice_get}
 use Rattle.elab_rules.specs.cpp_types.Class.{InOrder, completion_of}
+use Rattle.elab_rules.specs.cpp_lex.Tokens.{Lexeme}
+use Rattle.elab_rules.specs.cpp_ast.Trees as syntax
 use Rattle.elab_rules.specs.cpp_tree.declared.program.FuncKind.TheVariants.{Plain}
 use Rattle.elab_rules.specs.cpp_tree.Units.{Func as UnitFunc}
 use Rattle.elab_rules.specs.elab_ctx.Ctx.{Ctx, Work, Func}
@@ -8,9 +10,11 @@ use Rattle.elab_fits.specs.Standing.{IsSetting}
 use Rattle.elab_fits_objects.specs.Contexts.{HasMakers}
 use Rattle.elab_fits_forms.specs.Context.{Holds, IsComplete, HasSlot}
 use Rattle.elab_fits_forms.specs.Types.{is_lambda}
+use Rattle.elab_fits_forms.specs.Expressions.{are_spelled}
 use Rattle.elab_sound_types.specs.Contexts.{HasSoundTypes}
 use Rattle.elab_contexts.specs.Holding.{UnitHolds, HasListedFunctions}
-use Rattle.elab_contexts.specs.Slots.{HasOverriders}
+use Rattle.elab_contexts.specs.Overriders.{HasOverriders}
+use Rattle.elab_contexts.specs.Texts.{have_class_names}
 use Rattle.state_growth.specs.Settings.{setting_at}
 use Rattle.elab_holds.specs.Locals.{LocalsHold}
 
@@ -42,4 +46,8 @@ abbrev pub FunctionsListed : Type 0
 FunctionsListed = (c : Ctx) (w : Work) → HasSoundTypes c w → HasListedFunctions c
 
 abbrev pub ContextsHold : Type 0
-ContextsHold = (f : UnitFunc) (c : Ctx) (w : Work) → UnitHolds c → HasOverriders c.funcs → HasSoundTypes c w → LocalsHold c w → Holds (setting_at f c w) c w
+ContextsHold = (f : UnitFunc) (c : Ctx) (w : Work) → UnitHolds c → HasSlots c → HasSoundTypes c w → LocalsHold c w → Holds (setting_at f c w) c w
+
+-- in a text each token of which is spelled with something, classes have names
+abbrev pub TextsHaveNames : Type 0
+TextsHaveNames = (s : List Lexeme) (ts : syntax.Trees) → are_spelled s ts ≡ true → have_class_names s ts ≡ true
