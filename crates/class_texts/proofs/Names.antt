@@ -1,5 +1,6 @@
 -- Names of members in an expression, and types of classes.
-use Rattle.std.proofs.Common.{◌≡◌, ◌∙◌, ℕ, true, false, List, [], ◌∷◌, length, Option, Some, None, refl, sym, ap}
+use Rattle.std.proofs.Common.{◌≡◌, ◌∙◌, ◌==◌, ℕ, true, false, List, [], ◌∷◌, length, Option, Some, None, refl, sym, ap}
+use Rattle.std.proofs.Math.Dec.{eqb-suc-zero}
 use Rattle.elab_init.specs.cpp_lex.Tokens.{Lexeme}
 use Rattle.elab_init.specs.cpp_ast.declared.kinds.NodeKind.{NodeKind}
 use Rattle.elab_init.specs.cpp_ast.declared.arena.At.{At as SyntaxAt}
@@ -8,6 +9,7 @@ use Rattle.cpp_types.specs.declared.classes.At.{At}
 use Rattle.cpp_types.specs.declared.types.Ty.{Ty}
 use Rattle.cpp_types.specs.Typ.{Typ, typ, typ_of, Typs, typs_of, more as and_typ, void, int, enum, null, ptr, ref, array, func, class, closure, tx_ex}
 use Rattle.elab_init.specs.elab_ctx.Steps.{at_of, spelling}
+use Rattle.elab_init.specs.elab_rules.Functions.{is_none_typs}
 use Rattle.elab_init.specs.elab_rules.Classes.{Members, member_named, member_among, is_own_member, place_if, or_place, takes_own_value}
 
 module _ (s : List Lexeme) (n : ℕ) (r : Members) where
@@ -46,3 +48,7 @@ pub other_long : (n : ℕ) (xs : List Ty) → (length xs ≡ 1 → ⊥) → fals
 other_long n [] h = refl
 other_long n (y ∷ []) h = absurd (h refl)
 other_long n (y ∷ z ∷ zs) h = own_two n (typ_of y) (typ_of z) (typs_of zs)
+
+pub none_typs : (xs : List Ty) → (length xs == 0) ≡ is_none_typs (typs_of xs)
+none_typs [] = refl
+none_typs (x ∷ xs) = eqb-suc-zero (length xs)

@@ -152,8 +152,14 @@ fn fits_kind(makes: bool, class: u32, params: &[Ty]) -> bool
     if makes {
         !is_only_class(params, class)
     } else {
-        params.is_empty()
+        takes_none(params)
     }
+}
+
+fn takes_none(params: &[Ty]) -> bool
+    ensures { result ≡ is_none_typs (typs_of params.now) }
+{
+    params.is_empty()
 }
 
 /// The header of a constructor or a destructor.

@@ -1,1 +1,3 @@
-pub mod Lambdas
+pub mod Captured
+pub mod Good
+pub mod Made

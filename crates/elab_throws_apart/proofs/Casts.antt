@@ -1,7 +1,6 @@
 -- Casts, calls, `sizeof` and `throw` give no `throw` of an object.
-use Rattle.std.proofs.Common.{◌≡◌, refl, ℕ, Bool, true, false, not, ◌&&◌, List, [], ◌∷◌, Option, Some, None, is_some, Ok, if◌then◌else◌}
+use Rattle.std.proofs.Common.{refl, ℕ, Bool, true, false, not, ◌&&◌, List, [], ◌∷◌, Option, Some, None, is_some, Ok, if◌then◌else◌}
 use Rattle.std.specs.Prelude.{unwrap_or}
-use Rattle.elab_rules.specs.tx_ints.declared.kinds.IntKind.{IntKind}
 use Rattle.elab_rules.specs.cpp_overload.Choosing.{chosen}
 use Rattle.elab_rules.specs.cpp_types.Typ.{Typ, typ, Form, void, int, enum, null, ptr, ref, array, func, class, closure, tx_ex, Signature}
 use Rattle.elab_rules.specs.cpp_types.Conversion.{referred}
@@ -12,11 +11,11 @@ use Rattle.elab_rules.specs.cpp_tree.declared.kinds.Builtin.{Builtin}
 use Rattle.elab_rules.specs.cpp_tree.declared.kinds.TKind.{TKind}
 use Rattle.elab_rules.specs.cpp_tree.declared.kinds.TKind.TheVariants as forms
 use Rattle.elab_rules.specs.cpp_tree.declared.faults.IllRule.TheVariants.{BadOperand, BadInit, Incomplete, NotCallable, NoViable, BadMain}
-use Rattle.elab_rules.specs.cpp_tree.Trees.{Tree, node, Trees, none, more, one, typ_in, cat_of}
+use Rattle.elab_rules.specs.cpp_tree.Trees.{Tree, node, Trees, none, more, one, typ_in}
 use Rattle.elab_rules.specs.cpp_tree.Typing.{form_in, unqualified, is_class_typ, is_void, is_reference, kind_in, is_volatile_typ}
 use Rattle.elab_rules.specs.elab_ctx.Ctx.{Ctx, Work}
 use Rattle.elab_rules.specs.elab_ctx.Steps.{and_then, check, expect, Operand, Made}
-use Rattle.elab_rules.specs.Values.{valued, converted, is_exception_form}
+use Rattle.elab_rules.specs.Values.{valued, is_exception_form}
 use Rattle.elab_rules.specs.Initialising
 use Rattle.elab_rules.specs.Initialising.{initial, func_at, object_of, arguments, meant, words, places_from, signature_parameters, signature_result}
 use Rattle.elab_rules.specs.Objects.{followed_by}
@@ -123,7 +122,7 @@ call_free c w at k os = skip MadeApart (check at BadMain (not (calls.is_main (fu
 call_method : (c : Ctx) (w : Work) (at : At) (k : ℕ) (object : Tree) (os : List Operand) → On MadeApart (calls.call_method c w at k object os)
 call_method c w at k object os = skip MadeApart (expect at NotCallable (func_at c.funcs k).class) _
     (λ n. skip MadeApart (calls.best_of c at (places_from (is_method n (func_at c.funcs k).declared.name) 0 c.funcs)
-    (record { tree = object; at = at; zero = false } ∷ os)) _ 
+    (record { tree = object; at = at; zero = false } ∷ os)) _
     (λ i. called c w at (calls.member_kind c n i) (func_at c.funcs i).declared.signature (one (calls.as_object at n object)) os (member_kind c n i)))
 
 -- the value in a `std::tx_exception`

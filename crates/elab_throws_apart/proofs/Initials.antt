@@ -1,14 +1,13 @@
 -- What initialises an object of a type: nothing, values in parentheses, or the value behind `=`.
-use Rattle.std.proofs.Common.{◌≡◌, refl, subst, ℕ, not, Bool, true, false, List, [], ◌∷◌, Option, Some, None, Ok, if◌then◌else◌}
+use Rattle.std.proofs.Common.{◌≡◌, refl, subst, ℕ, not, true, List, [], ◌∷◌, Option, Some, None, Ok, if◌then◌else◌}
 use Rattle.elab_rules.specs.cpp_overload.Choosing.{chosen}
-use Rattle.elab_rules.specs.cpp_types.Typ.{Typ, typ, Form, void, int, enum, null, ptr, ref, array, func, class, closure, tx_ex}
-use Rattle.elab_rules.specs.cpp_types.Equal.{typ_eq}
+use Rattle.elab_rules.specs.cpp_types.Typ.{Typ, typ, Form, void, ref, array, func, class, closure, tx_ex}
 use Rattle.elab_rules.specs.cpp_types.declared.classes.At.{At}
 use Rattle.elab_rules.specs.cpp_tree.declared.faults.IllRule.TheVariants.{NoCopy, NoViable, BadInit, OutOfProfile}
 use Rattle.elab_rules.specs.cpp_tree.Trees.{Tree, typ_in}
 use Rattle.elab_rules.specs.cpp_tree.Typing.{form_in, is_class_typ, is_volatile_typ, without_exception}
 use Rattle.elab_rules.specs.elab_ctx.Ctx.{Ctx, Work, Special, absent, trivial, function}
-use Rattle.elab_rules.specs.elab_ctx.Steps.{and_then, check, expect, Operand, Made}
+use Rattle.elab_rules.specs.elab_ctx.Steps.{and_then, check, expect, Operand}
 use Rattle.elab_rules.specs.Objects.{is_array, element_of, traits_at}
 use Rattle.elab_rules.specs.Initialising
 use Rattle.elab_rules.specs.Initialising.{class_from, scalar_from, from_values, from_nothing, conversion}

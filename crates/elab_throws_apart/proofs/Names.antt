@@ -1,5 +1,5 @@
 -- What a name or a member means is no `throw` of an object.
-use Rattle.std.proofs.Common.{◌≡◌, refl, ℕ, Bool, true, false, not, ◌&&◌, List, [], ◌∷◌, Option, Some, None, is_some, Ok, codes, if◌then◌else◌}
+use Rattle.std.proofs.Common.{refl, ℕ, not, ◌&&◌, List, [], ◌∷◌, Option, Some, None, is_some, codes}
 use Rattle.std.specs.Prelude.{slice_get}
 use Rattle.std.specs.Str.{bytes_eq}
 use Rattle.elab_rules.specs.cpp_types.Typ.{Typ, typ, void, ref, enum}
@@ -16,8 +16,8 @@ use Rattle.elab_rules.specs.cpp_tree.declared.faults.IllRule.TheVariants.{NoMemb
 use Rattle.elab_rules.specs.cpp_tree.Trees.{Tree, node, Trees, none, more, typ_in}
 use Rattle.elab_rules.specs.cpp_tree.Typing.{form_in, is_class_typ}
 use Rattle.elab_rules.specs.elab_ctx.Ctx.{Ctx, Work, Variable, This, Lambda}
-use Rattle.elab_rules.specs.elab_ctx.Steps.{and_then, expect, check, Operand, Made}
-use Rattle.elab_rules.specs.Values.{retyped, valued}
+use Rattle.elab_rules.specs.elab_ctx.Steps.{expect, check, Operand}
+use Rattle.elab_rules.specs.Values.{retyped}
 use Rattle.elab_rules.specs.Types.{type_named}
 use Rattle.elab_rules.specs.Initialising.{func_at, object_of, class_number, places_from}
 use Rattle.elab_rules.specs.Names as names

@@ -1,5 +1,5 @@
 -- Zeros, copies and objects of classes.
-use Rattle.std.proofs.Common.{◌≡◌, refl, ℕ, zero, suc, not, length, Bool, true, false, ◌&&◌, List, [], ◌∷◌, Option, Some, None, Ok, if◌then◌else◌}
+use Rattle.std.proofs.Common.{◌≡◌, refl, ℕ, zero, suc, not, length, Bool, false, ◌&&◌, List, [], ◌∷◌, Option, Some, None}
 use Rattle.elab_rules.specs.cpp_overload.Choosing.{chosen}
 use Rattle.elab_rules.specs.cpp_types.Typ.{Typ, typ, Form, void, int, enum, null, ptr, ref, array, func, class, closure, tx_ex}
 use Rattle.elab_rules.specs.cpp_types.Equal.{typ_eq, form_eq}

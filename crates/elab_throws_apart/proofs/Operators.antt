@@ -1,11 +1,11 @@
 -- Operators give no `throw` of an object.
-use Rattle.std.proofs.Common.{◌≡◌, refl, ℕ, Bool, true, false, not, ◌&&◌, ◌||◌, Option, Some, None, is_some, Result, Ok, if◌then◌else◌}
+use Rattle.std.proofs.Common.{refl, Bool, true, false, not, ◌&&◌, ◌||◌, Option, Some, None, is_some, Ok, if◌then◌else◌}
 use Rattle.elab_rules.specs.tx_ints.declared.kinds.IntKind.{IntKind}
 use Rattle.elab_rules.specs.tx_ints.declared.kinds.IntKind.TheVariants.{Bool as BoolKind, Int, ULong}
 use Rattle.elab_rules.specs.tx_ints.declared.kinds.BinOp.{BinOp}
 use Rattle.elab_rules.specs.tx_ints.declared.kinds.BinOp.TheVariants.{Add, Sub}
-use Rattle.elab_rules.specs.tx_ints.Integers.{usual_of, promote_of, is_shift}
-use Rattle.elab_rules.specs.cpp_types.Typ.{Typ, typ, Form, int, enum, ptr, class, tx_ex}
+use Rattle.elab_rules.specs.tx_ints.Integers.{promote_of, is_shift}
+use Rattle.elab_rules.specs.cpp_types.Typ.{Typ, Form, int, enum, ptr, class, tx_ex}
 use Rattle.elab_rules.specs.cpp_types.Equal.{kind_eq, typ_eq, form_eq}
 use Rattle.elab_rules.specs.cpp_types.Conversion.{is_lvalue}
 use Rattle.elab_rules.specs.cpp_types.declared.classes.At.{At}
@@ -15,7 +15,7 @@ use Rattle.elab_rules.specs.cpp_tree.Trees.{Tree, one, typ_in, cat_of}
 use Rattle.elab_rules.specs.cpp_tree.Notation.{plain}
 use Rattle.elab_rules.specs.cpp_tree.Typing.{form_in, unqualified, kind_in, is_class_typ, is_void, is_volatile_typ}
 use Rattle.elab_rules.specs.elab_ctx.Ctx.{Ctx, Work}
-use Rattle.elab_rules.specs.elab_ctx.Steps.{and_then, expect, check, Operand, Made}
+use Rattle.elab_rules.specs.elab_ctx.Steps.{expect, check, Operand}
 use Rattle.elab_rules.specs.Objects.{traits_at}
 use Rattle.elab_rules.specs.Initialising.{initial, class_number, is_same_or_base, exact_object}
 use Rattle.elab_rules.specs.Operators as operators
