@@ -1,7 +1,7 @@
 -- The own initialiser of a member, where a constructor builds the object.
-use Rattle.std.proofs.Common.{◌≡◌, refl, sym, ap, ◌∙◌, subst, ℕ, zero, Bool, true, false, not, ◌||◌, List, Option, Some, None, slice_get, length}
+use Rattle.std.proofs.Common.{◌≡◌, refl, sym, ap, ◌∙◌, subst, ℕ, zero, Bool, true, false, not, Option, Some, None, slice_get, length}
 use Rattle.elab_rules.specs.cpp_types.Typ.{Typ, ptr, class}
-use Rattle.elab_rules.specs.cpp_types.Class.{Class, Member}
+use Rattle.elab_rules.specs.cpp_types.Class.{Member}
 use Rattle.elab_rules.specs.cpp_types.Equal.{typ_eq}
 use Rattle.elab_rules.specs.cpp_types.declared.classes.At.{At}
 use Rattle.elab_rules.specs.cpp_types.declared.ranks.Cat.TheVariants.{Prvalue}
@@ -12,7 +12,6 @@ use Rattle.elab_rules.specs.cpp_tree.Roles.{is_full}
 use Rattle.elab_rules.specs.cpp_tree.Rows.{Setting}
 use Rattle.elab_rules.specs.cpp_tree.Trees.{Tree, node, Trees, none, more, kind_of}
 use Rattle.elab_rules.specs.cpp_tree.Typing.{passes}
-use Rattle.elab_rules.specs.elab_ctx.Ctx.{Default}
 use Rattle.elab_rules.specs.Names.{members_in, this_pointer}
 use Rattle.elab_rules.specs.Members.{own_this}
 use Rattle.elab_rules.specs.Braces.{ThisAt, relocated, all_relocated, moved_place}
@@ -24,9 +23,9 @@ use Rattle.elab_fits_statements.specs.Anywhere.{FitsAnywhere}
 use Rattle.elab_fits_statements.proofs.Anywhere.{anywhere}
 use Rattle.elab_fits_bodies.specs.Built.{own_default}
 use Rattle.elab_fits_bodies.specs.Parts.{HasThis}
-use Rattle.elab_fits_braces.specs.Moving.{IsThis, DefaultFits, is_outermost, this_typ}
+use Rattle.elab_fits_braces.specs.Moving.{IsThis, DefaultFits, is_outermost}
 use Rattle.elab_fits_braces.proofs.Defaults.{defaults_build}
-use Rattle.elab_fits_braces.proofs.Found.{DefaultAt, default_found}
+use Rattle.elab_fits_braces.proofs.Found.{default_found}
 use Rattle.elab_fits_braces.proofs.This.{own_is_this}
 use Rattle.elab_fits_defaults.specs.Own.{OwnDefaultsBuild}
 use Rattle.elab_fits_defaults.proofs.Kept.{no_or, or_parts}

@@ -1,7 +1,6 @@
 -- Parts behind the last item.
-use Rattle.std.proofs.Common.{◌≡◌, refl, sym, ap, ◌∙◌, subst, ℕ, zero, suc, ◌+◌, ◌*◌, ◌-◌, ◌≤◌, ◌==◌, Bool, true, false, ◌&&◌, List, [], ◌∷◌, length, drop}
-use Rattle.std.proofs.Common.{slice_get, Option, Some, None, is_some, Result, Ok, arith, lt-ltb, eq-eqb, eqb-true}
-use Rattle.std.proofs.lemmas.Bool.{and_parts}
+use Rattle.std.proofs.Common.{◌≡◌, refl, sym, ap, ◌∙◌, subst, ℕ, zero, suc, ◌+◌, ◌*◌, ◌-◌, ◌≤◌, Bool, true, false, List, [], ◌∷◌, length, drop}
+use Rattle.std.proofs.Common.{slice_get, Option, Some, None, is_some, Result, Ok, arith, lt-ltb, eq-eqb}
 use Rattle.std.specs.Prelude.{if◌then◌else◌}
 use Rattle.elab_rules.specs.cpp_types.Typ.{Typ, typ, array, class, ptr}
 use Rattle.elab_rules.specs.cpp_types.Class.{Class, Member, InOrder}
