@@ -1,16 +1,15 @@
 -- The body of a lambda fits, and so do those that were made before it.
-use Rattle.std.proofs.Common.{◌≡◌, refl, sym, ap, subst, ℕ, true, false, List, [], ◌∷◌, ◌++◌, length, slice_get, Some, Ok}
+use Rattle.std.proofs.Common.{◌≡◌, refl, sym, ap, subst, true, List, [], ◌∷◌, ◌++◌, length, slice_get, Some}
 use Rattle.elab_rules.specs.cpp_types.Typ.{Typ}
 use Rattle.elab_rules.specs.cpp_types.Class.{Function, held}
 use Rattle.elab_rules.specs.cpp_lex.Tokens.{Lexeme}
 use Rattle.elab_rules.specs.cpp_ast.Trees as syntax
-use Rattle.elab_rules.specs.cpp_tree.declared.program.FuncKind.{FuncKind}
 use Rattle.elab_rules.specs.cpp_tree.Units.{Func as UnitFunc}
 use Rattle.elab_rules.specs.cpp_tree.Rows.{is_constructor, result_of}
 use Rattle.elab_rules.specs.elab_ctx.Ctx.{Func, known}
 use Rattle.elab_rules.specs.Operators.{is_complete}
 use Rattle.elab_rules.specs.Statements.{State, Done, Body}
-use Rattle.elab_rules.specs.Lambdas.{Written, declared_closure, call_func, call_record, body_statements, with_written}
+use Rattle.elab_rules.specs.Lambdas.{call_func, call_record, body_statements, with_written}
 use Rattle.elab_fits_bodies.specs.Functions.{IsBody, IsResult}
 use Rattle.elab_fits_bodies.proofs.Ends.{function_fits}
 use Rattle.elab_sound_types.proofs.Growth.{kept_joined}
@@ -20,7 +19,7 @@ use Rattle.elab_fits_states.specs.States.{AreTexts, setting, IsGood}
 use Rattle.elab_fits_states.specs.Made.{MadeFits, AllBodiesFit}
 use Rattle.elab_fits_states.proofs.Good.{holds_of}
 use Rattle.elab_fits_lambdas.specs.Made.{lambda_inside, call_signature, lambda_block, lambda_left, IsLambda}
-use Rattle.elab_fits_lambdas.specs.Good.{IsCall}
+use Rattle.elab_fits_lambdas.specs.Lambdas.{IsCall}
 use Rattle.elab_fits_lambdas.proofs.Captured.{one_more}
 use Rattle.elab_fits_lambdas.proofs.Closures.{body_kept}
 use Rattle.elab_fits_lambdas.proofs.Entered.{IsDone, result_same, statements_fit}

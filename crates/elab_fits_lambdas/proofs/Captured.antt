@@ -1,5 +1,5 @@
 -- What a lambda captures is at hand.
-use Rattle.std.proofs.Common.{◌≡◌, refl, ap, ◌∙◌, sym, ℕ, zero, suc, Bool, true, false, ◌||◌, List, [], ◌∷◌, ◌++◌, slice_get, Option, Some, None, is_some, Result, Ok}
+use Rattle.std.proofs.Common.{◌≡◌, refl, ℕ, zero, suc, Bool, true, false, ◌||◌, List, [], ◌∷◌, ◌++◌, slice_get, Option, Some, None, is_some, Ok}
 use Rattle.std.specs.Prelude.{if◌then◌else◌, not, ◌&&◌}
 use Rattle.std.proofs.Common.{subst}
 use Rattle.std.proofs.lemmas.Option.{same_Some}
@@ -14,11 +14,11 @@ use Rattle.elab_rules.specs.cpp_tree.declared.faults.IllRule.TheVariants.{Unknow
 use Rattle.elab_rules.specs.cpp_tree.Notation.{plain}
 use Rattle.elab_rules.specs.cpp_tree.Typing.{form_in}
 use Rattle.elab_rules.specs.elab_ctx.Ctx.{Ctx, Capture, Variable, This}
-use Rattle.elab_rules.specs.elab_ctx.Steps.{and_then, check, expect, each_of, at_of, spelling}
+use Rattle.elab_rules.specs.elab_ctx.Steps.{check, expect, each_of, at_of, spelling}
 use Rattle.elab_rules.specs.Operators.{is_complete}
 use Rattle.elab_rules.specs.Lambdas.{Otherwise, nothing, by_copy, by_reference, Used, capture_variable, variable_type, captured_as, copies_closure}
-use Rattle.elab_rules.specs.Lambdas.{copies_elements, capture_this, explicit_variable, named_variable, explicit_capture, explicit_captures, capture_used}
-use Rattle.elab_rules.specs.Lambdas.{captured_uses, default_captures, is_captured, adds}
+use Rattle.elab_rules.specs.Lambdas.{copies_elements, capture_this, explicit_variable, named_variable, explicit_capture, capture_used}
+use Rattle.elab_rules.specs.Lambdas.{captured_uses, is_captured, adds}
 use Rattle.elab_fits.specs.Standing.{On}
 use Rattle.elab_fits.proofs.Steps.{bind, skip, expected, either}
 use Rattle.elab_fits_forms.specs.Expressions.{IsCapturedVariable, IsCapture}

@@ -1,5 +1,5 @@
 -- A lambda is at hand behind itself, and so are those before it.
-use Rattle.std.proofs.Common.{◌≡◌, refl, sym, ap, ◌∙◌, subst, ℕ, zero, suc, Bool, true, List, [], ◌∷◌, ◌++◌, map, length, slice_get, Option, Some, None}
+use Rattle.std.proofs.Common.{◌≡◌, refl, sym, ap, ◌∙◌, subst, ℕ, suc, Bool, true, List, [], ◌∷◌, ◌++◌, map, length, slice_get, Option, Some, None}
 use Rattle.std.proofs.Common.{is_some}
 use Rattle.elab_rules.specs.cpp_types.Typ.{Typ, Signature, class}
 use Rattle.elab_rules.specs.cpp_types.Class.{Class, Member}
@@ -9,11 +9,11 @@ use Rattle.elab_rules.specs.cpp_tree.Notation.{plain}
 use Rattle.elab_rules.specs.cpp_tree.Trees.{Tree}
 use Rattle.elab_rules.specs.cpp_tree.Typing.{passes}
 use Rattle.elab_rules.specs.elab_ctx.Ctx.{Ctx, Capture, Closure, known}
-use Rattle.elab_rules.specs.Objects.{Part, base_part, members_from, parts_in, parts_of}
-use Rattle.elab_rules.specs.Statements.{State, Done, statements_of}
+use Rattle.elab_rules.specs.Objects.{Part, base_part, members_from, parts_in}
+use Rattle.elab_rules.specs.Statements.{State}
 use Rattle.elab_rules.specs.Functions.{with_parameters}
-use Rattle.elab_rules.specs.Lambdas.{Written, no_lambda, body_statements, capture_members, declared_closure, with_written, explicit_captures}
-use Rattle.elab_rules.specs.Lambdas.{default_captures, default_in, used_in}
+use Rattle.elab_rules.specs.Lambdas.{Written, no_lambda, body_statements, capture_members, declared_closure, with_written}
+use Rattle.elab_rules.specs.Lambdas.{default_in, used_in}
 use Rattle.elab_fits.specs.Standing.{On}
 use Rattle.elab_fits_forms.specs.Types.{is_empty, is_lambda}
 use Rattle.elab_fits_forms.specs.Expressions.{IsCapture, IsClosure, ClosuresHold}
@@ -23,7 +23,7 @@ use Rattle.state_growth.proofs.Bodies.{classes_added, no_lambda_lawful}
 use Rattle.state_growth.proofs.Statements.{statements_kept, parameters_kept}
 use Rattle.state_growth.proofs.Steps.{Ends, follow, of_state, of_done}
 use Rattle.elab_fits_lambdas.specs.Captured.{AreCaptures}
-use Rattle.elab_fits_lambdas.specs.Made.{lambda_inside, call_signature, lambda_block, lambda_left, IsWritten, IsKnown, IsMade, IsLambda, AreComplete, OneAtHand}
+use Rattle.elab_fits_lambdas.specs.Made.{lambda_inside, call_signature, lambda_block, lambda_left, IsWritten, IsKnown, AreComplete, OneAtHand}
 use Rattle.elab_fits_lambdas.proofs.Captured.{one_more, explicit_all, default_all}
 use Rattle.elab_fits_lambdas.proofs.Made.{answered}
 

@@ -1,8 +1,7 @@
 -- The body of a lambda begins in a good state of its call, and its statements lead to one.
 use Rattle.std.proofs.Common.{◌≡◌, refl, sym, ap, ◌∙◌, subst, Bool, true, false, List, [], ◌∷◌, ◌++◌, Ok}
 use Rattle.std.specs.Prelude.{if◌then◌else◌}
-use Rattle.elab_rules.specs.cpp_types.Typ.{Typ, Signature, ptr}
-use Rattle.elab_rules.specs.cpp_types.Class.{Class}
+use Rattle.elab_rules.specs.cpp_types.Typ.{Typ, ptr}
 use Rattle.elab_rules.specs.cpp_lex.Tokens.{Lexeme}
 use Rattle.elab_rules.specs.cpp_ast.Trees as syntax
 use Rattle.elab_rules.specs.cpp_tree.declared.program.FuncKind.{FuncKind}
@@ -12,9 +11,9 @@ use Rattle.elab_rules.specs.cpp_tree.Notation.{plain}
 use Rattle.elab_rules.specs.cpp_tree.Typing.{is_class_typ}
 use Rattle.elab_rules.specs.cpp_tree.Units.{Func as UnitFunc}
 use Rattle.elab_rules.specs.cpp_tree.Rows.{at_place, result_in, result_of}
-use Rattle.elab_rules.specs.elab_ctx.Ctx.{Ctx, Work, Func, Closure, known}
-use Rattle.elab_rules.specs.Functions.{result_items, with_parameters}
-use Rattle.elab_rules.specs.Lambdas.{Written, declared_closure, body_statements, no_lambda, kids_of}
+use Rattle.elab_rules.specs.elab_ctx.Ctx.{Ctx, Func, known}
+use Rattle.elab_rules.specs.Functions.{with_parameters}
+use Rattle.elab_rules.specs.Lambdas.{declared_closure, body_statements, no_lambda, kids_of}
 use Rattle.elab_rules.specs.Statements.{State, Done, statements_of, is_direct_label}
 use Rattle.elab_fits.specs.Standing.{On}
 use Rattle.elab_fits.proofs.Equal.{typ_refl}
@@ -41,7 +40,6 @@ use Rattle.state_growth.proofs.Bodies.{classes_added, slots_added, funcs_added}
 use Rattle.state_growth.proofs.Going.{parameters_law}
 use Rattle.state_growth.proofs.Settings.{left_law}
 use Rattle.elab_fits_states.specs.States.{IsText, AreTexts, setting, IsGood, IsSettled, Comes}
-use Rattle.elab_fits_states.specs.Made.{AllBodiesFit}
 use Rattle.elab_fits_states.specs.Bodies.{BodyFits, StandsAlone}
 use Rattle.elab_fits_states.proofs.Bodies.{bodies_fit}
 use Rattle.elab_fits_states.proofs.Good.{none_hold, earlier_of, carried}
@@ -50,7 +48,7 @@ use Rattle.elab_fits_states.proofs.Made.{bodies_stay}
 use Rattle.elab_fits_states.proofs.Texts.{kids, first, rest}
 use Rattle.elab_fits_states.proofs.Spelled.{all_spelled}
 use Rattle.elab_fits_lambdas.specs.Made.{lambda_inside, call_signature, HasParts, three, two, IsLambda}
-use Rattle.elab_fits_lambdas.specs.Good.{IsCall, BodiesBegin}
+use Rattle.elab_fits_lambdas.specs.Lambdas.{IsCall, BodiesBegin}
 use Rattle.elab_fits_lambdas.proofs.Captured.{one_more}
 use Rattle.elab_fits_lambdas.proofs.Made.{told, mapped, answered}
 use Rattle.elab_fits_lambdas.proofs.Parameters.{OnlyNames, only_names}

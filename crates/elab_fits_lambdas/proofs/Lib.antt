@@ -2,7 +2,8 @@ pub mod Bodies
 pub mod Captured
 pub mod Closures
 pub mod Entered
-pub mod Good
+pub mod Hand
+pub mod Lambdas
 pub mod Made
 pub mod Parameters
 pub mod Results

@@ -1,5 +1,5 @@
 -- One lambda, taken apart.
-use Rattle.std.proofs.Common.{◌≡◌, refl, sym, subst, Bool, true, not, List, Result, Ok, Err}
+use Rattle.std.proofs.Common.{◌≡◌, refl, sym, subst, not, List, Result, Ok, Err}
 use Rattle.elab_rules.specs.cpp_types.Typ.{Typ, func}
 use Rattle.elab_rules.specs.cpp_types.Class.{held}
 use Rattle.elab_rules.specs.cpp_types.declared.classes.At.{At}
@@ -16,12 +16,12 @@ use Rattle.elab_rules.specs.Sizes.{typ_sized}
 use Rattle.elab_rules.specs.Types.{qualifiers_from, no_qualifiers, function_of, is_declared_safe, is_result, has_auto, is_abstract_type, within_parameters}
 use Rattle.elab_rules.specs.Statements.{State}
 use Rattle.elab_rules.specs.Functions.{within_frame}
-use Rattle.elab_rules.specs.Lambdas.{Written, lambda_of, lambda_written, lambda_made, lambda_known, lambda_with, lambda_type, closure_sized, signature_in}
+use Rattle.elab_rules.specs.Lambdas.{Written, lambda_written, lambda_made, lambda_known, lambda_with, lambda_type, closure_sized, signature_in}
 use Rattle.elab_rules.specs.Lambdas.{result_of, body_statements, kids_of, explicit_captures, default_captures, default_in, used_in, parameters_among}
 use Rattle.elab_rules.specs.Lambdas.{not_dynamic, result_among, has_mutable, place_of_tree, closing}
 use Rattle.elab_fits.specs.Standing.{On}
 use Rattle.elab_fits.proofs.Steps.{bind, checked, skip}
-use Rattle.elab_fits_lambdas.specs.Made.{lambda_inside, call_signature, IsWritten, IsKnown, IsMade, HasParts, three, two, IsLambda, LambdasAreMade}
+use Rattle.elab_fits_lambdas.specs.Made.{lambda_inside, call_signature, IsKnown, IsMade, HasParts, three, two, IsLambda, LambdasAreMade}
 
 -- a step whose answer is told
 pub told : {A B : Type 0} (Q : B → Type 0) (x : Result A ElabFault) (f : A → Result B ElabFault) → ((a : A) → x ≡ Ok a → On Q (f a)) → On Q (and_then x f)

@@ -1,8 +1,7 @@
 -- The result of a function is one that its body can end with.
-use Rattle.std.proofs.Common.{◌≡◌, refl, ap, subst, ℕ, Bool, true, false, not, ◌&&◌, ◌||◌, List, Option, Some, None, is_some}
-use Rattle.std.proofs.lemmas.Bool.{and_parts}
+use Rattle.std.proofs.Common.{◌≡◌, refl, subst, ℕ, Bool, true, ◌||◌, List, Option, Some, None}
 use Rattle.elab_rules.specs.cpp_types.Typ.{Typ, typ, void, int, enum, null, ptr, ref, array, func, class, closure, tx_ex}
-use Rattle.elab_rules.specs.cpp_types.Class.{Class, completion_of, held}
+use Rattle.elab_rules.specs.cpp_types.Class.{Class, held}
 use Rattle.elab_rules.specs.cpp_tree.Typing.{form_in, is_void, is_class_typ, is_reference}
 use Rattle.elab_rules.specs.cpp_tree.Units.{Func as UnitFunc}
 use Rattle.elab_rules.specs.cpp_tree.Rows.{result_of}

@@ -1,6 +1,5 @@
 -- The state in which the body of a lambda begins has sound types.
-use Rattle.std.proofs.Common.{◌≡◌, refl, sym, subst, ℕ, Bool, true, false, not, ◌||◌, List, [], ◌∷◌, length, Option, Some, None, Result, Ok}
-use Rattle.std.specs.List.{list_all}
+use Rattle.std.proofs.Common.{◌≡◌, refl, sym, subst, true, false, not, ◌||◌, List, Option, Some, None, Ok}
 use Rattle.std.proofs.lemmas.Bool.{and_parts}
 use Rattle.elab_rules.specs.cpp_types.Typ.{Typ, typ, void, int, enum, null, ptr, ref, array, func, class, closure, tx_ex, Signature, signature, none as no_typs}
 use Rattle.elab_rules.specs.cpp_types.Class.{Class}
@@ -11,9 +10,9 @@ use Rattle.elab_rules.specs.cpp_tree.Notation.{plain}
 use Rattle.elab_rules.specs.cpp_tree.Typing.{form_in}
 use Rattle.elab_rules.specs.elab_ctx.Ctx.{Ctx, Work, Returns, known, deduced}
 use Rattle.elab_rules.specs.Sizes.{typ_sized}
-use Rattle.elab_rules.specs.Types.{Parameter, is_declared_safe, function_of, types_of}
+use Rattle.elab_rules.specs.Types.{is_declared_safe, function_of, types_of}
 use Rattle.elab_rules.specs.Expressions.{type_id_of}
-use Rattle.elab_rules.specs.Statements.{State, Done, statements_of}
+use Rattle.elab_rules.specs.Statements.{State, statements_of}
 use Rattle.elab_rules.specs.Functions as functions
 use Rattle.elab_rules.specs.Lambdas as lambdas
 use Rattle.elab_rules.specs.Lambdas.{Written, declared_closure, no_lambda}

@@ -1,18 +1,15 @@
 -- The unit with the class and the call of a lambda is as elaboration makes it.
-use Rattle.std.proofs.Common.{◌≡◌, refl, ℕ, Bool, true, false, List, length, nat_le, Result, Ok, Err}
+use Rattle.std.proofs.Common.{◌≡◌, refl, ℕ, Bool, true, false, List, nat_le, Ok, Err}
 use Rattle.std.specs.Prelude.{if◌then◌else◌}
-use Rattle.elab_rules.specs.cpp_types.Typ.{Typ}
 use Rattle.elab_rules.specs.cpp_types.declared.classes.At.{At}
-use Rattle.elab_rules.specs.cpp_layout.Layout.{class_extent}
 use Rattle.elab_rules.specs.cpp_layout.declared.extents.TheConstants.{GREATEST_SIZE}
 use Rattle.elab_rules.specs.cpp_lex.Tokens.{Lexeme}
 use Rattle.elab_rules.specs.cpp_ast.Trees as syntax
-use Rattle.elab_rules.specs.cpp_tree.declared.faults.ElabFault.{ElabFault}
 use Rattle.elab_rules.specs.cpp_tree.declared.faults.ElabFault.TheVariants.{Limit}
 use Rattle.elab_rules.specs.cpp_tree.declared.faults.LimitKind.TheVariants.{Size}
 use Rattle.elab_rules.specs.elab_ctx.Ctx.{known}
 use Rattle.elab_rules.specs.Sizes.{sized}
-use Rattle.elab_rules.specs.Lambdas.{Written, declared_closure, call_record, closure_sized, default_in, used_in}
+use Rattle.elab_rules.specs.Lambdas.{Written, declared_closure, call_record, default_in, used_in}
 use Rattle.elab_rules.specs.Statements.{State}
 use Rattle.elab_contexts.specs.Holding.{UnitHolds}
 use Rattle.elab_contexts.specs.Steps.{view, ClosureAdded, closure_added}

@@ -1,3 +1,3 @@
 pub mod Captured
-pub mod Good
+pub mod Lambdas
 pub mod Made

@@ -14,12 +14,12 @@ use Rattle.elab_rules.specs.Operators.{is_complete}
 use Rattle.elab_rules.specs.Types.{types_of, is_declared_safe}
 use Rattle.elab_rules.specs.Statements.{State, Done, statement}
 use Rattle.elab_rules.specs.Functions.{leaving, within_frame, end_of}
-use Rattle.elab_rules.specs.Lambdas.{Written, lambda_of, lambda_entered, inside, declared_closure, closure_sized, lambda_type, result_of}
+use Rattle.elab_rules.specs.Lambdas.{Written, lambda_of, lambdas_of, lambda_entered, inside, declared_closure, closure_sized, lambda_type, result_of}
 use Rattle.elab_rules.specs.Lambdas.{body_statements, with_written, kids_of, explicit_captures, default_captures, default_in, used_in, parameters_among, result_among}
 use Rattle.elab_fits.specs.Standing.{On}
+use Rattle.elab_contexts.specs.Holding.{UnitHolds}
 use Rattle.elab_fits_forms.specs.Types.{is_empty}
 use Rattle.elab_fits_forms.specs.Expressions.{ClosuresHold}
-use Rattle.elab_fits_lambdas.specs.Captured.{AreCaptures}
 
 -- into the body of a lambda
 abbrev pub lambda_inside : State → Written → Returns → Typ → Signature → State
@@ -100,3 +100,8 @@ AreComplete classes = (n : ℕ) (k : Class) → slice_get classes n ≡ Some k �
 abbrev pub OneAtHand : Type 0
 OneAtHand = (s : List Lexeme) (st : State) (kids : syntax.Trees) (y : State) → IsLambda s st kids y → AreComplete st.ctx.classes → st.ctx.lambda ≡ None → ClosuresHold st.ctx st.ctx.closures
     → ClosuresHold y.ctx y.ctx.closures
+
+-- and so are all of a full-expression behind them, in the order of the text
+abbrev pub AllAtHand : Type 0
+AllAtHand = (s : List Lexeme) (st : State) (e : syntax.Tree) → UnitHolds st.ctx → st.ctx.lambda ≡ None → ClosuresHold st.ctx st.ctx.closures
+    → On (λ (y : State). ClosuresHold y.ctx y.ctx.closures) (lambdas_of s st e)

@@ -1,8 +1,8 @@
 //! Laws of the lambdas of a full-expression. A function here does nothing: its clauses are the laws.
 
 ghost use Rattle.elab_fits_lambdas.specs.Captured.{ExplicitAreCaptures, DefaultsAreCaptures};
-ghost use Rattle.elab_fits_lambdas.specs.Made.{LambdasAreMade, OneAtHand};
-ghost use Rattle.elab_fits_lambdas.specs.Good.{BodiesBegin, LambdasKeepGood};
+ghost use Rattle.elab_fits_lambdas.specs.Lambdas.{BodiesBegin, LambdasAreGood};
+ghost use Rattle.elab_fits_lambdas.specs.Made.{AllAtHand, LambdasAreMade, OneAtHand};
 
 /// What a lambda captures is at hand.
 pub fn captured()
@@ -14,10 +14,11 @@ pub fn captured()
 pub fn made()
     ensures made { LambdasAreMade }
     ensures hand { OneAtHand }
+    ensures all { AllAtHand }
 {}
 
 /// The body of a lambda begins in a good state, and lambdas lead to good ones.
-pub fn good()
+pub fn lambdas()
     ensures begin { BodiesBegin }
-    ensures good { LambdasKeepGood }
+    ensures good { LambdasAreGood }
 {}

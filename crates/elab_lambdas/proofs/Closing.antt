@@ -1,10 +1,15 @@
 -- The class of a lambda and its call, step by step.
-use Rattle.std.proofs.Common.{◌≡◌, ◌∙◌, ℕ, length, List, [], ◌∷◌, ◌++◌, ap, count_by}
+use Rattle.std.proofs.Common.{◌≡◌, ◌∙◌, ℕ, Bool, true, false, length, List, [], ◌∷◌, ◌++◌, Ok, Err, if◌then◌else◌, refl, ap, subst, count_by}
 use Rattle.elab_entry.specs.cpp_types.Class.{Class, Function}
+use Rattle.elab_entry.specs.cpp_types.Typ.{Signature}
+use Rattle.elab_entry.specs.cpp_tree.declared.faults.ElabFault.{ElabFault}
+use Rattle.elab_entry.specs.cpp_tree.declared.faults.ElabFault.TheVariants.{Ill, Override, JumpIntoBlock, Limit, Memory}
 use Rattle.elab_entry.specs.elab_ctx.Ctx.{Ctx, Func, Traits, Capture}
+use Rattle.elab_entry.specs.elab_ctx.Says.{Faults}
 use Rattle.elab_entry.specs.elab_rules.Types.{Parameter}
-use Rattle.elab_entry.specs.elab_rules.Classes.{is_completed}
-use Rattle.elab_entry.specs.elab_rules.Lambdas.{closure_traits, with_closure}
+use Rattle.elab_entry.specs.elab_rules.Statements.{State}
+use Rattle.elab_entry.specs.elab_rules.Classes.{is_completed, closed_class}
+use Rattle.elab_entry.specs.elab_rules.Lambdas.{Written, closure_sized, closure_traits, declared_closure, with_closure}
 use Rattle.elab_lambdas.specs.Steps.{closure_class, with_class, with_call}
 
 pub class_is : (c c1 : Ctx) (xs : List Capture) (g h : Function) (number : ℕ) (k : Class) →
@@ -22,3 +27,31 @@ closure_is c c1 c2 c3 xs g ps n closed t f e1 e2 e3 en et ef =
     ∙ ap (λ (z : Traits). record (with_class c xs g) { traits = c.traits ++ z ∷ []; slots = c.slots ++ [] ∷ []; funcs = c.funcs ++ f ∷ [] }) et
     ∙ ap (λ (z : Func). record (with_class c xs g) { traits = c.traits ++ closure_traits c xs ∷ []; slots = c.slots ++ [] ∷ []; funcs = c.funcs ++ z ∷ [] })
     (ef ∙ ap (λ (z : ℕ). with_call z g ps closed) en)
+
+-- The size of its object
+
+then_true : (b : Bool) (c : Ctx) (e : ElabFault) → (if b then Ok c else Err e) ≡ Ok c → (if b then Ok true else Err e) ≡ Ok true
+then_true true c e h = refl
+then_true false c e h = absurd cc
+
+then_faults : (b : Bool) (c : Ctx) (e f : ElabFault) → Faults f (if b then Ok c else Err e) → Faults f (if b then Ok true else Err e)
+then_faults true c e (Ill at rule) h = absurd cc
+then_faults true c e (Override at rule) h = absurd cc
+then_faults true c e (JumpIntoBlock at) h = absurd cc
+then_faults true c e (Limit at which) h = absurd cc
+then_faults true c e Memory h = tt
+then_faults false c e (Ill at rule) h = let is : e ≡ Ill at rule = cc in ap Err is
+then_faults false c e (Override at rule) h = let is : e ≡ Override at rule = cc in ap Err is
+then_faults false c e (JumpIntoBlock at) h = let is : e ≡ JumpIntoBlock at = cc in ap Err is
+then_faults false c e (Limit at which) h = let is : e ≡ Limit at which = cc in ap Err is
+then_faults false c e Memory h = tt
+
+pub closed_sized : (st : State) (x : Written) (sig : Signature) (c : Ctx) (n : ℕ) → c ≡ declared_closure st x sig → n ≡ length st.ctx.classes
+    → closed_class x.at n c ≡ Ok c → closure_sized st x sig ≡ Ok true
+closed_sized st x sig c n e f h = then_true _ (declared_closure st x sig) _
+    (subst (λ (z : Ctx). closed_class x.at (length st.ctx.classes) z ≡ Ok z) e (subst (λ (m : ℕ). closed_class x.at m c ≡ Ok c) f h))
+
+pub closed_large : (st : State) (x : Written) (sig : Signature) (c : Ctx) (n : ℕ) (d : ElabFault) → c ≡ declared_closure st x sig → n ≡ length st.ctx.classes
+    → Faults d (closed_class x.at n c) → Faults d (closure_sized st x sig)
+closed_large st x sig c n d e f h = then_faults _ (declared_closure st x sig) _ d
+    (subst (λ (z : Ctx). Faults d (closed_class x.at (length st.ctx.classes) z)) e (subst (λ (m : ℕ). Faults d (closed_class x.at m c)) f h))

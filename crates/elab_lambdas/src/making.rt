@@ -9,9 +9,7 @@ ghost use Rattle.elab_entry.specs.cpp_tree.Trees.{one};
 ghost use Rattle.elab_entry.specs.cpp_tree.Arena.{trees_at};
 ghost use Rattle.elab_entry.specs.elab_ctx.Ctx.{ctx_of, capture_of, returns_of, lambda_of, closure_of, known};
 ghost use Rattle.elab_entry.specs.elab_ctx.Says.{are_within, Faults};
-ghost use Rattle.elab_entry.specs.cpp_layout.Layout.{class_extent};
 ghost use Rattle.elab_entry.specs.elab_rules.Objects.{followed_by};
-ghost use Rattle.elab_entry.specs.elab_rules.Sizes.{sized as sized_of};
 ghost use Rattle.elab_entry.specs.elab_rules.Statements.{done, statements_of, block as block_of};
 ghost use Rattle.elab_entry.specs.elab_rules.Functions.{with_parameters as with_parameters_of, end_of as end_of_typ};
 ghost use Rattle.elab_entry.specs.elab_rules.Lambdas.{no_lambda, kids_of, place_of_tree, with_closure, signature_in, closure_sized as closure_sized_of, result_in as result_in_of, body_statements as body_statements_of};
@@ -107,14 +105,6 @@ fn object_type(x: &Written, class: u32) -> Ty
     }
 }
 
-// Tests that the object of a lambda is no larger than the greatest one.
-fn closure_sized(env: &Env, at: At, class: u32) -> Result<(), ElabFault>
-    ensures ok { OnOk result (sized_of at (class_extent (ctx_of env.now).classes class).size ≡ Ok true) }
-    ensures err { IfErr result (λ e. Faults e (sized_of at (class_extent (ctx_of env.now).classes class).size)) }
-{
-    closed_class(env, at, class)
-}
-
 // Declares the class of a lambda and its call, and goes into the body.
 fn enter(
     alloc: Global,
@@ -133,7 +123,7 @@ fn enter(
     let class = next_class(&st.env)?;
     let lambda = lambda_here(alloc, &st.env, x, class)?;
     declare_closure(alloc, &mut st.env, x, function)?;
-    closure_sized(&st.env, x.words.at, class)?;
+    closed_class(&st.env, x.words.at, class)?;
     let around = enter_lambda(alloc, st, ret, object_type(x, class), returns, lambda)?;
     Ok(around)
 }

@@ -19,7 +19,7 @@ use Rattle.elab_rules.specs.Objects.{followed_by}
 use Rattle.elab_rules.specs.Operators.{is_complete}
 use Rattle.elab_rules.specs.Sizes.{typ_sized}
 use Rattle.elab_rules.specs.Types.{Parameter, is_declared_safe, function_of, qualifiers_from, no_qualifiers}
-use Rattle.elab_rules.specs.Statements.{State, Done, Body, statement}
+use Rattle.elab_rules.specs.Statements.{State, Body, statement}
 use Rattle.elab_rules.specs.Functions.{with_parameters, end_of, within_frame, leaving, body_made}
 use Rattle.elab_rules.specs.Lambdas as rules
 use Rattle.elab_rules.specs.Lambdas.{Written, refused_at, no_lambda, first_lambda, lambda_entered, declared_closure, body_statements, lambda_type, signature_in, closure_sized}

@@ -1,3 +1,4 @@
+pub mod Bare
 pub mod Bodied
 pub mod Declarings
 pub mod Elaborating

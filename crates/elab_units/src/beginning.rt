@@ -6,12 +6,11 @@ ghost use Rattle.elab_entry.specs.cpp_types.Class.{classes_of};
 ghost use Rattle.elab_entry.specs.elab_ctx.cpp_names.Names.{with_name};
 ghost use Rattle.elab_entry.specs.elab_ctx.cpp_names.declared.entity.EntityKind.TheVariants as entities;
 ghost use Rattle.elab_entry.specs.cpp_tree.Notation.{plain};
-ghost use Rattle.elab_entry.specs.elab_ctx.Ctx.{Traits as TraitsOf, func_of, labels_of, traits_of};
-ghost use Rattle.elab_entry.specs.elab_rules.Objects.{no_traits as no_traits_of};
+ghost use Rattle.elab_entry.specs.elab_ctx.Ctx.{func_of, labels_of, traits_of};
 ghost use Rattle.elab_entry.specs.elab_rules.Statements.{no_labels as no_labels_of};
 ghost use Rattle.elab_entry.specs.elab_rules.Units.{int_typ, thread_function, builtin as builtin_of, builtins as builtins_of, start};
 ghost use Rattle.elab_entry.specs.elab_scopes.States.{state_of, made};
-ghost use Rattle.elab_units.specs.Begun.{one_or_two, long_typ, program_with, traits_known, begun_behind};
+ghost use Rattle.elab_units.specs.Begun.{one_or_two, long_typ, program_with, traits_known, bare, begun_with, begun_behind};
 
 pub use crate::known::Classes;
 use class_records::no_traits;
@@ -188,30 +187,40 @@ fn no_labels(alloc: Global) -> Labels
 
 // Nothing is known of the special members of these classes.
 fn bare_traits(alloc: Global, known: &[Traits]) -> Result<Vec<Traits>, AllocError>
-    ensures { IfOk result (λ v. map traits_of v.items ≡ map (λ (t : TraitsOf). no_traits_of) (map traits_of known.now)) }
+    ensures { IfOk result (λ v. map traits_of v.items ≡ bare (map traits_of known.now)) }
 {
-    let mut bare = Vec::new(alloc);
+    let mut traits = Vec::new(alloc);
     for _ in known {
-        bare.push(no_traits())?;
+        traits.push(no_traits())?;
     }
-    Ok(bare)
+    Ok(traits)
 }
 
-/// The beginning of a unit behind others: their classes stay; their names are gone, and their special members, which are
-/// functions of those units.
-pub fn start_behind(alloc: Global, source: u32, known: Classes) -> Result<State, AllocError>
-    ensures state { IfOk result (λ st. state_of st ≡ begun_behind source known) }
+fn bare_classes(alloc: Global, known: Classes) -> Result<Classes, AllocError>
+    ensures program { IfOk result (λ k. program_with [] k ≡ program_with [] known) }
+    ensures traits { IfOk result (λ k. traits_known k ≡ bare (traits_known known)) }
+{
+    let traits = bare_traits(alloc, &known.traits)?;
+    Ok(Classes {
+        classes: known.classes,
+        traits,
+        slots: known.slots,
+    })
+}
+
+// The beginning of a unit with these classes.
+fn start_with(alloc: Global, source: u32, known: Classes) -> Result<State, AllocError>
+    ensures state { IfOk result (λ st. state_of st ≡ begun_with source (program_with [] known) (traits_known known)) }
     ensures nodes { IfOk result (λ st. made st ≡ []) }
 {
     let scopes = unit_scopes(alloc)?;
     let funcs = builtins(alloc)?;
-    let traits = bare_traits(alloc, &known.traits)?;
     let env = Env {
         source,
         scopes,
         types: TypeNames::new(alloc),
         classes: known.classes,
-        traits,
+        traits: known.traits,
         slots: known.slots,
         defaults: Vec::new(alloc),
         default_nodes: Vec::new(alloc),
@@ -237,4 +246,14 @@ pub fn start_behind(alloc: Global, source: u32, known: Classes) -> Result<State,
         },
         bodies: Vec::new(alloc),
     })
+}
+
+/// The beginning of a unit behind others: their classes stay; their names are gone, and their special members, which are
+/// functions of those units.
+pub fn start_behind(alloc: Global, source: u32, known: Classes) -> Result<State, AllocError>
+    ensures state { IfOk result (λ st. state_of st ≡ begun_behind source known) }
+    ensures nodes { IfOk result (λ st. made st ≡ []) }
+{
+    let bare = bare_classes(alloc, known)?;
+    start_with(alloc, source, bare)
 }

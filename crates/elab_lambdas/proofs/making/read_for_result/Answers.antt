@@ -34,8 +34,8 @@ returns-in_err-body_statements c =
 
 pub returns-in_err-around : goal.returns-in_err-around
 returns-in_err-around c =
-    let is_error : c.from_residual-in_err-around.result ≡ Err c.in_err-around.field-0.0 = search rules in
-    deduces_fail c.args.st.now c.enter.new.st c.from_residual-in_err-around.result c.in_err-around.field-0.0
+    let is_error : c.from_residual.result ≡ Err c.in_err-around.field-0.0 = search rules in
+    deduces_fail c.args.st.now c.enter.new.st c.from_residual.result c.in_err-around.field-0.0
     (result_read (lexemes_of c.args.tokens.now) (state_of c.args.st.now) (written_of (syntax_of c.args.nodes.now) c.args.x.now)
     (signature_of c.args.function.now)) is_error
     (read_oversized (lexemes_of c.args.tokens.now) (state_of c.args.st.now) (written_of (syntax_of c.args.nodes.now) c.args.x.now)

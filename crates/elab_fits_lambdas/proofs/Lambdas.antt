@@ -1,12 +1,12 @@
 -- Lambdas lead from good states to good ones.
-use Rattle.std.proofs.Common.{◌≡◌, refl, sym, ap, subst, ℕ, Bool, true, List, [], ◌∷◌, Option, Some, None, Ok}
+use Rattle.std.proofs.Common.{◌≡◌, refl, sym, ap, subst, ℕ, true, List, Option, Some, None, Ok}
 use Rattle.elab_rules.specs.cpp_lex.Tokens.{Lexeme}
 use Rattle.elab_rules.specs.cpp_ast.declared.arena.At.{At as SyntaxAt}
 use Rattle.elab_rules.specs.cpp_ast.declared.kinds.NodeKind.TheVariants as k
 use Rattle.elab_rules.specs.cpp_ast.Trees as syntax
 use Rattle.elab_rules.specs.cpp_tree.declared.program.FuncKind.TheVariants.{ClosureCall}
 use Rattle.elab_rules.specs.cpp_tree.Units.{Func as UnitFunc}
-use Rattle.elab_rules.specs.elab_ctx.Ctx.{Ctx, Lambda}
+use Rattle.elab_rules.specs.elab_ctx.Ctx.{Lambda}
 use Rattle.elab_rules.specs.elab_ctx.Steps.{at_of}
 use Rattle.elab_rules.specs.Lambdas.{lambdas_of, lambdas_among, lambda_of}
 use Rattle.elab_rules.specs.Statements.{State}
@@ -14,9 +14,7 @@ use Rattle.elab_fits.specs.Standing.{On}
 use Rattle.elab_fits.proofs.Steps.{bind}
 use Rattle.elab_contexts.specs.Holding.{StateHolds}
 use Rattle.elab_contexts.specs.Slots.{HasOverriders}
-use Rattle.elab_contexts.specs.Texts.{is_no_name}
 use Rattle.elab_contexts.proofs.Holding as units
-use Rattle.elab_fits_forms.specs.Types.{is_empty}
 use Rattle.elab_holds.specs.Locals.{LocalsHold}
 use Rattle.elab_sound_types.specs.States.{Kept, IsSoundAfter}
 use Rattle.elab_sound_types.proofs.Bodies as sound
@@ -29,15 +27,12 @@ use Rattle.elab_fits_states.proofs.Good.{carried}
 use Rattle.elab_fits_states.proofs.Lambdas.{lambdas_keep}
 use Rattle.elab_fits_states.proofs.Texts.{kids, first, rest}
 use Rattle.elab_fits_states.proofs.Spelled.{spelled}
-use Rattle.elab_fits_lambdas.specs.Made.{IsLambda, AreComplete}
-use Rattle.elab_fits_lambdas.specs.Good.{LambdasKeepGood}
+use Rattle.elab_fits_lambdas.specs.Made.{IsLambda}
+use Rattle.elab_fits_lambdas.specs.Lambdas.{LambdasAreGood}
 use Rattle.elab_fits_lambdas.proofs.Bodies.{done, behind, behind_is, bodies_behind}
 use Rattle.elab_fits_lambdas.proofs.Closures.{one_at_hand}
+use Rattle.elab_fits_lambdas.proofs.Hand.{are_complete}
 use Rattle.elab_fits_lambdas.proofs.Made.{answered, lambdas_are_made}
-
-empty_is : (name : List ℕ) → is_empty name ≡ true → is_no_name name ≡ true
-empty_is [] h = refl
-empty_is (c ∷ cs) h = absurd cc
 
 none_around : (A : Type 0) (o : Option Lambda) → ((l : Lambda) → o ≡ Some l → A) → (A → ⊥) → o ≡ None
 none_around A (Some l) h n = absurd (n (h l refl))
@@ -79,14 +74,11 @@ module _ (f : UnitFunc) (s : List Lexeme) (n : f.kind ≡ ClosureCall → ⊥) w
       lambda = λ l o. kept.complete l.class (g.locals.lambda l o);
     }
 
-    complete : AreComplete st.ctx.classes
-    complete = λ m c o v. g.unit.nameless m c o (empty_is c.name v)
-
     good : IsGood f y
     good = carried f st y g (comes st y one g t q) (answered StateHolds (lambdas_of s st one) y (units.lambdas_law s st one g.unit) q)
         (subst (λ (z : State). HasOverriders z.ctx.funcs) (sym same) (done f s st ts y g texts made).settled.good.overriders) (after st y one g t q).sound
         (subst (λ (z : State). LocalsHold z.ctx z.work) (sym same) locals_behind)
-        (one_at_hand s st ts y made complete (none_around (f.kind ≡ ClosureCall) st.ctx.lambda g.around n) g.closures)
+        (one_at_hand s st ts y made (are_complete st.ctx g.unit) (none_around (f.kind ≡ ClosureCall) st.ctx.lambda g.around n) g.closures)
         (ap (λ (z : State). z.ctx.lambda) same) (ap (λ (z : State). z.ctx.returns) same) (ap (λ (z : State). z.ctx.defaults) same)
         (subst AllBodiesFit (sym same) (bodies_behind f s st ts y g texts made))
 
@@ -102,6 +94,6 @@ module _ (f : UnitFunc) (s : List Lexeme) (n : f.kind ≡ ClosureCall → ⊥) w
     among_good st (syntax.more e ts) g t = bind (IsGood f) (IsGood f) (lambdas_of s st e) _ (each_good st e g (first s e ts t))
         (λ x h. among_good x ts h (rest s e ts t))
 
-pub lambdas_keep_good : LambdasKeepGood
-lambdas_keep_good f s n = lambdas_keep f s (λ a z e g t q.
+pub lambdas_are_good : LambdasAreGood
+lambdas_are_good f s n = lambdas_keep f s (λ a z e g t q.
     let i = answered (IsGood f) (lambdas_of s a e) z (each_good f s n a e g t) q in record { overriders = i.overriders; closures = i.closures; bodies = i.bodies })

@@ -1,5 +1,5 @@
 -- The laws: the body of a lambda begins in a good state, and lambdas lead from good states to good ones.
-use Rattle.std.specs.Prelude.{◌≡◌, List, Ok}
+use Rattle.std.specs.Prelude.{◌≡◌, List}
 use Rattle.elab_rules.specs.cpp_types.Typ.{Typ}
 use Rattle.elab_rules.specs.cpp_lex.Tokens.{Lexeme}
 use Rattle.elab_rules.specs.cpp_ast.Trees as syntax
@@ -26,5 +26,5 @@ BodiesBegin = (f : UnitFunc) (s : List Lexeme) (st : State) (kids : syntax.Trees
     → On (IsSettled g) (with_parameters s (lambda_inside st h.text (known h.made.result) h.made.result (call_signature h.text h.made.result)) h.text.params)
 
 -- in the body of a function that is no call of a lambda
-abbrev pub LambdasKeepGood : Type 0
-LambdasKeepGood = (f : UnitFunc) (s : List Lexeme) → (f.kind ≡ ClosureCall → ⊥) → KeepsGood f lambdas_of s
+abbrev pub LambdasAreGood : Type 0
+LambdasAreGood = (f : UnitFunc) (s : List Lexeme) → (f.kind ≡ ClosureCall → ⊥) → KeepsGood f lambdas_of s
