@@ -46,6 +46,8 @@ use Rattle.elab_fits_units.proofs.Entering.{Begins, begins, over_same}
 use Rattle.elab_fits_units.proofs.Growing.{Over, over_then, held_earlier, one_more}
 use Rattle.elab_fits_units.proofs.Headers.{skip, checked}
 use Rattle.elab_fits_units.proofs.Results.{holds, is_result, result_kept, complete_over, sound_result}
+use Rattle.elab_fits_units.specs.Steps.{NoCall}
+use Rattle.elab_fits_units.proofs.Texts.{kids_texts}
 use Rattle.elab_fits_units.proofs.Walk.{told, bind}
 
 -- behind a body
@@ -105,7 +107,7 @@ no_constructor Constructor h = absurd cc
 no_constructor Destructor h = absurd cc
 
 module _ (s : List Lexeme) (b : Below s) (st : State) (h : Header) (this : Option Typ) (place : ℕ) (def : IsDefinition st.ctx h place) (g : UnitGood st)
-    (k : is_special h.kind ≡ false) (ps : list_all (is_sound_parameter st.ctx.classes) h.params ≡ true) (o : is_sound_object st.ctx.classes this ≡ true)
+    (k : is_special h.kind ≡ false) (free : NoCall h.kind) (ps : list_all (is_sound_parameter st.ctx.classes) h.params ≡ true) (o : is_sound_object st.ctx.classes this ≡ true)
     (c : (n : ℕ) → h.class ≡ Some n → is_some (completion_of st.ctx.classes n) ≡ true) where
   abbrev f : UnitFunc
   f = shown st.ctx.classes def.func
@@ -115,6 +117,9 @@ module _ (s : List Lexeme) (b : Below s) (st : State) (h : Header) (this : Optio
 
   special : is_special def.func.kind ≡ false
   special = ap is_special def.kind ∙ k
+
+  no_call : NoCall def.func.kind
+  no_call e = free (sym def.kind ∙ e)
 
   result : result_of f ≡ r
   result = result_kept def.func.kind def.func.declared.signature special ∙ def.result
@@ -136,4 +141,4 @@ module _ (s : List Lexeme) (b : Below s) (st : State) (h : Header) (this : Optio
       (λ q. told (Left st) (with_parameters s (entered st r this h.class) h.params) _
       (λ e i. let z : Begins f st e = begins s b st f r this h.class h.params g result typed o c ps e i in
       bind (BodyFits f e) (Left st) (statements_of lambdas_of s e kids) _
-      (b.bodies f e kids z.settled z.alone ((b.discipline f).kids kind p token kids t)) (λ d x. body_left e d p q z x)))
+      (b.bodies f e kids no_call z.settled z.alone (kids_texts s kind p token kids t)) (λ d x. body_left e d p q z x)))

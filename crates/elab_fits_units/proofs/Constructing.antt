@@ -46,8 +46,10 @@ use Rattle.elab_fits_units.specs.Below.{Below, IsHome, ArePartsOf}
 use Rattle.elab_fits_units.proofs.Bodies.{came}
 use Rattle.elab_fits_units.proofs.Growing.{held_earlier}
 use Rattle.elab_fits_units.proofs.Headers.{answered, skip, checked, expected}
+use Rattle.elab_fits_units.proofs.Results.{any_holds}
 use Rattle.elab_fits_units.proofs.Specials.{home_over, class_kept}
 use Rattle.elab_fits_units.proofs.Types.{variable_type, named_class, named_sound}
+use Rattle.elab_fits_units.specs.Steps.{NoCall}
 use Rattle.elab_fits_units.proofs.Walk.{told, bind, each_holds}
 
 -- what is written for parts builds them
@@ -90,7 +92,7 @@ pub member_found : (ms : List Member) (name : List ℕ) (k i : ℕ) → member_i
 member_found [] name k i h = absurd cc
 member_found (m ∷ ms) name k i h = member_by name k i m ms (bytes_eq m.name name) (member_found ms name (suc k) i) h
 
-module _ (s : List Lexeme) (b : Below s) (f : UnitFunc) (n : ℕ) where
+module _ (s : List Lexeme) (b : Below s) (f : UnitFunc) (free : NoCall f.kind) (n : ℕ) where
   -- so far
   pub record Gives (a : State) (g : Giving) : Type 0 where
     pub goes : Goes (words f s) a g.state
@@ -98,7 +100,7 @@ module _ (s : List Lexeme) (b : Below s) (f : UnitFunc) (n : ℕ) where
     pub given : GivenFits (setting f g.state) g.state.ctx n g.given
 
   still : (a z : State) → IsSettled f a → Comes a z → (t : Typ) (e : Tree) → BuildsAnywhere (setting f a) t e → BuildsAnywhere (setting f z) t e
-  still a z g l t e h = record { fits = λ p. (b.discipline f).still a z g l p Initialiser e (h.fits p); builds = h.builds }
+  still a z g l t e h = record { fits = λ p. (b.discipline f free).still a z g l p Initialiser e (h.fits p); builds = h.builds }
 
   class_then : (a z : State) → Comes a z → IsHome a.ctx.classes n → slice_get z.ctx.classes n ≡ slice_get a.ctx.classes n
   class_then a z l h = class_kept a.ctx.classes z.ctx.classes n l.goes.grows.unit.classes h
@@ -131,7 +133,7 @@ module _ (s : List Lexeme) (b : Below s) (f : UnitFunc) (n : ℕ) where
       let old : GivenFits (setting f now) now.ctx n g.given = givens_still g.state now g.given h.goes.good k.leads h.home h.given in
       let new : BuildsAnywhere (setting f now) t (full p m.tree) = whole_object (setting f now) p t m.tree w.one w.no_throw in
       let x : Given = record { member = i; at = at; tree = full p m.tree } in record {
-        goes = goes_then (words f s) lambdas_of s (b.discipline f) a g.state now h.goes k;
+        goes = goes_then (words f s) lambdas_of s (b.discipline f free) a g.state now h.goes k;
         home = home_over g.state now n (came g.state now k.leads.goes) h.home;
         given = record {
           base = λ c y e u. given_more (λ (v : Given). BuildsAnywhere (setting f now) (plain (class c)) v.tree) None g.given x y u (λ v. old.base c y e v)
@@ -162,18 +164,18 @@ module _ (s : List Lexeme) (b : Below s) (f : UnitFunc) (n : ℕ) where
 
   member_given : (a : State) (g : Giving) (at : At) (j : ℕ) (m : Member) (es : syntax.Trees) → Gives a g → AreTexts s es → IsMember g.state.ctx n j m
       → On (Gives a) (given_part lambdas_of s n g (Some j) at m.typ es)
-  member_given a g at j m es h t e = let parts : ArePartsOf g.state.ctx n = b.parts g.state.ctx g.state.work n h.goes.good.good.unit h.goes.good.good.sound.context h.home in
+  member_given a g at j m es h t e = let parts : ArePartsOf g.state.ctx n = b.parts g.state.ctx g.state.work n h.goes.good.good.unit h.goes.good.good.sound.context (λ k. any_holds s b k g.state h.goes.good.good) h.home in
       let typ : IsVariableType g.state m.typ = variable_type g.state m.typ h.goes.good.good.unit (parts.typed j m e) (parts.members j m e).element.sized in
       part_given a g (Some j) at m.typ es h (record {
         member = λ i x q u. ap (λ (y : Member). y.typ) (same_Some x m (sym u ∙ ap (λ (l : ℕ). slice_get (members_in (slice_get g.state.ctx.classes n)) l) (same_Some i j (sym q)) ∙ e));
         base = λ x q u. absurd cc;
       })
-      (λ x xs y l o d. let r = (b.discipline f).values g.state x m.typ at at es xs y h.goes.good typ t l o d in (r.goes, r.builds))
+      (λ x xs y l o d. let r = (b.discipline f free).values g.state x m.typ at at es xs y h.goes.good typ t l o d in (r.goes, r.builds))
 
   -- the base
   base_given : (a : State) (g : Giving) (at : At) (x : ℕ) (t : Typ) (es : syntax.Trees) → Gives a g → AreTexts s es
       → base_of_class (slice_get g.state.ctx.classes n) ≡ Some x → t ≡ plain (class x) → On (Gives a) (given_part lambdas_of s n g None at t es)
-  base_given a g at x t es h q e k = let parts : ArePartsOf g.state.ctx n = b.parts g.state.ctx g.state.work n h.goes.good.good.unit h.goes.good.good.sound.context h.home in
+  base_given a g at x t es h q e k = let parts : ArePartsOf g.state.ctx n = b.parts g.state.ctx g.state.work n h.goes.good.good.unit h.goes.good.good.sound.context (λ k. any_holds s b k g.state h.goes.good.good) h.home in
       let typ : IsVariableType g.state (plain (class x)) = variable_type g.state (plain (class x)) h.goes.good.good.unit (parts.based x e) (parts.base x e).sized in
       part_given a g None at t es h (record {
         member = λ i y u v. absurd cc;
@@ -182,7 +184,7 @@ module _ (s : List Lexeme) (b : Below s) (f : UnitFunc) (n : ℕ) where
       (λ y xs m l o d. let y2 = answered (Leaves g.state) (all_lambdas lambdas_of s g.state es) y (all_lambdas_kept lambdas_of lambdas_lawful s g.state es) l in
       let same : for_part y.ctx n None ≡ as_base_of y.ctx x =
           ap (for_base y.ctx) (ap base_of_class (class_kept g.state.ctx.classes y.ctx.classes n y2.kept.classes h.home) ∙ e) in
-      let r = b.bases f g.state y x t at at es xs m h.goes.good (subst (λ (z : Typ). IsVariableType g.state z) (sym k) typ) q l o
+      let r = b.bases f g.state y x t at at es xs m free h.goes.good (subst (λ (z : Typ). IsVariableType g.state z) (sym k) typ) q l o
           (ap (λ (c : Ctx). directly_initialised c xs.work t at xs.operands) (sym same) ∙ d) in (r.goes, r.builds))
 
   -- Initialisers in the order of the text
@@ -208,14 +210,14 @@ module _ (s : List Lexeme) (b : Below s) (f : UnitFunc) (n : ℕ) where
       (λ i e. let m = member_found ms (spelling s t) 0 i (expected (at_of p) NoMember (member_index 0 (spelling s t) ms) i e) in let z = m.is in
       let u : slice_get ms i ≡ Some m.member = ap (λ (j : ℕ). slice_get ms j) (omega arith) ∙ m.at in
       subst (λ (r : Typ). On (Gives a) (given_part lambdas_of s n g (Some i) (at_of p) r es)) (sym (ap member_type u))
-      (member_given a g (at_of p) i m.member es h ((b.discipline f).kids k.MemberInitializer p (Some t) es q) u))
+      (member_given a g (at_of p) i m.member es h ((b.discipline f free).kids k.MemberInitializer p (Some t) es q) u))
   by_given a g (syntax.node k.BaseInitializer p (Some t) es) h q = let types = g.state.ctx.types in
       told (Gives a) (expect (at_of p) UnknownName (type_named (spelling s t) types)) _
-      (λ u e. base_by a g (at_of p) u es h ((b.discipline f).kids k.BaseInitializer p (Some t) es q)
+      (λ u e. base_by a g (at_of p) u es h ((b.discipline f free).kids k.BaseInitializer p (Some t) es q)
       (named_sound g.state.ctx.classes (spelling s t) types u h.goes.good.good.sound.context.types (expected (at_of p) UnknownName (type_named (spelling s t) types) u e))
       (base_of_class (slice_get g.state.ctx.classes n)) refl)
   by_given a g (syntax.node kind p token es) h q = h
 
   pub all_by : (a : State) (g : Giving) (ts : syntax.Trees) → Gives a g → AreTexts s ts → On (Gives a) (all_given lambdas_of s n g ts)
   all_by a g ts h q = each_holds (Gives a) (AreTexts s) (given_by lambdas_of s n) g ts h q
-      (λ x t us i l. (by_given a x t i ((b.discipline f).first t us l), (b.discipline f).rest t us l))
+      (λ x t us i l. (by_given a x t i ((b.discipline f free).first t us l), (b.discipline f free).rest t us l))

@@ -12,7 +12,7 @@ use Rattle.elab_rules.specs.cpp_types.Class.{Class, Member, completion_of}
 use Rattle.elab_rules.specs.cpp_types.declared.classes.At.{At}
 use Rattle.elab_rules.specs.cpp_lex.Tokens.{Lexeme}
 use Rattle.elab_rules.specs.cpp_ast.Trees as syntax
-use Rattle.elab_rules.specs.cpp_tree.declared.program.FuncKind.TheVariants.{Constructor}
+use Rattle.elab_rules.specs.cpp_tree.declared.program.FuncKind.TheVariants.{Constructor, ClosureCall}
 use Rattle.elab_rules.specs.cpp_tree.declared.roles.Role.TheVariants.{BlockItem}
 use Rattle.elab_rules.specs.cpp_tree.Notation.{plain}
 use Rattle.elab_rules.specs.cpp_tree.Typing.{is_class_typ}
@@ -52,11 +52,16 @@ use Rattle.elab_fits_units.specs.Good.{UnitGood}
 use Rattle.elab_fits_units.proofs.Bodies.{Left, made_left, came}
 use Rattle.elab_fits_units.proofs.Constructing.{Gives, GivenFits, all_by, givens_still}
 use Rattle.elab_fits_units.proofs.Entering.{Begins, begins, none_hold}
-use Rattle.elab_fits_units.proofs.Growing.{Over, over, over_then, held_earlier, bodies_over, defaults_over}
+use Rattle.elab_fits_units.proofs.Growing.{Over, over, over_then, held_earlier, bodies_over, defaults_over, unit_as}
 use Rattle.elab_fits_units.proofs.Headers.{answered, skip}
-use Rattle.elab_fits_units.proofs.Results.{holds, no_result}
+use Rattle.elab_fits_units.proofs.Results.{any_holds, holds, no_result}
 use Rattle.elab_fits_units.proofs.Specials.{home_over, has_parts, item_at}
+use Rattle.elab_fits_units.specs.Steps.{NoCall}
+use Rattle.elab_fits_units.proofs.Texts.{kids_texts}
 use Rattle.elab_fits_units.proofs.Walk.{told, bind}
+
+pub constructed : Constructor ≡ ClosureCall → ⊥
+constructed e = absurd cc
 
 -- Where parts are built, the work alone is another
 
@@ -98,7 +103,7 @@ module _ (s : List Lexeme) (b : Below s) (f : UnitFunc) where
   pub settled_with : (a : State) (v : Work) → IsSettled f a → IsSoundState (with_work a v) → Leaves a (with_work a v) → IsSettled f (with_work a v)
   settled_with a v h g l = let z : State = with_work a v in record {
     good = record {
-      unit = b.unit_same a.ctx z.ctx refl refl refl h.good.unit;
+      unit = unit_as a.ctx z.ctx h.good.unit;
       overriders = h.good.overriders;
       sound = g;
       locals = b.stays (locals a.ctx) (locals z.ctx) a.work.frame v.frame (record {
@@ -127,7 +132,7 @@ module _ (s : List Lexeme) (b : Below s) (f : UnitFunc) where
     pub stands : StandsAs a d.state
     pub serve : AllServe (setting f d.state) false false BlockItem d.trees
 
-  module _ (a : State) (at : At) (n : ℕ) (gs : List Given) (h : IsSettled f a) (home : IsHome a.ctx.classes n)
+  module _ (free : NoCall f.kind) (a : State) (at : At) (n : ℕ) (gs : List Given) (h : IsSettled f a) (home : IsHome a.ctx.classes n)
       (item : at_place a.work.frame 0 (plain (ptr (plain (class n)))) ≡ true) (given : GivenFits (setting f a) a.ctx n gs) (d : Done)
       (e : parts_built a at n gs ≡ Ok d) where
     abbrev v : Work
@@ -155,7 +160,7 @@ module _ (s : List Lexeme) (b : Below s) (f : UnitFunc) where
     all = holds s b f a h.good
 
     parts : ArePartsOf a.ctx n
-    parts = b.parts a.ctx a.work n h.good.unit h.good.sound.context home
+    parts = b.parts a.ctx a.work n h.good.unit h.good.sound.context (λ k. any_holds s b k a h.good) home
 
     this : at_place v.frame 0 (plain (ptr (plain (class n)))) ≡ true
     this = first_kept a.work.frame v.frame leaves.kept.frame (plain (ptr (plain (class n)))) item
@@ -174,10 +179,10 @@ module _ (s : List Lexeme) (b : Below s) (f : UnitFunc) where
     }
 
     makes : MakesParts (setting f z) a.ctx (is_lambda a.ctx.classes) n gs
-    makes = let g = givens_still s b f n a z gs h leads home given in record {
-      base = λ x q. b.objects (setting f a) a.ctx a.work (plain (class x)) all (parts.based x q);
+    makes = let g = givens_still s b f free n a z gs h leads home given in record {
+      base = λ x q. b.objects (setting f a) a.ctx a.work (plain (class x)) h.good.unit h.good.sound.context all (parts.based x q) (parts.base x q).sized;
       base_given = g.base;
-      member = λ i m q. b.objects (setting f a) a.ctx a.work m.typ all (parts.typed i m q);
+      member = λ i m q. b.objects (setting f a) a.ctx a.work m.typ h.good.unit h.good.sound.context all (parts.typed i m q) (parts.members i m q).element.sized;
       member_given = g.member;
       member_default = λ i m x w q u r. b.own (setting f z) a.ctx.defaults n i m x w ready.good.defaults this q u r;
     }
@@ -196,12 +201,15 @@ module _ (s : List Lexeme) (b : Below s) (st : State) (h : Header) (n place : �
   abbrev f : UnitFunc
   f = shown st.ctx.classes def.func
 
+  no_call : NoCall def.func.kind
+  no_call e = constructed (sym (def.kind ∙ k) ∙ e)
+
   constructor_begins : (e : State) → with_parameters s (in_object st n) h.params ≡ Ok e → Begins f st e
   constructor_begins e i = begins s b st f (plain void) (Some (plain (class n))) (Some n) h.params g
       (no_result def.func.kind def.func.declared.signature (ap is_special (def.kind ∙ k))) refl home.named
       (λ m e. subst (λ (i : ℕ). is_some (completion_of st.ctx.classes i) ≡ true) (same_Some n m e) home.complete) ps e i
 
-  block_left : (e : State) (x : Giving) (parts : Done) (body : syntax.Tree) → Begins f st e → Gives s b f n e x → PartsStand s b f x.state parts → IsText s body
+  block_left : (e : State) (x : Giving) (parts : Done) (body : syntax.Tree) → Begins f st e → Gives s b f no_call n e x → PartsStand s b f x.state parts → IsText s body
       → On (Left st) (constructor_block lambdas_of s st h n place parts body)
   block_left e x parts (syntax.node kind p token kids) i y z t =
       let alone : StandsAlone parts.state = record {
@@ -210,26 +218,26 @@ module _ (s : List Lexeme) (b : Below s) (st : State) (h : Header) (n place : �
         continues = z.stands.continues ∙ (y.goes.stands.continues ∙ i.alone.continues);
       } in
       bind (BodyFits f parts.state) (Left st) (statements_of lambdas_of s parts.state kids) _
-      (b.bodies f parts.state kids z.settled alone ((b.discipline f).kids kind p token kids t))
+      (b.bodies f parts.state kids no_call z.settled alone (kids_texts s kind p token kids t))
       (λ d w. let o : Over st d.state = over_then st e d.state i.over (over_then e x.state d.state (came e x.state y.goes.leads.goes)
       (over_then x.state parts.state d.state (came x.state parts.state z.leads.goes) (came parts.state d.state w.leads.goes))) in
       made_left st d.state def.func place (constructor_tree (at_of p) parts.trees d.trees) def.at w.settled.good o
       (b.constructors (setting f d.state) (at_of p) parts.trees d.trees (ap is_constructor (def.kind ∙ k))
-      (all_still (words f s) lambdas_of s (b.discipline f) parts.state d.state false false BlockItem parts.trees z.settled w.leads z.serve) w.serve).nodes h.at)
+      (all_still (words f s) lambdas_of s (b.discipline f no_call) parts.state d.state false false BlockItem parts.trees z.settled w.leads z.serve) w.serve).nodes h.at)
 
   pub constructor_left : (inits : syntax.Trees) (body : syntax.Tree) → AreTexts s inits → IsText s body
       → On (Left st) (constructor_body lambdas_of s st h n place inits body)
   constructor_left inits body t u = told (Left st) (with_parameters s (in_object st n) h.params) _
       (λ e q. let i : Begins f st e = constructor_begins e q in
-      bind (Gives s b f n e) (Left st) (all_given lambdas_of s n (record { state = e; given = [] }) inits) _
-      (all_by s b f n e (record { state = e; given = [] }) inits (record {
-        goes = goes_still (words f s) lambdas_of s (b.discipline f) e i.settled;
+      bind (Gives s b f no_call n e) (Left st) (all_given lambdas_of s n (record { state = e; given = [] }) inits) _
+      (all_by s b f no_call n e (record { state = e; given = [] }) inits (record {
+        goes = goes_still (words f s) lambdas_of s (b.discipline f no_call) e i.settled;
         home = home_over st e n i.over home;
         given = record { base = λ c y a z. absurd cc; member = λ j m y a z. absurd cc };
       }) t)
       (λ x y. told (Left st) (parts_built x.state h.at n x.given) _
       (λ parts z. block_left e x parts body i y
-      (parts_stand s b f x.state h.at n x.given y.goes.good y.home
+      (parts_stand s b f no_call x.state h.at n x.given y.goes.good y.home
       (first_kept e.work.frame x.state.work.frame y.goes.leads.goes.grows.frame item
       (first_kept start.work.frame e.work.frame
       (answered (Leaves start) (with_parameters s start h.params) e (parameters_kept s start h.params) q).kept.frame item (typ_refl item))) y.given parts z) u)))

@@ -37,7 +37,7 @@ use Rattle.elab_fits_states.specs.States.{setting, IsSettled, Comes}
 use Rattle.elab_fits_units.specs.Below.{Below, IsHome, ArePartsOf}
 use Rattle.elab_fits_units.proofs.Constructors.{Same, Works, PartsStand, settled_with, settled_same, first_kept}
 use Rattle.elab_fits_units.proofs.Headers.{answered, skip}
-use Rattle.elab_fits_units.proofs.Results.{holds}
+use Rattle.elab_fits_units.proofs.Results.{any_holds, holds}
 use Rattle.elab_fits_units.proofs.Specials.{has_parts}
 
 -- The work alone is another
@@ -120,7 +120,7 @@ module _ (s : List Lexeme) (b : Below s) (f : UnitFunc) (a : State) (at : At) (n
   all = holds s b f a h.good
 
   parts : ArePartsOf a.ctx n
-  parts = b.parts a.ctx a.work n h.good.unit h.good.sound.context home
+  parts = b.parts a.ctx a.work n h.good.unit h.good.sound.context (λ k. any_holds s b k a h.good) home
 
   here : IsSetting (setting f z) a.ctx
   here = let i = (holds s b f z ready.good).setting in record { classes = i.classes; ordered = i.ordered; slots = i.slots; funcs = i.funcs }
@@ -136,7 +136,7 @@ module _ (s : List Lexeme) (b : Below s) (f : UnitFunc) (a : State) (at : At) (n
   }
 
   copies : CopiesParts a.ctx (is_lambda a.ctx.classes) n
-  copies = record { base = λ x u. b.objects (setting f a) a.ctx a.work (plain (class x)) all (parts.based x u); members = parts.members }
+  copies = record { base = λ x u. b.objects (setting f a) a.ctx a.work (plain (class x)) h.good.unit h.good.sound.context all (parts.based x u) (parts.base x u).sized; members = parts.members }
 
   pub copies_stand : PartsStand s b f a d
   copies_stand = let p = answered (PartsMade (setting f z) a) (parts_copied a at n source q) d

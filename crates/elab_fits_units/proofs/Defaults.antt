@@ -40,12 +40,13 @@ use Rattle.elab_fits_units.specs.Good.{UnitGood, unit_words}
 use Rattle.elab_fits_units.specs.Laws.{Leads, Laws}
 use Rattle.elab_fits_units.specs.Steps.{Follows}
 use Rattle.elab_fits_units.proofs.Bodies.{came}
+use Rattle.elab_fits_units.proofs.Constructors.{constructed}
 use Rattle.elab_fits_units.proofs.Constructing.{FoundMember, member_found}
 use Rattle.elab_fits_units.proofs.Entering.{Begins, begins, over_same}
 use Rattle.elab_fits_units.proofs.Growing.{Over, over_then, held_earlier, bodies_over, defaults_over}
 use Rattle.elab_fits_units.proofs.Headers.{answered, split}
 use Rattle.elab_fits_units.proofs.Leaves.{both_on, gone_over}
-use Rattle.elab_fits_units.proofs.Results.{holds, no_result, complete_over}
+use Rattle.elab_fits_units.proofs.Results.{holds, any_holds, no_result, complete_over}
 use Rattle.elab_fits_units.proofs.Specials.{home_over, class_kept}
 use Rattle.elab_fits_units.proofs.Types.{variable_type}
 use Rattle.elab_fits_units.proofs.Walk.{told}
@@ -129,7 +130,7 @@ module _ (s : List Lexeme) (b : Below s) (st : State) (n : ℕ) (t : Typ) (e : s
     Copied f = IsSettled (own f) z × Comes x z × BuildsWhole (setting (own f) z) t m.tree
 
     copied : (f : UnitFunc) → Copied f
-    copied f = let k = b.discipline (own f) in
+    copied f = let k = b.discipline (own f) constructed in
         let r = k.reads x e o (starts f).settled text p in
         let c = k.copies o.state t o.operand m r.goes.good (k.object_still x o.state t r.goes.leads (variable_type x t (starts f).settled.good.unit sound size)) r.operand q in
         (c.goes.good, k.goes_on x o.state z r.goes.leads c.goes.leads, c.fits)
@@ -177,6 +178,14 @@ module _ (s : List Lexeme) (b : Below s) (st : State) (n : ℕ) (t : Typ) (e : s
   value_valued true None d h w = expression_valued d w
   value_valued false o d h w = expression_valued d w
 
+-- a constructor of which nothing else is known
+abbrev any_constructor : UnitFunc
+any_constructor = record (shown [] no_function) { kind = Constructor }
+
+object_begins : (s : List Lexeme) (b : Below s) (st : State) (n : ℕ) → UnitGood st → IsHome st.ctx.classes n → Begins any_constructor st (in_object st n)
+object_begins s b st n g home = begins s b st any_constructor (plain void) (Some (plain (class n))) (Some n) [] g refl refl home.named
+    (λ m q. subst (λ (i : ℕ). is_some (completion_of st.ctx.classes i) ≡ true) (same_Some n m q) home.complete) refl (in_object st n) refl
+
 module _ (s : List Lexeme) (b : Below s) (l : Laws s) where
   record AllMade (st y : State) : Type 0 where
     bodies : AllBodiesFit y
@@ -186,7 +195,9 @@ module _ (s : List Lexeme) (b : Below s) (l : Laws s) where
   all_made : (st : State) (n i : ℕ) (m : Member) (e : syntax.Tree) → UnitGood st → IsHome st.ctx.classes n → IsText s e
       → slice_get (members_in (slice_get st.ctx.classes n)) i ≡ Some m → On (AllMade st) (default_made lambdas_of s st n i m.typ e)
   all_made st n i m e g h text q =
-      let parts : ArePartsOf st.ctx n = b.parts st.ctx st.work n g.unit g.sound.context h in
+      let begun = object_begins s b st n g h in
+      let parts : ArePartsOf (in_object st n).ctx n = b.parts (in_object st n).ctx (in_object st n).work n begun.settled.good.unit begun.settled.good.sound.context
+      (λ k. any_holds s b k (in_object st n) begun.settled.good) h in
       let sound = parts.typed i m q in
       let size = (parts.members i m q).element.sized in
       let t : Typ = m.typ in

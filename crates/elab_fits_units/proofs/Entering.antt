@@ -23,7 +23,7 @@ use Rattle.elab_fits.specs.Standing.{On}
 use Rattle.elab_fits.proofs.Equal.{typ_refl}
 use Rattle.elab_fits.proofs.Nodes.{both, clash}
 use Rattle.elab_contexts.specs.Holding.{UnitHolds}
-use Rattle.elab_contexts.specs.Slots.{HasOverriders}
+use Rattle.elab_contexts.specs.Overriders.{HasOverriders}
 use Rattle.elab_holds.specs.Locals.{LocalsHold}
 use Rattle.elab_sound_types.specs.Types.{is_sound, is_sound_form, variable as a_variable, parameter as a_parameter, result as a_result}
 use Rattle.elab_sound_types.specs.Contexts.{HasSoundTypes, is_sound_variable, is_sound_this, is_sound_parameter}
@@ -38,7 +38,7 @@ use Rattle.elab_fits_states.specs.Bodies.{StandsAlone}
 use Rattle.elab_fits_states.specs.Made.{AllBodiesFit}
 use Rattle.elab_fits_units.specs.Below.{Below}
 use Rattle.elab_fits_units.specs.Good.{UnitGood}
-use Rattle.elab_fits_units.proofs.Growing.{bare, Over, over, over_then, held_earlier, bodies_over, defaults_over}
+use Rattle.elab_fits_units.proofs.Growing.{bare, Over, over, over_then, held_earlier, bodies_over, defaults_over, unit_as}
 use Rattle.elab_fits_units.proofs.Headers.{answered, skip}
 use Rattle.elab_fits_units.proofs.Walk.{told, bind}
 
@@ -132,7 +132,7 @@ module _ (s : List Lexeme) (b : Below s) where
   entered_inside : (st : State) (f : UnitFunc) (r : Typ) (this : Option Typ) (cls : Option ℕ) → UnitGood st → result_of f ≡ r
       → is_sound st.ctx.classes a_result r ≡ true → is_sound_object st.ctx.classes this ≡ true → Inside f (entered st r this cls)
   entered_inside st f r this cls g q t o = record {
-    unit = b.unit_same st.ctx (entered st r this cls).ctx refl refl refl g.unit;
+    unit = unit_as st.ctx (entered st r this cls).ctx g.unit;
     overriders = g.overriders;
     sound = record {
       context = let h = g.sound.context in record {
@@ -164,7 +164,7 @@ module _ (s : List Lexeme) (b : Below s) where
   parameter_inside : (st : State) (f : UnitFunc) (name : List ℕ) (t : Typ) → Inside f st → is_sound st.ctx.classes a_variable t ≡ true
       → Inside f (with_parameter st name t)
   parameter_inside st f name t g v = record {
-    unit = b.unit_same st.ctx (with_parameter st name t).ctx refl refl refl g.unit;
+    unit = unit_as st.ctx (with_parameter st name t).ctx g.unit;
     overriders = g.overriders;
     sound = record {
       context = let h = g.sound.context in record {
@@ -194,7 +194,7 @@ module _ (s : List Lexeme) (b : Below s) where
 
   unnamed_inside : (st : State) (f : UnitFunc) (t : Typ) → Inside f st → is_sound st.ctx.classes a_variable t ≡ true → Inside f (unnamed_parameter st t)
   unnamed_inside st f t g v = record {
-    unit = b.unit_same st.ctx (unnamed_parameter st t).ctx refl refl refl g.unit;
+    unit = unit_as st.ctx (unnamed_parameter st t).ctx g.unit;
     overriders = g.overriders;
     sound = record {
       context = let h = g.sound.context in record {

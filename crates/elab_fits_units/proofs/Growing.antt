@@ -98,3 +98,36 @@ defaults_over d f g a b o k e h = subst (λ (z : List Default). AllDefaultsFit (
       funcs = funcs_grow a.ctx.classes b.ctx.classes a.ctx.funcs b.ctx.funcs k.kept.funcs;
       globals = k.kept.globals;
     }) h)
+
+-- Contexts of the same unit
+
+pub unit_as : (a b : Ctx) → UnitHolds a
+    → UnitHolds (record b { classes = a.classes; traits = a.traits; slots = a.slots; funcs = a.funcs; enumerators = a.enumerators; types = a.types })
+unit_as a b h = record {
+  many = h.many;
+  destructors = λ n k e. let x = h.destructors n k e in record { func = x.func; at = x.at; kind = x.kind; class = x.class };
+  copies = λ n k e. let x = h.copies n k e in record {
+    maker = record { func = x.maker.func; at = x.maker.at; kind = x.maker.kind; class = x.maker.class };
+    takes = x.takes;
+  };
+  defaults = λ n k e. let x = h.defaults n k e in record {
+    maker = record { func = x.maker.func; at = x.maker.at; kind = x.maker.kind; class = x.maker.class };
+    takes = x.takes;
+  };
+  bare = h.bare;
+  builtins = h.builtins;
+  free = h.free;
+  owned = h.owned;
+  recorded = h.recorded;
+  slotted = h.slotted;
+  objects = h.objects;
+  numbered = h.numbered;
+  earlier = h.earlier;
+  based = h.based;
+  bases = h.bases;
+  members = h.members;
+  nameless = h.nameless;
+  sized = h.sized;
+  enumerators = h.enumerators;
+  types = h.types;
+}

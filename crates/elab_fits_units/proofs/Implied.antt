@@ -46,7 +46,7 @@ use Rattle.elab_fits_units.specs.Below.{Below, IsHome, ArePartsOf}
 use Rattle.elab_fits_units.specs.Good.{IsImplied, default, copy, destructor, IsImplicit, UnitGood}
 use Rattle.elab_fits_units.specs.Laws.{Leads, Laws}
 use Rattle.elab_fits_units.proofs.Bodies.{Left, made_left, came}
-use Rattle.elab_fits_units.proofs.Constructors.{PartsStand, parts_stand, settled_with, settled_same, first_kept}
+use Rattle.elab_fits_units.proofs.Constructors.{PartsStand, constructed, parts_stand, settled_with, settled_same, first_kept}
 use Rattle.elab_fits_units.proofs.Copying.{copies_stand}
 use Rattle.elab_rules.specs.cpp_types.Equal.{typ_eq}
 use Rattle.elab_rules.specs.cpp_tree.Typing.{passes}
@@ -96,7 +96,7 @@ module _ (s : List Lexeme) (b : Below s) (st : State) (k : ℕ) (f : Func) (e : 
   default_left : (at : At) → f.kind ≡ Constructor → On (Left st) (constructor_implied st at k n no_typs)
   default_left at h = let i : Begins shows st start = starts (ap is_special h) in
       told (Left st) (parts_built start at n []) _ (λ d q. made start at d h i.over
-      (parts_stand s b shows start at n [] i.settled home (typ_refl item) (record { base = λ c y a z. absurd cc; member = λ j m y a z. absurd cc }) d q))
+      (parts_stand s b shows (λ w. constructed (sym h ∙ w)) start at n [] i.settled home (typ_refl item) (record { base = λ c y a z. absurd cc; member = λ j m y a z. absurd cc }) d q))
 
   copy_left : (at : At) (q : Bool) → f.kind ≡ Constructor → On (Left st) (constructor_implied st at k n (and_typ (own_reference n q) no_typs))
   copy_left at q h =

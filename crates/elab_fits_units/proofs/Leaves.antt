@@ -46,7 +46,7 @@ use Rattle.elab_fits_units.specs.Below.{Below, IsHome}
 use Rattle.elab_fits_units.specs.Definitions.{IsDefinition}
 use Rattle.elab_fits_units.specs.Good.{UnitGood, unit_words}
 use Rattle.elab_fits_units.specs.Laws.{Leads, Laws}
-use Rattle.elab_fits_units.specs.Steps.{Follows}
+use Rattle.elab_fits_units.specs.Steps.{NoCall, Follows}
 use Rattle.elab_fits_units.proofs.Bodies.{Left, function_left}
 use Rattle.elab_fits_units.proofs.Constructors.{constructor_left}
 use Rattle.elab_fits_units.proofs.Growing.{Over, bodies_over, defaults_over, held_earlier}
@@ -54,6 +54,7 @@ use Rattle.elab_fits_units.proofs.Headers.{answered, skip, expected, declared_la
 use Rattle.elab_fits_units.proofs.Methods.{IsMethod, method_is, outside_is}
 use Rattle.elab_fits_units.proofs.Quiet.{Quiet, Placing, function_quiet}
 use Rattle.elab_fits_units.proofs.Specials.{destructor_left, home_over}
+use Rattle.elab_fits_units.proofs.Texts.{rest_texts}
 use Rattle.elab_fits_units.proofs.Walk.{told, bind}
 
 -- Answers
@@ -77,34 +78,6 @@ gone_over a b g = record {
   tidy = λ t. record { many = g.tidy.many; empty = g.tidy.empty; numbered = g.tidy.numbered };
 }
 
--- Texts
-
-pub kids_texts : (s : List Lexeme) (kind : NodeKind) (p : SyntaxAt) (token : Option ℕ) (ts : syntax.Trees) → IsText s (syntax.node kind p token ts) → AreTexts s ts
-kids_texts s kind p token ts h = record {
-  spelled = (and_parts (is_spelled_token s token) (are_spelled s ts) h.spelled).1;
-  handled = (and_parts (is_handled kind ts) (have_handlers ts) h.handled).1;
-}
-
-pub first_text : (s : List Lexeme) (t : syntax.Tree) (ts : syntax.Trees) → AreTexts s (syntax.more t ts) → IsText s t
-first_text s t ts h = record {
-  spelled = (and_parts (is_spelled s t) (are_spelled s ts) h.spelled).0;
-  handled = (and_parts (has_handlers t) (have_handlers ts) h.handled).0;
-}
-
-pub rest_texts : (s : List Lexeme) (t : syntax.Tree) (ts : syntax.Trees) → AreTexts s (syntax.more t ts) → AreTexts s ts
-rest_texts s t ts h = record {
-  spelled = (and_parts (is_spelled s t) (are_spelled s ts) h.spelled).1;
-  handled = (and_parts (has_handlers t) (have_handlers ts) h.handled).1;
-}
-
-named : (xs : List ℕ) → not (is_empty xs) ≡ true → is_nothing xs ≡ false
-named [] h = absurd cc
-named (x ∷ xs) h = refl
-
-pub spelled_token : (s : List Lexeme) (kind : NodeKind) (p : SyntaxAt) (t : ℕ) (ts : syntax.Trees) → IsText s (syntax.node kind p (Some t) ts)
-    → is_nothing (spelling s t) ≡ false
-spelled_token s kind p t ts h = named (spelling s t) (and_parts (not (is_empty (spelling s t))) (are_spelled s ts) h.spelled).0
-
 -- Headers in a later state
 
 params_over : TypesStay → (before now : List Class) → Kept before now → (ps : List Parameter) → list_all (is_sound_parameter before) ps ≡ true
@@ -124,6 +97,9 @@ read_over f s st z n m d r = record {
   };
   rest = r.rest;
 }
+
+plain_call : Plain ≡ ClosureCall → ⊥
+plain_call e = absurd cc
 
 class_complete : (s : List Lexeme) (st : State) (n : ℕ) (m : Method) → IsHome st.ctx.classes n → IsRead s st.ctx.classes n m → (i : ℕ) → m.header.class ≡ Some i
     → is_some (completion_of st.ctx.classes i) ≡ true
@@ -196,7 +172,7 @@ module _ (s : List Lexeme) (b : Below s) (l : Laws s) where
       let named : Placing st.ctx p = answered (Placing st.ctx) (function_declared st.ctx head true) p (function_quiet st.ctx head true) w in
       let good : UnitGood m = quiet_good st m g leads (record { bodies = refl; defaults = named.defaults; closures = named.closures }) in
       ends m (function_body lambdas_of s m head None p.place body) good
-      (function_left s b m head None p.place (declared_law st.ctx head text closed p w) good refl
+      (function_left s b m head None p.place (declared_law st.ctx head text closed p w) good refl (λ v. absurd cc)
       (params_over b.types st.ctx.classes m.ctx.classes leads.kept head.params sound.params) refl (λ n u. of_no_class n _ u) body j))))
   file_ended st x at first base d body t r f g h i j e k q = tt
 
@@ -209,22 +185,21 @@ module _ (s : List Lexeme) (b : Below s) (l : Laws s) where
   -- Members
 
   method_ended : (st : State) (n place : ℕ) (kind : FuncKind) (m : Method) (body : syntax.Tree) → UnitGood st → IsDefinition st.ctx m.header place
-      → m.header.kind ≡ kind → IsHome st.ctx.classes n → IsRead s st.ctx.classes n m → AreTexts s m.rest → IsText s body
+      → m.header.kind ≡ kind → NoCall kind → IsHome st.ctx.classes n → IsRead s st.ctx.classes n m → AreTexts s m.rest → IsText s body
       → On Ended (body_by_kind lambdas_of s st n place kind m body)
-  method_ended st n place Constructor m body g def k home r t u = ends st (constructor_body lambdas_of s st m.header n place m.rest body) g
+  method_ended st n place Constructor m body g def k free home r t u = ends st (constructor_body lambdas_of s st m.header n place m.rest body) g
       (constructor_left s b st m.header n place def g home k r.header.sound.params m.rest body t u)
-  method_ended st n place Destructor m body g def k home r t u = ends st (destructor_body lambdas_of s st m.header n place body) g
+  method_ended st n place Destructor m body g def k free home r t u = ends st (destructor_body lambdas_of s st m.header n place body) g
       (destructor_left s b st m.header n place def g home k body u)
-  method_ended st n place Plain m body g def k home r t u = ends st (function_body lambdas_of s st m.header (Some (this_type n m.header)) place body) g
-      (function_left s b st m.header (Some (this_type n m.header)) place def g (ap is_special k) r.header.sound.params home.named (class_complete s st n m home r) body u)
-  method_ended st n place ClosureCall m body g def k home r t u = ends st (function_body lambdas_of s st m.header (Some (this_type n m.header)) place body) g
-      (function_left s b st m.header (Some (this_type n m.header)) place def g (ap is_special k) r.header.sound.params home.named (class_complete s st n m home r) body u)
+  method_ended st n place Plain m body g def k free home r t u = ends st (function_body lambdas_of s st m.header (Some (this_type n m.header)) place body) g
+      (function_left s b st m.header (Some (this_type n m.header)) place def g (ap is_special k) (λ v. plain_call (sym k ∙ v)) r.header.sound.params home.named (class_complete s st n m home r) body u)
+  method_ended st n place ClosureCall m body g def k free home r t u = absurd (free refl)
 
   -- in the class
   pub methods : (st : State) (n : ℕ) (name : List ℕ) (at : At) (kind : FuncKind) (ts : syntax.Trees) (m : Method) (body : syntax.Tree) → UnitGood st
-      → IsHome st.ctx.classes n → AreTexts s ts → IsText s body → method_of s st n name at kind ts ≡ Ok m
+      → NoCall kind → IsHome st.ctx.classes n → AreTexts s ts → IsText s body → method_of s st n name at kind ts ≡ Ok m
       → On (Follows (unit_words s) st) (late_method lambdas_of s st n kind m (Some body))
-  methods st n name at kind ts m body g home t u e =
+  methods st n name at kind ts m body g free home t u e =
       let r = answered (IsRead s st.ctx.classes n) (method_of s st n name at kind ts) m (l.read st n name at kind ts g.sound t) e in
       let x = answered (IsMethod (AreTexts s) (rest_texts s) s kind) (method_of s st n name at kind ts) m (method_is (AreTexts s) (rest_texts s) s st n name at kind ts t) e in
       follows_on st (late_method lambdas_of s st n kind m (Some body)) g (l.methods st n kind m body g home r u)
@@ -233,14 +208,14 @@ module _ (s : List Lexeme) (b : Below s) (l : Laws s) where
       let z : State = record st { ctx = c } in
       let leads : Leads st z = l.again st m.header place c g q in
       let good : UnitGood z = quiet_good st z g leads (late_quiet st m.header place c q) in
-      skip Ended (defines_well m.header) _ (λ y. method_ended z n place kind m body good (methods_law st.ctx c m.header place p q) x.kind_is
+      skip Ended (defines_well m.header) _ (λ y. method_ended z n place kind m body good (methods_law st.ctx c m.header place p q) x.kind_is free
       (home_over st z n (gone_over st z leads.gone) home) (read_over b.types s st z n m leads r) x.behind u))))
 
   -- outside
   pub outside : (st : State) (x : Storage) (at : At) (kind : FuncKind) (first n : ℕ) (ts : syntax.Trees) (m : Method) (body : syntax.Tree) → UnitGood st
-      → AreTexts s ts → IsText s body → outside_method s st at x kind ts ≡ Ok m → m.header.class ≡ Some n
+      → NoCall kind → AreTexts s ts → IsText s body → outside_method s st at x kind ts ≡ Ok m → m.header.class ≡ Some n
       → On UnitGood (outside_body lambdas_of s st n kind first m body)
-  outside st x at kind first n ts m body g t u e k =
+  outside st x at kind first n ts m body g free t u e k =
       let home : IsHome st.ctx.classes n = l.owner st at x kind ts m n g e k in
       let o = answered (IsOutside s st.ctx.classes) (outside_method s st at x kind ts) m (l.read_outside st at x kind ts g.sound t) e in
       let r : IsRead s st.ctx.classes n m = subst (λ (i : ℕ). IsRead s st.ctx.classes i m) (same_Some o.number n (sym o.read.header.class ∙ k)) o.read in
@@ -254,5 +229,5 @@ module _ (s : List Lexeme) (b : Below s) (l : Laws s) where
       let z : State = record st { ctx = outside_defined s st.ctx place m.header first last } in
       let leads : Leads st z = l.elsewhere st m.header place first last g in
       let good : UnitGood z = quiet_good st z g leads (record { bodies = refl; defaults = refl; closures = refl }) in
-      skip Ended (defines_well m.header) _ (λ d. method_ended z n place kind m body good (outside_law s st.ctx m.header TypeDiffers place first last p a q) w.kind_is
+      skip Ended (defines_well m.header) _ (λ d. method_ended z n place kind m body good (outside_law s st.ctx m.header TypeDiffers place first last p a q) w.kind_is free
       (home_over st z n (gone_over st z leads.gone) home) (read_over b.types s st z n m leads r) w.behind u)))))))

@@ -65,6 +65,10 @@ complete_over a b n k h = still_complete a.ctx.classes b.ctx.classes n k.kept.cl
 pub holds : (s : List Lexeme) → Below s → (f : UnitFunc) (st : State) → IsGood f st → Holds (setting f st) st.ctx st.work
 holds s b f st g = b.contexts f st.ctx st.work g.unit g.overriders g.sound.context g.locals
 
+-- whatever function is at hand
+pub any_holds : (s : List Lexeme) → Below s → {f : UnitFunc} → (k : UnitFunc) (st : State) → IsGood f st → Holds (setting k st) st.ctx st.work
+any_holds s b k st g = b.contexts k st.ctx st.work g.unit g.overriders g.sound.context g.locals
+
 module _ (s : List Lexeme) (b : Below s) (f : UnitFunc) (st : State) (g : IsGood f st)
     (c : (n : ℕ) (q v : Bool) → result_of f ≡ typ (class n) q v → is_some (completion_of st.ctx.classes n) ≡ true) where
   whole : is_class_typ (result_of f) ≡ true → IsWhole st.ctx.classes (result_of f)

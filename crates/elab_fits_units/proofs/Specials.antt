@@ -17,7 +17,7 @@ use Rattle.elab_rules.specs.cpp_lex.Tokens.{Lexeme}
 use Rattle.elab_rules.specs.cpp_ast.declared.arena.At.{At as SyntaxAt}
 use Rattle.elab_rules.specs.cpp_ast.declared.kinds.NodeKind.{NodeKind}
 use Rattle.elab_rules.specs.cpp_ast.Trees as syntax
-use Rattle.elab_rules.specs.cpp_tree.declared.program.FuncKind.TheVariants.{Constructor, Destructor}
+use Rattle.elab_rules.specs.cpp_tree.declared.program.FuncKind.TheVariants.{Destructor, ClosureCall}
 use Rattle.elab_rules.specs.cpp_tree.Notation.{plain}
 use Rattle.elab_rules.specs.cpp_tree.Units.{Func as UnitFunc}
 use Rattle.elab_rules.specs.cpp_tree.Rows.{Setting, is_destructor, is_special, result_of, at_place}
@@ -43,7 +43,8 @@ use Rattle.elab_fits_units.specs.Good.{UnitGood}
 use Rattle.elab_fits_units.proofs.Bodies.{Left, made_left, came}
 use Rattle.elab_fits_units.proofs.Entering.{Begins, begins}
 use Rattle.elab_fits_units.proofs.Growing.{Over, over_then}
-use Rattle.elab_fits_units.proofs.Results.{holds, no_result, complete_over}
+use Rattle.elab_fits_units.proofs.Results.{holds, any_holds, no_result, complete_over}
+use Rattle.elab_fits_units.proofs.Texts.{kids_texts}
 use Rattle.elab_fits_units.proofs.Walk.{bind}
 
 -- a class has its name where the unit has grown
@@ -87,10 +88,13 @@ home_over a b n k h = record { complete = complete_over a b n k h.complete; name
 pub item_at : (frame : List Typ) (t : Typ) → slice_get frame 0 ≡ Some t → at_place frame 0 t ≡ true
 item_at frame t h = ap (passes (typ_eq t)) h ∙ typ_refl t
 
+no_call : Destructor ≡ ClosureCall → ⊥
+no_call e = absurd cc
+
 -- the object at hand and its parts
 pub has_parts : (s : List Lexeme) (b : Below s) (f : UnitFunc) (st : State) (n : ℕ) → IsGood f st → IsHome st.ctx.classes n
     → at_place st.work.frame 0 (plain (ptr (plain (class n)))) ≡ true → HasParts (setting f st) st.ctx n
-has_parts s b f st n g h t = let x : ArePartsOf st.ctx n = b.parts st.ctx st.work n g.unit g.sound.context h in record {
+has_parts s b f st n g h t = let x : ArePartsOf st.ctx n = b.parts st.ctx st.work n g.unit g.sound.context (λ k. any_holds s b k st g) h in record {
   this = t;
   number = (and_parts (nat_lt n (length st.ctx.classes)) (not (is_lambda st.ctx.classes n)) h.named).0;
   pointer = x.pointer;
@@ -116,7 +120,7 @@ module _ (s : List Lexeme) (b : Below s) (st : State) (h : Header) (n place : �
   pub destructor_left : h.kind ≡ Destructor → (body : syntax.Tree) → IsText s body → On (Left st) (destructor_body lambdas_of s st h n place body)
   destructor_left k (syntax.node kind p token kids) t = let i : Begins f st start = object_begins (ap is_special k) in
       bind (BodyFits f start) (Left st) (statements_of lambdas_of s start kids) _
-      (b.bodies f start kids i.settled i.alone ((b.discipline f).kids kind p token kids t))
+      (b.bodies f start kids (λ e. no_call (sym (def.kind ∙ k) ∙ e)) i.settled i.alone (kids_texts s kind p token kids t))
       (λ d x. let o : Over st d.state = over_then st start d.state i.over (came start d.state x.leads.goes) in
       let y : Holds (setting f d.state) d.state.ctx d.state.work = holds s b f d.state x.settled.good in
       made_left st d.state def.func place (destructor_tree d.state.ctx h.at (at_of p) n d.trees) def.at x.settled.good o

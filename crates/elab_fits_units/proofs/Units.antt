@@ -19,7 +19,8 @@ use Rattle.elab_fits_units.specs.Laws.{Leads, Laws}
 use Rattle.elab_fits_units.specs.Steps.{Steps, IsClosed}
 use Rattle.elab_fits_units.proofs.Defaults.{defaults_follow}
 use Rattle.elab_fits_units.proofs.Implied.{implied_good}
-use Rattle.elab_fits_units.proofs.Leaves.{both_on, quiet_good, functions, methods, outside, kids_texts, first_text, rest_texts, spelled_token}
+use Rattle.elab_fits_units.proofs.Leaves.{both_on, quiet_good, functions, methods, outside}
+use Rattle.elab_fits_units.proofs.Texts.{kids_texts, first_text, rest_texts, spelled_token}
 use Rattle.elab_fits_units.proofs.Quiet.{Quiet, declaration_quiet, aliases_quiet, enum_quiet, only_quiet, class_quiet}
 use Rattle.elab_fits_units.proofs.Walk.{unit_good}
 

@@ -26,7 +26,7 @@ use Rattle.elab_rules.specs.Implicit.{implied, implied_below}
 use Rattle.elab_rules.specs.Lambdas.{lambdas_of}
 use Rattle.elab_rules.specs.Units.{is_qualified, defined_by, function_defined, is_c, declaration_of, declarations_of, unit_from}
 use Rattle.elab_fits.specs.Standing.{On}
-use Rattle.elab_fits_units.specs.Steps.{Words, Follows, Steps}
+use Rattle.elab_fits_units.specs.Steps.{NoCall, Words, Follows, Steps}
 
 -- Answers
 
@@ -65,27 +65,27 @@ module _ (w : Words) (s : List Lexeme) (q : Steps w s) where
   -- Members that are defined outside their class
 
   outside_by : (st : State) (x : Storage) (at : At) (kind : FuncKind) (first : ℕ) (ts : syntax.Trees) (m : Method) (o : Option syntax.Tree) → w.Good st
-      → w.Texts ts → ((body : syntax.Tree) → o ≡ Some body → w.Text body) → outside_method s st at x kind ts ≡ Ok m
+      → NoCall kind → w.Texts ts → ((body : syntax.Tree) → o ≡ Some body → w.Text body) → outside_method s st at x kind ts ≡ Ok m
       → On w.Good (outside_with lambdas_of s st at kind first m o)
-  outside_by st x at kind first ts m (Some body) g h i e = named m.header.class refl
+  outside_by st x at kind first ts m (Some body) g c h i e = named m.header.class refl
     where
-      named : (c : Option ℕ) → m.header.class ≡ c → On w.Good (and_then (expect at BadDeclaration c) (λ n. outside_body lambdas_of s st n kind first m body))
-      named (Some n) f = q.outside st x at kind first n ts m body g h (i body refl) e f
+      named : (d : Option ℕ) → m.header.class ≡ d → On w.Good (and_then (expect at BadDeclaration d) (λ n. outside_body lambdas_of s st n kind first m body))
+      named (Some n) f = q.outside st x at kind first n ts m body g c h (i body refl) e f
       named None f = tt
-  outside_by st x at kind first ts m None g h i e = tt
+  outside_by st x at kind first ts m None g c h i e = tt
 
-  member_good : (x : Storage) (st : State) (at : At) (kind : FuncKind) (first : ℕ) (kids : syntax.Trees) → w.Good st → w.Texts kids
+  member_good : (x : Storage) (st : State) (at : At) (kind : FuncKind) (first : ℕ) (kids : syntax.Trees) → w.Good st → NoCall kind → w.Texts kids
       → On w.Good (member_defined lambdas_of s x st at kind first kids)
-  member_good x st at kind first kids g h = let z : Started = started_from s x kids in
+  member_good x st at kind first kids g c h = let z : Started = started_from s x kids in
       told w.Good (outside_method s st at z.storage kind z.rest) _
-      (λ m e. outside_by st z.storage at kind first z.rest m (body_in kids) g (started_texts x kids h) (λ body f. body_text kids body h f) e)
+      (λ m e. outside_by st z.storage at kind first z.rest m (body_in kids) g c (started_texts x kids h) (λ body f. body_text kids body h f) e)
 
   -- Functions at file scope
 
   by_good : (st : State) (whole : syntax.Trees) (x : Storage) (at : At) (first : ℕ) (base d body : syntax.Tree) (t : Typ) (r : Declared) (b : Bool)
       → w.Good st → w.Texts whole → w.Text base → w.Text d → w.Text body → type_of_specifiers s st.ctx st.work base ≡ Ok t
       → declared_by s st.ctx st.work at t d ≡ Ok r → On w.Good (defined_by s st whole x at first r body b)
-  by_good st whole x at first base d body t r true g h i j l e f = member_good x st at Plain first whole g h
+  by_good st whole x at first base d body t r true g h i j l e f = member_good x st at Plain first whole g (λ v. absurd cc) h
   by_good st whole x at first base d body t r false g h i j l e f = q.functions st x at first base d body t r g i j l e f
 
   three_good : (st : State) (whole : syntax.Trees) (x : Storage) (at : At) (first : ℕ) (base d body : syntax.Tree) → w.Good st → w.Texts whole
@@ -138,20 +138,20 @@ module _ (w : Words) (s : List Lexeme) (q : Steps w s) where
       (q.kids k.MemberDeclaration p token kids h) (λ x t us i l. (default_of_good n x t i (q.first t us l), q.rest t us l))
   defaults_of_good n st t g h = g
 
-  late_by : (st : State) (n : ℕ) (name : List ℕ) (at : At) (kind : FuncKind) (ts : syntax.Trees) (m : Method) (o : Option syntax.Tree) → Inside n st → w.Texts ts
+  late_by : (st : State) (n : ℕ) (name : List ℕ) (at : At) (kind : FuncKind) (ts : syntax.Trees) (m : Method) (o : Option syntax.Tree) → Inside n st → NoCall kind → w.Texts ts
       → ((body : syntax.Tree) → o ≡ Some body → w.Text body) → method_of s st n name at kind ts ≡ Ok m → On (Inside n) (late_method lambdas_of s st n kind m o)
-  late_by st n name at kind ts m (Some body) g h i e = kept_inside n st _ g.1 (q.methods st n name at kind ts m body g.0 g.1 h (i body refl) e)
-  late_by st n name at kind ts m None g h i e = g
+  late_by st n name at kind ts m (Some body) g c h i e = kept_inside n st _ g.1 (q.methods st n name at kind ts m body g.0 c g.1 h (i body refl) e)
+  late_by st n name at kind ts m None g c h i e = g
 
-  late_function_good : (st : State) (n : ℕ) (name : List ℕ) (at : At) (kind : FuncKind) (kids : syntax.Trees) → Inside n st → w.Texts kids
+  late_function_good : (st : State) (n : ℕ) (name : List ℕ) (at : At) (kind : FuncKind) (kids : syntax.Trees) → Inside n st → NoCall kind → w.Texts kids
       → On (Inside n) (late_function lambdas_of s st n name at kind kids)
-  late_function_good st n name at kind kids g h = told (Inside n) (method_of s st n name at kind kids) _
-      (λ m e. late_by st n name at kind kids m (body_in kids) g h (λ body f. body_text kids body h f) e)
+  late_function_good st n name at kind kids g c h = told (Inside n) (method_of s st n name at kind kids) _
+      (λ m e. late_by st n name at kind kids m (body_in kids) g c h (λ body f. body_text kids body h f) e)
 
   late_good : (n : ℕ) (name : List ℕ) (st : State) (t : syntax.Tree) → Inside n st → w.Text t → On (Inside n) (late_of lambdas_of s n name st t)
-  late_good n name st (syntax.node k.FunctionDefinition p token kids) g h = late_function_good st n name (at_of p) Plain kids g (q.kids _ p token kids h)
-  late_good n name st (syntax.node k.ConstructorDefinition p token kids) g h = late_function_good st n name (at_of p) Constructor kids g (q.kids _ p token kids h)
-  late_good n name st (syntax.node k.DestructorDefinition p token kids) g h = late_function_good st n name (at_of p) Destructor kids g (q.kids _ p token kids h)
+  late_good n name st (syntax.node k.FunctionDefinition p token kids) g h = late_function_good st n name (at_of p) Plain kids g (λ v. absurd cc) (q.kids _ p token kids h)
+  late_good n name st (syntax.node k.ConstructorDefinition p token kids) g h = late_function_good st n name (at_of p) Constructor kids g (λ v. absurd cc) (q.kids _ p token kids h)
+  late_good n name st (syntax.node k.DestructorDefinition p token kids) g h = late_function_good st n name (at_of p) Destructor kids g (λ v. absurd cc) (q.kids _ p token kids h)
   late_good n name st t g h = g
 
   behind_brace : (n : ℕ) (name : List ℕ) (st : State) (members : syntax.Trees) → Inside n st → w.Texts members
@@ -199,9 +199,9 @@ module _ (w : Words) (s : List Lexeme) (q : Steps w s) where
     declaration_good x st (syntax.node k.ClassDeclaration p (Some t) kids) g h = q.names st (at_of p) (spelling s t) g (q.spelled _ p t kids h)
     declaration_good x st (syntax.node k.ClassSpecifier p (Some t) kids) g h = class_good st (at_of p) (spelling s t) kids g (q.spelled _ p t kids h) (q.kids _ p (Some t) kids h)
     declaration_good x st (syntax.node k.ConstructorDefinition p (Some t) kids) g h =
-        member_good x st (at_of p) Constructor t kids g (q.kids _ p (Some t) kids h)
+        member_good x st (at_of p) Constructor t kids g (λ v. absurd cc) (q.kids _ p (Some t) kids h)
     declaration_good x st (syntax.node k.DestructorDefinition p (Some t) kids) g h =
-        member_good x st (at_of p) Destructor t kids g (q.kids _ p (Some t) kids h)
+        member_good x st (at_of p) Destructor t kids g (λ v. absurd cc) (q.kids _ p (Some t) kids h)
     declaration_good x st t g h = tt
 
     pub declarations_good : (x : Storage) (st : State) (ts : syntax.Trees) → w.Good st → w.Texts ts → On w.Good (declarations_of s x st ts)

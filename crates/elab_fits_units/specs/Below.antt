@@ -5,6 +5,7 @@ use Rattle.elab_rules.specs.cpp_types.Class.{Class, Member, completion_of}
 use Rattle.elab_rules.specs.cpp_types.Typ.{Typ, class}
 use Rattle.elab_rules.specs.cpp_tree.Notation.{plain}
 use Rattle.elab_rules.specs.cpp_tree.Typing.{is_word_of}
+use Rattle.elab_rules.specs.cpp_tree.Parts.{size_in}
 use Rattle.elab_rules.specs.cpp_tree.Rows.{Setting}
 use Rattle.elab_rules.specs.Calls.{pointer_offset, base_of_class}
 use Rattle.elab_fits.specs.Objects.{IsElementType}
@@ -33,8 +34,8 @@ use Rattle.elab_rules.specs.Lambdas.{lambdas_of}
 use Rattle.elab_fits.specs.Standing.{On, Reaches}
 use Rattle.elab_contexts.specs.Holding.{UnitHolds}
 use Rattle.elab_contexts.specs.Steps.{view}
-use Rattle.elab_holds.specs.Contexts.{ContextsHold}
-use Rattle.elab_holds.specs.Locals.{FunctionsEntered, ParametersPlaced, LocalsStay}
+use Rattle.elab_contexts.specs.Overriders.{HasOverriders}
+use Rattle.elab_holds.specs.Locals.{FunctionsEntered, ParametersPlaced, LocalsStay, LocalsHold}
 use Rattle.elab_sound_types.specs.Types.{Use, is_sound, is_class, object}
 use Rattle.elab_fits_forms.specs.Types as forms
 use Rattle.elab_fits_braces.specs.Defaults.{DefaultsStay}
@@ -46,7 +47,9 @@ use Rattle.elab_fits_bodies.specs.Functions.{FunctionsFit}
 use Rattle.elab_fits_bodies.specs.Parts.{ConstructorsFit, DestructorsFit, HasThis}
 use Rattle.elab_fits_statements.specs.Discipline.{Discipline, BuildsAll}
 use Rattle.elab_fits_states.specs.States.{AreTexts, IsSettled, IsVariableType, words}
+use Rattle.state_growth.specs.Settings.{setting_at}
 use Rattle.elab_fits_states.specs.Bodies.{BodyFits, StandsAlone}
+use Rattle.elab_fits_units.specs.Steps.{NoCall}
 
 -- the parts of a class lie at words, and each has a type of which objects can be made, copied and destroyed
 pub record ArePartsOf (c : Ctx) (n : ℕ) : Type 0 where
@@ -61,20 +64,25 @@ pub record IsHome (classes : List Class) (n : ℕ) : Type 0 where
   pub complete : is_some (completion_of classes n) ≡ true
   pub named : is_class classes n ≡ true
 
+-- the pointer of a class stands at a word
+abbrev pub PointersAreWords : Type 0
+PointersAreWords = (c : Ctx) (w : Work) (n : ℕ) → UnitHolds c → HasSoundTypes c w → is_some (completion_of c.classes n) ≡ true → (o : ℕ)
+    → pointer_offset c.classes n ≡ Some o → is_word_of ULong o ≡ true
+
 pub record Below (s : List Lexeme) : Type 0 where
-  -- contexts of the same unit
-  pub unit_same : (a b : Ctx) → view b ≡ view a → b.enumerators ≡ a.enumerators → b.types ≡ a.types → UnitHolds a → UnitHolds b
-  pub contexts : ContextsHold
+  pub contexts : (f : UnitFunc) (c : Ctx) (w : Work) → UnitHolds c → HasOverriders c.funcs → HasSoundTypes c w → LocalsHold c w → Holds (setting_at f c w) c w
   -- into a function whose class, if it has one, is complete; and its parameters
   pub enters : FunctionsEntered
   pub parameters : ParametersPlaced
   -- types are such as expressions ask
   pub sound_is : (classes : List Class) (way : Use) (t : Typ) → is_sound classes way t ≡ true → forms.is_sound classes t ≡ true
-  pub parts : (c : Ctx) (w : Work) (n : ℕ) → UnitHolds c → HasSoundTypes c w → IsHome c.classes n → ArePartsOf c n
+  pub parts : (c : Ctx) (w : Work) (n : ℕ) → UnitHolds c → HasSoundTypes c w → ((f : UnitFunc) → Holds (setting_at f c w) c w) → IsHome c.classes n
+      → ArePartsOf c n
   -- a sound object type is one of which objects can be made
-  pub objects : (s : Setting) (c : Ctx) (w : Work) (t : Typ) → Holds s c w → is_sound c.classes object t ≡ true → IsObjectTyp c (is_lambda c.classes) t
+  pub objects : (s : Setting) (c : Ctx) (w : Work) (t : Typ) → UnitHolds c → HasSoundTypes c w → Holds s c w → is_sound c.classes object t ≡ true
+      → is_some (size_in c.classes t) ≡ true → IsObjectTyp c (is_lambda c.classes) t
   -- what parenthesised values build as the base of an object, which may be abstract
-  pub bases : (f : UnitFunc) (a x : State) (n : ℕ) (t : Typ) (p q : At) (es : syntax.Trees) (xs : TypedAll) (m : Made) → IsSettled f a → IsVariableType a t
+  pub bases : (f : UnitFunc) (a x : State) (n : ℕ) (t : Typ) (p q : At) (es : syntax.Trees) (xs : TypedAll) (m : Made) → NoCall f.kind → IsSettled f a → IsVariableType a t
       → AreTexts s es → all_lambdas lambdas_of s a es ≡ Ok x → operands_of s x.ctx x.work es ≡ Ok xs
       → directly_initialised (as_base_of x.ctx n) xs.work t p xs.operands ≡ Ok m → BuildsAll (words f s) a (with_work x m.work) t m.tree (destroys x.ctx q t)
   pub types : TypesStay
@@ -98,6 +106,6 @@ pub record Below (s : List Lexeme) : Type 0 where
   pub constructors : ConstructorsFit
   pub destructors : DestructorsFit
   -- the states of a function
-  pub discipline : (f : UnitFunc) → Discipline (words f s) lambdas_of s
-  pub bodies : (f : UnitFunc) (st : State) (ts : syntax.Trees) → IsSettled f st → StandsAlone st → AreTexts s ts
+  pub discipline : (f : UnitFunc) → NoCall f.kind → Discipline (words f s) lambdas_of s
+  pub bodies : (f : UnitFunc) (st : State) (ts : syntax.Trees) → NoCall f.kind → IsSettled f st → StandsAlone st → AreTexts s ts
       → On (BodyFits f st) (statements_of lambdas_of s st ts)

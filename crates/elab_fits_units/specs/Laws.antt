@@ -22,7 +22,7 @@ use Rattle.elab_rules.specs.Globals.{enum_declared}
 use Rattle.elab_fits.specs.Standing.{On}
 use Rattle.elab_contexts.specs.Holding.{UnitHolds}
 use Rattle.elab_contexts.specs.Steps.{view, Steps as Goes}
-use Rattle.elab_contexts.specs.Slots.{HasOverriders}
+use Rattle.elab_contexts.specs.Overriders.{HasOverriders}
 use Rattle.elab_sound_types.specs.States.{IsSoundState, Kept}
 use Rattle.elab_sound_units.specs.Headers.{IsSoundHeader, IsRead, IsOutside}
 use Rattle.state_growth.specs.States.{Gone}

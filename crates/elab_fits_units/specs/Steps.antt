@@ -8,6 +8,7 @@ use Rattle.elab_rules.specs.cpp_ast.declared.kinds.NodeKind.{NodeKind}
 use Rattle.elab_rules.specs.cpp_ast.Trees as syntax
 use Rattle.elab_rules.specs.cpp_tree.Typing.{form_in}
 use Rattle.elab_rules.specs.cpp_tree.declared.program.FuncKind.{FuncKind}
+use Rattle.elab_rules.specs.cpp_tree.declared.program.FuncKind.TheVariants.{ClosureCall}
 use Rattle.elab_rules.specs.elab_ctx.Ctx.{Ctx}
 use Rattle.elab_rules.specs.elab_ctx.Steps.{spelling}
 use Rattle.elab_rules.specs.Types.{Declared, is_nothing}
@@ -23,6 +24,10 @@ use Rattle.elab_rules.specs.Lambdas.{lambdas_of}
 use Rattle.elab_rules.specs.Units.{file_declaration, alias_of, defined_with}
 use Rattle.elab_rules.specs.Globals.{enum_declared}
 use Rattle.elab_fits.specs.Standing.{On}
+
+-- no function that a text declares is the call of a lambda
+abbrev pub NoCall : FuncKind → Type 0
+NoCall kind = kind ≡ ClosureCall → ⊥
 
 pub record Words : Type 1 where
   -- of a state between declarations
@@ -66,7 +71,7 @@ pub record Steps (w : Words) (s : List Lexeme) : Type 0 where
       → On w.Good (defined_with s st x at first r body (form_in r.typ))
   -- a member with its body, outside of its class
   pub outside : (st : State) (x : Storage) (at : At) (kind : FuncKind) (first n : ℕ) (ts : syntax.Trees) (m : Method) (body : syntax.Tree) → w.Good st
-      → w.Texts ts → w.Text body → outside_method s st at x kind ts ≡ Ok m → m.header.class ≡ Some n
+      → NoCall kind → w.Texts ts → w.Text body → outside_method s st at x kind ts ≡ Ok m → m.header.class ≡ Some n
       → On w.Good (outside_body lambdas_of s st n kind first m body)
   -- a class up to its brace
   pub classes : (st : State) (at : At) (name : List ℕ) (kids : syntax.Trees) (home : Home) (r : Members) (c : Ctx) → w.Good st → is_nothing name ≡ false → w.Texts kids
@@ -76,6 +81,6 @@ pub record Steps (w : Words) (s : List Lexeme) : Type 0 where
       → member_index 0 name (members_in (slice_get st.ctx.classes n)) ≡ Some i
       → On (Follows w st) (default_made lambdas_of s st n i (member_type (slice_get (members_in (slice_get st.ctx.classes n)) i)) e)
   pub methods : (st : State) (n : ℕ) (name : List ℕ) (at : At) (kind : FuncKind) (ts : syntax.Trees) (m : Method) (body : syntax.Tree) → w.Good st
-      → w.Home st n → w.Texts ts → w.Text body → method_of s st n name at kind ts ≡ Ok m → On (Follows w st) (late_method lambdas_of s st n kind m (Some body))
+      → NoCall kind → w.Home st n → w.Texts ts → w.Text body → method_of s st n name at kind ts ≡ Ok m → On (Follows w st) (late_method lambdas_of s st n kind m (Some body))
   -- the body of an implicit member
   pub implicits : (st : State) (k : ℕ) → w.Good st → On w.Good (implied st k)
