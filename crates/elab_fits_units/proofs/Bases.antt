@@ -1,5 +1,5 @@
 -- What parenthesised values build as the base of an object, which may be abstract.
-use Rattle.std.proofs.Common.{◌≡◌, refl, sym, ap, ◌∙◌, subst, ℕ, Bool, true, false, List, [], ◌∷◌, slice_get, Some, Ok}
+use Rattle.std.proofs.Common.{◌≡◌, refl, ℕ, Bool, List, [], ◌∷◌, Ok}
 use Rattle.elab_rules.specs.cpp_types.Typ.{Typ}
 use Rattle.elab_rules.specs.cpp_types.declared.classes.At.{At}
 use Rattle.elab_rules.specs.cpp_lex.Tokens.{Lexeme}
@@ -13,9 +13,9 @@ use Rattle.elab_rules.specs.Objects.{destroys}
 use Rattle.elab_rules.specs.Statements.{State, with_work, all_lambdas, directly_initialised}
 use Rattle.elab_rules.specs.Lambdas.{lambdas_of}
 use Rattle.elab_rules.specs.Members.{as_base_of}
-use Rattle.elab_fits.specs.Standing.{Reaches, On}
+use Rattle.elab_fits.specs.Standing.{Reaches}
 use Rattle.elab_growth.proofs.Growth.{Behind, after}
-use Rattle.elab_fits_objects.specs.Contexts.{IsObjectTyp, IsParameter, IsInitialised, IsSource, AreSources}
+use Rattle.elab_fits_objects.specs.Contexts.{IsObjectTyp, IsParameter, IsInitialised, AreSources}
 use Rattle.elab_fits_objects.specs.Making.{Makes}
 use Rattle.elab_fits_bodies.proofs.Contexts.{base_same, base_setting, makers_same}
 use Rattle.elab_fits_forms.specs.Types.{is_lambda}

@@ -1,5 +1,5 @@
 -- A unit begins in a good state, the first one and each behind others.
-use Rattle.std.proofs.Common.{◌≡◌, refl, sym, ap, ◌∙◌, ℕ, zero, suc, Bool, true, false, List, [], ◌∷◌, slice_get, Option, Some, None}
+use Rattle.std.proofs.Common.{◌≡◌, refl, sym, ap, ◌∙◌, ℕ, zero, suc, Bool, true, false, slice_get, Option, Some, None}
 use Rattle.std.proofs.lemmas.Option.{same_Some}
 use Rattle.elab_rules.specs.cpp_tree.Units.{TypedProgram}
 use Rattle.elab_rules.specs.elab_ctx.Ctx.{Func}
@@ -11,7 +11,7 @@ use Rattle.elab_contexts.proofs.Holding.{starts_law, later_law}
 use Rattle.elab_holds.proofs.Order.{listed_law}
 use Rattle.elab_sound_units.proofs.Programs as sound
 use Rattle.state_growth.proofs.Units.{begin_law}
-use Rattle.elab_fits_units.specs.Good.{UnitGood, HasImplicits}
+use Rattle.elab_fits_units.specs.Good.{UnitGood}
 
 -- what every unit knows belongs to no class, and is not implied
 record IsFree (f : Func) : Type 0 where

@@ -1,25 +1,23 @@
 -- Behind a body that fits, all bodies fit, and what stands round it is as it was.
-use Rattle.std.proofs.Common.{◌≡◌, refl, sym, ap, ◌∙◌, subst, ℕ, Bool, true, false, ◌||◌, List, [], ◌∷◌, ◌++◌, slice_get, Option, Some, None, is_some, Ok}
+use Rattle.std.proofs.Common.{◌≡◌, refl, sym, ap, ◌∙◌, subst, ℕ, true, false, List, [], ◌∷◌, ◌++◌, slice_get, Option, Some, is_some}
 use Rattle.std.specs.List.{list_all}
-use Rattle.elab_rules.specs.cpp_types.Typ.{Typ, typ, class}
+use Rattle.elab_rules.specs.cpp_types.Typ.{Typ}
 use Rattle.elab_rules.specs.cpp_types.Class.{Function, completion_of, held}
 use Rattle.elab_rules.specs.cpp_types.declared.classes.At.{At}
 use Rattle.elab_rules.specs.cpp_lex.Tokens.{Lexeme}
 use Rattle.elab_rules.specs.cpp_ast.declared.arena.At.{At as SyntaxAt}
-use Rattle.elab_rules.specs.cpp_ast.declared.kinds.NodeKind.{NodeKind}
 use Rattle.elab_rules.specs.cpp_ast.Trees as syntax
 use Rattle.elab_rules.specs.cpp_tree.declared.kinds.TKind.TheVariants as tree
 use Rattle.elab_rules.specs.cpp_tree.declared.faults.IllRule.TheVariants.{Incomplete}
 use Rattle.elab_rules.specs.cpp_tree.declared.program.FuncKind.{FuncKind}
 use Rattle.elab_rules.specs.cpp_tree.declared.program.FuncKind.TheVariants.{Plain, Constructor, Destructor, ClosureCall}
 use Rattle.elab_rules.specs.cpp_tree.declared.roles.Role.TheVariants.{Statement}
-use Rattle.elab_rules.specs.cpp_tree.Notation.{plain}
 use Rattle.elab_rules.specs.cpp_tree.Trees.{Tree}
 use Rattle.elab_rules.specs.cpp_tree.Units.{Func as UnitFunc}
 use Rattle.elab_rules.specs.cpp_tree.Rows.{is_constructor, is_special, result_of}
 use Rattle.elab_rules.specs.cpp_tree.WellFormed.{fits, outermost}
 use Rattle.elab_rules.specs.elab_ctx.Ctx.{Func}
-use Rattle.elab_rules.specs.elab_ctx.Steps.{check, at_of}
+use Rattle.elab_rules.specs.elab_ctx.Steps.{at_of}
 use Rattle.elab_rules.specs.Initialising.{signature_result}
 use Rattle.elab_rules.specs.Objects.{followed_by}
 use Rattle.elab_rules.specs.Operators.{is_complete}
@@ -30,13 +28,13 @@ use Rattle.elab_fits.specs.Standing.{On}
 use Rattle.elab_sound_types.specs.Types.{is_sound, result as a_result}
 use Rattle.elab_sound_types.specs.Contexts.{is_sound_parameter}
 use Rattle.elab_sound_types.specs.States.{is_sound_object}
-use Rattle.elab_fits_bodies.specs.Functions.{IsBody, IsResult}
+use Rattle.elab_fits_bodies.specs.Functions.{IsResult}
 use Rattle.setting_growth.proofs.Trees.{fits_law}
 use Rattle.state_growth.specs.Settings.{setting_at, shown, HasDeclared}
 use Rattle.state_growth.specs.States.{Goes}
 use Rattle.state_growth.proofs.Settings.{states_law}
 use Rattle.state_growth.proofs.Steps.{seen, kept_refl, state_grows}
-use Rattle.elab_fits_states.specs.States.{setting, IsText, IsGood, Comes}
+use Rattle.elab_fits_states.specs.States.{setting, IsText, IsGood}
 use Rattle.elab_fits_states.specs.Bodies.{BodyFits}
 use Rattle.elab_fits_states.specs.Made.{MadeFits, AllBodiesFit}
 use Rattle.elab_fits_units.specs.Below.{Below}
@@ -132,7 +130,7 @@ module _ (s : List Lexeme) (b : Below s) (st : State) (h : Header) (this : Optio
       → On (Left st) (body_made st h.at place (statement (tree.Block false) (at_of p) (followed_by d.trees (end_of d.state.ctx r (at_of p)))) d.state)
   body_left e d p q i x = let k2 : Over st d.state = over_then st e d.state i.over (came e d.state x.leads.goes) in
       let y : IsResult (setting f d.state) d.state.ctx r = subst (λ (t : Typ). IsResult (setting f d.state) d.state.ctx t) result
-          (is_result s b f d.state x.settled.good (λ n z v u. complete_over st d.state n k2 (sym (ap (λ (t : Typ). is_complete st.ctx (held t)) (sym result ∙ u)) ∙ q))) in
+      (is_result s b f d.state x.settled.good (λ n z v u. complete_over st d.state n k2 (sym (ap (λ (t : Typ). is_complete st.ctx (held t)) (sym result ∙ u)) ∙ q))) in
       made_left st d.state def.func place (statement (tree.Block false) (at_of p) (followed_by d.trees (end_of d.state.ctx r (at_of p)))) def.at x.settled.good k2
       (b.functions (setting f d.state) d.state.ctx r (at_of p) d.trees (holds s b f d.state x.settled.good).setting y (no_constructor def.func.kind special) x.serve).nodes h.at
 

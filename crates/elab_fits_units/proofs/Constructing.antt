@@ -1,6 +1,6 @@
 -- What is written for the parts of an object under construction builds them.
-use Rattle.std.proofs.Common.{◌≡◌, refl, sym, ap, ◌∙◌, subst, ℕ, zero, suc, Bool, true, false, not, List, [], ◌∷◌, ◌++◌, slice_get, Option, Some, None, is_some, is_none, Result, Ok}
-use Rattle.std.specs.Prelude.{if◌then◌else◌, ◌==◌}
+use Rattle.std.proofs.Common.{◌≡◌, refl, sym, ap, ◌∙◌, subst, ℕ, suc, Bool, true, false, not, List, [], ◌∷◌, ◌++◌, slice_get, Option, Some, None, is_none, Ok}
+use Rattle.std.specs.Prelude.{if◌then◌else◌}
 use Rattle.std.proofs.Common.{eqb-true, ◌+◌, arith}
 use Rattle.std.specs.Str.{bytes_eq}
 use Rattle.elab_fits.proofs.Nodes.{clash}
@@ -27,30 +27,28 @@ use Rattle.elab_rules.specs.Types.{type_named}
 use Rattle.elab_rules.specs.Expressions.{operands_of}
 use Rattle.elab_rules.specs.Statements.{State, with_work, full, all_lambdas, directly_initialised, values_place}
 use Rattle.elab_rules.specs.Lambdas.{lambdas_of}
-use Rattle.elab_rules.specs.Members.{Given, Giving, given_for, same_part, giving_more, for_part, for_base, as_base_of, given_values, given_part, is_named_class, is_base_type, given_base}
-use Rattle.elab_rules.specs.Members.{member_index, member_type, given_member, given_by, all_given}
+use Rattle.elab_rules.specs.Members.{Given, Giving, given_for, same_part, giving_more, for_part, for_base, as_base_of, given_part, is_named_class, is_base_type, given_base}
+use Rattle.elab_rules.specs.Members.{member_index, member_type, given_by, all_given}
 use Rattle.elab_fits.specs.Standing.{On}
 use Rattle.elab_sound_types.specs.Types.{is_sound, denoted}
 use Rattle.elab_fits_statements.specs.Anywhere.{BuildsAnywhere}
 use Rattle.elab_fits_statements.specs.Variables.{BuildsWhole}
-use Rattle.elab_fits_statements.specs.Discipline.{Goes, BuildsAll}
-use Rattle.elab_fits_statements.proofs.States.{goes_still, goes_then}
+use Rattle.elab_fits_statements.specs.Discipline.{Goes}
+use Rattle.elab_fits_statements.proofs.States.{goes_then}
 use Rattle.elab_fits_statements.proofs.Wholes.{whole_object}
 use Rattle.state_growth.proofs.Steps.{Leaves}
 use Rattle.state_growth.proofs.Statements.{all_lambdas_kept}
 use Rattle.state_growth.proofs.Bodies.{lambdas_lawful}
 use Rattle.elab_fits_bodies.specs.Built.{IsMember}
-use Rattle.setting_growth.specs.Growth.{ClassesGrow}
 use Rattle.elab_fits_states.specs.States.{setting, IsText, AreTexts, IsSettled, IsVariableType, Comes, words}
 use Rattle.elab_fits_units.specs.Below.{Below, IsHome, ArePartsOf}
 use Rattle.elab_fits_units.proofs.Bodies.{came}
-use Rattle.elab_fits_units.proofs.Growing.{held_earlier}
 use Rattle.elab_fits_units.proofs.Headers.{answered, skip, checked, expected}
 use Rattle.elab_fits_units.proofs.Results.{any_holds}
 use Rattle.elab_fits_units.proofs.Specials.{home_over, class_kept}
 use Rattle.elab_fits_units.proofs.Types.{variable_type, named_class, named_sound}
 use Rattle.elab_fits_units.specs.Steps.{NoCall}
-use Rattle.elab_fits_units.proofs.Walk.{told, bind, each_holds}
+use Rattle.elab_fits_units.proofs.Walk.{told, each_holds}
 
 -- what is written for parts builds them
 pub record GivenFits (x : Setting) (c : Ctx) (n : ℕ) (gs : List Given) : Type 0 where
@@ -183,9 +181,9 @@ module _ (s : List Lexeme) (b : Below s) (f : UnitFunc) (free : NoCall f.kind) (
       })
       (λ y xs m l o d. let y2 = answered (Leaves g.state) (all_lambdas lambdas_of s g.state es) y (all_lambdas_kept lambdas_of lambdas_lawful s g.state es) l in
       let same : for_part y.ctx n None ≡ as_base_of y.ctx x =
-          ap (for_base y.ctx) (ap base_of_class (class_kept g.state.ctx.classes y.ctx.classes n y2.kept.classes h.home) ∙ e) in
+      ap (for_base y.ctx) (ap base_of_class (class_kept g.state.ctx.classes y.ctx.classes n y2.kept.classes h.home) ∙ e) in
       let r = b.bases f g.state y x t at at es xs m free h.goes.good (subst (λ (z : Typ). IsVariableType g.state z) (sym k) typ) q l o
-          (ap (λ (c : Ctx). directly_initialised c xs.work t at xs.operands) (sym same) ∙ d) in (r.goes, r.builds))
+      (ap (λ (c : Ctx). directly_initialised c xs.work t at xs.operands) (sym same) ∙ d) in (r.goes, r.builds))
 
   -- Initialisers in the order of the text
 

@@ -1,5 +1,5 @@
 -- The bodies of constructors.
-use Rattle.std.proofs.Common.{◌≡◌, refl, sym, ap, ◌∙◌, subst, ℕ, zero, suc, Bool, true, false, List, [], ◌∷◌, slice_get, Option, Some, None, is_some, Ok}
+use Rattle.std.proofs.Common.{◌≡◌, refl, sym, ap, ◌∙◌, subst, ℕ, suc, true, false, List, [], ◌∷◌, slice_get, Option, Some, None, is_some, Ok}
 use Rattle.std.specs.List.{list_all}
 use Rattle.std.proofs.lemmas.Option.{same_Some}
 use Rattle.elab_rules.specs.cpp_types.Equal.{typ_eq}
@@ -8,17 +8,16 @@ use Rattle.elab_fits.proofs.Nodes.{clash}
 use Rattle.elab_fits.proofs.Equal.{typ_refl}
 use Rattle.state_growth.proofs.Statements.{parameters_kept}
 use Rattle.elab_rules.specs.cpp_types.Typ.{Typ, class, ptr, void}
-use Rattle.elab_rules.specs.cpp_types.Class.{Class, Member, completion_of}
+use Rattle.elab_rules.specs.cpp_types.Class.{Member, completion_of}
 use Rattle.elab_rules.specs.cpp_types.declared.classes.At.{At}
 use Rattle.elab_rules.specs.cpp_lex.Tokens.{Lexeme}
 use Rattle.elab_rules.specs.cpp_ast.Trees as syntax
 use Rattle.elab_rules.specs.cpp_tree.declared.program.FuncKind.TheVariants.{Constructor, ClosureCall}
 use Rattle.elab_rules.specs.cpp_tree.declared.roles.Role.TheVariants.{BlockItem}
 use Rattle.elab_rules.specs.cpp_tree.Notation.{plain}
-use Rattle.elab_rules.specs.cpp_tree.Typing.{is_class_typ}
 use Rattle.elab_rules.specs.cpp_tree.Units.{Func as UnitFunc}
-use Rattle.elab_rules.specs.cpp_tree.Rows.{Setting, is_constructor, is_special, result_of, at_place}
-use Rattle.elab_rules.specs.elab_ctx.Ctx.{Ctx, Work, Closure}
+use Rattle.elab_rules.specs.cpp_tree.Rows.{is_constructor, is_special, result_of, at_place}
+use Rattle.elab_rules.specs.elab_ctx.Ctx.{Work, Closure}
 use Rattle.elab_rules.specs.elab_ctx.Steps.{at_of}
 use Rattle.elab_rules.specs.Calls.{base_of_class}
 use Rattle.elab_rules.specs.Names.{members_in}
@@ -35,8 +34,7 @@ use Rattle.elab_fits_forms.specs.Context.{Holds}
 use Rattle.elab_fits_forms.specs.Types.{is_lambda}
 use Rattle.elab_holds.specs.Locals.{locals}
 use Rattle.elab_fits_statements.specs.Anywhere.{AllServe}
-use Rattle.elab_fits_statements.specs.Variables.{HasItem}
-use Rattle.elab_fits_statements.specs.Discipline.{Goes, StandsAs}
+use Rattle.elab_fits_statements.specs.Discipline.{StandsAs}
 use Rattle.elab_fits_statements.proofs.States.{goes_still, all_still}
 use Rattle.elab_fits_bodies.specs.Built.{MakesParts, PartsMade}
 use Rattle.elab_fits_bodies.specs.Parts.{HasParts}
@@ -44,7 +42,7 @@ use Rattle.state_growth.specs.Settings.{shown}
 use Rattle.state_growth.proofs.Settings.{reached_law}
 use Rattle.state_growth.proofs.Steps.{Leaves, goes}
 use Rattle.state_growth.proofs.Members.{parts_kept}
-use Rattle.elab_fits_states.specs.States.{setting, IsText, AreTexts, IsGood, IsSettled, Comes, words}
+use Rattle.elab_fits_states.specs.States.{setting, IsText, AreTexts, IsSettled, Comes, words}
 use Rattle.elab_fits_states.specs.Bodies.{BodyFits, StandsAlone}
 use Rattle.elab_fits_units.specs.Below.{Below, IsHome, ArePartsOf}
 use Rattle.elab_fits_units.specs.Definitions.{IsDefinition}
@@ -55,7 +53,7 @@ use Rattle.elab_fits_units.proofs.Entering.{Begins, begins, none_hold}
 use Rattle.elab_fits_units.proofs.Growing.{Over, over, over_then, held_earlier, bodies_over, defaults_over, unit_as}
 use Rattle.elab_fits_units.proofs.Headers.{answered, skip}
 use Rattle.elab_fits_units.proofs.Results.{any_holds, holds, no_result}
-use Rattle.elab_fits_units.proofs.Specials.{home_over, has_parts, item_at}
+use Rattle.elab_fits_units.proofs.Specials.{home_over, has_parts}
 use Rattle.elab_fits_units.specs.Steps.{NoCall}
 use Rattle.elab_fits_units.proofs.Texts.{kids_texts}
 use Rattle.elab_fits_units.proofs.Walk.{told, bind}
@@ -190,11 +188,11 @@ module _ (s : List Lexeme) (b : Below s) (f : UnitFunc) where
     pub parts_stand : PartsStand a d
     parts_stand = let p = answered (PartsMade (setting f z) a) (parts_built a at n gs) d
         (b.builds (setting f z) a (is_lambda a.ctx.classes) at n gs here all.makers own_parts makes) e in record {
-      settled = subst (IsSettled f) (sym is) ready;
-      leads = subst (Comes a) (sym is) leads;
-      stands = subst (StandsAs a) (sym is) (record { label = refl; breaks = refl; continues = refl; typ = refl; past = λ i. i });
-      serve = subst (λ (x : State). AllServe (setting f x) false false BlockItem d.trees) (sym is) (p.serve (reached_law f z.ctx v));
-    }
+          settled = subst (IsSettled f) (sym is) ready;
+          leads = subst (Comes a) (sym is) leads;
+          stands = subst (StandsAs a) (sym is) (record { label = refl; breaks = refl; continues = refl; typ = refl; past = λ i. i });
+          serve = subst (λ (x : State). AllServe (setting f x) false false BlockItem d.trees) (sym is) (p.serve (reached_law f z.ctx v));
+        }
 
 module _ (s : List Lexeme) (b : Below s) (st : State) (h : Header) (n place : ℕ) (def : IsDefinition st.ctx h place) (g : UnitGood st)
     (home : IsHome st.ctx.classes n) (k : h.kind ≡ Constructor) (ps : list_all (is_sound_parameter st.ctx.classes) h.params ≡ true) where

@@ -1,7 +1,7 @@
 -- The parts of an object that an implicit copy copies.
 use Rattle.std.proofs.Common.{◌≡◌, refl, sym, ap, ◌∙◌, subst, ℕ, suc, Bool, true, false, List, [], ◌∷◌, slice_get, Option, Some, None, Ok}
 use Rattle.elab_rules.specs.cpp_types.Typ.{Typ, typ, ptr, class}
-use Rattle.elab_rules.specs.cpp_types.Class.{Class, Member}
+use Rattle.elab_rules.specs.cpp_types.Class.{Member}
 use Rattle.elab_rules.specs.cpp_types.declared.classes.At.{At}
 use Rattle.elab_rules.specs.cpp_lex.Tokens.{Lexeme}
 use Rattle.elab_rules.specs.cpp_tree.declared.roles.Role.TheVariants.{BlockItem}
@@ -33,7 +33,7 @@ use Rattle.state_growth.proofs.Settings.{reached_law}
 use Rattle.state_growth.proofs.Steps.{Leaves, goes, stays, after, bind, either, follow, of_done, Ends}
 use Rattle.state_growth.proofs.Works.{Mades, class_grows}
 use Rattle.elab_growth.proofs.Growth.{same}
-use Rattle.elab_fits_states.specs.States.{setting, IsSettled, Comes}
+use Rattle.elab_fits_states.specs.States.{setting, IsSettled}
 use Rattle.elab_fits_units.specs.Below.{Below, IsHome, ArePartsOf}
 use Rattle.elab_fits_units.proofs.Constructors.{Same, Works, PartsStand, settled_with, settled_same, first_kept}
 use Rattle.elab_fits_units.proofs.Headers.{answered, skip}
@@ -141,8 +141,8 @@ module _ (s : List Lexeme) (b : Below s) (f : UnitFunc) (a : State) (at : At) (n
   pub copies_stand : PartsStand s b f a d
   copies_stand = let p = answered (PartsMade (setting f z) a) (parts_copied a at n source q) d
       (b.copies (setting f z) a (is_lambda a.ctx.classes) at n source q here all.makers own_parts copies (stands z (subst (Leaves a) is leaves)) t) e in record {
-    settled = subst (IsSettled f) (sym is) ready;
-    leads = record { goes = goes a d.state leaves; kept = later.grown.kept };
-    stands = subst (StandsAs a) (sym is) (record { label = refl; breaks = refl; continues = refl; typ = refl; past = λ i. i });
-    serve = subst (λ (x : State). AllServe (setting f x) false false BlockItem d.trees) (sym is) (p.serve (reached_law f z.ctx v));
-  }
+        settled = subst (IsSettled f) (sym is) ready;
+        leads = record { goes = goes a d.state leaves; kept = later.grown.kept };
+        stands = subst (StandsAs a) (sym is) (record { label = refl; breaks = refl; continues = refl; typ = refl; past = λ i. i });
+        serve = subst (λ (x : State). AllServe (setting f x) false false BlockItem d.trees) (sym is) (p.serve (reached_law f z.ctx v));
+      }

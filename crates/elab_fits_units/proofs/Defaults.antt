@@ -1,7 +1,6 @@
 -- Initialisers of members.
-use Rattle.std.proofs.Common.{◌≡◌, refl, sym, ap, ◌∙◌, subst, ℕ, ◌+◌, Bool, true, false, ◌&&◌, List, [], ◌∷◌, ◌++◌, slice_get, Option, Some, None, is_some, Result, Ok, Err, arith}
+use Rattle.std.proofs.Common.{◌≡◌, refl, sym, ap, ◌∙◌, subst, ℕ, Bool, true, false, List, [], slice_get, Option, Some, None, is_some, Result, Ok, arith}
 use Rattle.std.proofs.lemmas.Option.{same_Some}
-use Rattle.std.proofs.lemmas.Bool.{and_parts}
 use Rattle.elab_rules.specs.cpp_types.Typ.{Typ, typ, void, int, enum, null, ptr, ref, array, func, class, closure, tx_ex}
 use Rattle.elab_rules.specs.cpp_types.Class.{Class, Member, completion_of}
 use Rattle.elab_rules.specs.cpp_types.declared.classes.At.{At}
@@ -12,7 +11,6 @@ use Rattle.elab_rules.specs.cpp_tree.declared.program.FuncKind.TheVariants.{Cons
 use Rattle.elab_rules.specs.cpp_tree.Notation.{plain}
 use Rattle.elab_rules.specs.cpp_tree.Trees.{Tree, one}
 use Rattle.elab_rules.specs.cpp_tree.Units.{Func as UnitFunc}
-use Rattle.elab_rules.specs.cpp_tree.Rows.{Setting, result_of}
 use Rattle.elab_rules.specs.elab_ctx.Ctx.{Ctx, Work}
 use Rattle.elab_rules.specs.elab_ctx.Steps.{and_then, Operand, Made, spelling}
 use Rattle.elab_rules.specs.Braces.{is_char_array, string_object, string_token, syntax_place}
@@ -25,15 +23,15 @@ use Rattle.elab_rules.specs.Statements.{State, Done, Full, with_work, full, full
 use Rattle.elab_rules.specs.Members.{in_object, default_value, default_made, first_tree, with_default_member, member_index, member_type}
 use Rattle.elab_rules.specs.Lambdas.{lambdas_of}
 use Rattle.elab_fits.specs.Standing.{On, BuildsOne, IsSetting}
-use Rattle.elab_sound_types.specs.Types.{is_sound, object, is_held, is_class, result as a_result}
+use Rattle.elab_sound_types.specs.Types.{is_sound, object}
 use Rattle.elab_fits_statements.specs.Variables.{BuildsWhole}
 use Rattle.elab_fits_braces.specs.Defaults.{AllDefaultsFit}
-use Rattle.elab_fits_defaults.specs.Kept.{inside, is_member_typ, IsMemberOf, ValuesBuild}
+use Rattle.elab_fits_defaults.specs.Kept.{inside, is_member_typ}
 use Rattle.setting_growth.specs.Growth.{Grows, HeldEarlier}
 use Rattle.setting_growth.proofs.Settings.{frame_stays}
 use Rattle.state_growth.proofs.Judgements.{built_law}
 use Rattle.state_growth.proofs.Settings.{funcs_grow}
-use Rattle.elab_fits_states.specs.States.{setting, IsText, IsSettled, IsVariableType, Comes, words}
+use Rattle.elab_fits_states.specs.States.{setting, IsText, IsSettled, Comes}
 use Rattle.elab_fits_states.specs.Made.{AllBodiesFit}
 use Rattle.elab_fits_units.specs.Below.{Below, IsHome, ArePartsOf}
 use Rattle.elab_fits_units.specs.Good.{UnitGood, unit_words}
@@ -41,9 +39,9 @@ use Rattle.elab_fits_units.specs.Laws.{Leads, Laws}
 use Rattle.elab_fits_units.specs.Steps.{Follows}
 use Rattle.elab_fits_units.proofs.Bodies.{came}
 use Rattle.elab_fits_units.proofs.Constructors.{constructed}
-use Rattle.elab_fits_units.proofs.Constructing.{FoundMember, member_found}
+use Rattle.elab_fits_units.proofs.Constructing.{member_found}
 use Rattle.elab_fits_units.proofs.Entering.{Begins, begins, over_same}
-use Rattle.elab_fits_units.proofs.Growing.{Over, over_then, held_earlier, bodies_over, defaults_over}
+use Rattle.elab_fits_units.proofs.Growing.{Over, held_earlier, bodies_over}
 use Rattle.elab_fits_units.proofs.Headers.{answered, split}
 use Rattle.elab_fits_units.proofs.Leaves.{both_on, gone_over}
 use Rattle.elab_fits_units.proofs.Results.{holds, any_holds, no_result, complete_over}
@@ -206,7 +204,7 @@ module _ (s : List Lexeme) (b : Below s) (l : Laws s) where
       let v = value_valued s b st n t e g h text sound size (is_char_array t) (string_token e) d refl w in
       let y : State = with_default_member st n i (first_tree (syntax_place e) d.trees) d.state in
       let eq : default_made lambdas_of s st n i t e ≡ Ok y =
-          ap (λ (r : Result Done ElabFault). and_then r (λ (d : Done). Ok (with_default_member st n i (first_tree (syntax_place e) d.trees) d.state))) w in record {
+      ap (λ (r : Result Done ElabFault). and_then r (λ (d : Done). Ok (with_default_member st n i (first_tree (syntax_place e) d.trees) d.state))) w in record {
         bodies = bodies_over d.state y v.held (over_same d.state) refl v.bodies;
         closures = refl;
         defaults = λ f. b.made lambdas_of b.moves s (setting f y) st n i t e y (member_typ st.ctx.classes t sound)

@@ -1,7 +1,7 @@
 -- Into a function: the state in which its body begins is good.
-use Rattle.std.proofs.Common.{◌≡◌, refl, sym, ap, ◌∙◌, subst, ℕ, zero, suc, Bool, true, false, ◌&&◌, List, [], ◌∷◌, ◌++◌, length, slice_get, Option, Some, None, is_some}
-use Rattle.std.proofs.Common.{Result, Ok, Err}
-use Rattle.std.specs.Prelude.{if◌then◌else◌, option_and_then}
+use Rattle.std.proofs.Common.{◌≡◌, refl, sym, ap, ◌∙◌, subst, ℕ, Bool, true, List, [], ◌∷◌, ◌++◌, Option, Some, None, is_some}
+use Rattle.std.proofs.Common.{Ok}
+use Rattle.std.specs.Prelude.{if◌then◌else◌}
 use Rattle.std.specs.List.{list_all}
 use Rattle.std.proofs.lemmas.Bool.{and_parts}
 use Rattle.elab_rules.specs.cpp_types.Typ.{Typ, typ, void, int, enum, null, ptr, ref, array, func, class, closure, tx_ex}
@@ -9,38 +9,37 @@ use Rattle.elab_rules.specs.cpp_types.Class.{Class, completion_of, held}
 use Rattle.elab_rules.specs.cpp_lex.Tokens.{Lexeme}
 use Rattle.elab_rules.specs.cpp_tree.declared.faults.IllRule.TheVariants.{Incomplete, Redeclared}
 use Rattle.elab_rules.specs.cpp_tree.Notation.{plain}
-use Rattle.elab_rules.specs.cpp_tree.Typing.{is_class_typ, passes}
+use Rattle.elab_rules.specs.cpp_tree.Typing.{is_class_typ}
 use Rattle.elab_rules.specs.cpp_tree.Units.{Func as UnitFunc}
 use Rattle.elab_rules.specs.cpp_tree.Rows.{at_place, result_of}
-use Rattle.elab_rules.specs.cpp_types.Equal.{typ_eq}
-use Rattle.elab_rules.specs.elab_ctx.Ctx.{Ctx, Variable, Closure, Lambda, known, with_item, next_place}
+use Rattle.elab_rules.specs.elab_ctx.Ctx.{Ctx, Closure, Lambda, known, next_place}
 use Rattle.elab_rules.specs.elab_ctx.Steps.{check, spelling}
 use Rattle.elab_rules.specs.Operators.{is_complete}
 use Rattle.elab_rules.specs.Types.{Parameter}
-use Rattle.elab_rules.specs.Statements.{State, is_direct_label, is_fresh}
+use Rattle.elab_rules.specs.Statements.{State, is_fresh}
 use Rattle.elab_rules.specs.Functions.{entered, result_items, this_items, this_at, word_item, with_parameter, unnamed_parameter, parameter_named, with_parameters}
 use Rattle.elab_fits.specs.Standing.{On}
 use Rattle.elab_fits.proofs.Equal.{typ_refl}
-use Rattle.elab_fits.proofs.Nodes.{both, clash}
+use Rattle.elab_fits.proofs.Nodes.{both}
 use Rattle.elab_contexts.specs.Holding.{UnitHolds}
 use Rattle.elab_contexts.specs.Overriders.{HasOverriders}
 use Rattle.elab_holds.specs.Locals.{LocalsHold}
-use Rattle.elab_sound_types.specs.Types.{is_sound, is_sound_form, variable as a_variable, parameter as a_parameter, result as a_result}
-use Rattle.elab_sound_types.specs.Contexts.{HasSoundTypes, is_sound_variable, is_sound_this, is_sound_parameter}
+use Rattle.elab_sound_types.specs.Types.{is_sound, variable as a_variable, parameter as a_parameter, result as a_result}
+use Rattle.elab_sound_types.specs.Contexts.{is_sound_variable, is_sound_this, is_sound_parameter}
 use Rattle.elab_sound_types.specs.States.{IsSoundState, is_sound_object}
 use Rattle.elab_fits_forms.specs.Expressions.{ClosuresHold}
 use Rattle.elab_fits_statements.specs.Variables.{HasItem}
 use Rattle.elab_fits_braces.specs.Defaults.{AllDefaultsFit}
 use Rattle.state_growth.proofs.Steps.{Leaves, kept_refl}
 use Rattle.state_growth.proofs.Statements.{parameters_kept}
-use Rattle.elab_fits_states.specs.States.{setting, IsGood, IsSettled}
+use Rattle.elab_fits_states.specs.States.{setting, IsSettled}
 use Rattle.elab_fits_states.specs.Bodies.{StandsAlone}
 use Rattle.elab_fits_states.specs.Made.{AllBodiesFit}
 use Rattle.elab_fits_units.specs.Below.{Below}
 use Rattle.elab_fits_units.specs.Good.{UnitGood}
-use Rattle.elab_fits_units.proofs.Growing.{bare, Over, over, over_then, held_earlier, bodies_over, defaults_over, unit_as}
+use Rattle.elab_fits_units.proofs.Growing.{bare, Over, over, held_earlier, bodies_over, defaults_over, unit_as}
 use Rattle.elab_fits_units.proofs.Headers.{answered, skip}
-use Rattle.elab_fits_units.proofs.Walk.{told, bind}
+use Rattle.elab_fits_units.proofs.Walk.{bind}
 
 -- Types and lists
 

@@ -1,7 +1,6 @@
 -- The bodies and the initialisers that a state has fit in a state whose unit has grown, whatever its frame.
-use Rattle.std.proofs.Common.{◌≡◌, refl, sym, ap, ◌∙◌, subst, ℕ, zero, suc, true, List, [], ◌∷◌, ◌++◌, length, slice_get, Option, Some, None}
+use Rattle.std.proofs.Common.{◌≡◌, sym, ap, ◌∙◌, subst, ℕ, zero, suc, true, List, [], ◌∷◌, ◌++◌, slice_get, Some}
 use Rattle.std.proofs.lemmas.Option.{same_Some}
-use Rattle.elab_rules.specs.cpp_types.Typ.{Typ}
 use Rattle.elab_rules.specs.cpp_types.Class.{Function}
 use Rattle.elab_rules.specs.cpp_tree.declared.roles.Role.TheVariants.{Statement}
 use Rattle.elab_rules.specs.cpp_tree.WellFormed.{fits, outermost}
@@ -9,12 +8,12 @@ use Rattle.elab_rules.specs.cpp_tree.Units.{Func as UnitFunc}
 use Rattle.elab_rules.specs.elab_ctx.Ctx.{Ctx, Func, Default}
 use Rattle.elab_rules.specs.Statements.{State, Body}
 use Rattle.elab_contexts.specs.Holding.{UnitHolds}
-use Rattle.elab_fits_braces.specs.Defaults.{AllDefaultsFit, IsDefault, DefaultsStay, UnitGrows as SettingsGrow}
+use Rattle.elab_fits_braces.specs.Defaults.{AllDefaultsFit, DefaultsStay}
 use Rattle.setting_growth.specs.Growth.{HeldEarlier}
 use Rattle.setting_growth.proofs.Trees.{fits_law}
 use Rattle.state_growth.specs.Settings.{setting_at, shown, SameDeclared, HasDeclared}
 use Rattle.state_growth.proofs.Settings.{states_law, funcs_grow}
-use Rattle.state_growth.proofs.Steps.{seen, Seen, Steps, Kept, Tidy, Leaves, kept_trans, stays, state_grows}
+use Rattle.state_growth.proofs.Steps.{seen, Seen, Steps, Leaves, kept_trans, state_grows}
 use Rattle.elab_fits_states.specs.States.{setting}
 use Rattle.elab_fits_states.specs.Made.{MadeFits, AllBodiesFit}
 

@@ -1,7 +1,7 @@
 -- The function that a definition is for stands in its place, with what its header says.
-use Rattle.std.proofs.Common.{◌≡◌, refl, sym, ap, ◌∙◌, subst, ℕ, zero, suc, ◌+◌, Bool, true, false, not, ◌&&◌, ◌||◌, List, [], ◌∷◌, ◌++◌, length, slice_get, arith}
+use Rattle.std.proofs.Common.{◌≡◌, refl, ap, ◌∙◌, subst, ℕ, zero, suc, ◌+◌, Bool, true, false, not, ◌&&◌, ◌||◌, List, [], ◌∷◌, ◌++◌, length, slice_get, arith}
 use Rattle.std.proofs.Common.{Option, Some, None, is_some, unwrap_or, Result, Ok, Err, eqb-true}
-use Rattle.std.specs.Prelude.{slice_set, if◌then◌else◌, ◌==◌}
+use Rattle.std.specs.Prelude.{slice_set, if◌then◌else◌}
 use Rattle.std.specs.Str.{bytes_eq}
 use Rattle.std.proofs.lemmas.Bool.{and_parts}
 use Rattle.std.proofs.lemmas.Option.{same_Some}
@@ -9,9 +9,6 @@ use Rattle.elab_rules.specs.cpp_types.Equal.{typ_eq, typs_eq, flag_eq}
 use Rattle.elab_rules.specs.cpp_types.Class.{Function}
 use Rattle.elab_rules.specs.cpp_tree.declared.program.Linkage.TheVariants.{Inline}
 use Rattle.elab_rules.specs.cpp_types.declared.classes.At.{At}
-use Rattle.elab_rules.specs.cpp_lex.Tokens.{Lexeme}
-use Rattle.elab_rules.specs.cpp_names.Names.{innermost_of}
-use Rattle.elab_rules.specs.cpp_names.declared.entity.Entity.{Entity}
 use Rattle.elab_rules.specs.cpp_tree.declared.program.FuncKind.{FuncKind}
 use Rattle.elab_rules.specs.cpp_tree.declared.program.FuncKind.TheVariants.{Plain, Constructor, Destructor, ClosureCall}
 use Rattle.elab_rules.specs.cpp_tree.declared.faults.ElabFault.{ElabFault}
@@ -21,15 +18,15 @@ use Rattle.elab_rules.specs.elab_ctx.Ctx.{Ctx, Func}
 use Rattle.elab_rules.specs.elab_ctx.Steps.{and_then, check, expect}
 use Rattle.elab_rules.specs.Initialising.{func_at, no_function, signature_parameters, signature_result}
 use Rattle.elab_rules.specs.Names.{same_variable}
-use Rattle.elab_rules.specs.Functions.{Header, Placed, Storage, param_of, new_function, is_same_function, first_from, agrees, same_safety, safety_of, is_internal, same_kind}
-use Rattle.elab_rules.specs.Functions.{is_function_entity, function_named, name_declared, declared_in, main_fits, may_be_c, dynamic_fits, header_sized}
+use Rattle.elab_rules.specs.Functions.{Header, Placed, Storage, new_function, is_same_function, first_from, agrees, same_safety, safety_of, is_internal, same_kind}
+use Rattle.elab_rules.specs.Functions.{name_declared, declared_in, main_fits, may_be_c, dynamic_fits, header_sized}
 use Rattle.elab_rules.specs.Functions.{function_declared, defined_function, with_definition}
 use Rattle.elab_rules.specs.Classes.{token_end}
-use Rattle.elab_rules.specs.Members.{place_of_header, late_kept, outside_agrees, outside_defined, outside_linkage, outside_text, linked_definition, with_noexcept}
+use Rattle.elab_rules.specs.Members.{late_kept, outside_linkage, outside_text, linked_definition, with_noexcept}
 use Rattle.elab_fits.specs.Standing.{On}
 use Rattle.elab_fits.proofs.Equal.{typ_same}
 use Rattle.elab_fits_units.specs.Definitions.{IsDefinition, DeclaredAreDefined, MethodsAreDefined, OutsideAreDefined}
-use Rattle.elab_fits_units.proofs.Walk.{told, bind}
+use Rattle.elab_fits_units.proofs.Walk.{told}
 
 -- Answers
 

@@ -1,62 +1,51 @@
 -- The bodies of implicit members.
-use Rattle.std.proofs.Common.{◌≡◌, refl, sym, ap, ◌∙◌, subst, ℕ, suc, Bool, true, false, ◌&&◌, ◌||◌, List, [], ◌∷◌, ◌++◌, slice_get, Option, Some, None, is_some, unwrap_or, Result, Ok, Err}
+use Rattle.std.proofs.Common.{◌≡◌, refl, sym, ap, ◌∙◌, subst, ℕ, Bool, true, false, ◌&&◌, List, [], slice_get, Option, Some, None, is_some, unwrap_or, Result, Ok, Err}
 use Rattle.std.specs.Prelude.{if◌then◌else◌}
 use Rattle.std.proofs.lemmas.Bool.{and_parts}
 use Rattle.std.proofs.lemmas.Option.{same_Some}
-use Rattle.elab_rules.specs.cpp_types.Typ.{Typ, typ, void, ref, ptr, class, Typs, Signature, signature, none as no_typs, more as and_typ}
-use Rattle.elab_rules.specs.cpp_types.Class.{Class, Member, completion_of}
+use Rattle.elab_rules.specs.cpp_types.Typ.{Typ, void, ptr, class, Typs, Signature, none as no_typs, more as and_typ}
+use Rattle.elab_rules.specs.cpp_types.Class.{completion_of}
 use Rattle.elab_rules.specs.cpp_types.declared.classes.At.{At}
 use Rattle.elab_rules.specs.cpp_lex.Tokens.{Lexeme}
 use Rattle.elab_rules.specs.cpp_tree.declared.faults.ElabFault.{ElabFault}
 use Rattle.elab_rules.specs.cpp_tree.declared.program.FuncKind.{FuncKind}
 use Rattle.elab_rules.specs.cpp_tree.declared.program.FuncKind.TheVariants.{Constructor, Destructor}
 use Rattle.elab_rules.specs.cpp_tree.Notation.{plain}
-use Rattle.elab_rules.specs.cpp_tree.Trees.{Tree, none}
-use Rattle.elab_rules.specs.cpp_tree.Typing.{is_class_typ}
+use Rattle.elab_rules.specs.cpp_tree.Trees.{none}
 use Rattle.elab_rules.specs.cpp_tree.Units.{Func as UnitFunc}
-use Rattle.elab_rules.specs.cpp_tree.Rows.{is_special, is_constructor, is_destructor, at_place, result_of}
+use Rattle.elab_rules.specs.cpp_tree.Rows.{is_special, is_constructor, is_destructor, at_place}
 use Rattle.elab_rules.specs.elab_ctx.Ctx.{Func, Work, Closure, with_item}
-use Rattle.elab_rules.specs.elab_ctx.Steps.{and_then, Made}
-use Rattle.elab_rules.specs.Calls.{base_of_class}
-use Rattle.elab_rules.specs.Names.{members_in}
-use Rattle.elab_rules.specs.Initialising.{func_at, no_function, signature_parameters, class_from, as_source}
-use Rattle.elab_rules.specs.Objects.{is_array}
+use Rattle.elab_rules.specs.elab_ctx.Steps.{and_then}
+use Rattle.elab_rules.specs.Initialising.{func_at, no_function, signature_parameters}
 use Rattle.elab_rules.specs.Statements.{State, Done, with_work}
 use Rattle.elab_rules.specs.Classes.{own_reference}
-use Rattle.elab_rules.specs.Members.{in_object, as_base_of, parts_built, constructor_tree, destructor_tree}
-use Rattle.elab_rules.specs.Implicit.{is_referred, source_object, source_const, own_operand, part_copied, part_of_source, members_copied, base_copied, parts_copied}
+use Rattle.elab_rules.specs.Members.{in_object, parts_built, constructor_tree, destructor_tree}
+use Rattle.elab_rules.specs.Implicit.{is_referred, source_object, source_const, parts_copied}
 use Rattle.elab_rules.specs.Implicit.{with_source, constructor_made, constructor_implied, body_implied, implied_of, implied}
-use Rattle.elab_fits.specs.Standing.{On, IsSetting}
-use Rattle.elab_fits.specs.Objects.{HasSpecials}
+use Rattle.elab_fits.specs.Standing.{On}
 use Rattle.elab_fits.proofs.Equal.{typ_refl}
 use Rattle.elab_fits.proofs.Nodes.{clash}
-use Rattle.elab_sound_types.specs.States.{IsSoundState, IsSoundAfter}
-use Rattle.elab_fits_forms.specs.Types.{is_lambda}
-use Rattle.elab_fits_forms.specs.Context.{Holds}
-use Rattle.elab_fits_bodies.specs.Built.{PartsMade}
-use Rattle.elab_fits_bodies.specs.Copied.{CopiesParts}
-use Rattle.elab_fits_bodies.specs.Parts.{HasParts, IsObjectOf}
+use Rattle.elab_sound_types.specs.States.{IsSoundState}
 use Rattle.state_growth.specs.Settings.{shown}
 use Rattle.state_growth.proofs.Items.{work_kept}
-use Rattle.state_growth.proofs.Settings.{reached_law}
-use Rattle.state_growth.proofs.Steps.{Leaves, goes, stays, after}
-use Rattle.state_growth.proofs.Works.{Grows, Mades, class_grows, one_item}
-use Rattle.elab_fits_states.specs.States.{setting, IsSettled, Comes}
-use Rattle.elab_fits_units.specs.Below.{Below, IsHome, ArePartsOf}
+use Rattle.state_growth.proofs.Steps.{Leaves}
+use Rattle.state_growth.proofs.Works.{one_item}
+use Rattle.elab_fits_states.specs.States.{setting, IsSettled}
+use Rattle.elab_fits_units.specs.Below.{Below, IsHome}
 use Rattle.elab_fits_units.specs.Good.{IsImplied, default, copy, destructor, IsImplicit, UnitGood}
 use Rattle.elab_fits_units.specs.Laws.{Leads, Laws}
 use Rattle.elab_fits_units.proofs.Bodies.{Left, made_left, came}
-use Rattle.elab_fits_units.proofs.Constructors.{PartsStand, constructed, parts_stand, settled_with, settled_same, first_kept}
+use Rattle.elab_fits_units.proofs.Constructors.{PartsStand, constructed, parts_stand, settled_with}
 use Rattle.elab_fits_units.proofs.Copying.{copies_stand}
 use Rattle.elab_rules.specs.cpp_types.Equal.{typ_eq}
 use Rattle.elab_rules.specs.cpp_tree.Typing.{passes}
-use Rattle.elab_fits_units.proofs.Entering.{Begins, begins, over_same}
+use Rattle.elab_fits_units.proofs.Entering.{Begins, begins}
 use Rattle.elab_fits_units.proofs.Growing.{Over, over, over_then}
-use Rattle.elab_fits_units.proofs.Headers.{answered, skip, at_func}
+use Rattle.elab_fits_units.proofs.Headers.{at_func}
 use Rattle.elab_fits_units.proofs.Leaves.{Ended, good_on}
 use Rattle.elab_fits_units.proofs.Results.{holds, no_result}
-use Rattle.elab_fits_units.proofs.Specials.{has_parts, home_over}
-use Rattle.elab_fits_units.proofs.Walk.{told, bind}
+use Rattle.elab_fits_units.proofs.Specials.{has_parts}
+use Rattle.elab_fits_units.proofs.Walk.{told}
 
 source_at : (frame : List Typ) (t : Typ) → slice_get frame 1 ≡ Some t → at_place frame 1 t ≡ true
 source_at frame t h = ap (passes (typ_eq t)) h ∙ typ_refl t

@@ -1,47 +1,41 @@
 -- Each step of the declarations of a unit leads from a good state to a good one.
-use Rattle.std.proofs.Common.{◌≡◌, refl, sym, ap, ◌∙◌, subst, ℕ, Bool, true, false, not, ◌&&◌, List, [], ◌∷◌, Option, Some, None, is_some, Result, Ok, Err}
+use Rattle.std.proofs.Common.{◌≡◌, refl, sym, ap, ◌∙◌, subst, ℕ, true, List, [], ◌∷◌, Some, None, is_some, Result, Ok, Err}
 use Rattle.std.proofs.lemmas.Option.{same_Some}
 use Rattle.std.proofs.lemmas.Bool.{and_parts}
-use Rattle.std.specs.Prelude.{slice_get}
-use Rattle.elab_rules.specs.cpp_types.Typ.{Typ, typ, Form, void, int, enum, null, ptr, ref, array, func, class, closure, tx_ex, Signature}
+use Rattle.elab_rules.specs.cpp_types.Typ.{Typ, Form, func}
 use Rattle.elab_rules.specs.cpp_types.Class.{Class, completion_of}
 use Rattle.elab_rules.specs.cpp_types.Equal.{typ_eq}
 use Rattle.elab_rules.specs.cpp_types.declared.classes.At.{At}
 use Rattle.elab_rules.specs.cpp_lex.Tokens.{Lexeme}
 use Rattle.elab_rules.specs.cpp_ast.Trees as syntax
 use Rattle.elab_rules.specs.cpp_tree.Typing.{form_in}
-use Rattle.elab_rules.specs.cpp_tree.Units.{Func as UnitFunc}
 use Rattle.elab_rules.specs.cpp_tree.declared.faults.ElabFault.{ElabFault}
 use Rattle.elab_rules.specs.cpp_tree.declared.faults.IllRule.TheVariants.{NoMember, TypeDiffers}
 use Rattle.elab_rules.specs.cpp_tree.declared.program.FuncKind.{FuncKind}
 use Rattle.elab_rules.specs.cpp_tree.declared.program.FuncKind.TheVariants.{Plain, Constructor, Destructor, ClosureCall}
 use Rattle.elab_rules.specs.elab_ctx.Ctx.{Ctx}
-use Rattle.elab_rules.specs.elab_ctx.Steps.{and_then, check, expect, spelling}
+use Rattle.elab_rules.specs.elab_ctx.Steps.{check, expect}
 use Rattle.elab_rules.specs.Initialising.{func_at, signature_result}
-use Rattle.elab_rules.specs.Types.{Declared, Parameter, is_nothing}
+use Rattle.elab_rules.specs.Types.{Declared, Parameter}
 use Rattle.elab_rules.specs.Expressions.{type_of_specifiers, declared_by}
 use Rattle.elab_rules.specs.Statements.{State}
-use Rattle.elab_rules.specs.Functions.{Storage, Header, Placed, function_declared, function_body, with_definition, text_sized, defines_well, first_from, is_same_function}
+use Rattle.elab_rules.specs.Functions.{Storage, Header, function_declared, function_body, with_definition, text_sized, defines_well, first_from, is_same_function}
 use Rattle.elab_rules.specs.Classes.{Method, method_of, last_token}
-use Rattle.elab_rules.specs.Members.{method_body, body_by_kind, place_of_header, late_kept, late_method, is_member_named, outside_words, outside_agrees, outside_text}
+use Rattle.elab_rules.specs.Members.{body_by_kind, place_of_header, late_kept, late_method, is_member_named, outside_words, outside_agrees, outside_text}
 use Rattle.elab_rules.specs.Members.{outside_defined, outside_body, outside_method, this_type, constructor_body, destructor_body}
 use Rattle.elab_rules.specs.Lambdas.{lambdas_of}
 use Rattle.elab_rules.specs.Units.{header_of, definition_text, closing_offset, defined_with}
 use Rattle.std.specs.List.{list_any, list_all}
-use Rattle.elab_rules.specs.cpp_ast.declared.arena.At.{At as SyntaxAt}
-use Rattle.elab_rules.specs.cpp_ast.declared.kinds.NodeKind.{NodeKind}
 use Rattle.elab_rules.specs.cpp_tree.Notation.{plain}
 use Rattle.elab_rules.specs.cpp_tree.Rows.{is_special}
 use Rattle.elab_fits.proofs.Nodes.{both}
-use Rattle.elab_fits_forms.specs.Types.{is_empty}
-use Rattle.elab_fits_forms.specs.Expressions.{is_spelled_token, is_spelled, are_spelled}
-use Rattle.elab_sound_types.specs.Types.{parameter as a_parameter, target}
+use Rattle.elab_sound_types.specs.Types.{parameter as a_parameter, target, is_class}
 use Rattle.elab_sound_types.specs.Contexts.{is_sound_parameter}
 use Rattle.elab_sound_types.specs.States.{Kept, TypesStay}
 use Rattle.elab_fits.specs.Standing.{On}
 use Rattle.elab_sound_units.specs.Headers.{IsRead, IsOutside}
 use Rattle.state_growth.specs.States.{Gone}
-use Rattle.elab_fits_states.specs.States.{IsText, AreTexts, is_handled, has_handlers, have_handlers}
+use Rattle.elab_fits_states.specs.States.{IsText, AreTexts}
 use Rattle.elab_fits_units.specs.Below.{Below, IsHome}
 use Rattle.elab_fits_units.specs.Definitions.{IsDefinition}
 use Rattle.elab_fits_units.specs.Good.{UnitGood, unit_words}
@@ -50,12 +44,13 @@ use Rattle.elab_fits_units.specs.Steps.{NoCall, Follows}
 use Rattle.elab_fits_units.proofs.Bodies.{Left, function_left}
 use Rattle.elab_fits_units.proofs.Constructors.{constructor_left}
 use Rattle.elab_fits_units.proofs.Growing.{Over, bodies_over, defaults_over, held_earlier}
-use Rattle.elab_fits_units.proofs.Headers.{answered, skip, expected, declared_law, methods_law, outside_law}
+use Rattle.elab_fits_units.proofs.Headers.{answered, skip, declared_law, methods_law, outside_law}
 use Rattle.elab_fits_units.proofs.Methods.{IsMethod, method_is, outside_is}
+use Rattle.elab_fits_units.proofs.Owners.{IsOwned, outside_owned}
 use Rattle.elab_fits_units.proofs.Quiet.{Quiet, Placing, function_quiet}
 use Rattle.elab_fits_units.proofs.Specials.{destructor_left, home_over}
 use Rattle.elab_fits_units.proofs.Texts.{rest_texts}
-use Rattle.elab_fits_units.proofs.Walk.{told, bind}
+use Rattle.elab_fits_units.proofs.Walk.{told}
 
 -- Answers
 
@@ -216,9 +211,12 @@ module _ (s : List Lexeme) (b : Below s) (l : Laws s) where
       → NoCall kind → AreTexts s ts → IsText s body → outside_method s st at x kind ts ≡ Ok m → m.header.class ≡ Some n
       → On UnitGood (outside_body lambdas_of s st n kind first m body)
   outside st x at kind first n ts m body g free t u e k =
-      let home : IsHome st.ctx.classes n = l.owner st at x kind ts m n g e k in
       let o = answered (IsOutside s st.ctx.classes) (outside_method s st at x kind ts) m (l.read_outside st at x kind ts g.sound t) e in
       let r : IsRead s st.ctx.classes n m = subst (λ (i : ℕ). IsRead s st.ctx.classes i m) (same_Some o.number n (sym o.read.header.class ∙ k)) o.read in
+      let home : IsHome st.ctx.classes n = record {
+        complete = answered (IsOwned st.ctx) (outside_method s st at x kind ts) m (outside_owned s st at x kind ts) e n k;
+        named = subst (λ (i : ℕ). is_class st.ctx.classes i ≡ true) (same_Some o.number n (sym o.read.header.class ∙ k)) o.class;
+      } in
       let w = answered (IsMethod (AreTexts s) (rest_texts s) s kind) (outside_method s st at x kind ts) m (outside_is (AreTexts s) (rest_texts s) s st at x kind ts t) e in
       let last : ℕ = last_token (Some body) in
       good_on st (outside_body lambdas_of s st n kind first m body) g (l.outside st n kind first m body g home r u)

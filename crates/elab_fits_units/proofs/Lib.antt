@@ -11,8 +11,10 @@ pub mod Given
 pub mod Growing
 pub mod Headers
 pub mod Implied
+pub mod Leading
 pub mod Leaves
 pub mod Methods
+pub mod Owners
 pub mod Parts
 pub mod Programs
 pub mod Quiet
@@ -22,3 +24,4 @@ pub mod Texts
 pub mod Types
 pub mod Units
 pub mod Walk
+pub mod Whole

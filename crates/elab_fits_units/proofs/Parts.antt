@@ -1,9 +1,8 @@
 -- The parts of a class that has a name and its brace.
-use Rattle.std.proofs.Common.{◌≡◌, refl, sym, ap, ◌∙◌, subst, ℕ, Bool, true, false, not, ◌&&◌, ◌||◌, List, [], slice_get, Option, Some, None, is_some, nat_lt, length}
-use Rattle.std.proofs.lemmas.Bool.{and_parts}
+use Rattle.std.proofs.Common.{◌≡◌, refl, sym, ap, ◌∙◌, ℕ, Bool, true, false, not, ◌&&◌, ◌||◌, List, [], slice_get, Option, Some, is_some}
 use Rattle.elab_rules.specs.tx_ints.declared.kinds.IntKind.TheVariants.{ULong}
 use Rattle.elab_rules.specs.cpp_types.Typ.{Typ, typ, void, int, enum, null, ptr, ref, array, func, class, closure, tx_ex}
-use Rattle.elab_rules.specs.cpp_types.Class.{Class, Member, completion_of}
+use Rattle.elab_rules.specs.cpp_types.Class.{Class, Member}
 use Rattle.elab_rules.specs.cpp_tree.Notation.{plain}
 use Rattle.elab_rules.specs.cpp_tree.Parts.{size_in}
 use Rattle.elab_rules.specs.cpp_tree.Rows.{Setting}
@@ -20,7 +19,7 @@ use Rattle.elab_rules.specs.cpp_tree.Units.{Func as UnitFunc}
 use Rattle.state_growth.specs.Settings.{setting_at, shown}
 use Rattle.elab_fits.specs.Objects.{IsElementType}
 use Rattle.elab_fits.specs.Scalars.{is_scalar}
-use Rattle.elab_fits.proofs.Nodes.{both, clash}
+use Rattle.elab_fits.proofs.Nodes.{both}
 use Rattle.elab_fits.proofs.Objects.{Laid, Sized, sized_from, size_is, laid_from, member_sized, base_sized}
 use Rattle.elab_fits_objects.specs.Contexts.{IsObjectTyp, refers}
 use Rattle.elab_fits_forms.specs.Context.{Holds}
@@ -28,8 +27,7 @@ use Rattle.elab_fits_forms.specs.Types.{is_lambda}
 use Rattle.elab_contexts.specs.Holding.{UnitHolds}
 use Rattle.elab_contexts.specs.Steps.{has_name, is_written}
 use Rattle.elab_contexts.specs.Texts.{is_no_name}
-use Rattle.elab_sound_types.specs.Types as sound
-use Rattle.elab_sound_types.specs.Types.{is_sound, object, variable as a_variable, is_class}
+use Rattle.elab_sound_types.specs.Types.{is_sound, object, is_class}
 use Rattle.elab_sound_types.specs.Contexts.{HasSoundTypes, member_use}
 use Rattle.elab_holds.proofs.Complete.{class_sized}
 use Rattle.elab_holds.proofs.Order.{order_law, member_sound}

@@ -1,33 +1,25 @@
 -- Each body of each unit of a program fits.
-use Rattle.std.proofs.Common.{◌≡◌, refl, sym, ap, ◌∙◌, subst, ℕ, zero, suc, ◌+◌, Bool, true, false, List, [], ◌∷◌, ◌++◌, length, slice_get, arith}
-use Rattle.std.proofs.Common.{Option, Some, None, Result, Ok, Err, eqb-true}
-use Rattle.std.specs.Prelude.{find, if◌then◌else◌, ◌==◌}
+use Rattle.std.proofs.Common.{◌≡◌, refl, sym, ap, ◌∙◌, subst, ℕ, zero, suc, ◌+◌, Bool, true, false, List, [], ◌∷◌, ◌++◌, slice_get, arith}
+use Rattle.std.proofs.Common.{Option, Some, None, Ok, eqb-true}
+use Rattle.std.specs.Prelude.{find, if◌then◌else◌}
 use Rattle.std.proofs.lemmas.Option.{same_Some}
-use Rattle.elab_rules.specs.cpp_types.Class.{Function}
 use Rattle.elab_rules.specs.cpp_lex.Tokens.{Lexeme}
-use Rattle.elab_rules.specs.cpp_ast.Trees as syntax
-use Rattle.elab_rules.specs.cpp_tree.declared.faults.ElabFault.{ElabFault}
 use Rattle.elab_rules.specs.cpp_tree.declared.roles.Role.TheVariants.{Statement}
 use Rattle.elab_rules.specs.cpp_tree.Trees.{Tree}
 use Rattle.elab_rules.specs.cpp_tree.Units.{Func as UnitFunc, Unit as UnitTree, TypedProgram}
-use Rattle.elab_rules.specs.cpp_tree.Rows.{Setting}
 use Rattle.elab_rules.specs.cpp_tree.WellFormed.{fits, outermost}
 use Rattle.elab_rules.specs.elab_ctx.Ctx.{Func, Traits}
-use Rattle.elab_rules.specs.elab_ctx.Steps.{and_then}
 use Rattle.elab_rules.specs.Statements.{State, Body}
 use Rattle.elab_rules.specs.Programs.{is_body_of, body_of, tree_in, typed_func, typed_funcs, unit_shown, Source, start_behind, with_unit, program_from, program_of}
 use Rattle.elab_rules.specs.Units.{unit_from}
-use Rattle.elab_fits.specs.Standing.{On}
 use Rattle.setting_growth.specs.Growth.{Grows, HeldEarlier}
 use Rattle.setting_growth.proofs.Trees.{fits_law}
 use Rattle.state_growth.specs.Programs.{unit_setting, ProgramGrows}
 use Rattle.state_growth.specs.Settings.{setting_at, shown, shown_setting}
-use Rattle.state_growth.specs.States.{IsTidy}
 use Rattle.state_growth.proofs.Programs.{programs_law, show_law}
 use Rattle.state_growth.proofs.Settings.{states_law, shown_law}
 use Rattle.state_growth.proofs.Steps.{seen, kept_refl, state_grows}
 use Rattle.elab_fits_states.specs.Made.{MadeFits}
-use Rattle.elab_fits_states.specs.States.{AreTexts}
 use Rattle.elab_fits_units.specs.Below.{Below}
 use Rattle.elab_fits_units.specs.Good.{UnitGood}
 use Rattle.elab_fits_units.specs.Laws.{Laws}

@@ -1,11 +1,10 @@
 -- Declarations that have no bodies leave bodies, and initialisers of members, as they are.
-use Rattle.std.proofs.Common.{◌≡◌, refl, ◌∙◌, ℕ, zero, suc, Bool, true, false, not, ◌&&◌, ◌||◌, List, [], ◌∷◌, Option, Some, None, is_some, is_none, Result, Ok, Err}
+use Rattle.std.proofs.Common.{◌≡◌, refl, ◌∙◌, ℕ, Bool, true, false, not, ◌&&◌, ◌||◌, List, [], Option, Some, None, is_some, is_none, Result, Ok, Err}
 use Rattle.std.specs.Prelude.{if◌then◌else◌, slice_get, pos, ℤ}
-use Rattle.std.specs.List.{list_any}
 use Rattle.elab_rules.specs.tx_ints.declared.kinds.IntKind.TheVariants.{Int}
 use Rattle.elab_rules.specs.tx_ints.Integers.{is_in_range}
 use Rattle.elab_rules.specs.cpp_types.Typ.{Typ, typ, Form, func, class, enum}
-use Rattle.elab_rules.specs.cpp_types.Class.{Class, Member, Function, completion_of, held}
+use Rattle.elab_rules.specs.cpp_types.Class.{Member, completion_of, held}
 use Rattle.elab_rules.specs.cpp_types.declared.classes.At.{At}
 use Rattle.elab_rules.specs.cpp_lex.Tokens.{Lexeme}
 use Rattle.elab_rules.specs.cpp_ast.declared.kinds.NodeKind.TheVariants as k
@@ -16,12 +15,11 @@ use Rattle.elab_rules.specs.cpp_names.declared.entity.EntityKind.{EntityKind}
 use Rattle.elab_rules.specs.cpp_names.declared.entity.EntityKind.TheVariants as entities
 use Rattle.elab_rules.specs.cpp_tree.Notation.{plain}
 use Rattle.elab_rules.specs.cpp_tree.Typing.{form_in}
-use Rattle.elab_rules.specs.cpp_tree.Units.{Cell, Global}
 use Rattle.elab_rules.specs.cpp_tree.declared.faults.ElabFault.{ElabFault}
 use Rattle.elab_rules.specs.cpp_tree.declared.faults.IllRule.TheVariants.{OutOfProfile, BadDeclaration, Redeclared, Narrowing, Incomplete, NotConstant, AbstractObject}
 use Rattle.elab_rules.specs.cpp_tree.declared.program.FuncKind.{FuncKind}
 use Rattle.elab_rules.specs.cpp_tree.declared.program.FuncKind.TheVariants.{Plain, Constructor, Destructor}
-use Rattle.elab_rules.specs.elab_ctx.Ctx.{Ctx, Func, Default, Closure}
+use Rattle.elab_rules.specs.elab_ctx.Ctx.{Ctx}
 use Rattle.elab_rules.specs.elab_ctx.Steps.{and_then, check, expect, each_of, at_of, spelling}
 use Rattle.elab_rules.specs.Initialising.{func_at, class_number, is_constructor, places_from}
 use Rattle.elab_rules.specs.Objects.{element_of, traits_at}
@@ -29,14 +27,14 @@ use Rattle.elab_rules.specs.Operators.{is_complete}
 use Rattle.elab_rules.specs.Sizes.{typ_sized}
 use Rattle.elab_rules.specs.Types.{Declared, has_auto, type_named, is_bounded, is_abstract_type}
 use Rattle.elab_rules.specs.Expressions.{expression_of, chosen_operand, type_of_specifiers, type_id_of, declared_by}
-use Rattle.elab_rules.specs.Statements.{State, Body, is_own_name, name_of, bound_by_initialiser, is_trivial}
+use Rattle.elab_rules.specs.Statements.{State, is_own_name, name_of, bound_by_initialiser, is_trivial}
 use Rattle.elab_rules.specs.Functions.{Storage, Header, Placed, no_storage, with_specifier, new_function, is_same_function, first_from, agrees, is_function_entity}
 use Rattle.elab_rules.specs.Functions.{function_named, name_declared, declared_in, main_fits, may_be_c, dynamic_fits, header_sized, function_declared}
-use Rattle.elab_rules.specs.Globals.{Enumerating, PlacedGlobal, added_global, global_agrees, global_again, global_named, global_declarable, is_trivial_class, global_from, cells_of}
+use Rattle.elab_rules.specs.Globals.{Enumerating, PlacedGlobal, global_agrees, global_again, global_named, global_declarable, is_trivial_class, global_from, cells_of}
 use Rattle.elab_rules.specs.Globals.{global_defined, is_definition, global_declared_as, global_declared, type_agrees, with_type, alias_declared}
 use Rattle.elab_rules.specs.Expressions.{scope_name}
 use Rattle.elab_rules.specs.Globals.{named_enumerator, enumerator_made, enumerator_value, enumerator_declared, enumerators_declared, enum_with, enum_declared}
-use Rattle.elab_rules.specs.Classes.{Begun, Home, Members, Marks, Definition, Started, Method, Specials, begun_by, begun_in, begun, member_form, has_member, has_function}
+use Rattle.elab_rules.specs.Classes.{Begun, Home, Members, Marks, Definition, Started, Specials, begun_by, begun_in, begun, member_form, has_member, has_function}
 use Rattle.elab_rules.specs.Classes.{data_member, overridden, overrides_well, marks_fit, definition_sized, member_function, header_in, within_bounds, declarator_among, method_of}
 use Rattle.elab_rules.specs.Classes.{declared_method, marks_from, no_marks, has_equal, no_function_words, has_initialiser, declared_member, member_named, member_declarator}
 use Rattle.elab_rules.specs.Classes.{member_declarators, started_from, definition_between, last_token, body_in, member_of, members_of, all_held, has_no_pointer, may_copy}

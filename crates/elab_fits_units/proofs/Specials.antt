@@ -1,5 +1,5 @@
 -- Constructors and destructors.
-use Rattle.std.proofs.Common.{◌≡◌, refl, sym, ap, ◌∙◌, subst, ℕ, Bool, true, false, ◌&&◌, ◌||◌, List, [], ◌∷◌, ◌++◌, length, slice_get, Option, Some, None, is_some, Ok, zero, suc, arith}
+use Rattle.std.proofs.Common.{◌≡◌, refl, sym, ap, ◌∙◌, subst, ℕ, true, List, [], ◌∷◌, length, slice_get, Option, Some, None, is_some, zero, suc, arith}
 use Rattle.std.specs.Prelude.{nat_lt, not, option_and_then}
 use Rattle.std.proofs.lemmas.Option.{same_Some}
 use Rattle.elab_fits.proofs.Nodes.{both, clash}
@@ -8,32 +8,24 @@ use Rattle.elab_rules.specs.cpp_types.Equal.{typ_eq}
 use Rattle.elab_rules.specs.cpp_tree.Typing.{passes}
 use Rattle.elab_rules.specs.Types.{is_nothing}
 use Rattle.setting_growth.specs.Growth.{ClassesGrow}
-use Rattle.std.specs.List.{list_all}
 use Rattle.std.proofs.lemmas.Bool.{and_parts, lt-ltb, ltb-true}
-use Rattle.elab_rules.specs.cpp_types.Typ.{Typ, typ, class, void, ptr}
-use Rattle.elab_rules.specs.cpp_types.Class.{Class, Member, completion_of}
-use Rattle.elab_rules.specs.cpp_types.declared.classes.At.{At}
+use Rattle.elab_rules.specs.cpp_types.Typ.{Typ, class, void, ptr}
+use Rattle.elab_rules.specs.cpp_types.Class.{Class, completion_of}
 use Rattle.elab_rules.specs.cpp_lex.Tokens.{Lexeme}
-use Rattle.elab_rules.specs.cpp_ast.declared.arena.At.{At as SyntaxAt}
-use Rattle.elab_rules.specs.cpp_ast.declared.kinds.NodeKind.{NodeKind}
 use Rattle.elab_rules.specs.cpp_ast.Trees as syntax
 use Rattle.elab_rules.specs.cpp_tree.declared.program.FuncKind.TheVariants.{Destructor, ClosureCall}
 use Rattle.elab_rules.specs.cpp_tree.Notation.{plain}
 use Rattle.elab_rules.specs.cpp_tree.Units.{Func as UnitFunc}
-use Rattle.elab_rules.specs.cpp_tree.Rows.{Setting, is_destructor, is_special, result_of, at_place}
-use Rattle.elab_rules.specs.elab_ctx.Ctx.{Ctx, Work}
+use Rattle.elab_rules.specs.cpp_tree.Rows.{is_destructor, is_special, at_place}
 use Rattle.elab_rules.specs.elab_ctx.Steps.{at_of}
-use Rattle.elab_rules.specs.Calls.{base_of_class}
-use Rattle.elab_rules.specs.Names.{members_in, offset_at}
-use Rattle.elab_rules.specs.Statements.{State, Done, statements_of}
-use Rattle.elab_rules.specs.Functions.{Header, with_parameters, body_made}
+use Rattle.elab_rules.specs.Statements.{State, statements_of}
+use Rattle.elab_rules.specs.Functions.{Header}
 use Rattle.elab_rules.specs.Lambdas.{lambdas_of}
 use Rattle.elab_rules.specs.Members.{in_object, destructor_tree, destructor_body}
 use Rattle.elab_fits.specs.Standing.{On}
 use Rattle.elab_fits_bodies.specs.Parts.{HasParts}
 use Rattle.elab_fits_forms.specs.Context.{Holds}
-use Rattle.elab_sound_types.specs.Types.{is_class, is_lambda, is_sound, result as a_result}
-use Rattle.elab_sound_types.specs.Contexts.{is_sound_parameter}
+use Rattle.elab_sound_types.specs.Types.{is_class, is_lambda}
 use Rattle.state_growth.specs.Settings.{shown}
 use Rattle.elab_fits_states.specs.States.{setting, IsText, IsGood}
 use Rattle.elab_fits_states.specs.Bodies.{BodyFits}

@@ -1,5 +1,5 @@
 -- Types of parts and of variables.
-use Rattle.std.proofs.Common.{◌≡◌, refl, sym, ap, ◌∙◌, ℕ, Bool, true, false, ◌&&◌, List, [], ◌∷◌, slice_get, Option, Some, None, is_some}
+use Rattle.std.proofs.Common.{◌≡◌, refl, sym, ap, ◌∙◌, ℕ, Bool, true, false, List, [], ◌∷◌, Option, Some, None, is_some}
 use Rattle.std.specs.Prelude.{if◌then◌else◌}
 use Rattle.std.specs.List.{list_all}
 use Rattle.std.specs.Str.{bytes_eq}
@@ -20,7 +20,7 @@ use Rattle.elab_contexts.specs.Holding.{UnitHolds}
 use Rattle.elab_sound_types.specs.Types.{is_sound, object, variable as a_variable, denoted}
 use Rattle.setting_growth.specs.Growth.{ClassesGrow, HeldEarlier}
 use Rattle.setting_growth.proofs.Sizes.{size_still}
-use Rattle.elab_fits_states.specs.States.{IsVariableType, Comes}
+use Rattle.elab_fits_states.specs.States.{IsVariableType}
 use Rattle.elab_fits_units.proofs.Growing.{held_earlier}
 
 -- an object is a variable

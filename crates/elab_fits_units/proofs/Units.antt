@@ -1,13 +1,8 @@
 -- A whole unit leads from a good state to a good one.
-use Rattle.std.proofs.Common.{◌≡◌, refl, ℕ, List, Some, None}
-use Rattle.std.specs.Prelude.{slice_get}
-use Rattle.elab_rules.specs.cpp_types.declared.classes.At.{At}
+use Rattle.std.proofs.Common.{List}
 use Rattle.elab_rules.specs.cpp_lex.Tokens.{Lexeme}
 use Rattle.elab_rules.specs.cpp_ast.Trees as syntax
-use Rattle.elab_rules.specs.elab_ctx.Ctx.{Ctx}
 use Rattle.elab_rules.specs.Statements.{State}
-use Rattle.elab_rules.specs.Functions.{Storage}
-use Rattle.elab_rules.specs.Classes.{Home, Members}
 use Rattle.elab_rules.specs.Members.{declared_only}
 use Rattle.elab_rules.specs.Globals.{enum_declared}
 use Rattle.elab_rules.specs.Units.{file_declaration, alias_of, unit_from}
@@ -16,7 +11,7 @@ use Rattle.elab_fits_states.specs.States.{AreTexts}
 use Rattle.elab_fits_units.specs.Below.{Below}
 use Rattle.elab_fits_units.specs.Good.{UnitGood, unit_words}
 use Rattle.elab_fits_units.specs.Laws.{Leads, Laws}
-use Rattle.elab_fits_units.specs.Steps.{Steps, IsClosed}
+use Rattle.elab_fits_units.specs.Steps.{Steps}
 use Rattle.elab_fits_units.proofs.Defaults.{defaults_follow}
 use Rattle.elab_fits_units.proofs.Implied.{implied_good}
 use Rattle.elab_fits_units.proofs.Leaves.{both_on, quiet_good, functions, methods, outside}

@@ -14,26 +14,22 @@ use Rattle.elab_fits_forms.specs.Context.{Holds}
 use Rattle.elab_fits_forms.specs.Types.{is_lambda}
 use Rattle.elab_sound_types.specs.Contexts.{HasSoundTypes}
 use Rattle.elab_sound_types.specs.States.{TypesStay}
-use Rattle.elab_fits_bodies.specs.Built.{IsMember, PartsBuild, own_default}
+use Rattle.elab_fits_bodies.specs.Built.{IsMember, PartsBuild}
 use Rattle.elab_fits_bodies.specs.Copied.{IsCopied, PartsCopied, SourcesStand}
 use Rattle.elab_rules.specs.cpp_lex.Tokens.{Lexeme}
 use Rattle.elab_rules.specs.cpp_ast.Trees as syntax
 use Rattle.elab_rules.specs.cpp_tree.Units.{Func as UnitFunc}
-use Rattle.elab_rules.specs.elab_ctx.Ctx.{Ctx, Work, Default}
+use Rattle.elab_rules.specs.elab_ctx.Ctx.{Ctx, Work}
 use Rattle.elab_rules.specs.cpp_types.declared.classes.At.{At}
 use Rattle.elab_rules.specs.elab_ctx.Steps.{Made, TypedAll}
 use Rattle.elab_rules.specs.Expressions.{operands_of}
 use Rattle.elab_rules.specs.Objects.{destroys}
-use Rattle.elab_rules.specs.Names.{members_in}
-use Rattle.elab_rules.specs.Braces.{default_at}
-use Rattle.elab_fits_statements.specs.Anywhere.{BuildsAnywhere}
 use Rattle.elab_sound_units.specs.Steps.{PartsKeepSound, CopiesKeepSound}
 use Rattle.elab_rules.specs.Members.{as_base_of}
 use Rattle.elab_rules.specs.Statements.{State, statements_of, all_lambdas, directly_initialised, with_work}
 use Rattle.elab_rules.specs.Lambdas.{lambdas_of}
-use Rattle.elab_fits.specs.Standing.{On, Reaches}
+use Rattle.elab_fits.specs.Standing.{On}
 use Rattle.elab_contexts.specs.Holding.{UnitHolds}
-use Rattle.elab_contexts.specs.Steps.{view}
 use Rattle.elab_contexts.specs.Overriders.{HasOverriders}
 use Rattle.elab_holds.specs.Locals.{FunctionsEntered, ParametersPlaced, LocalsStay, LocalsHold}
 use Rattle.elab_sound_types.specs.Types.{Use, is_sound, is_class, object}
@@ -44,7 +40,7 @@ use Rattle.elab_fits_defaults.specs.Kept.{DefaultsMade}
 use Rattle.elab_fits_defaults.specs.Own.{OwnDefaultsBuild}
 use Rattle.elab_movable.specs.Movable.{KeepsThis}
 use Rattle.elab_fits_bodies.specs.Functions.{FunctionsFit}
-use Rattle.elab_fits_bodies.specs.Parts.{ConstructorsFit, DestructorsFit, HasThis}
+use Rattle.elab_fits_bodies.specs.Parts.{ConstructorsFit, DestructorsFit}
 use Rattle.elab_fits_statements.specs.Discipline.{Discipline, BuildsAll}
 use Rattle.elab_fits_states.specs.States.{AreTexts, IsSettled, IsVariableType, words}
 use Rattle.state_growth.specs.Settings.{setting_at}

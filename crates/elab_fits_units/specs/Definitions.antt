@@ -1,7 +1,6 @@
 -- The function that a definition is for.
-use Rattle.std.specs.Prelude.{◌≡◌, ℕ, Bool, true, List, map, Option, Some, Ok, slice_get}
+use Rattle.std.specs.Prelude.{◌≡◌, ℕ, Bool, true, List, map, Some, Ok, slice_get}
 use Rattle.elab_rules.specs.cpp_lex.Tokens.{Lexeme}
-use Rattle.elab_rules.specs.cpp_tree.declared.program.FuncKind.{FuncKind}
 use Rattle.elab_rules.specs.elab_ctx.Ctx.{Ctx, Func}
 use Rattle.elab_rules.specs.elab_ctx.Steps.{expect}
 use Rattle.elab_rules.specs.cpp_tree.declared.faults.IllRule.{IllRule}

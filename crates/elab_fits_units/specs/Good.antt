@@ -1,7 +1,7 @@
 -- What holds of a state at file scope.
-use Rattle.std.specs.Prelude.{◌≡◌, ℕ, Bool, true, List, [], ◌∷◌, Option, Some, is_some, slice_get}
+use Rattle.std.specs.Prelude.{◌≡◌, ℕ, Bool, true, List, [], Some, slice_get}
 use Rattle.elab_rules.specs.cpp_types.Class.{Class}
-use Rattle.elab_rules.specs.cpp_types.Typ.{Typ, void, Signature, signature, Typs, none as no_typs, more as and_typ}
+use Rattle.elab_rules.specs.cpp_types.Typ.{void, Signature, signature, none as no_typs, more as and_typ}
 use Rattle.elab_rules.specs.cpp_lex.Tokens.{Lexeme}
 use Rattle.elab_rules.specs.cpp_tree.declared.program.FuncKind.{FuncKind}
 use Rattle.elab_rules.specs.cpp_tree.declared.program.FuncKind.TheVariants.{Constructor, Destructor}

@@ -10,11 +10,10 @@ use Rattle.elab_rules.specs.cpp_tree.declared.program.FuncKind.TheVariants.{Plai
 use Rattle.elab_rules.specs.elab_ctx.Ctx.{Ctx}
 use Rattle.elab_rules.specs.Types.{Declared, is_nothing}
 use Rattle.elab_rules.specs.Expressions.{type_of_specifiers, declared_by}
-
 use Rattle.elab_rules.specs.Statements.{State}
 use Rattle.elab_rules.specs.Functions.{Storage, Header, Placed, function_declared, with_definition}
 use Rattle.elab_rules.specs.Classes.{Home, Members, Method, method_of}
-use Rattle.elab_rules.specs.Members.{default_made, late_kept, late_method, outside_method, outside_defined, outside_body, declared_only, member_type}
+use Rattle.elab_rules.specs.Members.{default_made, late_kept, late_method, outside_method, outside_defined, outside_body, declared_only}
 use Rattle.elab_rules.specs.Implicit.{implied}
 use Rattle.elab_rules.specs.Lambdas.{lambdas_of}
 use Rattle.elab_rules.specs.Units.{file_declaration, alias_of, header_of, defined_with}
@@ -50,9 +49,6 @@ pub record Laws (s : List Lexeme) : Type 0 where
       → On (IsRead s st.ctx.classes n) (method_of s st n name at kind ts)
   pub read_outside : (st : State) (at : At) (x : Storage) (kind : FuncKind) (ts : syntax.Trees) → IsSoundState st → AreTexts s ts
       → On (IsOutside s st.ctx.classes) (outside_method s st at x kind ts)
-  -- where the class of a member is told, it is complete
-  pub owner : (st : State) (at : At) (x : Storage) (kind : FuncKind) (ts : syntax.Trees) (m : Method) (n : ℕ) → UnitGood st
-      → outside_method s st at x kind ts ≡ Ok m → m.header.class ≡ Some n → IsHome st.ctx.classes n
   -- declarations without bodies
   pub variables : (st : State) (x : Storage) (at : At) (ts : syntax.Trees) → UnitGood st → AreTexts s ts → On (Leads st) (file_declaration s st x at ts)
   pub aliases : (st : State) (at : At) (name : List ℕ) (ts : syntax.Trees) → UnitGood st → AreTexts s ts → On (Leads st) (alias_of s st at name ts)
@@ -77,3 +73,11 @@ pub record Laws (s : List Lexeme) : Type 0 where
   pub defaults : (st : State) (n i : ℕ) (t : Typ) (e : syntax.Tree) → UnitGood st → IsHome st.ctx.classes n → IsText s e
       → On (Leads st) (default_made lambdas_of s st n i t e)
   pub members : (st : State) (k : ℕ) → UnitGood st → On (Leads st) (implied st k)
+
+-- What is left of them
+pub record Left (s : List Lexeme) : Type 0 where
+  -- behind steps implicit members are what they were
+  pub implicits : (a b : Ctx) → Goes (view a) (view b) → UnitHolds a → HasImplicits a → HasImplicits b
+  -- a class up to its brace
+  pub classes : (st : State) (at : At) (name : List ℕ) (kids : syntax.Trees) (home : Home) (r : Members) (c : Ctx) → UnitGood st → is_nothing name ≡ false
+      → AreTexts s kids → IsClosed s st at name kids home r c → Leads st (record r.state { ctx = c }) × IsHome c.classes home.number

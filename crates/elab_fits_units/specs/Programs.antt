@@ -1,5 +1,5 @@
 -- The law: the nodes of each body of each unit of a program fit.
-use Rattle.std.specs.Prelude.{◌≡◌, ℕ, true, List, [], Some, Ok, slice_get}
+use Rattle.std.specs.Prelude.{◌≡◌, ℕ, true, List, Some, Ok, slice_get}
 use Rattle.elab_rules.specs.cpp_tree.declared.roles.Role.TheVariants.{Statement}
 use Rattle.elab_rules.specs.cpp_tree.Trees.{Tree}
 use Rattle.elab_rules.specs.cpp_tree.Units.{Func, Unit, TypedProgram}
