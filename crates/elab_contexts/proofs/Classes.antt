@@ -1,5 +1,5 @@
 -- A class goes on by steps: it is named, its functions are declared, and at its brace it becomes complete.
-use Rattle.std.proofs.Common.{◌≡◌, ℕ, zero, suc, Bool, true, false, List, [], ◌∷◌, ◌++◌, length, refl, sym, ap, ◌∙◌, subst, Option, Some, None, Ok, Err}
+use Rattle.std.proofs.Common.{◌≡◌, ℕ, zero, suc, Bool, true, false, List, [], ◌∷◌, ◌++◌, length, refl, sym, ◌∙◌, subst, Option, Some, None, Ok, Err}
 use Rattle.std.specs.Prelude.{if◌then◌else◌, ◌&&◌, not, is_none, is_some, nat_le, ◌||◌}
 use Rattle.elab_rules.specs.cpp_types.Typ.{Typ, typ, Form, class, func}
 use Rattle.elab_rules.specs.cpp_types.Class.{Class, Member, completion_of, held}
@@ -34,7 +34,7 @@ use Rattle.elab_rules.specs.Sizes.{typ_sized}
 use Rattle.elab_rules.specs.cpp_tree.Notation.{plain}
 use Rattle.elab_rules.specs.Classes.{with_class, begun_by, with_function, class_named}
 use Rattle.elab_rules.specs.Classes.{as_defined, member_func}
-use Rattle.elab_rules.specs.Members.{declared_only, class_closed, class_with, class_defined, all_defaults, all_late}
+use Rattle.elab_rules.specs.Members.{declared_only, class_with, class_defined, all_defaults, all_late}
 use Rattle.std.specs.Prelude.{slice_get}
 use Rattle.elab_fits.specs.Standing.{On}
 use Rattle.elab_contexts.proofs.Items.{Lawful}
@@ -48,15 +48,14 @@ use Rattle.elab_contexts.specs.Holding.{HasTypeNames}
 use Rattle.elab_contexts.proofs.Found.{at_the_end}
 use Rattle.elab_contexts.proofs.Names.{Listed, ListedDeclared, named_listed, called_listed, specifiers_listed, declared_listed, expected}
 use Rattle.elab_contexts.proofs.Going.{From, begin, since, from_on, from_from, names_still, leaves_from, name_added, name_at_end}
-use Rattle.elab_contexts.proofs.Walking.{Leaves, naming, stays, after, bind, skip, behind, follow, of_state, one_step, weaken}
+use Rattle.elab_contexts.proofs.Walking.{Leaves, naming, bind, skip, follow, of_state, one_step, weaken}
 use Rattle.elab_contexts.proofs.Makers.{closing}
 use Rattle.elab_contexts.proofs.Owned.{overriders_closed}
 use Rattle.elab_contexts.proofs.Lists.{one_more}
 use Rattle.std.specs.Str.{bytes_eq}
-use Rattle.elab_rules.specs.Initialising.{makes, signature_parameters}
 use Rattle.elab_rules.specs.cpp_types.Class.{Function}
 use Rattle.std.proofs.lemmas.Option.{same_Some}
-use Rattle.elab_rules.specs.elab_ctx.Steps.{expect, spelling, token_place}
+use Rattle.elab_rules.specs.elab_ctx.Steps.{spelling, token_place}
 use Rattle.elab_rules.specs.Classes.{based_on, base_class, keeps, is_final_class}
 use Rattle.elab_rules.specs.cpp_tree.declared.faults.IllRule.TheVariants.{UnknownName}
 use Rattle.elab_rules.specs.cpp_tree.declared.faults.OverrideRule.TheVariants.{BaseFinal}

@@ -15,7 +15,7 @@ use Rattle.elab_contexts.specs.Steps.{SameFunction, IsOpen, has_name, is_written
 use Rattle.elab_contexts.proofs.Going.{KeepNames, name_added, name_set, written_still}
 use Rattle.elab_contexts.specs.Holding.{IsOfClass, IsRecorded, of_unit, of_another}
 use Rattle.elab_contexts.proofs.Lists.{one_more, one_set, one_more_at, one_set_at}
-use Rattle.elab_contexts.proofs.Found.{Stay, before_it, at_the_end, stay_added}
+use Rattle.elab_contexts.proofs.Found.{Stay, before_it}
 use Rattle.elab_contexts.proofs.Makers.{IsOldOr, is_old, is_own, IsMethodOf}
 use Rattle.elab_contexts.proofs.Below.{signature_more}
 

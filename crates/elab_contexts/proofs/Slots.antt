@@ -16,10 +16,10 @@ use Rattle.elab_rules.specs.Classes.{functions_in, same_virtual, own_functions, 
 use Rattle.elab_contexts.specs.Steps.{View, view, SameFunction, IsOpen, is_same_declared}
 use Rattle.elab_contexts.specs.Slots.{slots_at, HasOwnSlot, IsAlone, HasSlotsIn}
 use Rattle.elab_contexts.proofs.Lists.{one_more_at}
-use Rattle.elab_contexts.proofs.Found.{At, Stay, stay, stay_added, same_function, before_it}
+use Rattle.elab_contexts.proofs.Found.{Stay, stay, stay_added, same_function, before_it}
 use Rattle.elab_contexts.proofs.Makers.{Closing, IsOldOr, is_old, is_own}
-use Rattle.elab_contexts.proofs.Functions.{index_stays, own_at, IsIndexed, indexed, Alike, alike_is, alike_says, turned, none_passes}
-use Rattle.elab_contexts.proofs.Overriding.{IsSlotOf, InList, IsFirst, first_slot, IsShown, Shows, AllSlots, all_appended, overriding_all, new_all, shows_own}
+use Rattle.elab_contexts.proofs.Functions.{index_stays, own_at, indexed, Alike, alike_is, alike_says, turned, none_passes}
+use Rattle.elab_contexts.proofs.Overriding.{first_slot, Shows, AllSlots, all_appended, overriding_all, new_all, shows_own}
 use Rattle.elab_contexts.proofs.Overriding.{IsOnly, own_slot}
 
 abbrev IsDone : List Class → ℕ → Type 0

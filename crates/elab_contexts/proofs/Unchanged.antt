@@ -1,6 +1,6 @@
 -- Names of types, enums and classes that are only declared leave the functions as they are.
-use Rattle.std.proofs.Common.{◌≡◌, refl, sym, ◌∙◌, subst, ℕ, Bool, true, false, List, Option, Some, None}
-use Rattle.std.specs.Prelude.{ℤ, pos, if◌then◌else◌, not, ◌||◌, is_none}
+use Rattle.std.proofs.Common.{ℕ, Bool, true, false, List, Option, Some, None}
+use Rattle.std.specs.Prelude.{ℤ, pos, if◌then◌else◌, not, is_none}
 use Rattle.elab_rules.specs.cpp_types.Typ.{Typ, typ, class, enum}
 use Rattle.elab_rules.specs.cpp_types.declared.classes.At.{At}
 use Rattle.elab_rules.specs.cpp_lex.Tokens.{Lexeme}
@@ -12,17 +12,14 @@ use Rattle.elab_rules.specs.cpp_tree.declared.faults.IllRule.TheVariants.{Narrow
 use Rattle.elab_rules.specs.tx_ints.Integers.{is_in_range}
 use Rattle.elab_rules.specs.tx_ints.Words.{word_of}
 use Rattle.elab_rules.specs.tx_ints.declared.kinds.IntKind.TheVariants.{Int}
-use Rattle.elab_rules.specs.elab_ctx.Ctx.{Func}
 use Rattle.elab_rules.specs.elab_ctx.Steps.{and_then, check, at_of, spelling}
 use Rattle.elab_rules.specs.Types.{has_auto, type_named}
 use Rattle.elab_rules.specs.Sizes.{typ_sized}
 use Rattle.elab_rules.specs.Expressions.{chosen_operand, expression_of, scope_name, type_id_of}
 use Rattle.elab_rules.specs.Statements.{State}
 use Rattle.elab_rules.specs.Classes.{Begun, begun, begun_in, begun_by}
-use Rattle.elab_rules.specs.Members.{declared_only}
 use Rattle.elab_rules.specs.Globals.{Enumerating, type_agrees, with_type, named_enumerator, enumerator_made, enumerator_value, enumerator_declared}
-use Rattle.elab_rules.specs.Globals.{enumerators_declared, enum_with, enum_declared}
-use Rattle.elab_rules.specs.Units.{alias_of}
+use Rattle.elab_rules.specs.Globals.{enumerators_declared, enum_with}
 use Rattle.elab_fits.specs.Standing.{On}
 use Rattle.elab_contexts.specs.Overriders.{HasOverriders, Overrides, AliasesOverride, EnumsOverride, NamesOverride}
 use Rattle.elab_contexts.proofs.Walking.{bind, skip}

@@ -17,7 +17,7 @@ use Rattle.elab_rules.specs.Implicit.{implied}
 use Rattle.elab_rules.specs.Lambdas.{lambdas_of}
 use Rattle.elab_rules.specs.Members.{declared_only, default_made, late_method, outside_body}
 use Rattle.elab_rules.specs.Statements.{State, Done, Full, full_operand, statements_of}
-use Rattle.elab_rules.specs.Units.{file_declaration, alias_of, defined_with}
+use Rattle.elab_rules.specs.Units.{start, file_declaration, alias_of, defined_with}
 use Rattle.elab_fits.specs.Standing.{On}
 
 -- what overrides is a plain function whose name does not begin with `~`, or a destructor, whose name does; no constructor is virtual
@@ -32,6 +32,10 @@ HasOverriders funcs = (k n : ℕ) (f : Func) → slice_get funcs k ≡ Some f �
 
 abbrev pub Overrides : State → State → Type 0
 Overrides a b = HasOverriders a.ctx.funcs → HasOverriders b.ctx.funcs
+
+-- in the state in which a unit begins, the first one or one behind others
+abbrev pub StartsOverride : Type 0
+StartsOverride = (source : ℕ) → HasOverriders (start source).ctx.funcs
 
 abbrev pub LambdasOverride : Type 0
 LambdasOverride = (s : List Lexeme) (st : State) (e : syntax.Tree) → On (Overrides st) (lambdas_of s st e)

@@ -5,7 +5,7 @@ ghost use Rattle.elab_contexts.specs.Holding.{LambdasHold, OperandsHold, Stateme
 ghost use Rattle.elab_contexts.specs.Holding.{VariablesHold, AliasesHold, EnumsHold, NamesHold, FunctionsHold, OutsideHold};
 ghost use Rattle.elab_contexts.specs.Holding.{ClassesHold, MemberDefaultsHold, MethodsHold, ImpliedHold};
 ghost use Rattle.elab_contexts.specs.Overriders.{LambdasOverride, OperandsOverride, StatementsOverride, VariablesOverride, FunctionsOverride};
-ghost use Rattle.elab_contexts.specs.Overriders.{AliasesOverride, EnumsOverride, NamesOverride};
+ghost use Rattle.elab_contexts.specs.Overriders.{StartsOverride, AliasesOverride, EnumsOverride, NamesOverride};
 ghost use Rattle.elab_contexts.specs.Overriders.{OutsideOverride, ClassesOverride, MemberDefaultsOverride, MethodsOverride, ImpliedOverride};
 ghost use Rattle.elab_contexts.specs.Walks.{LambdasWalk, OperandsWalk, StatementsWalk, BodiesWalk, DeclarationsWalk, UnitsWalk};
 
@@ -51,6 +51,7 @@ pub fn parts()
 
 /// No constructor becomes virtual, but as a member that a text declares.
 pub fn overriders()
+    ensures starts { StartsOverride }
     ensures lambdas { LambdasOverride }
     ensures operands { OperandsOverride }
     ensures statements { StatementsOverride }

@@ -1,31 +1,27 @@
 -- What the laws of expressions ask of a context holds of those that elaboration makes.
-use Rattle.std.proofs.Common.{◌≡◌, refl, sym, ap, ◌∙◌, subst, ℕ, Bool, true, false, not, ◌&&◌, ◌||◌, List, is_some, Option, Some, None, slice_get, option_and_then}
+use Rattle.std.proofs.Common.{◌≡◌, refl, sym, ap, ◌∙◌, subst, ℕ, Bool, true, false, not, ◌&&◌, ◌||◌, List, is_some, Option, Some, None, slice_get}
 use Rattle.std.proofs.lemmas.Bool.{and_parts}
 use Rattle.std.proofs.lemmas.Option.{same_Some}
 use Rattle.std.specs.List.{list_all}
 use Rattle.elab_rules.specs.tx_ints.declared.kinds.IntKind.TheVariants.{Int}
-use Rattle.elab_rules.specs.cpp_types.Typ.{Typ, typ, Form, void, int, enum, null, ptr, ref, array, func, class, closure, tx_ex}
-use Rattle.elab_rules.specs.cpp_types.Class.{Class, Member, completion_of}
-use Rattle.elab_rules.specs.cpp_tree.declared.program.FuncKind.TheVariants.{ClosureCall}
+use Rattle.elab_rules.specs.cpp_types.Typ.{Typ, typ, void, int, enum, null, ptr, ref, array, func, class, closure, tx_ex}
+use Rattle.elab_rules.specs.cpp_types.Class.{Class, completion_of}
 use Rattle.elab_rules.specs.cpp_tree.Typing.{passes, form_in, is_class_typ, is_reference, is_word_of}
-use Rattle.elab_rules.specs.elab_ctx.Ctx.{Ctx, Work, Func, Enumerator, Variable, This, Capture, Lambda, Traits}
-use Rattle.elab_rules.specs.elab_ctx.Types.{Named}
+use Rattle.elab_rules.specs.elab_ctx.Ctx.{Ctx, Work, Func, Enumerator, This, Capture, Lambda, Traits}
 use Rattle.elab_rules.specs.Types.{is_nothing}
 use Rattle.elab_rules.specs.Objects.{traits_at, no_traits}
-use Rattle.elab_fits_forms.specs.Types.{is_empty, is_lambda, is_sound, is_declared}
-use Rattle.elab_fits_forms.specs.Context.{IsEnumerator, IsFunction, IsField, IsThis, IsVariable}
+use Rattle.elab_fits_forms.specs.Types.{is_empty, is_sound, is_declared}
+use Rattle.elab_fits_forms.specs.Context.{IsEnumerator, IsFunction}
 use Rattle.elab_sound_types.specs.Types.{object, target, variable, denoted}
 use Rattle.elab_sound_types.specs.Types as sound
 use Rattle.elab_sound_types.specs.Contexts.{HasSoundTypes, member_use, is_object_of_class, is_sound_name, is_sound_function, is_sound_variable, is_sound_known, is_sound_this}
 use Rattle.elab_sound_types.specs.Contexts.{are_sound_captures, is_sound_capture, is_sound_global}
 use Rattle.elab_sound_types.proofs.Names.{at_place}
 use Rattle.elab_contexts.specs.Texts.{is_no_name}
-use Rattle.elab_contexts.specs.Holding.{UnitHolds, is_enumerator, is_enumerator_type, is_object_member}
-use Rattle.state_growth.specs.Settings.{setting_at}
+use Rattle.elab_contexts.specs.Holding.{UnitHolds, is_enumerator, is_enumerator_type}
 use Rattle.state_growth.proofs.Settings.{stand_law}
-use Rattle.elab_holds.specs.Locals.{LocalsHold, HoldIn}
 use Rattle.elab_holds.specs.Contexts.{HasSlots, SettingsHold, ContextsHold}
-use Rattle.elab_holds.proofs.Sound.{typ_sound, target_sound, declared_sound, signature_sound, lambda_same, name_same, class_is, listed}
+use Rattle.elab_holds.proofs.Sound.{typ_sound, target_sound, declared_sound, signature_sound, lambda_same, name_same, class_is}
 use Rattle.elab_holds.proofs.Order.{order_law, member_sound}
 use Rattle.elab_holds.proofs.Complete.{complete_law}
 use Rattle.elab_holds.proofs.Makers.{makers_law, lambda_complete}

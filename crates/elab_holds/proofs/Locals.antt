@@ -9,7 +9,7 @@ use Rattle.elab_rules.specs.cpp_lex.Tokens.{Lexeme}
 use Rattle.elab_rules.specs.cpp_tree.Notation.{plain}
 use Rattle.elab_rules.specs.cpp_tree.Typing.{is_class_typ}
 use Rattle.elab_rules.specs.cpp_tree.declared.faults.IllRule.TheVariants.{Incomplete, Redeclared}
-use Rattle.elab_rules.specs.elab_ctx.Ctx.{Ctx, Variable, This, Lambda}
+use Rattle.elab_rules.specs.elab_ctx.Ctx.{Variable, This, Lambda}
 use Rattle.elab_rules.specs.elab_ctx.Steps.{check, spelling}
 use Rattle.elab_rules.specs.Names.{is_outer}
 use Rattle.elab_rules.specs.Operators.{is_complete}
@@ -17,7 +17,7 @@ use Rattle.elab_rules.specs.Types.{Parameter}
 use Rattle.elab_rules.specs.Statements.{State, is_fresh}
 use Rattle.elab_rules.specs.Classes.{class_named, is_completed}
 use Rattle.elab_rules.specs.Lambdas.{Written, capture_members, call_record}
-use Rattle.elab_rules.specs.Functions.{entered, result_items, this_items, this_at, word_item, with_parameters, parameter_named}
+use Rattle.elab_rules.specs.Functions.{result_items, this_items, this_at, word_item, parameter_named}
 use Rattle.elab_fits.specs.Standing.{On}
 use Rattle.elab_fits.proofs.Equal.{typ_refl}
 use Rattle.elab_fits_forms.specs.Context.{is_item_of}
@@ -25,7 +25,7 @@ use Rattle.setting_growth.specs.Growth.{ClassesGrow}
 use Rattle.elab_contexts.proofs.Walking.{bind, skip}
 use Rattle.elab_contexts.proofs.Lists.{one_more_at}
 use Rattle.elab_contexts.proofs.Found.{before_it, at_the_end}
-use Rattle.elab_holds.specs.Locals.{Locals, locals, HoldIn, HasItemOf, LocalsHold, Stays, LocalsStay, FunctionsEntered, ObjectsEntered, ParametersPlaced}
+use Rattle.elab_holds.specs.Locals.{Locals, locals, HoldIn, HasItemOf, LocalsHold, LocalsStay, FunctionsEntered, ObjectsEntered, ParametersPlaced}
 use Rattle.elab_holds.specs.Locals.{LambdasEntered, LocalsGrow, VariablesPlaced, VariablesDeclared}
 
 -- What stays

@@ -1,5 +1,5 @@
 -- What the laws of expressions ask of the function at hand, and where it holds.
-use Rattle.std.specs.Prelude.{◌≡◌, ℕ, Bool, true, ◌||◌, List, [], ◌∷◌, ◌++◌, Option, Some, None, is_some, slice_get}
+use Rattle.std.specs.Prelude.{◌≡◌, ℕ, true, List, Option, Some, None, is_some, slice_get}
 use Rattle.elab_rules.specs.cpp_types.Typ.{Typ, Signature, ptr}
 use Rattle.elab_rules.specs.cpp_types.Class.{Class, completion_of}
 use Rattle.elab_rules.specs.cpp_lex.Tokens.{Lexeme}

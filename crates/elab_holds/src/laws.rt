@@ -1,6 +1,6 @@
 //! Laws of the contexts that elaboration makes. A function here does nothing: its clauses are the laws.
 
-ghost use Rattle.elab_holds.specs.Contexts.{ClassesInOrder, SettingsHold, MakersHold, ClassesComplete, SlotsHold, FunctionsListed, ContextsHold, TextsHaveNames};
+ghost use Rattle.elab_holds.specs.Contexts.{ClassesInOrder, SettingsHold, MakersHold, ClassesComplete, AloneByNames, SlotsWhereAlone, SlotsHold, FunctionsListed, ContextsHold, TextsHaveNames};
 ghost use Rattle.elab_holds.specs.Locals.{LocalsStay, LocalsGrow, FunctionsEntered, ObjectsEntered, ParametersPlaced, LambdasEntered, VariablesPlaced, VariablesDeclared};
 
 /// The function at hand, from its parameters on.
@@ -21,6 +21,8 @@ pub fn contexts()
     ensures settings { SettingsHold }
     ensures makers { MakersHold }
     ensures complete { ClassesComplete }
+    ensures names { AloneByNames }
+    ensures alone { SlotsWhereAlone }
     ensures slots { SlotsHold }
     ensures listed { FunctionsListed }
     ensures contexts { ContextsHold }

@@ -1,4 +1,4 @@
-use Rattle.elab_contexts.proofs.Holding.{lambdas_override, operands_override, statements_override, variables_override, functions_override, outside_override, classes_override, defaults_override, methods_override, implied_override}
+use Rattle.elab_contexts.proofs.Holding.{starts_override, lambdas_override, operands_override, statements_override, variables_override, functions_override, outside_override, classes_override, defaults_override, methods_override, implied_override}
 use Rattle.elab_contexts.proofs.Unchanged.{aliases_override, enums_override, names_override}
 use Rattle.elab_contexts.proofs.laws.overriders.Goals as goal
 
@@ -40,3 +40,6 @@ returns-clause-enums c = enums_override
 
 pub returns-clause-names : goal.returns-clause-names
 returns-clause-names c = names_override
+
+pub returns-clause-starts : goal.returns-clause-starts
+returns-clause-starts c = starts_override
