@@ -1,13 +1,10 @@
 -- Programs fit, where what is left holds.
 use Rattle.std.proofs.Common.{List}
 use Rattle.elab_rules.specs.cpp_lex.Tokens.{Lexeme}
-use Rattle.elab_rules.specs.cpp_tree.Units.{Func as UnitFunc}
-use Rattle.elab_rules.specs.Lambdas.{lambdas_of}
-use Rattle.elab_fits_states.specs.Premises.{KeepsGood}
+use Rattle.elab_fits_lambdas.proofs.Lambdas.{lambdas_are_good}
 use Rattle.elab_fits_units.specs.Below.{PointersAreWords}
 use Rattle.elab_fits_units.specs.Laws.{Laws, Left}
 use Rattle.elab_fits_units.specs.Programs.{ProgramsFit}
-use Rattle.elab_fits_units.specs.Steps.{NoCall}
 use Rattle.elab_fits_units.proofs.Beginning.{start_good, later_good}
 use Rattle.elab_fits_units.proofs.Given.{below_is}
 use Rattle.elab_fits_units.proofs.Leading as leading
@@ -34,5 +31,5 @@ laws_are s l = record {
   members = leading.members s;
 }
 
-pub programs_fit : ((f : UnitFunc) (s : List Lexeme) → NoCall f.kind → KeepsGood f lambdas_of s) → PointersAreWords → ((s : List Lexeme) → Left s) → ProgramsFit
-programs_fit lambdas pointers left xs p t e = program_fits (below_is lambdas pointers) (λ s. laws_are s (left s)) later_good (start_good 0) xs p t e
+pub programs_fit : PointersAreWords → ((s : List Lexeme) → Left s) → ProgramsFit
+programs_fit pointers left xs p t e = program_fits (below_is lambdas_are_good pointers) (λ s. laws_are s (left s)) later_good (start_good 0) xs p t e
