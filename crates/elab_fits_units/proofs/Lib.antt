@@ -1,0 +1,27 @@
+pub use Rattle.elab_rules.proofs as elab_rules
+pub mod Bases
+pub mod Beginning
+pub mod Bodies
+pub mod Constructing
+pub mod Constructors
+pub mod Copying
+pub mod Defaults
+pub mod Entering
+pub mod Given
+pub mod Growing
+pub mod Headers
+pub mod Implied
+pub mod Leading
+pub mod Leaves
+pub mod Methods
+pub mod Owners
+pub mod Parts
+pub mod Programs
+pub mod Quiet
+pub mod Results
+pub mod Specials
+pub mod Texts
+pub mod Types
+pub mod Units
+pub mod Walk
+pub mod Whole
