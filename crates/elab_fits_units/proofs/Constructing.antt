@@ -202,7 +202,7 @@ module _ (s : List Lexeme) (b : Below s) (f : UnitFunc) (free : NoCall f.kind) (
       (λ y. checked (Gives a) at NoMember (is_base_type (base_of_class (slice_get g.state.ctx.classes n)) t) _
       (λ z. clash _ (is_base_type (base_of_class (slice_get g.state.ctx.classes n)) t) (ap (λ (o : Option ℕ). is_base_type o t) e) z))
 
-  by_given : (a : State) (g : Giving) (t : syntax.Tree) → Gives a g → IsText s t → On (Gives a) (given_by lambdas_of s n g t)
+  pub by_given : (a : State) (g : Giving) (t : syntax.Tree) → Gives a g → IsText s t → On (Gives a) (given_by lambdas_of s n g t)
   by_given a g (syntax.node k.MemberInitializer p (Some t) es) h q = let ms = members_in (slice_get g.state.ctx.classes n) in
       told (Gives a) (expect (at_of p) NoMember (member_index 0 (spelling s t) ms)) _
       (λ i e. let m = member_found ms (spelling s t) 0 i (expected (at_of p) NoMember (member_index 0 (spelling s t) ms) i e) in let z = m.is in

@@ -75,13 +75,13 @@ gone_over a b g = record {
 
 -- Headers in a later state
 
-params_over : TypesStay → (before now : List Class) → Kept before now → (ps : List Parameter) → list_all (is_sound_parameter before) ps ≡ true
+pub params_over : TypesStay → (before now : List Class) → Kept before now → (ps : List Parameter) → list_all (is_sound_parameter before) ps ≡ true
     → list_all (is_sound_parameter now) ps ≡ true
 params_over f before now k [] h = refl
 params_over f before now k (p ∷ ps) h = let a = and_parts (is_sound_parameter before p) (list_all (is_sound_parameter before) ps) h in
     both (f before now a_parameter p.typ k a.0) (params_over f before now k ps a.1)
 
-read_over : TypesStay → (s : List Lexeme) (st z : State) (n : ℕ) (m : Method) → Leads st z → IsRead s st.ctx.classes n m → IsRead s z.ctx.classes n m
+pub read_over : TypesStay → (s : List Lexeme) (st z : State) (n : ℕ) (m : Method) → Leads st z → IsRead s st.ctx.classes n m → IsRead s z.ctx.classes n m
 read_over f s st z n m d r = record {
   header = record {
     sound = record {
@@ -96,11 +96,11 @@ read_over f s st z n m d r = record {
 plain_call : Plain ≡ ClosureCall → ⊥
 plain_call e = absurd cc
 
-class_complete : (s : List Lexeme) (st : State) (n : ℕ) (m : Method) → IsHome st.ctx.classes n → IsRead s st.ctx.classes n m → (i : ℕ) → m.header.class ≡ Some i
+pub class_complete : (s : List Lexeme) (st : State) (n : ℕ) (m : Method) → IsHome st.ctx.classes n → IsRead s st.ctx.classes n m → (i : ℕ) → m.header.class ≡ Some i
     → is_some (completion_of st.ctx.classes i) ≡ true
 class_complete s st n m home r i e = subst (λ (j : ℕ). is_some (completion_of st.ctx.classes j) ≡ true) (same_Some n i (sym r.header.class ∙ e)) home.complete
 
-late_quiet : (st : State) (h : Header) (place : ℕ) (c : Ctx) → late_kept st.ctx place h ≡ Ok c → Quiet st (record st { ctx = c })
+pub late_quiet : (st : State) (h : Header) (place : ℕ) (c : Ctx) → late_kept st.ctx place h ≡ Ok c → Quiet st (record st { ctx = c })
 late_quiet st h place c e = answered (λ (x : Ctx). Quiet st (record st { ctx = x })) (late_kept st.ctx place h) c
     (skip (λ (x : Ctx). Quiet st (record st { ctx = x })) (check h.at TypeDiffers (typ_eq (signature_result (func_at st.ctx.funcs place).declared.signature) (signature_result h.signature))) _
     (λ y. record { bodies = refl; defaults = refl; closures = refl })) e

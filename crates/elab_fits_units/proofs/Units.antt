@@ -20,7 +20,7 @@ use Rattle.elab_fits_units.proofs.Quiet.{Quiet, declaration_quiet, aliases_quiet
 use Rattle.elab_fits_units.proofs.Walk.{unit_good}
 
 module _ (s : List Lexeme) (b : Below s) (l : Laws s) where
-  steps : Steps (unit_words s) s
+  pub steps : Steps (unit_words s) s
   steps = record {
     kids = kids_texts s;
     first = first_text s;
