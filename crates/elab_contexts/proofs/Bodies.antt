@@ -1,5 +1,7 @@
 -- Bodies of functions and lambdas go on by steps: each lambda adds its class and its call.
-use Rattle.std.proofs.Common.{◌≡◌, refl, ℕ, List, length, Option, Some, None}
+use Rattle.std.proofs.Common.{◌≡◌, refl, ℕ, true, nat_le, List, length, Option, Some, None}
+use Rattle.elab_rules.specs.cpp_layout.Layout.{class_extent}
+use Rattle.elab_rules.specs.cpp_layout.declared.extents.TheConstants.{GREATEST_SIZE}
 use Rattle.elab_rules.specs.cpp_types.Typ.{Typ, Signature}
 use Rattle.elab_rules.specs.cpp_types.Class.{held}
 use Rattle.elab_rules.specs.cpp_types.declared.classes.At.{At}
@@ -20,17 +22,17 @@ use Rattle.elab_rules.specs.Lambdas.{lambdas_of, lambdas_among, lambda_of, lambd
 use Rattle.elab_rules.specs.Lambdas.{no_lambda, first_lambda, lambda_entered, declared_closure, inside, body_statements, signature_in, result_of, kids_of, has_mutable}
 use Rattle.elab_rules.specs.Lambdas.{explicit_captures, default_in, parameters_among, not_dynamic, result_among, default_captures, used_in, place_of_tree, closing}
 use Rattle.elab_fits.specs.Standing.{On}
-use Rattle.elab_contexts.proofs.Walking.{Leaves, stays, after, bind, skip, follow, of_state, of_done, Ends, one_step}
+use Rattle.elab_contexts.proofs.Walking.{Leaves, naming, stays, after, bind, skip, follow, of_state, of_done, Ends, one_step}
 use Rattle.elab_contexts.proofs.Items.{Lawful}
 use Rattle.elab_contexts.proofs.Statements.{statements_kept, parameters_kept}
 use Rattle.elab_contexts.specs.Steps.{view, ClosureAdded, closure_added, none_yet}
 use Rattle.elab_rules.specs.Lambdas.{call_record}
-use Rattle.elab_contexts.proofs.Captures.{AllWhole, explicit_all, default_all}
+use Rattle.elab_contexts.proofs.Captures.{AllWhole, explicit_all, default_all, within_size}
 
 -- The body
 
--- behind a body the enumerators are those of before
-pub made_kept : (st before y : State) (at : At) (place : ℕ) (tree : Tree) → before.ctx.enumerators ≡ st.ctx.enumerators → Leaves st y
+-- behind a body the enumerators and the names of types are those of before
+pub made_kept : (st before y : State) (at : At) (place : ℕ) (tree : Tree) → naming before.ctx ≡ naming st.ctx → Leaves st y
     → On (Leaves st) (body_made before at place tree y)
 made_kept st before y at place tree e h = skip (Leaves st) (within_frame y.ctx at y.work.frame) _ (λ z. record { walk = h.walk; same = e })
 
@@ -73,9 +75,13 @@ body_kept s e x = follow of_state of_done e (with_parameters s e x.params) _ (pa
 abbrev lambda_inside : State → Written → Returns → Typ → Signature → State
 lambda_inside st x rs r sig = inside st (lambda_entered st x rs r) (declared_closure st x sig)
 
-closure_step : (st : State) (x : Written) (sig : Signature) → AllWhole st.ctx x.captures
+-- the object of the lambda is no larger than the greatest one
+abbrev ClosureSized : State → Written → Signature → Type 0
+ClosureSized st x sig = nat_le (class_extent (declared_closure st x sig).classes (length st.ctx.classes)).size GREATEST_SIZE ≡ true
+
+closure_step : (st : State) (x : Written) (sig : Signature) → AllWhole st.ctx x.captures → ClosureSized st x sig
     → ClosureAdded (view st.ctx) (view (declared_closure st x sig))
-closure_step st x sig w = record {
+closure_step st x sig w z = record {
   ctx = st.ctx;
   captures = x.captures;
   declared = call_record x.at sig x.qualifiers x.is_mutable;
@@ -84,18 +90,21 @@ closure_step st x sig w = record {
   before = refl;
   whole = w;
   is = refl;
+  sized = z;
 }
 
-closure_kept : (st : State) (x : Written) (rs : Returns) (r : Typ) (sig : Signature) → AllWhole st.ctx x.captures → Leaves st (lambda_inside st x rs r sig)
-closure_kept st x rs r sig w = record { walk = one_step (closure_added (closure_step st x sig w)); same = refl }
+closure_kept : (st : State) (x : Written) (rs : Returns) (r : Typ) (sig : Signature) → AllWhole st.ctx x.captures → ClosureSized st x sig
+    → Leaves st (lambda_inside st x rs r sig)
+closure_kept st x rs r sig w z = record { walk = one_step (closure_added (closure_step st x sig w z)); same = refl }
 
 with_kept : (s : List Lexeme) (st : State) (x : Written) (r : Typ) (sig : Signature) → AllWhole st.ctx x.captures → On (Leaves st) (lambda_with s st x r sig)
 with_kept s st x r sig w =
     skip (Leaves st) (check x.at Incomplete (is_complete st.ctx (held r))) _
-    (λ y. bind (Ends (lambda_inside st x (known r) r sig)) (Leaves st) (body_statements s (lambda_inside st x (known r) r sig) x) _
+    (λ y. within_size (Leaves st) x.at (class_extent (declared_closure st x sig).classes (length st.ctx.classes)).size _
+    (λ z. bind (Ends (lambda_inside st x (known r) r sig)) (Leaves st) (body_statements s (lambda_inside st x (known r) r sig) x) _
     (body_kept s (lambda_inside st x (known r) r sig) x)
     (λ d h. made_kept st (record st { ctx = declared_closure st x sig }) d.state x.at (length st.ctx.funcs) _ refl
-    (left_kept st (lambda_inside st x (known r) r sig) d.state (closure_kept st x (known r) r sig w) h)))
+    (left_kept st (lambda_inside st x (known r) r sig) d.state (closure_kept st x (known r) r sig w z) h))))
 
 lambda_kept : (s : List Lexeme) (st : State) (x : Written) → AllWhole st.ctx x.captures → On (Leaves st) (lambda_made s st x)
 lambda_kept s st x w = skip (Leaves st) (result_of s st x x.result) _

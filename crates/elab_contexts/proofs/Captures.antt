@@ -1,5 +1,5 @@
 -- What a lambda captures by copy is complete.
-use Rattle.std.proofs.Common.{◌≡◌, refl, subst, ℕ, Bool, true, false, ◌||◌, List, [], ◌∷◌, slice_get, Option, Some, None, is_some, Result, Ok}
+use Rattle.std.proofs.Common.{◌≡◌, refl, subst, ℕ, Bool, true, false, ◌||◌, List, [], ◌∷◌, slice_get, Option, Some, None, is_some, nat_le, Result, Ok, Err}
 use Rattle.std.specs.Prelude.{if◌then◌else◌, not, ◌&&◌}
 use Rattle.std.proofs.lemmas.Option.{same_Some}
 use Rattle.elab_rules.specs.cpp_types.Typ.{Typ, typ, void, int, enum, null, ptr, ref, array, func, class, closure, tx_ex}
@@ -16,6 +16,10 @@ use Rattle.elab_rules.specs.cpp_tree.Typing.{form_in}
 use Rattle.elab_rules.specs.elab_ctx.Ctx.{Ctx, Capture}
 use Rattle.elab_rules.specs.elab_ctx.Steps.{and_then, check, expect, each_of, at_of, spelling}
 use Rattle.elab_rules.specs.Operators.{is_complete}
+use Rattle.elab_rules.specs.Sizes.{sized}
+use Rattle.elab_rules.specs.cpp_tree.declared.faults.ElabFault.TheVariants.{Limit}
+use Rattle.elab_rules.specs.cpp_tree.declared.faults.LimitKind.TheVariants.{Size}
+use Rattle.elab_rules.specs.cpp_layout.declared.extents.TheConstants.{GREATEST_SIZE}
 use Rattle.elab_rules.specs.Lambdas.{Otherwise, nothing, by_copy, by_reference, Used, capture_variable, variable_type, captured_as, copied_as, copies_closure}
 use Rattle.elab_rules.specs.Lambdas.{copies_elements, capture_this, explicit_variable, named_variable, explicit_capture, explicit_captures, capture_used}
 use Rattle.elab_rules.specs.Lambdas.{captured_uses, default_captures, is_captured, adds}
@@ -29,6 +33,15 @@ pub checked : {B : Type 0} (Q : B → Type 0) (at : At) (rule : IllRule) (b : Bo
     → On Q (and_then (check at rule b) f)
 checked Q at rule true f h = h refl
 checked Q at rule false f h = tt
+
+-- the same of a size
+pub within_size : {B : Type 0} (Q : B → Type 0) (at : At) (n : ℕ) (f : Bool → Result B ElabFault) → (nat_le n GREATEST_SIZE ≡ true → On Q (f true))
+    → On Q (and_then (sized at n) f)
+within_size Q at n f h = by (nat_le n GREATEST_SIZE) refl
+  where
+    by : (b : Bool) → nat_le n GREATEST_SIZE ≡ b → On Q (and_then (if b then Ok true else Err (Limit at Size)) f)
+    by true e = h e
+    by false e = tt
 
 pub is_whole : (c : Ctx) (o : Option ℕ) → is_complete c o ≡ true → IsWhole c.classes o
 is_whole c None h n e = absurd cc

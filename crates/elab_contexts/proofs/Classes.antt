@@ -1,5 +1,5 @@
 -- A class goes on by steps: it is named, its functions are declared, and at its brace it becomes complete.
-use Rattle.std.proofs.Common.{◌≡◌, ℕ, Bool, true, false, List, [], ◌∷◌, ◌++◌, length, refl, sym, ap, ◌∙◌, subst, Option, Some, None, Ok, Err}
+use Rattle.std.proofs.Common.{◌≡◌, ℕ, zero, suc, Bool, true, false, List, [], ◌∷◌, ◌++◌, length, refl, sym, ap, ◌∙◌, subst, Option, Some, None, Ok, Err}
 use Rattle.std.specs.Prelude.{if◌then◌else◌, ◌&&◌, not, is_none, is_some, nat_le, ◌||◌}
 use Rattle.elab_rules.specs.cpp_types.Typ.{Typ, typ, Form, class, func}
 use Rattle.elab_rules.specs.cpp_types.Class.{Class, Member, completion_of, held}
@@ -42,8 +42,13 @@ use Rattle.elab_contexts.proofs.Members.{each_holds, defaults_kept, all_late_kep
 use Rattle.elab_rules.specs.cpp_tree.Typing.{is_reference}
 use Rattle.elab_rules.specs.cpp_types.Typ.{void, int, enum, null, ptr, ref, array, closure, tx_ex}
 use Rattle.elab_rules.specs.Classes.{plain_method, special_method, method_started, special_header, special_name, is_special}
-use Rattle.elab_contexts.specs.Steps.{class_begun as begun_step, class_completed, SameFunction, IsWhole, IsMember}
-use Rattle.elab_contexts.proofs.Walking.{Leaves, stays, after, bind, skip, behind, follow, of_state, one_step}
+use Rattle.elab_contexts.specs.Steps.{class_begun as begun_step, class_completed, SameFunction, IsOpen, IsWhole, IsBase, IsMember, has_name, is_written}
+use Rattle.elab_contexts.specs.Texts.{is_no_name}
+use Rattle.elab_contexts.specs.Holding.{HasTypeNames}
+use Rattle.elab_contexts.proofs.Found.{at_the_end}
+use Rattle.elab_contexts.proofs.Names.{Listed, ListedDeclared, named_listed, called_listed, specifiers_listed, declared_listed, expected}
+use Rattle.elab_contexts.proofs.Going.{From, begin, names_still, leaves_from, name_added, name_at_end}
+use Rattle.elab_contexts.proofs.Walking.{Leaves, naming, stays, after, bind, skip, behind, follow, of_state, one_step, weaken}
 use Rattle.elab_contexts.proofs.Outside.{added_further}
 use Rattle.elab_contexts.proofs.Lists.{one_more}
 use Rattle.std.specs.Str.{bytes_eq}
@@ -63,35 +68,56 @@ is_nothing : (o : Option ℕ) → is_none o ≡ true → o ≡ None
 is_nothing None h = refl
 is_nothing (Some n) h = absurd cc
 
-at_end : (cs : List Class) (c : Class) → completion_of (cs ++ c ∷ []) (length cs) ≡ c.complete
-at_end [] c = refl
-at_end (d ∷ cs) c = at_end cs c
-
 -- a class is begun behind the others
-class_begun : (st : State) (name : List ℕ) → Leaves st (record st { ctx = with_class st.ctx name })
-class_begun st name = record { walk = one_step (begun_step (record { name = name; is = refl })); same = refl }
+class_begun : (st : State) (name : List ℕ) → is_no_name name ≡ false → From st (record st { ctx = with_class st.ctx name })
+class_begun st name q =
+    let c : Class = class_named name None false [] [] None in
+    record {
+      walk = one_step (begun_step (record { name = name; named = q; is = refl }));
+      enumerators = λ h. h;
+      types = λ h. named_listed (st.ctx.classes ++ c ∷ []) st.ctx.types name (plain (class (length st.ctx.classes)))
+          (names_still st.ctx.classes (st.ctx.classes ++ c ∷ []) st.ctx.types (name_added st.ctx.classes c) h)
+          (name_at_end st.ctx.classes c q);
+    }
 
-record IsBegun (st : State) (defines : Bool) (b : Begun) : Type 0 where
-  leaves : Leaves st (record st { ctx = b.ctx })
-  incomplete : defines ≡ true → completion_of b.ctx.classes b.number ≡ None
+pub record IsBegun (st : State) (defines : Bool) (b : Begun) : Type 0 where
+  pub from : From st (record st { ctx = b.ctx })
+  pub unclosed : HasTypeNames st.ctx.classes st.ctx.types → defines ≡ true → IsOpen b.ctx.classes b.number
 
 defined_once : (b : Bool) (o : Option ℕ) → (not b || is_none o) ≡ true → b ≡ true → o ≡ None
 defined_once true o h e = is_nothing o h
 defined_once false o h e = absurd cc
 
-begun_typ : (st : State) (at : At) (defines : Bool) (t : Typ) → On (IsBegun st defines) (begun_by st.ctx at defines t)
-begun_typ st at defines (typ (class n) false false) = checked (IsBegun st defines) at Redeclared (not defines || is_none (completion_of st.ctx.classes n)) _
-    (λ h. record { leaves = stays st; incomplete = defined_once defines (completion_of st.ctx.classes n) h })
-begun_typ st at defines t = tt
+-- a class that has a name and is not complete is open
+open_in : (cs : List Class) (n : ℕ) → has_name cs n ≡ true → completion_of cs n ≡ None → IsOpen cs n
+open_in [] n l e = absurd cc
+open_in (c ∷ cs) zero l e = record { class = c; at = refl; incomplete = e }
+open_in (c ∷ cs) (suc n) l e = let x = open_in cs n l e in record { class = x.class; at = x.at; incomplete = x.incomplete }
 
-begun_name : (st : State) (at : At) (name : List ℕ) (defines : Bool) (o : Option Typ) → On (IsBegun st defines) (begun_in st.ctx at name defines o)
-begun_name st at name defines (Some t) = begun_typ st at defines t
-begun_name st at name defines None =
-    record { leaves = class_begun st name; incomplete = λ e. at_end st.ctx.classes (class_named name None false [] [] None) }
+begun_typ : (st : State) (at : At) (name : List ℕ) (defines : Bool) (t : Typ) → type_named name st.ctx.types ≡ Some t
+    → On (IsBegun st defines) (begun_by st.ctx at defines t)
+begun_typ st at name defines (typ (class n) false false) e = checked (IsBegun st defines) at Redeclared (not defines || is_none (completion_of st.ctx.classes n)) _
+    (λ h. record {
+      from = begin st;
+      unclosed = λ l d. open_in st.ctx.classes n
+          (called_listed st.ctx.classes st.ctx.types name l (typ (class n) false false) e)
+          (defined_once defines (completion_of st.ctx.classes n) h d);
+    })
+begun_typ st at name defines t e = tt
 
-pub declared_kept : (st : State) (at : At) (name : List ℕ) → On (Leaves st) (declared_only st at name)
-declared_kept st at name = bind (IsBegun st false) (Leaves st) (begun st.ctx at name false) _
-    (begun_name st at name false (type_named name st.ctx.types)) (λ b h. h.leaves)
+begun_name : (st : State) (at : At) (name : List ℕ) (defines : Bool) → is_no_name name ≡ false → (o : Option Typ) → type_named name st.ctx.types ≡ o
+    → On (IsBegun st defines) (begun_in st.ctx at name defines o)
+begun_name st at name defines q (Some t) e = begun_typ st at name defines t e
+begun_name st at name defines q None e = record {
+  from = class_begun st name q;
+  unclosed = λ l d. record { class = class_named name None false [] [] None; at = at_the_end st.ctx.classes _; incomplete = refl };
+}
+
+pub begun_from : (st : State) (at : At) (name : List ℕ) (defines : Bool) → is_no_name name ≡ false → On (IsBegun st defines) (begun st.ctx at name defines)
+begun_from st at name defines q = begun_name st at name defines q (type_named name st.ctx.types) refl
+
+pub declared_from : (st : State) (at : At) (name : List ℕ) → is_no_name name ≡ false → On (From st) (declared_only st at name)
+declared_from st at name q = bind (IsBegun st false) (From st) (begun st.ctx at name false) _ (begun_from st at name false q) (λ b h. h.from)
 
 -- The header of a member
 
@@ -149,16 +175,17 @@ method_owned s st n class_name at kind kids = started_owned s st n class_name at
 
 -- Members
 
-abbrev AreMembers : List Class → List Member → Type 0
+abbrev pub AreMembers : List Class → List Member → Type 0
 AreMembers cs ms = (i : ℕ) (m : Member) → slice_get ms i ≡ Some m → IsMember cs m
 
-record ReadTo (n : ℕ) (st : State) (r : Members) : Type 0 where
-  classes : r.state.ctx.classes ≡ st.ctx.classes
-  leaves : Leaves st r.state
-  unclosed : completion_of r.state.ctx.classes n ≡ None
-  are : AreMembers st.ctx.classes r.members
+pub record ReadTo (n : ℕ) (st : State) (r : Members) : Type 0 where
+  pub classes : r.state.ctx.classes ≡ st.ctx.classes
+  pub leaves : Leaves st r.state
+  pub unclosed : IsOpen r.state.ctx.classes n
+  pub are : AreMembers st.ctx.classes r.members
+  pub types : HasTypeNames r.state.ctx.classes r.state.ctx.types
 
-abbrev Read : ℕ → State → Members → Type 0
+abbrev pub Read : ℕ → State → Members → Type 0
 Read n st r = ReadTo n st r
 
 no_function_here : (c : Option ℕ) (n : ℕ) (A : Type 0) → c ≡ Some n → c ≡ None → A
@@ -175,13 +202,13 @@ same_declared (Some d) f fs h = h
 same_declared None f fs h = h
 
 function_added : (n : ℕ) (st : State) (h : Header) (m : Marks) (o : Option Function) (d : Option Definition) → Owned n h
-    → completion_of st.ctx.classes n ≡ None → first_from (is_same_function h) 0 st.ctx.funcs ≡ None
+    → IsOpen st.ctx.classes n → first_from (is_same_function h) 0 st.ctx.funcs ≡ None
     → Leaves st (record st { ctx = record st.ctx { funcs = st.ctx.funcs ++ as_defined d (member_func h m o) ∷ [] } })
 function_added n st h m o d w z q =
     let f : Func = as_defined d (member_func h m o) in
     let s = defined_same d (member_func h m o) in
     let x = added_further st.ctx f s.builtin (λ e. no_function_here h.class n (f.kind ≡ Plain) w (sym s.class ∙ e))
-    (λ i e. subst (λ (j : ℕ). completion_of st.ctx.classes j ≡ None) (same_Some n i (sym w ∙ sym s.class ∙ e)) z)
+    (λ i e. subst (λ (j : ℕ). IsOpen st.ctx.classes j) (same_Some n i (sym w ∙ sym s.class ∙ e)) z)
     (same_declared d (member_func h m o) st.ctx.funcs q) in
     record { walk = x.walk; same = x.same }
 
@@ -192,6 +219,7 @@ with_read n st r h m o d w q e = record {
   leaves = after st r.state (with_function r (as_defined d (member_func h m o))).state e.leaves (function_added n r.state h m o d w e.unclosed q);
   unclosed = e.unclosed;
   are = e.are;
+  types = e.types;
 }
 
 no_first : (o : Option ℕ) (b : Bool) → (is_none o && b) ≡ true → o ≡ None
@@ -211,8 +239,9 @@ form_object at (typ (class n) c v) = refl
 form_object at (typ (closure n) c v) = refl
 form_object at (typ (tx_ex t) c v) = refl
 
-data_read : (st : State) (n : ℕ) (r : Members) (at : At) (name : List ℕ) (t : Typ) (b : Bool) → Read n st r → On (Read n st) (data_member n r at name t b)
-data_read st n r at name t b e = bind (λ (x : Bool). is_reference t ≡ false) (Read n st) (member_form at (form_in t)) _ (form_object at t)
+data_read : (st : State) (n : ℕ) (r : Members) (at : At) (name : List ℕ) (t : Typ) (b : Bool) → is_written r.state.ctx.classes t ≡ true
+    → Read n st r → On (Read n st) (data_member n r at name t b)
+data_read st n r at name t b w e = bind (λ (x : Bool). is_reference t ≡ false) (Read n st) (member_form at (form_in t)) _ (form_object at t)
     (λ a q. skip (Read n st) (check at OutOfProfile (not (has_auto t))) _
     (λ b2. checked (Read n st) at BadDeclaration (is_bounded t) _
     (λ d. checked (Read n st) at Incomplete (is_complete r.state.ctx (held t)) _
@@ -223,7 +252,9 @@ data_read st n r at name t b e = bind (λ (x : Bool). is_reference t ≡ false) 
       classes = e.classes;
       leaves = e.leaves;
       unclosed = e.unclosed;
+      types = e.types;
       are = one_more (IsMember st.ctx.classes) r.members (record { name = name; typ = t }) e.are (record {
+        written = subst (λ (cs : List Class). is_written cs t ≡ true) e.classes w;
         object = q;
         bounded = d;
         whole = subst (λ (cs : List Class). IsWhole cs (held t)) e.classes (is_whole r.state.ctx (held t) e2);
@@ -247,29 +278,32 @@ method_declared_read st s home r kind at d kids e = skip (Read home.number st) (
     (method_owned s r.state home.number home.name at kind kids)
     (λ m i. function_member_read st home r m.header (marks_from s no_marks m.rest) d i e))
 
-declared_read : (st : State) (home : Home) (r : Members) (at : At) (x : Storage) (m : Marks) (rest : syntax.Trees) (name : List ℕ) (d : Declared) (f : Form) → Read home.number st r
-    → On (Read home.number st) (declared_member home r at x m rest name d f)
-declared_read st home r at x m rest name d (func sig) e =
+declared_read : (st : State) (home : Home) (r : Members) (at : At) (x : Storage) (m : Marks) (rest : syntax.Trees) (name : List ℕ) (d : Declared) (f : Form)
+    → is_written r.state.ctx.classes d.typ ≡ true → Read home.number st r → On (Read home.number st) (declared_member home r at x m rest name d f)
+declared_read st home r at x m rest name d (func sig) w e =
     skip (Read home.number st) (check at BadDeclaration (not (has_equal rest))) _
     (λ y. bind (Owned home.number) (Read home.number st) (header_in home.number x Plain at name d (func sig)) _ (header_owned home.number x Plain at name d (func sig))
     (λ h i. function_member_read st home r h m None i e))
-declared_read st home r at x m rest name d f e = skip (Read home.number st) (check at BadDeclaration (no_function_words x m)) _
-    (λ y. data_read st home.number r at name d.typ (has_initialiser rest) e)
+declared_read st home r at x m rest name d f w e = skip (Read home.number st) (check at BadDeclaration (no_function_words x m)) _
+    (λ y. data_read st home.number r at name d.typ (has_initialiser rest) w e)
 
-declarator_read : (st : State) (s : List Lexeme) (home : Home) (x : Storage) (t : Typ) (r : Members) (d : syntax.Tree) → Read home.number st r
-    → On (Read home.number st) (member_declarator s home x t r d)
-declarator_read st s home x t r (syntax.node kind p token (syntax.more d rest)) e =
+declarator_read : (st : State) (s : List Lexeme) (home : Home) (x : Storage) (t : Typ) (r : Members) (d : syntax.Tree) → is_written st.ctx.classes t ≡ true
+    → Read home.number st r → On (Read home.number st) (member_declarator s home x t r d)
+declarator_read st s home x t r (syntax.node kind p token (syntax.more d rest)) q e =
     skip (Read home.number st) (within_bounds (member_named s home.number r d)) _
-    (λ w. skip (Read home.number st) (declared_by s r.state.ctx r.state.work (at_of p) t d) _
-    (λ y. skip (Read home.number st) (check (at_of p) BadDeclaration (is_own_name y)) _
-    (λ z. declared_read st home r (at_of p) x (marks_from s no_marks rest) rest (name_of s y.name) y (form_in y.typ) e)))
-declarator_read st s home x t r (syntax.node kind p token syntax.none) e = tt
+    (λ w. bind (ListedDeclared r.state.ctx) (Read home.number st) (declared_by s r.state.ctx r.state.work (at_of p) t d) _
+    (declared_listed s r.state.ctx r.state.ctx.closures r.state.work (at_of p) t d (subst (λ (cs : List Class). is_written cs t ≡ true) (sym e.classes) q))
+    (λ y i. skip (Read home.number st) (check (at_of p) BadDeclaration (is_own_name y)) _
+    (λ z. declared_read st home r (at_of p) x (marks_from s no_marks rest) rest (name_of s y.name) y (form_in y.typ) i e)))
+declarator_read st s home x t r (syntax.node kind p token syntax.none) q e = tt
 
 declarators_read : (st : State) (s : List Lexeme) (home : Home) (r : Members) (at : At) (x : Started) (ds : syntax.Trees) → Read home.number st r
     → On (Read home.number st) (member_declarators s home r at x ds)
 declarators_read st s home r at x (syntax.more base ds) e =
-    skip (Read home.number st) (type_of_specifiers s r.state.ctx r.state.work base) _
-    (λ t. each_holds (Read home.number st) (member_declarator s home x.storage t) r ds e (λ y d i. declarator_read st s home x.storage t y d i))
+    bind (Listed r.state.ctx) (Read home.number st) (type_of_specifiers s r.state.ctx r.state.work base) _
+    (specifiers_listed s r.state.ctx r.state.ctx.closures r.state.work base e.types)
+    (λ t i. each_holds (Read home.number st) (member_declarator s home x.storage t) r ds e
+    (λ y d j. declarator_read st s home x.storage t y d (subst (λ (cs : List Class). is_written cs t ≡ true) e.classes i) j))
 declarators_read st s home r at x syntax.none e = tt
 
 member_read : (st : State) (s : List Lexeme) (home : Home) (r : Members) (t : syntax.Tree) → Read home.number st r → On (Read home.number st) (member_of s home r t)
@@ -286,10 +320,10 @@ member_read st s home r (syntax.node k.DestructorDefinition p (Some t) kids) e =
     method_declared_read st s home r Destructor (at_of p) (Some (definition_between s t (last_token (body_in kids)))) kids e
 member_read st s home r t e = tt
 
--- Implicit members say nothing of enumerators
+-- Implicit members say nothing of enumerators and of names of types
 
 abbrev Specially : Ctx → Specials → Type 0
-Specially c x = x.ctx.enumerators ≡ c.enumerators
+Specially c x = naming x.ctx ≡ naming c
 
 if_special : (c : Ctx) (b : Bool) (x y : Specials) → Specially c x → Specially c y → Specially c (if b then x else y)
 if_special c true x y h k = h
@@ -311,7 +345,7 @@ default_same c home at ms initialised true = if_special c (not (base_default c h
     (if_special c (is_trivial_default c home ms initialised) _ _ refl refl)
 
 completed_same : (c : Ctx) (home : Home) (at : At) (ms : List Member) (initialised : List ℕ)
-    → (completed c home at ms initialised).enumerators ≡ c.enumerators
+    → naming (completed c home at ms initialised) ≡ naming c
 completed_same c home at ms initialised =
     let d : Specials = with_destructor c home at ms (first_from (is_destructor_of home.number) 0 c.funcs) in
     let k : Specials = with_copy d.ctx home at ms (written_copy d.ctx home) in
@@ -325,10 +359,11 @@ if_closed : (P : Ctx → Type 0) (c : Ctx) (e : ElabFault) (b : Bool) → (b ≡
 if_closed P c e true h = h refl
 if_closed P c e false h = tt
 
-completed_leaves : (st : State) (home : Home) (at : At) (ms : List Member) (initialised : List ℕ) → completion_of st.ctx.classes home.number ≡ None
-    → IsWhole st.ctx.classes home.base → AreMembers st.ctx.classes ms → nat_le (class_extent (completed st.ctx home at ms initialised).classes home.number).size 1048576 ≡ true
+completed_leaves : (st : State) (home : Home) (at : At) (ms : List Member) (initialised : List ℕ) → IsOpen st.ctx.classes home.number
+    → is_no_name home.name ≡ false → IsWhole st.ctx.classes home.base → IsBase st.ctx.classes home.base → AreMembers st.ctx.classes ms
+    → nat_le (class_extent (completed st.ctx home at ms initialised).classes home.number).size 1048576 ≡ true
     → Leaves st (record st { ctx = completed st.ctx home at ms initialised })
-completed_leaves st home at ms initialised e b o z = record {
+completed_leaves st home at ms initialised e q b f o z = record {
   walk = one_step (class_completed (record {
     ctx = st.ctx;
     home = home;
@@ -337,19 +372,21 @@ completed_leaves st home at ms initialised e b o z = record {
     initialised = initialised;
     before = refl;
     is = refl;
-    incomplete = e;
+    unclosed = e;
+    named = q;
     based = b;
+    base = f;
     are = o;
     sized = z;
   }));
   same = completed_same st.ctx home at ms initialised;
 }
 
-closed_leaves : (st : State) (home : Home) (at : At) (ms : List Member) (initialised : List ℕ) → completion_of st.ctx.classes home.number ≡ None
-    → IsWhole st.ctx.classes home.base → AreMembers st.ctx.classes ms
+closed_leaves : (st : State) (home : Home) (at : At) (ms : List Member) (initialised : List ℕ) → IsOpen st.ctx.classes home.number
+    → is_no_name home.name ≡ false → IsWhole st.ctx.classes home.base → IsBase st.ctx.classes home.base → AreMembers st.ctx.classes ms
     → On (λ (d : Ctx). Leaves st (record st { ctx = d })) (closed_class at home.number (completed st.ctx home at ms initialised))
-closed_leaves st home at ms initialised e b o = if_closed (λ (d : Ctx). Leaves st (record st { ctx = d })) (completed st.ctx home at ms initialised) _
-    (nat_le (class_extent (completed st.ctx home at ms initialised).classes home.number).size 1048576) (completed_leaves st home at ms initialised e b o)
+closed_leaves st home at ms initialised e q b f o = if_closed (λ (d : Ctx). Leaves st (record st { ctx = d })) (completed st.ctx home at ms initialised) _
+    (nat_le (class_extent (completed st.ctx home at ms initialised).classes home.number).size 1048576) (completed_leaves st home at ms initialised e q b f o)
 
 -- behind the brace
 late_leaves : (lams : Lambdas) → Lawful lams → (s : List Lexeme) (home : Home) (y : State) (members : syntax.Trees)
@@ -357,44 +394,78 @@ late_leaves : (lams : Lambdas) → Lawful lams → (s : List Lexeme) (home : Hom
 late_leaves lams q s home y members = follow of_state of_state y (all_defaults lams s home.number y members) _ (defaults_kept lams q s home.number y members)
     (λ x. all_late_kept lams q s home.number home.name x members)
 
-closed_kept : (lams : Lambdas) → Lawful lams → (s : List Lexeme) (st : State) (home : Home) (at : At) (r : Members) (members : syntax.Trees)
-    → Read home.number st r → IsWhole st.ctx.classes home.base → completion_of st.ctx.classes home.number ≡ None → On (Leaves st) (class_closed lams s home at r members)
-closed_kept lams q s st home at r members i b e = bind (λ (d : Ctx). Leaves r.state (record r.state { ctx = d })) (Leaves st)
-    (closed_class at home.number (completed r.state.ctx home at r.members r.initialised)) _
-    (closed_leaves r.state home at r.members r.initialised (ap (λ (cs : List Class). completion_of cs home.number) i.classes ∙ e)
-    (subst (λ (cs : List Class). IsWhole cs home.base) (sym i.classes) b) (subst (λ (cs : List Class). AreMembers cs r.members) (sym i.classes) i.are))
-    (λ c j. behind st (record r.state { ctx = c }) of_state _ (after st r.state (record r.state { ctx = c }) i.leaves j)
-    (late_leaves lams q s home (record r.state { ctx = c }) members))
-
-with_kept : (lams : Lambdas) → Lawful lams → (s : List Lexeme) (st : State) (at : At) (home : Home) (members : syntax.Trees)
-    → IsWhole st.ctx.classes home.base → completion_of st.ctx.classes home.number ≡ None → On (Leaves st) (class_with lams s st at home members)
-with_kept lams q s st at home members b e =
-    bind (Read home.number st) (Leaves st) (members_of s home (record { state = st; members = []; initialised = [] }) members) _
-    (each_holds (Read home.number st) (member_of s home) (record { state = st; members = []; initialised = [] }) members
-    (record { classes = refl; leaves = stays st; unclosed = e; are = λ i m h. absurd cc }) (λ r t i. member_read st s home r t i))
-    (λ r i. closed_kept lams q s st home at r members i b e)
-
 -- The base
 
-based_whole : (c : Ctx) (at : At) (name : List ℕ) → On (λ n. is_some (completion_of c.classes n) ≡ true) (based_on c at name)
-based_whole c at name = skip (λ n. is_some (completion_of c.classes n) ≡ true) (expect at UnknownName (type_named name c.types)) _
-    (λ t. skip (λ n. is_some (completion_of c.classes n) ≡ true) (base_class at t) _
-    (λ n. checked (λ m. is_some (completion_of c.classes m) ≡ true) at Incomplete (is_some (completion_of c.classes n)) _
-    (λ h. skip (λ m. is_some (completion_of c.classes m) ≡ true) (keeps at BaseFinal (not (is_final_class (slice_get c.classes n)))) _ (λ z. h))))
+abbrev pub IsWholeBase : List Class → Option ℕ → Type 0
+IsWholeBase classes o = IsWhole classes o × IsBase classes o
 
-base_whole : (s : List Lexeme) (c : Ctx) (ts : syntax.Trees) → On (IsWhole c.classes) (base_named s c ts)
-base_whole s c syntax.none = λ n e. absurd cc
-base_whole s c (syntax.more (syntax.node k.BaseSpecifier p (Some t) kids) ts) =
-    bind (λ n. is_some (completion_of c.classes n) ≡ true) (IsWhole c.classes) (based_on c (token_place s p.source t) (spelling s t)) _
-    (based_whole c (token_place s p.source t) (spelling s t))
-    (λ b h n e. subst (λ m. is_some (completion_of c.classes m) ≡ true) (same_Some b n e) h)
-base_whole s c (syntax.more t ts) = base_whole s c ts
+class_written : (c : Ctx) (at : At) (t : Typ) → is_written c.classes t ≡ true → On (λ n. has_name c.classes n ≡ true) (base_class at t)
+class_written c at (typ (class n) q v) h = h
+class_written c at (typ void q v) h = tt
+class_written c at (typ (int i) q v) h = tt
+class_written c at (typ (enum n s) q v) h = tt
+class_written c at (typ null q v) h = tt
+class_written c at (typ (ptr t) q v) h = tt
+class_written c at (typ (ref t) q v) h = tt
+class_written c at (typ (array t n) q v) h = tt
+class_written c at (typ (func s) q v) h = tt
+class_written c at (typ (closure n) q v) h = tt
+class_written c at (typ (tx_ex t) q v) h = tt
 
-pub class_kept : (lams : Lambdas) → Lawful lams → (s : List Lexeme) (st : State) (at : At) (name : List ℕ) (kids : syntax.Trees)
-    → On (Leaves st) (class_defined lams s st at name kids)
-class_kept lams q s st at name kids = skip (Leaves st) (text_sized at (class_text s kids)) _
-    (λ z. bind (IsBegun st true) (Leaves st) (begun st.ctx at name true) _ (begun_name st at name true (type_named name st.ctx.types))
-    (λ b i. bind (IsWhole b.ctx.classes) (Leaves st) (base_named s b.ctx kids) _ (base_whole s b.ctx kids)
-    (λ base w. behind st (record st { ctx = b.ctx }) of_state _ i.leaves
+abbrev IsOne : Ctx → ℕ → Type 0
+IsOne c n = (is_some (completion_of c.classes n) ≡ true) × (has_name c.classes n ≡ true)
+
+based_whole : (c : Ctx) (at : At) (name : List ℕ) → HasTypeNames c.classes c.types → On (IsOne c) (based_on c at name)
+based_whole c at name l = expected (IsOne c) at UnknownName (type_named name c.types) _
+    (λ t e. bind (λ n. has_name c.classes n ≡ true) (IsOne c) (base_class at t) _ (class_written c at t (called_listed c.classes c.types name l t e))
+    (λ n i. checked (IsOne c) at Incomplete (is_some (completion_of c.classes n)) _
+    (λ h. skip (IsOne c) (keeps at BaseFinal (not (is_final_class (slice_get c.classes n)))) _ (λ z. (h, i)))))
+
+pub base_whole : (s : List Lexeme) (c : Ctx) (ts : syntax.Trees) → HasTypeNames c.classes c.types → On (IsWholeBase c.classes) (base_named s c ts)
+base_whole s c syntax.none l = (λ n e. absurd cc, λ n e. absurd cc)
+base_whole s c (syntax.more (syntax.node k.BaseSpecifier p (Some t) kids) ts) l =
+    bind (IsOne c) (IsWholeBase c.classes) (based_on c (token_place s p.source t) (spelling s t)) _
+    (based_whole c (token_place s p.source t) (spelling s t) l)
+    (λ b h. (
+      λ n e. subst (λ m. is_some (completion_of c.classes m) ≡ true) (same_Some b n e) h.0,
+      λ n e. subst (λ m. has_name c.classes m ≡ true) (same_Some b n e) h.1,
+    ))
+base_whole s c (syntax.more t ts) l = base_whole s c ts l
+
+-- The brace, and what stands behind it
+
+-- up to the brace
+pub members_read : (s : List Lexeme) (st : State) (home : Home) (members : syntax.Trees) → IsOpen st.ctx.classes home.number
+    → HasTypeNames st.ctx.classes st.ctx.types → On (Read home.number st) (members_of s home (record { state = st; members = []; initialised = [] }) members)
+members_read s st home members e l = each_holds (Read home.number st) (member_of s home) (record { state = st; members = []; initialised = [] }) members
+    (record { classes = refl; leaves = stays st; unclosed = e; are = λ i m h. absurd cc; types = l }) (λ r t i. member_read st s home r t i)
+
+pub brace_leaves : (st : State) (home : Home) (at : At) (r : Members) → Read home.number st r → is_no_name home.name ≡ false
+    → IsWhole st.ctx.classes home.base → IsBase st.ctx.classes home.base
+    → On (λ (d : Ctx). Leaves st (record r.state { ctx = d })) (closed_class at home.number (completed r.state.ctx home at r.members r.initialised))
+brace_leaves st home at r i q b f = weaken (λ (d : Ctx). Leaves r.state (record r.state { ctx = d })) (λ (d : Ctx). Leaves st (record r.state { ctx = d }))
+    (closed_class at home.number (completed r.state.ctx home at r.members r.initialised))
+    (λ c j. after st r.state (record r.state { ctx = c }) i.leaves j)
+    (closed_leaves r.state home at r.members r.initialised i.unclosed q
+    (subst (λ (cs : List Class). IsWhole cs home.base) (sym i.classes) b)
+    (subst (λ (cs : List Class). IsBase cs home.base) (sym i.classes) f) (subst (λ (cs : List Class). AreMembers cs r.members) (sym i.classes) i.are))
+
+with_kept : (lams : Lambdas) → Lawful lams → (s : List Lexeme) (st : State) (at : At) (home : Home) (members : syntax.Trees)
+    → is_no_name home.name ≡ false → IsWholeBase st.ctx.classes home.base → IsOpen st.ctx.classes home.number
+    → HasTypeNames st.ctx.classes st.ctx.types
+    → On (Leaves st) (class_with lams s st at home members)
+with_kept lams q s st at home members n b e l =
+    bind (Read home.number st) (Leaves st) (members_of s home (record { state = st; members = []; initialised = [] }) members) _
+    (members_read s st home members e l)
+    (λ r i. bind (λ (d : Ctx). Leaves st (record r.state { ctx = d })) (Leaves st)
+    (closed_class at home.number (completed r.state.ctx home at r.members r.initialised)) _ (brace_leaves st home at r i n b.0 b.1)
+    (λ c j. behind st (record r.state { ctx = c }) of_state _ j (late_leaves lams q s home (record r.state { ctx = c }) members)))
+
+pub class_from : (lams : Lambdas) → Lawful lams → (s : List Lexeme) (st : State) (at : At) (name : List ℕ) (kids : syntax.Trees)
+    → is_no_name name ≡ false → HasTypeNames st.ctx.classes st.ctx.types → On (From st) (class_defined lams s st at name kids)
+class_from lams q s st at name kids n l = skip (From st) (text_sized at (class_text s kids)) _
+    (λ z. bind (IsBegun st true) (From st) (begun st.ctx at name true) _ (begun_from st at name true n)
+    (λ b i. bind (IsWholeBase b.ctx.classes) (From st) (base_named s b.ctx kids) _ (base_whole s b.ctx kids (i.from.types l))
+    (λ base w. leaves_from st (record st { ctx = b.ctx }) _ i.from
     (with_kept lams q s (record st { ctx = b.ctx }) at
-    (record { number = b.number; name = name; base = base; is_final = has_final kids }) (members_among kids) w (i.incomplete refl)))))
+    (record { number = b.number; name = name; base = base; is_final = has_final kids }) (members_among kids) n w (i.unclosed l refl) (i.from.types l)))))

@@ -42,7 +42,8 @@ use Rattle.elab_contexts.proofs.Works.{same, made_after}
 use Rattle.elab_contexts.proofs.Walking.{Leaves, stays, bind, skip, behind, of_state}
 use Rattle.elab_contexts.proofs.Works.{Grows, Mades, Types, TypesAll, operand_grows, operands_grow, copy_grows, directly_grows, item_grows}
 use Rattle.elab_contexts.proofs.Members.{each_leaves}
-use Rattle.elab_contexts.proofs.Outside.{Placing, function_further, further_leaves}
+use Rattle.elab_contexts.proofs.Defined.{further_leaves}
+use Rattle.elab_contexts.proofs.Outside.{Placing, function_further}
 use Rattle.std.proofs.Common.{subst, zero, suc, length}
 use Rattle.std.specs.Prelude.{map}
 use Rattle.std.proofs.Common.{eq-eqb}
@@ -56,7 +57,9 @@ use Rattle.elab_rules.specs.cpp_types.Typ.{int}
 use Rattle.elab_rules.specs.elab_ctx.Ctx.{Enumerator}
 use Rattle.elab_rules.specs.Globals.{typed_from}
 use Rattle.elab_contexts.specs.Steps.{none_yet}
-use Rattle.elab_contexts.specs.Holding.{HasEnumerators, is_enumerator, is_enumerator_type}
+use Rattle.elab_contexts.specs.Holding.{HasEnumerators, HasTypeNames, is_enumerator, is_enumerator_type}
+use Rattle.elab_contexts.specs.Steps.{is_written}
+use Rattle.elab_contexts.proofs.Names.{named_listed, type_id_listed}
 use Rattle.elab_contexts.proofs.Lists.{one_more, with_first}
 use Rattle.elab_contexts.proofs.Going.{From}
 use Rattle.elab_contexts.proofs.Captures.{checked}
@@ -149,13 +152,17 @@ declaration_kept s st x at ts = tt
 
 -- Names of types
 
-alias_kept : (st : State) (at : At) (name : List ℕ) (t : Typ) → On (Leaves st) (alias_declared st at name t)
-alias_kept st at name t = skip (Leaves st) (check at OutOfProfile (not (has_auto t))) _
-    (λ x. skip (Leaves st) (typ_sized st.ctx.classes at t) _ (λ z. skip (Leaves st) (type_agrees at t (type_named name st.ctx.types)) _ (λ y. stays st)))
+alias_from : (st : State) (at : At) (name : List ℕ) (t : Typ) → is_written st.ctx.classes t ≡ true → On (From st) (alias_declared st at name t)
+alias_from st at name t l = skip (From st) (check at OutOfProfile (not (has_auto t))) _
+    (λ x. skip (From st) (typ_sized st.ctx.classes at t) _
+    (λ z. skip (From st) (type_agrees at t (type_named name st.ctx.types)) _
+    (λ y. record { walk = none_yet; enumerators = λ h. h; types = λ h. named_listed st.ctx.classes st.ctx.types name t h l })))
 
-pub aliases_kept : (s : List Lexeme) (st : State) (at : At) (name : List ℕ) (ts : syntax.Trees) → On (Leaves st) (alias_of s st at name ts)
-aliases_kept s st at name (syntax.more t ts) = skip (Leaves st) (type_id_of s st.ctx st.work t) _ (λ u. alias_kept st at name u)
-aliases_kept s st at name syntax.none = tt
+pub aliases_from : (s : List Lexeme) (st : State) (at : At) (name : List ℕ) (ts : syntax.Trees) → HasTypeNames st.ctx.classes st.ctx.types
+    → On (From st) (alias_of s st at name ts)
+aliases_from s st at name (syntax.more t ts) n = bind (λ u. is_written st.ctx.classes u ≡ true) (From st) (type_id_of s st.ctx st.work t) _
+    (type_id_listed s st.ctx st.ctx.closures st.work t n) (λ u l. alias_from st at name u l)
+aliases_from s st at name syntax.none n = tt
 
 -- Enums
 
@@ -172,8 +179,8 @@ one_added a st v q e h = one_more (λ (x : Enumerator). is_enumerator x ≡ true
 
 name_kept : (a : State) (b : Bool) (st : State) (x name : List ℕ) (v : ℤ) → is_in_range Int v ≡ true → From a st
     → From a (named_enumerator b st x name (word_of v))
-name_kept a true st x name v q e = record { walk = e.walk; enumerators = one_added a st v q e }
-name_kept a false st x name v q e = record { walk = e.walk; enumerators = one_added a st v q e }
+name_kept a true st x name v q e = record { walk = e.walk; enumerators = one_added a st v q e; types = e.types }
+name_kept a false st x name v q e = record { walk = e.walk; enumerators = one_added a st v q e; types = e.types }
 
 one_kept : (a : State) (scoped : Bool) (x : List ℕ) (st : State) (at p : At) (name : List ℕ) (v : ℤ) → From a st
     → On (Enumerates a) (enumerator_made scoped x st at p name v)
@@ -218,10 +225,15 @@ with_kept s st at name scoped ts =
     let x : Enumerating = record { state = record st { ctx = with_type st.ctx name (plain (enum name scoped)) }; next = pos 0 } in
     skip (From st) (check at Redeclared (is_none (type_named name st.ctx.types))) _
     (λ y. bind (Enumerates st) (From st) (enumerators_declared s scoped name x ts) _
-    (enumerators_kept st s scoped name x ts (record { walk = none_yet; enumerators = λ h. h }))
+    (enumerators_kept st s scoped name x ts (record {
+      walk = none_yet;
+      enumerators = λ h. h;
+      types = λ h. named_listed st.ctx.classes st.ctx.types name (plain (enum name scoped)) h refl;
+    }))
     (λ z i. record {
       walk = i.walk;
       enumerators = λ h. closed_kept (length st.ctx.enumerators) name scoped z.state.ctx.enumerators (i.enumerators h);
+      types = i.types;
     }))
 
 pub enum_kept : (s : List Lexeme) (st : State) (at : At) (name : List ℕ) (ts : syntax.Trees) → On (From st) (enum_declared s st at name ts)

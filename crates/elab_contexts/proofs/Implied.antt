@@ -76,13 +76,13 @@ of_kept : (st : State) (k : ℕ) (f : Func) (o : Option ℕ) → On (Leaves st) 
 of_kept st k f (Some n) = body_kept st f.declared.at k n f.kind (signature_parameters f.declared.signature)
 of_kept st k f None = stays st
 
-one_kept : (st : State) (k : ℕ) → On (Leaves st) (implied st k)
-one_kept st k = either (Leaves st) ((func_at st.ctx.funcs k).implicit && is_referred st k) _ _
+pub implied_one : (st : State) (k : ℕ) → On (Leaves st) (implied st k)
+implied_one st k = either (Leaves st) ((func_at st.ctx.funcs k).implicit && is_referred st k) _ _
     (of_kept st k (func_at st.ctx.funcs k) (func_at st.ctx.funcs k).class) (stays st)
 
 below_kept : (st : State) (k : ℕ) → On (Leaves st) (implied_below st k)
 below_kept st zero = stays st
-below_kept st (suc k) = follow of_state of_state st (implied st k) _ (one_kept st k) (λ x. below_kept x k)
+below_kept st (suc k) = follow of_state of_state st (implied st k) _ (implied_one st k) (λ x. below_kept x k)
 
 pub implied_kept : (st : State) → On (Leaves st) (with_implied st)
 implied_kept st = below_kept st (length st.ctx.funcs)

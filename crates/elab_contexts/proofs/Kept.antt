@@ -1,7 +1,7 @@
 -- What holds of the classes and functions of a unit holds behind each step.
 use Rattle.std.proofs.Common.{◌≡◌, refl, sym, ap, ◌∙◌, subst, ℕ, zero, suc, ◌≤◌, Bool, true, false, List, [], ◌∷◌, ◌++◌, length, slice_get, Option, Some, None}
-use Rattle.std.proofs.Common.{is_some, arith}
-use Rattle.std.specs.Prelude.{slice_set, unwrap_or, if◌then◌else◌, not, ◌||◌}
+use Rattle.std.proofs.Common.{is_some, arith, option_and_then}
+use Rattle.std.specs.Prelude.{slice_set, unwrap_or, if◌then◌else◌, not, ◌&&◌, ◌||◌}
 use Rattle.std.proofs.lemmas.List.{length-append, length-set}
 use Rattle.elab_rules.specs.cpp_types.Class.{Class, Member, Function, completion_of, held}
 use Rattle.elab_rules.specs.cpp_tree.Typing.{is_reference}
@@ -16,36 +16,40 @@ use Rattle.elab_rules.specs.cpp_tree.Rows.{signature_words}
 use Rattle.elab_rules.specs.cpp_tree.declared.kinds.Builtin.{Builtin}
 use Rattle.std.proofs.Common.{◌+◌}
 use Rattle.std.proofs.lemmas.Option.{same_Some}
-use Rattle.elab_contexts.specs.Steps.{View, view, Step, function_added, function_defined, class_begun, class_completed, closure_added, FunctionAdded, FunctionDefined}
-use Rattle.elab_contexts.specs.Steps.{ClassNamed, ClassCompleted, ClosureAdded, SameFunction}
-use Rattle.elab_contexts.specs.Holding.{is_object_member, is_no_name}
+use Rattle.elab_rules.specs.cpp_tree.declared.program.FuncKind.TheVariants.{ClosureCall}
+use Rattle.elab_contexts.specs.Steps.{View, view, Step, function_added, function_defined, class_begun, class_completed, closure_added, FunctionAdded}
+use Rattle.elab_contexts.specs.Steps.{FunctionDefined, ClassNamed, ClassCompleted, ClosureAdded, SameFunction, IsOpen, IsWhole, IsBase, IsMember}
+use Rattle.elab_contexts.specs.Texts.{is_no_name}
+use Rattle.elab_contexts.specs.Holding.{is_object_member, IsRecorded, of_unit}
 use Rattle.elab_contexts.proofs.Lists.{one_more, one_set}
-use Rattle.elab_contexts.proofs.Found.{At, Stay, stay_added, stay_set, at_still}
+use Rattle.elab_contexts.proofs.Found.{At, Stay, stay, stay_added, stay_set, at_still, at_the_end}
 use Rattle.elab_contexts.proofs.Makers.{IsDestructor, IsCopy, IsDefault, destructor_respects, copy_respects, default_respects, Proper, AllProper, Closing, closing}
-use Rattle.elab_contexts.specs.Steps.{IsWhole, IsMember}
 use Rattle.elab_contexts.proofs.Captures.{AllWhole}
 use Rattle.elab_contexts.proofs.Order.{Ordered, ordered_next, ordered_named, ordered_set}
 use Rattle.elab_contexts.proofs.Sized.{Sized, AllSized, sized_added, sized_set}
+use Rattle.elab_contexts.proofs.Owned.{AllPlain, plain_added, plain_set}
+use Rattle.elab_contexts.proofs.Owned.{IsTidy, AllTidy, complete_tidy, no_name_false, OwnedBy, AllOwned, open_owned, owned_same, owned_added, owned_set}
+use Rattle.elab_contexts.proofs.Owned.{AllRecorded, all_recorded_still, recorded_added, recorded_set}
 
 -- Traits, class by class
 
 abbrev pub traits_in : List Traits → ℕ → Traits
 traits_in ts n = unwrap_or (slice_get ts n) no_traits
 
-pub record Makes (from : ℕ) (fs : List Func) (n : ℕ) (t : Traits) : Type 0 where
-  pub destructor : (k : ℕ) → from ≤ n → t.destructor ≡ function k → At (IsDestructor n) fs k
-  pub copy : (k : ℕ) → from ≤ n → t.copy ≡ function k → At (IsCopy n) fs k
-  pub default : (k : ℕ) → from ≤ n → t.default ≡ function k → At (IsDefault n) fs k
+pub record Makes (fs : List Func) (n : ℕ) (t : Traits) : Type 0 where
+  pub destructor : (k : ℕ) → t.destructor ≡ function k → At (IsDestructor n) fs k
+  pub copy : (k : ℕ) → t.copy ≡ function k → At (IsCopy n) fs k
+  pub default : (k : ℕ) → t.default ≡ function k → At (IsDefault n) fs k
 
-makes_still : (from : ℕ) (old new : List Func) (n : ℕ) (t : Traits) → Stay old new → Makes from old n t → Makes from new n t
-makes_still from old new n t s m = record {
-  destructor = λ k l e. at_still (IsDestructor n) (destructor_respects n) old new s k (m.destructor k l e);
-  copy = λ k l e. at_still (IsCopy n) (copy_respects n) old new s k (m.copy k l e);
-  default = λ k l e. at_still (IsDefault n) (default_respects n) old new s k (m.default k l e);
+makes_still : (old new : List Func) (n : ℕ) (t : Traits) → Stay old new → Makes old n t → Makes new n t
+makes_still old new n t s m = record {
+  destructor = λ k e. at_still (IsDestructor n) (destructor_respects n) old new s k (m.destructor k e);
+  copy = λ k e. at_still (IsCopy n) (copy_respects n) old new s k (m.copy k e);
+  default = λ k e. at_still (IsDefault n) (default_respects n) old new s k (m.default k e);
 }
 
-pub makes_nothing : (from : ℕ) (fs : List Func) (n : ℕ) → Makes from fs n no_traits
-makes_nothing from fs n = record { destructor = λ k l e. absurd cc; copy = λ k l e. absurd cc; default = λ k l e. absurd cc }
+pub makes_nothing : (fs : List Func) (n : ℕ) → Makes fs n no_traits
+makes_nothing fs n = record { destructor = λ k e. absurd cc; copy = λ k e. absurd cc; default = λ k e. absurd cc }
 
 traits_more : (Q : ℕ → Traits → Type 0) (ts : List Traits) (t : Traits) → ((n : ℕ) → Q n (traits_in ts n)) → Q (length ts) t → (n : ℕ)
     → Q n (traits_in (ts ++ t ∷ []) n)
@@ -107,7 +111,7 @@ bare_set (d ∷ cs) (u ∷ ts) (suc m) c t q h l (suc n) e = bare_set cs ts m c 
 -- Members
 
 abbrev pub ObjectMembers : Class → Type 0
-ObjectMembers k = (i : ℕ) (m : Member) → slice_get k.members i ≡ Some m → is_object_member m ≡ true
+ObjectMembers k = (i : ℕ) (m : Member) → slice_get k.members i ≡ Some m → is_object_member k m ≡ true
 
 abbrev pub AllObjects : List Class → Type 0
 AllObjects cs = (n : ℕ) (k : Class) → slice_get cs n ≡ Some k → ObjectMembers k
@@ -117,9 +121,9 @@ object_anyway true r e = refl
 object_anyway false false e = refl
 object_anyway false true e = absurd cc
 
-nameless : (xs : List Capture) (i : ℕ) (m : Member) → slice_get (capture_members xs) i ≡ Some m → is_object_member m ≡ true
+nameless : (xs : List Capture) (i : ℕ) (m : Member) → slice_get (capture_members xs) i ≡ Some m → (is_no_name m.name || not (is_reference m.typ)) ≡ true
 nameless [] i m h = absurd cc
-nameless (x ∷ xs) zero m h = subst (λ (y : Member). is_object_member y ≡ true) (same_Some _ m h) refl
+nameless (x ∷ xs) zero m h = subst (λ (y : Member). (is_no_name y.name || not (is_reference y.typ)) ≡ true) (same_Some _ m h) refl
 nameless (x ∷ xs) (suc i) m h = nameless xs i m h
 
 captures_whole : (cs : List Class) (xs : List Capture) → ((i : ℕ) (x : Capture) → slice_get xs i ≡ Some x → IsWhole cs (held x.typ)) → (i : ℕ) (m : Member)
@@ -130,14 +134,18 @@ captures_whole cs (x ∷ xs) w (suc i) m e = captures_whole cs xs (λ j y f. w (
 
 -- Units
 
-pub record Holds (from : ℕ) (v : View) : Type 0 where
+pub record Holds (v : View) : Type 0 where
   pub many : length v.traits ≡ length v.classes
-  pub makes : (n : ℕ) → Makes from v.funcs n (traits_in v.traits n)
+  pub makes : (n : ℕ) → Makes v.funcs n (traits_in v.traits n)
   pub bare : Bare v.classes v.traits
   pub proper : AllProper v.funcs
   pub objects : AllObjects v.classes
   pub ordered : Ordered v.classes
   pub sized : AllSized v.classes
+  pub tidy : AllTidy v.classes
+  pub plain : AllPlain v.classes
+  pub owned : AllOwned v.classes v.funcs
+  pub recorded : AllRecorded v.classes v.funcs
 
 no_builtin : (o : Option Builtin) (b : Builtin) (A : Type 0) → o ≡ None → o ≡ Some b → A
 no_builtin None b A e f = absurd cc
@@ -153,53 +161,69 @@ proper_same f g s p = record {
   free = λ e. s.kind ∙ p.free (sym s.class ∙ e);
 }
 
-added_kept : (from : ℕ) (a b : View) → FunctionAdded a b → Holds from a → Holds from b
-added_kept from a b s h = subst (Holds from) (sym s.is) (record {
+added_kept : (a b : View) → FunctionAdded a b → Holds a → Holds b
+added_kept a b s h = subst Holds (sym s.is) (record {
   many = h.many;
-  makes = λ n. makes_still from a.funcs (a.funcs ++ s.func ∷ []) n (traits_in a.traits n) (stay_added a.funcs s.func) (h.makes n);
+  makes = λ n. makes_still a.funcs (a.funcs ++ s.func ∷ []) n (traits_in a.traits n) (stay_added a.funcs s.func) (h.makes n);
   bare = h.bare;
   proper = one_more Proper a.funcs s.func h.proper (record { known = λ b e. no_builtin s.func.builtin b _ s.unknown e; free = s.free });
   objects = h.objects;
   ordered = h.ordered;
   sized = h.sized;
+  tidy = h.tidy;
+  plain = h.plain;
+  owned = one_more (OwnedBy a.classes) a.funcs s.func h.owned (λ n e. open_owned a.classes n s.func h.tidy (s.unclosed n e));
+  recorded = all_recorded_still a.classes a.funcs (a.funcs ++ s.func ∷ []) (stay_added a.funcs s.func) h.recorded;
 })
 
-defined_kept : (from : ℕ) (a b : View) → FunctionDefined a b → Holds from a → Holds from b
-defined_kept from a b s h = subst (Holds from) (sym s.is) (record {
+defined_kept : (a b : View) → FunctionDefined a b → Holds a → Holds b
+defined_kept a b s h = subst Holds (sym s.is) (record {
   many = h.many;
-  makes = λ n. makes_still from a.funcs (slice_set a.funcs s.place s.func) n (traits_in a.traits n) (stay_set a.funcs s.place s.func s.same) (h.makes n);
+  makes = λ n. makes_still a.funcs (slice_set a.funcs s.place s.func) n (traits_in a.traits n) (stay_set a.funcs s.place s.func s.same) (h.makes n);
   bare = h.bare;
   proper = one_set Proper a.funcs s.place s.func h.proper (λ f e. proper_same f s.func (s.same f e) (h.proper s.place f e));
   objects = h.objects;
   ordered = h.ordered;
   sized = h.sized;
+  tidy = h.tidy;
+  plain = h.plain;
+  owned = one_set (OwnedBy a.classes) a.funcs s.place s.func h.owned (λ f e. owned_same a.classes f s.func (s.same f e) (h.owned s.place f e));
+  recorded = all_recorded_still a.classes a.funcs (slice_set a.funcs s.place s.func) (stay_set a.funcs s.place s.func s.same) h.recorded;
 })
 
-named_kept : (from : ℕ) (a b : View) → ClassNamed a b → Holds from a → Holds from b
-named_kept from a b s h = subst (Holds from) (sym s.is) (record {
+named_kept : (a b : View) → ClassNamed a b → Holds a → Holds b
+named_kept a b s h = subst Holds (sym s.is) (record {
   many = length-append a.traits (no_traits ∷ []) ∙ ap (λ (n : ℕ). n + 1) h.many ∙ sym (length-append a.classes _);
-  makes = traits_more (λ (n : ℕ) (t : Traits). Makes from a.funcs n t) a.traits no_traits h.makes (makes_nothing from a.funcs (length a.traits));
+  makes = traits_more (λ (n : ℕ) (t : Traits). Makes a.funcs n t) a.traits no_traits h.makes (makes_nothing a.funcs (length a.traits));
   bare = bare_named a.classes a.traits (class_named s.name None false [] [] None) h.bare h.many;
   proper = h.proper;
   objects = one_more ObjectMembers a.classes (class_named s.name None false [] [] None) h.objects (λ i m e. absurd cc);
   ordered = ordered_named a.classes (class_named s.name None false [] [] None) refl h.ordered;
-  sized = sized_added a.classes (class_named s.name None false [] [] None) h.ordered (λ n e q. absurd cc) h.sized;
+  sized = sized_added a.classes (class_named s.name None false [] [] None) h.ordered (λ e. absurd cc) h.sized;
+  tidy = one_more IsTidy a.classes (class_named s.name None false [] [] None) h.tidy
+      (record { based = λ b e. absurd cc; nameless = λ e. no_name_false (is_no_name s.name) _ s.named e });
+  plain = plain_added a.classes (class_named s.name None false [] [] None) (record { base = λ b e. absurd cc; members = λ q i m e. absurd cc }) h.plain;
+  owned = owned_added a.classes (class_named s.name None false [] [] None) a.funcs h.owned;
+  recorded = recorded_added a.classes (class_named s.name None false [] [] None) a.funcs a.funcs (stay a.funcs) (λ i g e. absurd cc) h.recorded;
 })
 
-closed_kept : (from : ℕ) (c : Ctx) (n : ℕ) (base : Option ℕ) (ms : List Member) (d : Ctx) → Closing c n base ms d → completion_of c.classes n ≡ None
-    → Sized d.classes n → IsWhole c.classes base → ((i : ℕ) (m : Member) → slice_get ms i ≡ Some m → IsMember c.classes m) → Holds from (view c) → Holds from (view d)
-closed_kept from c n base ms d x z large b o h = record {
+incomplete_is : (cs : List Class) (n : ℕ) → IsOpen cs n → completion_of cs n ≡ None
+incomplete_is cs n w = ap (λ (o : Option Class). option_and_then (λ (c : Class). c.complete) o) w.at ∙ w.incomplete
+
+closed_kept : (c : Ctx) (n : ℕ) (name : List ℕ) (base : Option ℕ) (ms : List Member) (d : Ctx) → Closing c n name base ms d → IsOpen c.classes n
+    → is_no_name name ≡ false → Sized d.classes n → IsWhole c.classes base → IsBase c.classes base → ((i : ℕ) (m : Member) → slice_get ms i ≡ Some m → IsMember c.classes m) → Holds (view c) → Holds (view d)
+closed_kept c n name base ms d x w q large b f o h = record {
   many = ap length x.traits ∙ length-set c.traits n x.own ∙ h.many ∙ sym (length-set c.classes n x.class) ∙ sym (ap length x.classes);
-  makes = subst (λ (ts : List Traits). (m : ℕ) → Makes from d.funcs m (traits_in ts m)) (sym x.traits)
-      (traits_set (λ (m : ℕ) (t : Traits). Makes from d.funcs m t) c.traits n x.own
-      (λ m. makes_still from c.funcs d.funcs m (traits_in c.traits m) x.stays (h.makes m))
-      (record { destructor = λ k l e. x.destructor k e; copy = λ k l e. x.copy k e; default = λ k l e. x.default k e }));
+  makes = subst (λ (ts : List Traits). (m : ℕ) → Makes d.funcs m (traits_in ts m)) (sym x.traits)
+      (traits_set (λ (m : ℕ) (t : Traits). Makes d.funcs m t) c.traits n x.own
+      (λ m. makes_still c.funcs d.funcs m (traits_in c.traits m) x.stays (h.makes m))
+      (record { destructor = λ k e. x.destructor k e; copy = λ k e. x.copy k e; default = λ k e. x.default k e }));
   bare = subst (λ (ts : List Traits). Bare d.classes ts) (sym x.traits)
       (subst (λ (cs : List Class). Bare cs (slice_set c.traits n x.own)) (sym x.classes)
       (bare_set c.classes c.traits n x.class x.own (ap is_some x.closed.complete) h.bare h.many));
   proper = x.proper h.proper;
   objects = subst AllObjects (sym x.classes) (one_set ObjectMembers c.classes n x.class h.objects
-      (λ k e i m q. object_anyway (is_no_name m.name) (is_reference m.typ) (are i m q).object));
+      (λ k e i m q. object_anyway (is_no_name x.class.name && is_no_name m.name) (is_reference m.typ) (are i m q).object));
   ordered = subst Ordered (sym x.classes) (ordered_set c.classes n x.class z (record {
     number = x.closed.complete;
     base = subst (λ (y : Option ℕ). IsWhole c.classes y) (sym x.closed.base) b;
@@ -207,39 +231,66 @@ closed_kept from c n base ms d x z large b o h = record {
   }) h.ordered);
   sized = subst AllSized (sym x.classes)
       (sized_set c.classes n x.class h.ordered z (subst (λ (cs : List Class). Sized cs n) x.classes large) h.sized);
+  tidy = subst AllTidy (sym x.classes)
+      (one_set IsTidy c.classes n x.class h.tidy (λ k e. complete_tidy x.class (ap is_some x.closed.complete)));
+  plain = subst AllPlain (sym x.classes) (plain_set c.classes n x.class (ap is_no_name x.closed.name ∙ q) (record {
+    base = λ k e. f k (sym x.closed.base ∙ e);
+    members = λ v i m e. (are i m e).written;
+  }) h.plain);
+  owned = subst (λ (cs : List Class). AllOwned cs d.funcs) (sym x.classes)
+      (owned_set c.classes n x.class c.funcs d.funcs (ap is_no_name x.closed.name ∙ q) w x.added h.owned);
+  recorded = subst (λ (cs : List Class). AllRecorded cs d.funcs) (sym x.classes)
+      (recorded_set c.classes n x.class c.funcs d.funcs x.stays x.methods h.recorded);
 }
   where
+    z : completion_of c.classes n ≡ None
+    z = incomplete_is c.classes n w
+
     are : (i : ℕ) (m : Member) → slice_get x.class.members i ≡ Some m → IsMember c.classes m
     are i m q = o i m (ap (λ (ys : List Member). slice_get ys i) (sym x.closed.members) ∙ q)
 
 abbrev MembersOf : List Member → View → Type 0
 MembersOf ms v = (i : ℕ) (m : Member) → slice_get ms i ≡ Some m → IsMember v.classes m
 
-completed_kept : (from : ℕ) (a b : View) → ClassCompleted a b → Holds from a → Holds from b
-completed_kept from a b s h = subst (Holds from) (sym s.is)
-    (closed_kept from s.ctx s.home.number s.home.base s.members (completed s.ctx s.home s.at s.members s.initialised)
-    (closing s.ctx s.home s.at s.members s.initialised) (ap (λ (v : View). completion_of v.classes s.home.number) s.before ∙ s.incomplete)
+completed_kept : (a b : View) → ClassCompleted a b → Holds a → Holds b
+completed_kept a b s h = subst Holds (sym s.is)
+    (closed_kept s.ctx s.home.number s.home.name s.home.base s.members (completed s.ctx s.home s.at s.members s.initialised)
+    (closing s.ctx s.home s.at s.members s.initialised) (subst (λ (v : View). IsOpen v.classes s.home.number) (sym s.before) s.unclosed) s.named
     (subst (λ (v : View). Sized v.classes s.home.number) s.is s.sized)
-    (subst (λ (v : View). IsWhole v.classes s.home.base) (sym s.before) s.based) (subst (MembersOf s.members) (sym s.before) s.are)
-    (subst (Holds from) (sym s.before) h))
+    (subst (λ (v : View). IsWhole v.classes s.home.base) (sym s.before) s.based)
+    (subst (λ (v : View). IsBase v.classes s.home.base) (sym s.before) s.base) (subst (MembersOf s.members) (sym s.before) s.are)
+    (subst Holds (sym s.before) h))
 
 trivial_or_not : (b : Bool) (k : ℕ) (A : Type 0) → (if b then trivial else absent) ≡ function k → A
 trivial_or_not true k A e = absurd cc
 trivial_or_not false k A e = absurd cc
 
-closure_from : (from : ℕ) (c : Ctx) (xs : List Capture) (g : Function) (ps : List Parameter) (closed : ℕ) → AllWhole c xs → Holds from (view c)
-    → Holds from (view (with_closure c xs g ps closed))
-closure_from from c xs g ps closed w h =
+-- the call of a lambda
+closure_owned : (cs : List Class) (c : Class) (f : Func) → f.kind ≡ ClosureCall → f.class ≡ Some (length cs) → OwnedBy (cs ++ c ∷ []) f
+closure_owned cs c f k e n q = record {
+  class = c;
+  at = subst (λ (i : ℕ). slice_get (cs ++ c ∷ []) i ≡ Some c) (same_Some (length cs) n (sym e ∙ q)) (at_the_end cs c);
+  call = λ z. k;
+}
+
+call_recorded : (cs : List Class) (fs : List Func) (f : Func) (n : ℕ) → f.class ≡ Some n → (g : Function) → f.declared ≡ g → (i : ℕ) (h : Function)
+    → slice_get (g ∷ []) i ≡ Some h → IsRecorded cs (fs ++ f ∷ []) n h
+call_recorded cs fs f n c g d zero h e = of_unit (length fs) f (at_the_end fs f) c (d ∙ same_Some g h e)
+call_recorded cs fs f n c g d (suc i) h e = absurd cc
+
+closure_from : (c : Ctx) (xs : List Capture) (g : Function) (ps : List Parameter) (closed : ℕ) → AllWhole c xs
+    → Sized (with_closure c xs g ps closed).classes (length c.classes) → Holds (view c) → Holds (view (with_closure c xs g ps closed))
+closure_from c xs g ps closed w z h =
     let f : Func = record (call_func (length c.classes) g ps) { closed_at = closed } in
     let t : Traits = closure_traits c xs in
     record {
       many = length-append c.traits (t ∷ []) ∙ ap (λ (n : ℕ). n + 1) h.many ∙ sym (length-append c.classes _);
-      makes = traits_more (λ (n : ℕ) (t : Traits). Makes from (c.funcs ++ f ∷ []) n t) c.traits t
-          (λ n. makes_still from c.funcs (c.funcs ++ f ∷ []) n (traits_in c.traits n) (stay_added c.funcs f) (h.makes n))
+      makes = traits_more (λ (n : ℕ) (t : Traits). Makes (c.funcs ++ f ∷ []) n t) c.traits t
+          (λ n. makes_still c.funcs (c.funcs ++ f ∷ []) n (traits_in c.traits n) (stay_added c.funcs f) (h.makes n))
           (record {
-            destructor = λ k l e. absurd cc;
-            copy = λ k l e. trivial_or_not (all_captured (λ n. copied_and_left (traits_at c n)) xs) k _ e;
-            default = λ k l e. absurd cc;
+            destructor = λ k e. absurd cc;
+            copy = λ k e. trivial_or_not (all_captured (λ n. copied_and_left (traits_at c n)) xs) k _ e;
+            default = λ k e. absurd cc;
           });
       bare = bare_more c.classes c.traits _ t refl h.bare h.many;
       proper = one_more Proper c.funcs f h.proper (record { known = λ b e. absurd cc; free = λ e. absurd cc });
@@ -249,18 +300,26 @@ closure_from from c xs g ps closed w h =
         base = λ n e. absurd cc;
         members = captures_whole c.classes xs w;
       }) h.ordered;
-      sized = sized_added c.classes _ h.ordered (λ n e q. absurd cc) h.sized;
+      sized = sized_added c.classes _ h.ordered (λ e. z) h.sized;
+      tidy = one_more IsTidy c.classes _ h.tidy (complete_tidy _ refl);
+      plain = plain_added c.classes _ (record { base = λ b e. absurd cc; members = λ q i m e. absurd cc }) h.plain;
+      owned = one_more (OwnedBy (with_closure c xs g ps closed).classes) c.funcs f (owned_added c.classes _ c.funcs h.owned)
+          (closure_owned c.classes _ f refl refl);
+      recorded = recorded_added c.classes _ c.funcs (c.funcs ++ f ∷ []) (stay_added c.funcs f) (call_recorded (with_closure c xs g ps closed).classes
+          c.funcs f (length c.classes) refl g refl) h.recorded;
     }
 
-closure_kept : (from : ℕ) (a b : View) → ClosureAdded a b → Holds from a → Holds from b
-closure_kept from a b s h = subst (Holds from) (sym s.is)
-    (closure_from from s.ctx s.captures s.declared s.params s.closed
+closure_kept : (a b : View) → ClosureAdded a b → Holds a → Holds b
+closure_kept a b s h = subst Holds (sym s.is)
+    (closure_from s.ctx s.captures s.declared s.params s.closed
     (subst (λ (v : View). (i : ℕ) (x : Capture) → slice_get s.captures i ≡ Some x → IsWhole v.classes (held x.typ)) (sym s.before) s.whole)
-    (subst (Holds from) (sym s.before) h))
+    (subst (λ (v : View). Sized (with_closure s.ctx s.captures s.declared s.params s.closed).classes (length v.classes)) (sym s.before)
+    (subst (λ (v : View). Sized v.classes (length a.classes)) s.is s.sized))
+    (subst Holds (sym s.before) h))
 
-pub each_kept : (from : ℕ) (a b : View) → Step a b → Holds from a → Holds from b
-each_kept from a b (function_added s) h = added_kept from a b s h
-each_kept from a b (function_defined s) h = defined_kept from a b s h
-each_kept from a b (class_begun s) h = named_kept from a b s h
-each_kept from a b (class_completed s) h = completed_kept from a b s h
-each_kept from a b (closure_added s) h = closure_kept from a b s h
+pub each_kept : (a b : View) → Step a b → Holds a → Holds b
+each_kept a b (function_added s) h = added_kept a b s h
+each_kept a b (function_defined s) h = defined_kept a b s h
+each_kept a b (class_begun s) h = named_kept a b s h
+each_kept a b (class_completed s) h = completed_kept a b s h
+each_kept a b (closure_added s) h = closure_kept a b s h

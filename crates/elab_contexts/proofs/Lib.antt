@@ -1,7 +1,9 @@
+pub mod Below
 pub mod Bodies
 pub mod Captures
 pub mod Classes
 pub mod Declared
+pub mod Defined
 pub mod Found
 pub mod Going
 pub mod Holding
@@ -11,8 +13,10 @@ pub mod Kept
 pub mod Lists
 pub mod Makers
 pub mod Members
+pub mod Names
 pub mod Order
 pub mod Outside
+pub mod Owned
 pub mod Sized
 pub mod Statements
 pub mod Units

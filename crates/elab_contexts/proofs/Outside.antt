@@ -1,6 +1,6 @@
--- Functions that are declared and defined, in their class or outside, are steps.
-use Rattle.std.proofs.Common.{◌≡◌, refl, ap, ◌∙◌, subst, ℕ, Bool, true, false, List, [], ◌∷◌, ◌++◌, Option, Some, None, unwrap_or}
-use Rattle.std.specs.Prelude.{slice_get, slice_set, not, ◌||◌, if◌then◌else◌}
+-- Functions that are declared, and members that are defined outside their class, are steps.
+use Rattle.std.proofs.Common.{◌≡◌, refl, ap, ◌∙◌, ℕ, Bool, true, false, List, [], ◌∷◌, ◌++◌, Option, Some, None}
+use Rattle.std.specs.Prelude.{slice_get, not, ◌||◌, if◌then◌else◌}
 use Rattle.std.specs.List.{list_any}
 use Rattle.elab_rules.specs.cpp_types.declared.classes.At.{At}
 use Rattle.elab_rules.specs.cpp_lex.Tokens.{Lexeme}
@@ -11,55 +11,23 @@ use Rattle.elab_rules.specs.cpp_tree.declared.faults.IllRule.TheVariants.{BadDec
 use Rattle.elab_rules.specs.cpp_tree.declared.program.FuncKind.{FuncKind}
 use Rattle.elab_rules.specs.elab_ctx.Ctx.{Ctx, Func}
 use Rattle.elab_rules.specs.elab_ctx.Steps.{check, expect}
-use Rattle.elab_rules.specs.Initialising.{func_at, no_function}
+use Rattle.elab_rules.specs.Initialising.{func_at}
 use Rattle.elab_rules.specs.Statements.{State, Lambdas}
 use Rattle.elab_rules.specs.Functions.{Storage, Header, Placed, new_function, is_same_function, first_from, agrees, is_function_entity, function_named}
 use Rattle.elab_rules.specs.Functions.{name_declared, declared_in, main_fits, may_be_c, dynamic_fits, header_sized, text_sized, function_declared}
-use Rattle.elab_rules.specs.Functions.{defined_function, with_definition}
+use Rattle.elab_rules.specs.Functions.{with_definition}
 use Rattle.elab_rules.specs.Classes.{Method, Started, started_from, body_in, last_token, token_end}
 use Rattle.elab_rules.specs.Members.{outside_linkage, outside_text, linked_definition, outside_defined, outside_body, outside_words, is_member_named}
 use Rattle.elab_rules.specs.Members.{outside_agrees, outside_method, outside_with, member_defined, method_body}
 use Rattle.elab_fits.specs.Standing.{On}
-use Rattle.elab_contexts.proofs.Walking.{Leaves, bind, skip, behind, joined, one_step}
+use Rattle.elab_contexts.proofs.Walking.{Leaves, bind, skip, behind, one_step}
 use Rattle.elab_contexts.proofs.Items.{Lawful}
 use Rattle.elab_contexts.proofs.Members.{method_kept}
 use Rattle.elab_rules.specs.cpp_tree.declared.program.FuncKind.TheVariants.{Plain}
-use Rattle.elab_contexts.specs.Steps.{view, Steps, none_yet, function_added, function_defined, SameFunction}
-use Rattle.elab_rules.specs.cpp_types.Class.{completion_of}
-use Rattle.elab_contexts.specs.Steps.{is_same_declared}
-
--- Contexts with more steps behind them
-
-pub record Further (c d : Ctx) : Type 0 where
-  pub walk : Steps (view c) (view d)
-  pub same : d.enumerators ≡ c.enumerators
-
-pub no_further : (c : Ctx) → Further c c
-no_further c = record { walk = none_yet; same = refl }
-
-pub further_on : (a b c : Ctx) → Further a b → Further b c → Further a c
-further_on a b c g h = record { walk = joined g.walk h.walk; same = h.same ∙ g.same }
-
-pub further_leaves : (st : State) (c : Ctx) → Further st.ctx c → Leaves st (record st { ctx = c })
-further_leaves st c f = record { walk = f.walk; same = f.same }
+use Rattle.elab_contexts.specs.Steps.{none_yet, function_added, SameFunction, IsOpen, is_same_declared}
+use Rattle.elab_contexts.proofs.Defined.{Further, no_further, further_on, further_leaves, set_further, definition_further}
 
 -- A definition
-
-at_func : (fs : List Func) (i : ℕ) (f : Func) → slice_get fs i ≡ Some f → func_at fs i ≡ f
-at_func fs i f h = ap (λ (o : Option Func). unwrap_or o no_function) h
-
-same_at : (fs : List Func) (i : ℕ) (g : Func) → SameFunction (func_at fs i) g → (f : Func) → slice_get fs i ≡ Some f → SameFunction f g
-same_at fs i g s f h = subst (λ (z : Func). SameFunction z g) (at_func fs i f h) s
-
-set_further : (c : Ctx) (i : ℕ) (g : Func) → SameFunction (func_at c.funcs i) g → Further c (record c { funcs = slice_set c.funcs i g })
-set_further c i g s = record {
-  walk = one_step (function_defined (record { place = i; func = g; is = refl; same = same_at c.funcs i g s }));
-  same = refl;
-}
-
-pub definition_further : (c : Ctx) (i : ℕ) (h : Header) (text : List ℕ) (closed : ℕ) → Further c (with_definition c i h text closed)
-definition_further c i h text closed = set_further c i (defined_function (func_at c.funcs i) h text closed)
-    (record { declared = refl; kind = refl; class = refl; builtin = refl; implicit = refl })
 
 linkage_same : (b : Bool) (f g : Func) → SameFunction f f → SameFunction f g → SameFunction f (if b then g else f)
 linkage_same true f g s t = t
@@ -82,7 +50,7 @@ abbrev pub Placing : Ctx → Placed → Type 0
 Placing c p = Further c p.ctx
 
 pub added_further : (c : Ctx) (f : Func) → f.builtin ≡ None → (f.class ≡ None → f.kind ≡ Plain)
-    → ((n : ℕ) → f.class ≡ Some n → completion_of c.classes n ≡ None) → first_from (is_same_declared f) 0 c.funcs ≡ None
+    → ((n : ℕ) → f.class ≡ Some n → IsOpen c.classes n) → first_from (is_same_declared f) 0 c.funcs ≡ None
     → Further c (record c { funcs = c.funcs ++ f ∷ [] })
 added_further c f b k o n = record {
   walk = one_step (function_added (record { func = f; is = refl; unknown = b; free = k; unclosed = o; fresh = n }));
@@ -126,7 +94,7 @@ function_further c h defines k = skip (Placing c) (main_fits h) _
 
 -- Members that are defined outside their class
 
-body_kept : (lams : Lambdas) → Lawful lams → (s : List Lexeme) (st : State) (n : ℕ) (kind : FuncKind) (first : ℕ) (m : Method) (body : syntax.Tree)
+pub body_kept : (lams : Lambdas) → Lawful lams → (s : List Lexeme) (st : State) (n : ℕ) (kind : FuncKind) (first : ℕ) (m : Method) (body : syntax.Tree)
     → On (Leaves st) (outside_body lams s st n kind first m body)
 body_kept lams q s st n kind first m body = skip (Leaves st) (text_sized m.header.at (outside_text s m.header.storage first (last_token (Some body)))) _
     (λ v. skip (Leaves st) (outside_words m.header) _ (λ w. skip (Leaves st)

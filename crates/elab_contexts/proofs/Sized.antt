@@ -1,5 +1,5 @@
--- A class that has a name keeps the size that it had at its brace.
-use Rattle.std.proofs.Common.{◌≡◌, sym, ap, ◌∙◌, ℕ, zero, suc, true, false, nat_le, List, [], ◌∷◌, ◌++◌, length, slice_get, Option, Some, None, is_some}
+-- A class keeps the size that it had when it became complete.
+use Rattle.std.proofs.Common.{◌≡◌, sym, ap, ◌∙◌, ℕ, zero, suc, true, nat_le, List, [], ◌∷◌, ◌++◌, length, slice_get, Option, Some, None, is_some}
 use Rattle.std.proofs.Common.{option_and_then, arith}
 use Rattle.std.specs.Prelude.{slice_set}
 use Rattle.std.proofs.lemmas.List.{length-append, length-set}
@@ -9,7 +9,6 @@ use Rattle.elab_rules.specs.cpp_layout.Layout.{Extent, class_extent}
 use Rattle.elab_rules.specs.cpp_layout.declared.extents.TheConstants.{GREATEST_SIZE}
 use Rattle.setting_growth.specs.Growth.{ClassesGrow, HeldEarlier}
 use Rattle.setting_growth.proofs.Classes.{known_if, extent_same}
-use Rattle.elab_contexts.specs.Holding.{is_no_name}
 use Rattle.elab_contexts.proofs.Lists.{one_more_at, one_set_at}
 use Rattle.elab_contexts.proofs.Found.{before_it}
 use Rattle.elab_contexts.proofs.Order.{Ordered}
@@ -44,18 +43,18 @@ sized_still : (old new : List Class) → ClassesGrow old new → Ordered old →
 sized_still old new g o n k e q z = ap (λ (x : Extent). nat_le x.size GREATEST_SIZE) (extent_same old new g (held_earlier old o) n
     (known_if old n (ap (λ (y : Option Class). is_some (option_and_then (λ (c : Class). c.complete) y)) e ∙ q))) ∙ z
 
--- a class that has a name is as large as it may be, once it is complete
+-- a class is no larger than it may be, once it is complete
 abbrev IsSized : List Class → ℕ → Class → Type 0
-IsSized cs n k = is_some k.complete ≡ true → is_no_name k.name ≡ false → Sized cs n
+IsSized cs n k = is_some k.complete ≡ true → Sized cs n
 
 abbrev pub AllSized : List Class → Type 0
-AllSized cs = (n : ℕ) (k : Class) → slice_get cs n ≡ Some k → is_some k.complete ≡ true → is_no_name k.name ≡ false → Sized cs n
+AllSized cs = (n : ℕ) (k : Class) → slice_get cs n ≡ Some k → is_some k.complete ≡ true → Sized cs n
 
-pub sized_added : (cs : List Class) (c : Class) → Ordered cs → ((n : ℕ) → IsSized (cs ++ c ∷ []) n c) → AllSized cs → AllSized (cs ++ c ∷ [])
+pub sized_added : (cs : List Class) (c : Class) → Ordered cs → IsSized (cs ++ c ∷ []) (length cs) c → AllSized cs → AllSized (cs ++ c ∷ [])
 sized_added cs c o w h n k e = one_more_at (IsSized (cs ++ c ∷ [])) cs c
-    (λ i y f q r. sized_still cs (cs ++ c ∷ []) (grow_added cs c) o i y f q (h i y f q r)) (w (length cs)) n k e
+    (λ i y f q. sized_still cs (cs ++ c ∷ []) (grow_added cs c) o i y f q (h i y f q)) w n k e
 
 pub sized_set : (cs : List Class) (n : ℕ) (c : Class) → Ordered cs → completion_of cs n ≡ None → Sized (slice_set cs n c) n → AllSized cs
     → AllSized (slice_set cs n c)
 sized_set cs n c o z s h m k e = one_set_at (IsSized (slice_set cs n c)) cs n c
-    (λ i y f q r. sized_still cs (slice_set cs n c) (grow_set cs n c z) o i y f q (h i y f q r)) (λ q r. s) m k e
+    (λ i y f q. sized_still cs (slice_set cs n c) (grow_set cs n c z) o i y f q (h i y f q)) (λ q. s) m k e

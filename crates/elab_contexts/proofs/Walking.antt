@@ -2,7 +2,8 @@
 use Rattle.std.proofs.Common.{◌≡◌, refl, ◌∙◌, Bool, true, false, List, Result, Ok, Err}
 use Rattle.std.specs.Prelude.{if◌then◌else◌}
 use Rattle.elab_rules.specs.cpp_tree.declared.faults.ElabFault.{ElabFault}
-use Rattle.elab_rules.specs.elab_ctx.Ctx.{Enumerator}
+use Rattle.elab_rules.specs.elab_ctx.Ctx.{Ctx, Enumerator}
+use Rattle.elab_rules.specs.elab_ctx.Types.{Named}
 use Rattle.elab_rules.specs.elab_ctx.Steps.{and_then}
 use Rattle.elab_rules.specs.Statements.{State, Done, Full}
 use Rattle.elab_fits.specs.Standing.{On}
@@ -21,17 +22,25 @@ kept_by_steps P each (and_one {b} {c} h s) p = each b c s (kept_by_steps P each 
 
 -- What is asked of states
 
+-- the enumerators and the names of types
+pub record Naming : Type 0 where
+  pub enumerators : List Enumerator
+  pub types : List Named
+
+abbrev pub naming : Ctx → Naming
+naming c = record { enumerators = c.enumerators; types = c.types }
+
 pub record Seen : Type 0 where
   pub view : View
-  pub enumerators : List Enumerator
+  pub naming : Naming
 
 abbrev pub seen : State → Seen
-seen st = record { view = view st.ctx; enumerators = st.ctx.enumerators }
+seen st = record { view = view st.ctx; naming = naming st.ctx }
 
--- where no enumerator is declared
+-- where neither an enumerator nor a name of a type is declared
 pub record Leading (a b : Seen) : Type 0 where
   pub walk : Steps a.view b.view
-  pub same : b.enumerators ≡ a.enumerators
+  pub same : b.naming ≡ a.naming
 
 abbrev pub Leaves : State → State → Type 0
 Leaves old new = Leading (seen old) (seen new)

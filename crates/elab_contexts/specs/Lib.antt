@@ -1,3 +1,4 @@
 pub mod Holding
 pub mod Steps
+pub mod Texts
 pub mod Walks

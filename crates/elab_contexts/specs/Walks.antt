@@ -1,5 +1,5 @@
 -- Whatever is elaborated, the unit goes on by steps.
-use Rattle.std.specs.Prelude.{ℕ, List, Option}
+use Rattle.std.specs.Prelude.{◌≡◌, ℕ, true, List, Option}
 use Rattle.elab_rules.specs.cpp_types.Typ.{Typ}
 use Rattle.elab_rules.specs.cpp_lex.Tokens.{Lexeme}
 use Rattle.elab_rules.specs.cpp_ast.Trees as syntax
@@ -8,7 +8,9 @@ use Rattle.elab_rules.specs.Lambdas.{lambdas_of}
 use Rattle.elab_rules.specs.Statements.{State, Done, Full, full_operand, statements_of}
 use Rattle.elab_rules.specs.Units.{declarations_of, unit_from}
 use Rattle.elab_fits.specs.Standing.{On}
+use Rattle.elab_contexts.specs.Holding.{HasTypeNames}
 use Rattle.elab_contexts.specs.Steps.{view, Steps}
+use Rattle.elab_contexts.specs.Texts.{have_class_names}
 
 abbrev pub Walks : State → State → Type 0
 Walks a b = Steps (view a.ctx) (view b.ctx)
@@ -27,9 +29,12 @@ abbrev pub BodiesWalk : Type 0
 BodiesWalk = (s : List Lexeme) (st : State) (h : Header) (this : Option Typ) (place : ℕ) (t : syntax.Tree)
     → On (Walks st) (function_body lambdas_of s st h this place t)
 
+-- where names of types stand for classes of the list, and classes have names
 abbrev pub DeclarationsWalk : Type 0
-DeclarationsWalk = (s : List Lexeme) (x : Storage) (st : State) (ts : syntax.Trees) → On (Walks st) (declarations_of s x st ts)
+DeclarationsWalk = (s : List Lexeme) (x : Storage) (st : State) (ts : syntax.Trees) → HasTypeNames st.ctx.classes st.ctx.types
+    → have_class_names s ts ≡ true → On (Walks st) (declarations_of s x st ts)
 
 -- all of a unit, the bodies of implicit members too
 abbrev pub UnitsWalk : Type 0
-UnitsWalk = (s : List Lexeme) (st : State) (decls : syntax.Trees) → On (Walks st) (unit_from s st decls)
+UnitsWalk = (s : List Lexeme) (st : State) (decls : syntax.Trees) → HasTypeNames st.ctx.classes st.ctx.types → have_class_names s decls ≡ true
+    → On (Walks st) (unit_from s st decls)

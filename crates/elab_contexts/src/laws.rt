@@ -1,6 +1,9 @@
 //! Laws of the contexts that elaboration makes. A function here does nothing: its clauses are the laws.
 
-ghost use Rattle.elab_contexts.specs.Holding.{StartsHold, LaterStartsHold, DeclarationsHold, UnitsHold, StatementsHold, SpecialsHold};
+ghost use Rattle.elab_contexts.specs.Holding.{StartsHold, LaterStartsHold, DeclarationsHold, UnitsHold, SpecialsHold};
+ghost use Rattle.elab_contexts.specs.Holding.{LambdasHold, OperandsHold, StatementsHold};
+ghost use Rattle.elab_contexts.specs.Holding.{VariablesHold, AliasesHold, EnumsHold, NamesHold, FunctionsHold, OutsideHold};
+ghost use Rattle.elab_contexts.specs.Holding.{ClassesHold, MemberDefaultsHold, MethodsHold, ImpliedHold};
 ghost use Rattle.elab_contexts.specs.Walks.{LambdasWalk, OperandsWalk, StatementsWalk, BodiesWalk, DeclarationsWalk, UnitsWalk};
 
 /// Whatever is elaborated, the classes and functions of the unit go on by steps.
@@ -19,6 +22,26 @@ pub fn holding()
     ensures later { LaterStartsHold }
     ensures declarations { DeclarationsHold }
     ensures units { UnitsHold }
-    ensures statements { StatementsHold }
     ensures specials { SpecialsHold }
+{}
+
+/// The same inside of a body.
+pub fn bodies()
+    ensures lambdas { LambdasHold }
+    ensures operands { OperandsHold }
+    ensures statements { StatementsHold }
+{}
+
+/// The same behind each kind of declaration, and behind the parts of a class.
+pub fn parts()
+    ensures variables { VariablesHold }
+    ensures aliases { AliasesHold }
+    ensures enums { EnumsHold }
+    ensures names { NamesHold }
+    ensures functions { FunctionsHold }
+    ensures outside { OutsideHold }
+    ensures classes { ClassesHold }
+    ensures defaults { MemberDefaultsHold }
+    ensures methods { MethodsHold }
+    ensures implied { ImpliedHold }
 {}

@@ -18,7 +18,7 @@ use Rattle.elab_rules.specs.Operators.{is_complete}
 use Rattle.elab_rules.specs.Types.{qualifiers_from, no_qualifiers}
 use Rattle.elab_rules.specs.Statements.{State, Lambdas, statements_of}
 use Rattle.elab_rules.specs.Functions.{Header, entered, with_parameters, within_frame, body_made, function_body}
-use Rattle.elab_rules.specs.Lambdas.{lambdas_of, lambdas_among, lambda_of, lambda_written, lambda_made, lambda_with, lambda_known, lambda_type, Written, refused_at}
+use Rattle.elab_rules.specs.Lambdas.{closure_sized, lambdas_of, lambdas_among, lambda_of, lambda_written, lambda_made, lambda_with, lambda_known, lambda_type, Written, refused_at}
 use Rattle.elab_rules.specs.Lambdas.{no_lambda, first_lambda, lambda_entered, declared_closure, inside, body_statements, signature_in, result_of, kids_of, has_mutable}
 use Rattle.elab_rules.specs.Lambdas.{explicit_captures, default_in, parameters_among, not_dynamic, result_among, default_captures, used_in, place_of_tree, closing}
 use Rattle.elab_fits.specs.Standing.{On}
@@ -191,10 +191,11 @@ closure_kept st x rs r sig = record {
 with_kept : (s : List Lexeme) (st : State) (x : Written) (r : Typ) (sig : Signature) → On (Leaves st) (lambda_with s st x r sig)
 with_kept s st x r sig =
     skip (Leaves st) (check x.at Incomplete (is_complete st.ctx (held r))) _
-    (λ y. bind (Ends (lambda_inside st x (known r) r sig)) (Leaves st) (body_statements s (lambda_inside st x (known r) r sig) x) _
+    (λ y. skip (Leaves st) (closure_sized st x sig) _
+    (λ z. bind (Ends (lambda_inside st x (known r) r sig)) (Leaves st) (body_statements s (lambda_inside st x (known r) r sig) x) _
     (body_kept s (lambda_inside st x (known r) r sig) x)
     (λ d h. made_kept st (record st { ctx = declared_closure st x sig }) d.state x.at (length st.ctx.funcs) _ refl
-    (left_kept st (lambda_inside st x (known r) r sig) d.state (closure_kept st x (known r) r sig) h)))
+    (left_kept st (lambda_inside st x (known r) r sig) d.state (closure_kept st x (known r) r sig) h))))
 
 lambda_kept : (s : List Lexeme) (st : State) (x : Written) → On (Leaves st) (lambda_made s st x)
 lambda_kept s st x = skip (Leaves st) (result_of s st x x.result) _

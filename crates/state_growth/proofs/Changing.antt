@@ -1,5 +1,5 @@
 -- A class that becomes complete, a function that is defined, a global that gets its cells: what stands in their lists stands there still.
-use Rattle.std.proofs.Common.{◌≡◌, refl, sym, ap, ◌∙◌, subst, ℕ, zero, suc, List, [], ◌∷◌, length, slice_get, Some, None, Result, Ok, Err, arith}
+use Rattle.std.proofs.Common.{◌≡◌, refl, sym, ap, ◌∙◌, subst, ℕ, zero, suc, List, [], ◌∷◌, length, slice_get, Option, Some, None, unwrap_or, Result, Ok, Err, arith}
 use Rattle.std.specs.Prelude.{slice_set}
 use Rattle.std.proofs.lemmas.List.{length-set}
 use Rattle.std.proofs.lemmas.Option.{same_Some}
@@ -7,6 +7,8 @@ use Rattle.elab_rules.specs.cpp_types.Class.{Class, completion_of}
 use Rattle.elab_rules.specs.cpp_tree.Units.{Global, SlotFunc}
 use Rattle.elab_rules.specs.cpp_tree.declared.faults.ElabFault.{ElabFault}
 use Rattle.elab_rules.specs.elab_ctx.Ctx.{Ctx, Func}
+use Rattle.elab_rules.specs.Initialising.{func_at, no_function}
+use Rattle.elab_rules.specs.Functions.{Header, defined_function, with_definition}
 use Rattle.elab_rules.specs.Statements.{State}
 use Rattle.elab_fits.specs.Standing.{On}
 use Rattle.setting_growth.specs.Growth.{ClassesGrow, SlotsGrow, GlobalsGrow, HasGlobal, slot_at}
@@ -166,3 +168,18 @@ further_leaves st c f = record {
         (t.numbered n k (ap (λ (cs : List Class). completion_of cs n) (sym f.classes) ∙ h));
   };
 }
+
+-- A definition
+
+at_func : (fs : List Func) (i : ℕ) (f : Func) → slice_get fs i ≡ Some f → func_at fs i ≡ f
+at_func fs i f h = ap (λ (o : Option Func). unwrap_or o no_function) h
+
+same_at : (fs : List Func) (i : ℕ) (g : Func) → SameDeclared (func_at fs i) g → (f : Func) → slice_get fs i ≡ Some f → SameDeclared f g
+same_at fs i g s f h = subst (λ (z : Func). SameDeclared z g) (at_func fs i f h) s
+
+pub set_further : (c : Ctx) (i : ℕ) (g : Func) → SameDeclared (func_at c.funcs i) g → Further c (record c { funcs = slice_set c.funcs i g })
+set_further c i g s = record { classes = refl; slots = refl; funcs = funcs_set c.funcs i g (same_at c.funcs i g s) }
+
+pub definition_further : (c : Ctx) (i : ℕ) (h : Header) (text : List ℕ) (closed : ℕ) → Further c (with_definition c i h text closed)
+definition_further c i h text closed = set_further c i (defined_function (func_at c.funcs i) h text closed)
+    (record { declared = refl; kind = refl; class = refl })

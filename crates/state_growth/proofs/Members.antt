@@ -8,13 +8,15 @@ use Rattle.elab_rules.specs.cpp_lex.Tokens.{Lexeme}
 use Rattle.elab_rules.specs.cpp_ast.declared.kinds.NodeKind.TheVariants as k
 use Rattle.elab_rules.specs.cpp_ast.Trees as syntax
 use Rattle.elab_rules.specs.cpp_tree.declared.faults.ElabFault.{ElabFault}
-use Rattle.elab_rules.specs.cpp_tree.declared.faults.IllRule.TheVariants.{UnknownName, Redeclared, NoMember, OutOfProfile}
+use Rattle.elab_rules.specs.cpp_tree.declared.faults.IllRule.TheVariants.{UnknownName, Redeclared, NoMember, OutOfProfile, TypeDiffers}
 use Rattle.elab_rules.specs.cpp_tree.declared.program.FuncKind.{FuncKind}
 use Rattle.elab_rules.specs.cpp_tree.declared.program.FuncKind.TheVariants.{Plain, Constructor, Destructor}
 use Rattle.elab_rules.specs.cpp_tree.Notation.{plain}
 use Rattle.elab_rules.specs.cpp_tree.Typing.{unqualified}
-use Rattle.elab_rules.specs.elab_ctx.Ctx.{Default}
+use Rattle.elab_rules.specs.cpp_types.Equal.{typ_eq}
+use Rattle.elab_rules.specs.elab_ctx.Ctx.{Ctx, Default}
 use Rattle.elab_rules.specs.elab_ctx.Steps.{check, expect, each_of, at_of, spelling}
+use Rattle.elab_rules.specs.Initialising.{func_at, signature_result}
 use Rattle.elab_rules.specs.Names.{members_in}
 use Rattle.elab_rules.specs.Calls.{base_of_class}
 use Rattle.elab_rules.specs.Types.{type_named}
@@ -22,19 +24,20 @@ use Rattle.elab_rules.specs.Strings.{string_bytes}
 use Rattle.elab_rules.specs.Braces.{default_at, string_object, string_token, syntax_place, is_char_array}
 use Rattle.elab_rules.specs.Expressions.{operands_of}
 use Rattle.elab_rules.specs.Statements.{State, Lambdas, with_work, all_lambdas, default_object, directly_initialised, statements_of, full_operand, copy_initialised}
-use Rattle.elab_rules.specs.Functions.{Header, with_parameters}
+use Rattle.elab_rules.specs.Functions.{Header, with_parameters, defines_well}
 use Rattle.elab_rules.specs.Classes.{Method, method_of, body_in}
 use Rattle.elab_rules.specs.Members.{Given, Giving, member_index, member_type, given_part, given_base, is_named_class, is_base_type, given_for}
 use Rattle.elab_rules.specs.Members.{for_part, given_by, all_given, default_built, base_built, member_built, members_built, parts_built, in_object}
 use Rattle.elab_rules.specs.Members.{this_type, constructor_body, destructor_body, method_body, default_value, default_made, default_for, default_of, defaults_of}
-use Rattle.elab_rules.specs.Members.{all_defaults, initialiser_in, place_of_header, late_method, late_function, late_of, all_late}
+use Rattle.elab_rules.specs.Members.{body_by_kind, late_kept as again, all_defaults, initialiser_in, place_of_header, late_method, late_function, late_of, all_late}
 use Rattle.elab_fits.specs.Standing.{On}
 use Rattle.elab_growth.proofs.Growth.{same}
-use Rattle.state_growth.proofs.Steps.{seen, Steps, Leaves, stays, after, bind, skip, behind, follow, of_done, of_full, Ends}
+use Rattle.state_growth.proofs.Steps.{seen, Steps, Leaves, stays, after, bind, skip, behind, follow, of_state, of_done, of_full, Ends}
 use Rattle.state_growth.proofs.Items.{Lawful, work_kept}
 use Rattle.state_growth.proofs.Works.{Mades, TypesAll, grown, items_added, operands_grow, directly_grows, copy_grows}
 use Rattle.state_growth.proofs.Statements.{statements_kept, parameters_kept, all_lambdas_kept, full_kept}
 use Rattle.state_growth.proofs.Bodies.{left_kept, entered_kept, made_kept, function_kept}
+use Rattle.state_growth.proofs.Changing.{Further, further_leaves, definition_further}
 
 pub each_holds : {R : Type 0} (P : R → Type 0) (f : R → syntax.Tree → Result R ElabFault) (r : R) (ts : syntax.Trees) → P r
     → ((x : R) (t : syntax.Tree) → P x → On P (f x t)) → On P (each_of f r ts)
@@ -127,11 +130,15 @@ destructor_kept lams q s st h n place (syntax.node kind p token kids) =
     bind (Ends (in_object st n)) (Leaves st) (statements_of lams s (in_object st n) kids) _ (statements_kept lams q s (in_object st n) kids)
     (λ d i. made_kept st st d.state h.at place _ refl (object_left st n d.state i))
 
+kind_kept : (lams : Lambdas) → Lawful lams → (s : List Lexeme) (st : State) (n place : ℕ) (kind : FuncKind) (m : Method) (body : syntax.Tree)
+    → On (Leaves st) (body_by_kind lams s st n place kind m body)
+kind_kept lams q s st n place Constructor m body = constructor_kept lams q s st m.header n place m.rest body
+kind_kept lams q s st n place Destructor m body = destructor_kept lams q s st m.header n place body
+kind_kept lams q s st n place kind m body = function_kept lams q s st m.header (Some (this_type n m.header)) place body
+
 pub method_kept : (lams : Lambdas) → Lawful lams → (s : List Lexeme) (st : State) (n place : ℕ) (kind : FuncKind) (m : Method) (body : syntax.Tree)
     → On (Leaves st) (method_body lams s st n place kind m body)
-method_kept lams q s st n place Constructor m body = constructor_kept lams q s st m.header n place m.rest body
-method_kept lams q s st n place Destructor m body = destructor_kept lams q s st m.header n place body
-method_kept lams q s st n place kind m body = function_kept lams q s st m.header (Some (this_type n m.header)) place body
+method_kept lams q s st n place kind m body = skip (Leaves st) (defines_well m.header) _ (λ y. kind_kept lams q s st n place kind m body)
 
 -- Initialisers of members in the class
 
@@ -168,10 +175,18 @@ defaults_kept lams q s n st ts = each_leaves (defaults_of lams s n) (those_kept 
 
 -- Bodies behind the brace
 
+read_again : (c : Ctx) (place : ℕ) (h : Header) → On (Further c) (again c place h)
+read_again c place h = skip (Further c)
+    (check h.at TypeDiffers (typ_eq (signature_result (func_at c.funcs place).declared.signature) (signature_result h.signature))) _
+    (λ y. definition_further c place h (func_at c.funcs place).text (func_at c.funcs place).closed_at)
+
 pub late_method_kept : (lams : Lambdas) → Lawful lams → (s : List Lexeme) (st : State) (n : ℕ) (kind : FuncKind) (m : Method) (body : Option syntax.Tree)
     → On (Leaves st) (late_method lams s st n kind m body)
 late_method_kept lams q s st n kind m (Some body) =
-    skip (Leaves st) (place_of_header st.ctx m.header) _ (λ place. method_kept lams q s st n place kind m body)
+    skip (Leaves st) (place_of_header st.ctx m.header) _ (λ place. bind (Further st.ctx) (Leaves st) (again st.ctx place m.header) _
+    (read_again st.ctx place m.header)
+    (λ c i. behind st (record st { ctx = c }) of_state (method_body lams s (record st { ctx = c }) n place kind m body) (further_leaves st c i)
+    (method_kept lams q s (record st { ctx = c }) n place kind m body)))
 late_method_kept lams q s st n kind m None = stays st
 
 pub late_function_kept : (lams : Lambdas) → Lawful lams → (s : List Lexeme) (st : State) (n : ℕ) (name : List ℕ) (at : At) (kind : FuncKind) (kids : syntax.Trees)

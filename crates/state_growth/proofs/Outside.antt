@@ -25,22 +25,9 @@ use Rattle.state_growth.proofs.Steps.{Leaves, funcs_stay, funcs_go_on, bind, ski
 use Rattle.state_growth.proofs.Items.{Lawful}
 use Rattle.state_growth.proofs.Bodies.{funcs_added}
 use Rattle.state_growth.proofs.Members.{method_kept}
-use Rattle.state_growth.proofs.Changing.{funcs_set, Further, no_further, further_on, further_leaves}
+use Rattle.state_growth.proofs.Changing.{Further, no_further, further_on, further_leaves, set_further, definition_further}
 
 -- A definition
-
-at_func : (fs : List Func) (i : ℕ) (f : Func) → slice_get fs i ≡ Some f → func_at fs i ≡ f
-at_func fs i f h = ap (λ (o : Option Func). unwrap_or o no_function) h
-
-same_at : (fs : List Func) (i : ℕ) (g : Func) → SameDeclared (func_at fs i) g → (f : Func) → slice_get fs i ≡ Some f → SameDeclared f g
-same_at fs i g s f h = subst (λ (z : Func). SameDeclared z g) (at_func fs i f h) s
-
-set_further : (c : Ctx) (i : ℕ) (g : Func) → SameDeclared (func_at c.funcs i) g → Further c (record c { funcs = slice_set c.funcs i g })
-set_further c i g s = record { classes = refl; slots = refl; funcs = funcs_set c.funcs i g (same_at c.funcs i g s) }
-
-pub definition_further : (c : Ctx) (i : ℕ) (h : Header) (text : List ℕ) (closed : ℕ) → Further c (with_definition c i h text closed)
-definition_further c i h text closed = set_further c i (defined_function (func_at c.funcs i) h text closed)
-    (record { declared = refl; kind = refl; class = refl })
 
 linkage_same : (b : Bool) (f g : Func) → SameDeclared f f → SameDeclared f g → SameDeclared f (if b then g else f)
 linkage_same true f g s t = t

@@ -15,7 +15,7 @@ use Rattle.elab_rules.specs.cpp_tree.Typing.{is_class_typ, form_in, is_void, kin
 use Rattle.elab_rules.specs.elab_ctx.Ctx.{Returns, known, deduced}
 use Rattle.elab_rules.specs.elab_ctx.Steps.{and_then, check, expect, at_of, spelling, Made, Typed, TypedAll}
 use Rattle.elab_rules.specs.Initialising.{class_from, initial}
-use Rattle.elab_rules.specs.Operators.{value, truth, dropped, is_complete}
+use Rattle.elab_rules.specs.Operators.{value, truth, dropped, is_complete, within_if_sized}
 use Rattle.elab_rules.specs.Types.{Parameter, has_auto, is_bounded}
 use Rattle.elab_rules.specs.Braces.{item_of, string_token, is_char_array, syntax_place, string_object}
 use Rattle.elab_rules.specs.Expressions.{expression_of, operands_of, chosen_operand, declared_by, type_of_specifiers}
@@ -112,8 +112,9 @@ pub plain_kept : (lams : Lambdas) → Lawful lams → (s : List Lexeme) (st : St
 plain_kept lams q s st name t at init = skip (Ends st) (declarable st.ctx at t) _
     (λ x. skip (Ends st) (check at BadDeclaration (is_bounded t)) _
     (λ z. skip (Ends st) (typ_sized st.ctx.classes at t) _
-    (λ y. behind st (placed_variable st name t) of_done (with_initialiser lams s st (placed_variable st name t) t at init) (placed_kept st name t)
-    (initialiser_kept lams q s st (placed_variable st name t) t at init))))
+    (λ y. skip (Ends st) (within_if_sized st.ctx at t) _
+    (λ w. behind st (placed_variable st name t) of_done (with_initialiser lams s st (placed_variable st name t) t at init) (placed_kept st name t)
+    (initialiser_kept lams q s st (placed_variable st name t) t at init)))))
 
 -- `auto`
 

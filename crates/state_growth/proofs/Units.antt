@@ -14,7 +14,7 @@ use Rattle.elab_rules.specs.Types.{Declared}
 use Rattle.elab_rules.specs.Strings.{string_bytes}
 use Rattle.elab_rules.specs.Expressions.{type_of_specifiers, declared_by}
 use Rattle.elab_rules.specs.Statements.{State}
-use Rattle.elab_rules.specs.Functions.{Storage, Header, no_storage, with_specifier, function_declared, function_body, with_definition, text_sized}
+use Rattle.elab_rules.specs.Functions.{defines_well, Storage, Header, no_storage, with_specifier, function_declared, function_body, with_definition, text_sized}
 use Rattle.elab_rules.specs.Implicit.{with_implied}
 use Rattle.elab_rules.specs.Lambdas.{lambdas_of}
 use Rattle.elab_rules.specs.Units.{header_of, definition_text, closing_offset, is_qualified, defined_with, defined_by, function_defined, is_c, declaration_of}
@@ -29,7 +29,8 @@ use Rattle.state_growth.proofs.Changing.{From, begin, leaves_from, further_on, f
 use Rattle.state_growth.proofs.Classes.{declared_kept, class_from}
 use Rattle.state_growth.proofs.Declared.{declaration_kept, aliases_kept, enum_kept}
 use Rattle.state_growth.proofs.Implied.{implied_kept}
-use Rattle.state_growth.proofs.Outside.{Placing, definition_further, function_further, outside_kept}
+use Rattle.state_growth.proofs.Changing.{definition_further}
+use Rattle.state_growth.proofs.Outside.{Placing, function_further, outside_kept}
 
 -- Functions
 
@@ -39,11 +40,12 @@ with_kept s st x at first d body (func sig) =
     let h : Header = header_of s at x d sig in
     let text : List ℕ = definition_text s x first body in
     skip (Leaves st) (text_sized at text) _
-    (λ y. bind (Placing st.ctx) (Leaves st) (function_declared st.ctx h true) _ (function_further st.ctx h true) (λ p i.
+    (λ y. skip (Leaves st) (defines_well h) _
+    (λ z. bind (Placing st.ctx) (Leaves st) (function_declared st.ctx h true) _ (function_further st.ctx h true) (λ p i.
     let c : Ctx = with_definition p.ctx p.place h text (closing_offset s body) in
     behind st (record st { ctx = c }) of_state (function_body lambdas_of s (record st { ctx = c }) h None p.place body)
     (further_leaves st c (further_on st.ctx p.ctx c i (definition_further p.ctx p.place h text (closing_offset s body))))
-    (function_kept lambdas_of lambdas_lawful s (record st { ctx = c }) h None p.place body)))
+    (function_kept lambdas_of lambdas_lawful s (record st { ctx = c }) h None p.place body))))
 with_kept s st x at first d body f = tt
 
 by_kept : (s : List Lexeme) (st : State) (whole : syntax.Trees) (x : Storage) (at : At) (first : ℕ) (r : Declared) (body : syntax.Tree) (b : Bool)

@@ -1,4 +1,4 @@
-use Rattle.elab_contexts.proofs.Holding.{starts_law, later_law, declarations_law, units_law, statements_law, specials_law}
+use Rattle.elab_contexts.proofs.Holding.{starts_law, later_law, declarations_law, units_law, specials_law}
 use Rattle.elab_contexts.proofs.laws.holding.Goals as goal
 
 pub returns-clause-starts : goal.returns-clause-starts
@@ -12,9 +12,6 @@ returns-clause-declarations c = declarations_law
 
 pub returns-clause-units : goal.returns-clause-units
 returns-clause-units c = units_law
-
-pub returns-clause-statements : goal.returns-clause-statements
-returns-clause-statements c = statements_law
 
 pub returns-clause-specials : goal.returns-clause-specials
 returns-clause-specials c = specials_law

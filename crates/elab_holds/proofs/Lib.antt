@@ -1,0 +1,7 @@
+pub mod Complete
+pub mod Contexts
+pub mod Locals
+pub mod Makers
+pub mod Order
+pub mod Ready
+pub mod Sound

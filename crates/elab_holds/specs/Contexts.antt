@@ -1,0 +1,40 @@
+-- What the laws of expressions ask of a context holds of those that elaboration makes.
+use Rattle.std.specs.Prelude.{◌≡◌, ℕ, true, is_some, Some, slice_get}
+use Rattle.elab_rules.specs.cpp_types.Class.{InOrder, completion_of}
+use Rattle.elab_rules.specs.cpp_tree.declared.program.FuncKind.TheVariants.{Plain}
+use Rattle.elab_rules.specs.cpp_tree.Units.{Func as UnitFunc}
+use Rattle.elab_rules.specs.elab_ctx.Ctx.{Ctx, Work, Func}
+use Rattle.elab_fits.specs.Standing.{IsSetting}
+use Rattle.elab_fits_objects.specs.Contexts.{HasMakers}
+use Rattle.elab_fits_forms.specs.Context.{Holds, IsComplete, HasSlot}
+use Rattle.elab_fits_forms.specs.Types.{is_lambda}
+use Rattle.elab_sound_types.specs.Contexts.{HasSoundTypes}
+use Rattle.elab_contexts.specs.Holding.{UnitHolds, HasListedFunctions}
+use Rattle.state_growth.specs.Settings.{setting_at}
+use Rattle.elab_holds.specs.Locals.{LocalsHold}
+
+-- a virtual function of a complete class has its slot, and objects of the class have their pointer
+abbrev pub HasSlots : Ctx → Type 0
+HasSlots c = (k n : ℕ) (f : Func) → slice_get c.funcs k ≡ Some f → f.class ≡ Some n → f.kind ≡ Plain → f.declared.is_virtual ≡ true
+    → is_some (completion_of c.classes n) ≡ true → HasSlot c n k f
+
+-- Laws
+
+abbrev pub ClassesInOrder : Type 0
+ClassesInOrder = (c : Ctx) (w : Work) → UnitHolds c → HasSoundTypes c w → InOrder c.classes
+
+abbrev pub SettingsHold : Type 0
+SettingsHold = (f : UnitFunc) (c : Ctx) (w : Work) → UnitHolds c → HasSoundTypes c w → IsSetting (setting_at f c w) c
+
+abbrev pub MakersHold : Type 0
+MakersHold = (c : Ctx) (w : Work) → UnitHolds c → HasSoundTypes c w → HasMakers c (is_lambda c.classes)
+
+abbrev pub ClassesComplete : Type 0
+ClassesComplete = (c : Ctx) (w : Work) (n : ℕ) → UnitHolds c → HasSoundTypes c w → is_some (completion_of c.classes n) ≡ true → IsComplete c.classes n
+
+-- of functions with sound types, for a unit that stands behind this one
+abbrev pub FunctionsListed : Type 0
+FunctionsListed = (c : Ctx) (w : Work) → HasSoundTypes c w → HasListedFunctions c
+
+abbrev pub ContextsHold : Type 0
+ContextsHold = (f : UnitFunc) (c : Ctx) (w : Work) → UnitHolds c → HasSlots c → HasSoundTypes c w → LocalsHold c w → Holds (setting_at f c w) c w
