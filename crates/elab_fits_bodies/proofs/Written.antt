@@ -9,11 +9,14 @@ use Rattle.elab_rules.specs.cpp_tree.declared.faults.ElabFault.{ElabFault}
 use Rattle.elab_rules.specs.cpp_tree.declared.kinds.TKind.TheVariants as forms
 use Rattle.elab_rules.specs.cpp_tree.declared.roles.Role.TheVariants.{BlockItem}
 use Rattle.elab_rules.specs.cpp_tree.Rows.{Setting, is_constructor, is_destructor}
-use Rattle.elab_rules.specs.elab_ctx.Steps.{and_then, at_of}
+use Rattle.elab_rules.specs.elab_ctx.Steps.{and_then, check, at_of}
 use Rattle.elab_rules.specs.Initialising.{signature_result}
 use Rattle.elab_rules.specs.Objects.{followed_by}
 use Rattle.elab_rules.specs.Functions.{Header, entered, with_parameters, end_of, function_body}
-use Rattle.elab_rules.specs.Lambdas.{Written, inside, lambda_entered, declared_closure, body_statements, lambda_with}
+use Rattle.elab_rules.specs.Lambdas.{Written, inside, lambda_entered, declared_closure, body_statements, lambda_with, closure_sized}
+use Rattle.elab_rules.specs.Operators.{is_complete}
+use Rattle.elab_rules.specs.cpp_types.Class.{held}
+use Rattle.elab_rules.specs.cpp_tree.declared.faults.IllRule.TheVariants.{Incomplete}
 use Rattle.elab_rules.specs.elab_ctx.Ctx.{known}
 use Rattle.elab_rules.specs.Members.{in_object, constructor_tree, constructor_block, destructor_tree, destructor_body}
 use Rattle.elab_rules.specs.Statements.{State, Done, Lambdas, statement, statements_of}
@@ -41,7 +44,7 @@ function_body_fits x lams s st h this place kind p token kids k g = skip (LastFi
     (λ e q. bind (λ (d : Done). Reaches x d.state.work → ResultItems x (signature_result h.signature) d) (LastFits x) (statements_of lams s e kids) _ (g e q)
     (λ d f. made_fits x st h.at place
     (statement (forms.Block false) (at_of p) (followed_by d.trees (end_of d.state.ctx (signature_result h.signature) (at_of p)))) d.state
-    (λ r. let z = f r in function_fits x d.state.ctx (signature_result h.signature) (at_of p) d.trees z.setting z.result k z.serve))))
+    (λ r. let z = f r in function_fits x d.state.ctx (signature_result h.signature) (at_of p) d.trees z.setting z.result k z.serve)))))
 
 pub constructor_body_fits : (x : Setting) (lams : Lambdas) (s : List Lexeme) (before : State) (h : Header) (n place : ℕ) (parts : Done) (kind : NodeKind)
     (p : SyntaxAt) (token : Option ℕ) (kids : syntax.Trees) → is_constructor x.function.kind ≡ true
@@ -67,9 +70,10 @@ pub lambda_body_fits : (x : Setting) (s : List Lexeme) (st : State) (l : Written
     → On (λ (d : Done). Reaches x d.state.work → ResultItems x r d)
     (body_statements s (inside st (lambda_entered st l (known r) r) (declared_closure st l sig)) l)
     → On (LastFits x) (lambda_with s st l r sig)
-lambda_body_fits x s st l r sig k g = skip (LastFits x) _ _
-    (λ y. bind (λ (d : Done). Reaches x d.state.work → ResultItems x r d) (LastFits x)
+lambda_body_fits x s st l r sig k g = skip (LastFits x) (check l.at Incomplete (is_complete st.ctx (held r))) _
+    (λ y. skip (LastFits x) (closure_sized st l sig) _
+    (λ u. bind (λ (d : Done). Reaches x d.state.work → ResultItems x r d) (LastFits x)
     (body_statements s (inside st (lambda_entered st l (known r) r) (declared_closure st l sig)) l) _ g
     (λ d f. made_fits x (record st { ctx = declared_closure st l sig }) l.at (length st.ctx.funcs)
     (statement (forms.Block false) l.body_at (followed_by d.trees (end_of d.state.ctx r l.body_at))) d.state
-    (λ h. let z = f h in function_fits x d.state.ctx r l.body_at d.trees z.setting z.result k z.serve)))
+    (λ h. let z = f h in function_fits x d.state.ctx r l.body_at d.trees z.setting z.result k z.serve))))

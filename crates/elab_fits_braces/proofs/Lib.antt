@@ -1,7 +1,12 @@
 pub mod Defaults
+pub mod Depth
 pub mod Moved
 pub mod MovedKinds
+pub mod PartRows
 pub mod Plain
 pub mod PlainRows
+pub mod Qualifiers
+pub mod Requalified
+pub mod Staying
 pub mod Strings
 pub mod This

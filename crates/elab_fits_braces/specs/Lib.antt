@@ -1,2 +1,4 @@
+pub mod Defaults
 pub mod Moving
+pub mod Qualified
 pub mod Strings

@@ -19,6 +19,7 @@ use Rattle.elab_rules.specs.Names.{this_pointer}
 use Rattle.elab_rules.specs.Members.{own_this}
 use Rattle.elab_rules.specs.Braces.{ThisAt, this_of, moved_place, relocated, as_part, default_whole, default_made}
 use Rattle.elab_fits.specs.Standing.{FitsAs, BuildsOne, Reaches}
+use Rattle.elab_fits_braces.specs.Qualified.{is_pliable}
 
 -- a node that says nothing of its function
 abbrev pub is_free : TKind → Bool
@@ -72,11 +73,12 @@ this_typ d = plain (ptr (plain (class d.class)))
 abbrev pub alone : Setting → Default → Setting
 alone s d = record s { function = record s.function { kind = Constructor; frame = this_typ d ∷ d.frame } }
 
--- it builds the member, as a whole and as a part of one
+-- it builds the member, as a whole and as a part of one, which can have the qualifiers of the object
 pub record DefaultFits (s : Setting) (t : Typ) (d : Default) : Type 0 where
   pub one : BuildsOne (alone s d) t d.init
   pub part : BuildsOne (alone s d) t (as_part d.init)
   pub movable : is_movable (this_typ d) d.init ≡ true
+  pub pliable : is_pliable t (as_part d.init) ≡ true
 
 -- it does so in the function at hand, where its temporaries have their places
 abbrev pub DefaultsBuild : Type 0

@@ -2,6 +2,8 @@
 
 ghost use Rattle.elab_fits_braces.specs.Strings.{StringsBuild};
 ghost use Rattle.elab_fits_braces.specs.Moving.{MovedFit, DefaultsBuild, ObjectsAreThis, OwnIsThis};
+ghost use Rattle.elab_fits_braces.specs.Qualified.{QualifiedBuild};
+ghost use Rattle.elab_fits_braces.specs.Defaults.{DefaultsStay};
 
 /// An array of characters, by a string.
 pub fn strings()
@@ -12,6 +14,12 @@ pub fn strings()
 pub fn defaults()
     ensures moved { MovedFit }
     ensures defaults { DefaultsBuild }
+    ensures stay { DefaultsStay }
+{}
+
+/// An object with more qualifiers.
+pub fn qualified()
+    ensures qualified { QualifiedBuild }
 {}
 
 /// The pointer `this`, where such an initialiser stands.

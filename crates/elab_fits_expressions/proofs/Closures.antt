@@ -44,7 +44,7 @@ use Rattle.elab_fits_objects.proofs.Types.{whole_sized, whole_ready}
 use Rattle.elab_fits_forms.specs.Types.{is_lambda}
 use Rattle.elab_fits_forms.specs.Meaning.{Proper}
 use Rattle.elab_fits_forms.specs.Context.{Holds}
-use Rattle.elab_fits_forms.specs.Forms.{Stands_made}
+use Rattle.elab_fits_forms.specs.Forms.{MadeStands}
 use Rattle.elab_fits_forms.proofs.Sources.{whole_is}
 use Rattle.elab_fits_expressions.specs.Growing.{Behind}
 use Rattle.elab_fits_forms.specs.Expressions.{IsClosure}
@@ -223,11 +223,11 @@ object_proper s c w n at ts h l b =
       copied = λ k. (source at).copied;
     }
 
-lambda_made : (s : Setting) (c : Ctx) (w : Work) (at : At) (x : Closure) → Holds s c w → IsClosure c x → On (Stands_made s c)
+lambda_made : (s : Setting) (c : Ctx) (w : Work) (at : At) (x : Closure) → Holds s c w → IsClosure c x → On (MadeStands s c)
     (and_then (captured_pieces c w (parts_of c.classes x.class) x.captures) (λ (m : MadeAll).
     Ok (record { tree = node Pieces (plain (closure x.class)) Prvalue at m.trees; work = m.work })))
 lambda_made s c w at x h y = of_ready s c w x.class h y.lambda _
-    (λ p ready. bind (Piecing s c at (parts_of c.classes x.class)) (Stands_made s c) (captured_pieces c w (parts_of c.classes x.class) x.captures) _
+    (λ p ready. bind (Piecing s c at (parts_of c.classes x.class)) (MadeStands s c) (captured_pieces c w (parts_of c.classes x.class) x.captures) _
     (pieces_made s c at w (parts_of c.classes x.class) x.captures h (all_taken s c (parts_of c.classes x.class) x.captures y.parts
     (room s c w x.class h y.lambda p ready) (λ j z g. taken s c w z y.outside h (y.captures j z g))))
     (λ m g. (λ r. object_proper s c w x.class at m.trees h y.lambda (object_builds s c w x.class h y.lambda p ready at m.trees (g r)))))
@@ -244,5 +244,5 @@ found_closure c at (z ∷ l) x h e = by (λ d. found_closure c at l x (λ i y g.
     by rest false d = rest d
 
 pub closures_stand : ClosuresStand
-closures_stand s c l w at h y = expected (Stands_made s c) at OutOfProfile (closure_at at l) _
+closures_stand s c l w at h y = expected (MadeStands s c) at OutOfProfile (closure_at at l) _
     (λ x e. lambda_made s c w at x h (found_closure c at l x y.closures e))

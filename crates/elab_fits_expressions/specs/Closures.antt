@@ -6,9 +6,9 @@ use Rattle.elab_rules.specs.elab_ctx.Ctx.{Ctx, Work, Closure}
 use Rattle.elab_rules.specs.Expressions.{closure_object}
 use Rattle.elab_fits.specs.Standing.{On}
 use Rattle.elab_fits_forms.specs.Context.{Holds}
-use Rattle.elab_fits_forms.specs.Forms.{Stands_made}
+use Rattle.elab_fits_forms.specs.Forms.{MadeStands}
 use Rattle.elab_fits_forms.specs.Expressions.{ClosuresHold}
 
 -- objects of lambdas that were made before the full-expression stand
 abbrev pub ClosuresStand : Type 0
-ClosuresStand = (s : Setting) (c : Ctx) (l : List Closure) (w : Work) (at : At) → Holds s c w → ClosuresHold c l → On (Stands_made s c) (closure_object c l w at)
+ClosuresStand = (s : Setting) (c : Ctx) (l : List Closure) (w : Work) (at : At) → Holds s c w → ClosuresHold c l → On (MadeStands s c) (closure_object c l w at)

@@ -12,19 +12,19 @@ use Rattle.elab_fits.specs.Standing.{Reaches, On}
 use Rattle.elab_fits_forms.specs.Types.{is_empty}
 use Rattle.elab_fits_forms.specs.Meaning.{ProperOperand}
 use Rattle.elab_fits_forms.specs.Context.{Holds}
-use Rattle.elab_fits_forms.specs.Names.{Typed_means}
+use Rattle.elab_fits_forms.specs.Names.{TypedMeans}
 use Rattle.elab_fits_forms.specs.Forms.{ProperOperands}
 use Rattle.elab_fits_forms.specs.Expressions.{is_spelled, ClosuresHold}
 
 abbrev pub AllRowsMean : Type 0
 AllRowsMean = (lexemes : List Lexeme) (s : Setting) (c : Ctx) (w : Work) (kind : NodeKind) (at : At) (t : ℕ) (os : List Operand) → Holds s c w
-    → is_empty (spelling lexemes t) ≡ false → ProperOperands s c os → On (Typed_means s c) (row_of lexemes c w kind at t os)
+    → is_empty (spelling lexemes t) ≡ false → ProperOperands s c os → On (TypedMeans s c) (row_of lexemes c w kind at t os)
 
 -- what stands where all that is made has its place
-abbrev pub Typed_stands : Setting → Ctx → Typed → Type 0
-Typed_stands s c x = Reaches s x.work → ProperOperand s c x.operand
+abbrev pub TypedStands : Setting → Ctx → Typed → Type 0
+TypedStands s c x = Reaches s x.work → ProperOperand s c x.operand
 
 -- and stands, once its functions are one function
 abbrev pub ChosenStand : Type 0
 ChosenStand = (lexemes : List Lexeme) (s : Setting) (c : Ctx) (l : List Closure) (w : Work) (e : syntax.Tree) → Holds s c w → ClosuresHold c l
-    → is_spelled lexemes e ≡ true → On (Typed_stands s c) (and_then (expression_with lexemes c l w e) (chosen_operand c))
+    → is_spelled lexemes e ≡ true → On (TypedStands s c) (and_then (expression_with lexemes c l w e) (chosen_operand c))

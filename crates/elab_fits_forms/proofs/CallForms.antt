@@ -45,7 +45,7 @@ use Rattle.elab_fits_objects.proofs.Passing as passing
 use Rattle.elab_fits_forms.specs.Types.{is_sound, is_sound_form, is_lambda, is_exception_value, is_result, is_sound_signature}
 use Rattle.elab_fits_forms.specs.Meaning.{Proper, IsObject, IsMethod, Means, ProperOperand, MeansOperand}
 use Rattle.elab_fits_forms.specs.Context.{Holds}
-use Rattle.elab_fits_forms.specs.Forms.{Stands_made, ProperOperands}
+use Rattle.elab_fits_forms.specs.Forms.{MadeStands, ProperOperands}
 use Rattle.elab_fits_forms.proofs.Places.{func_is, number_is}
 use Rattle.elab_fits_forms.proofs.Proper.{proper_value, object_fits}
 use Rattle.elab_fits_forms.proofs.Wholes.{plain_exception}
@@ -68,9 +68,9 @@ closure_lambda : (c : Ctx) (t : Typ) (n : ℕ) → form_in t ≡ closure n → i
 closure_lambda c (typ f q v) n e i = sym (ap (λ (z : Form). is_sound_form c.classes z) e) ∙ i
 
 closure_stands : (s : Setting) (c : Ctx) (w : Work) (at : At) (n : ℕ) (callee : Operand) (os : List Operand) → Holds s c w → ProperOperand s c callee
-    → form_in (typ_in callee.tree) ≡ closure n → ProperOperands s c os → On (Stands_made s c) (call_closure c w at n callee os)
+    → form_in (typ_in callee.tree) ≡ closure n → ProperOperands s c os → On (MadeStands s c) (call_closure c w at n callee os)
 closure_stands s c w at n callee os h x e xs =
-    bind (IsMeant c (is_closure_call n) (arguments (object ∷ os))) (Stands_made s c)
+    bind (IsMeant c (is_closure_call n) (arguments (object ∷ os))) (MadeStands s c)
     (best_of c at (places_from (is_closure_call n) 0 c.funcs) (object ∷ os)) _ (best_meant c at (is_closure_call n) (object ∷ os)) by
   where
     object : Operand
@@ -84,12 +84,12 @@ closure_stands s c w at n callee os h x e xs =
     }
 
     by : (i : ℕ) → IsMeant c (is_closure_call n) (arguments (record { tree = (object_of c w callee.at callee.tree).tree; at = callee.at; zero = false } ∷ os)) i
-        → On (Stands_made s c) (called c (object_of c w callee.at callee.tree).work at (Call i) (func_at c.funcs i).declared.signature
+        → On (MadeStands s c) (called c (object_of c w callee.at callee.tree).work at (Call i) (func_at c.funcs i).declared.signature
         (one (object_of c w callee.at callee.tree).tree) os)
     by i m =
         let d : m.func.class ≡ Some n = number_is n m.func.class m.passes in
         let k = (h.functions i m.func m.at).closure n d (closure_lambda c (typ_in callee.tree) n e x.proper.sound) in
-        subst (λ (f : Func). On (Stands_made s c) (called c (object_of c w callee.at callee.tree).work at (Call i) f.declared.signature
+        subst (λ (f : Func). On (MadeStands s c) (called c (object_of c w callee.at callee.tree).work at (Call i) f.declared.signature
         (one (object_of c w callee.at callee.tree).tree) os)) (sym (func_is c.funcs i m.func m.at))
         (called_stands s c (object_of c w callee.at callee.tree).work w at (Call i) m.func.declared.signature (one (object_of c w callee.at callee.tree).tree) os h
         (h.functions i m.func m.at).sound xs (less_one _ _ (sym (member_count m.func n d) ∙ m.count ∙ ap suc (many os)))
@@ -125,11 +125,11 @@ chosen_count c g os k e =
 
 pointer_stands : (s : Setting) (c : Ctx) (w : Work) (at : At) (g : Signature) (d v : Bool) (p : Tree) (os : List Operand) → Holds s c w
     → Gives s (ptr (typ (func g) d v)) p → is_sound_signature c.classes g ≡ true → ProperOperands s c os
-    → On (Stands_made s c) (call_pointer c w at (ptr (typ (func g) d v)) p os)
+    → On (MadeStands s c) (call_pointer c w at (ptr (typ (func g) d v)) p os)
 pointer_stands s c w at g d v p os h y i x = by (chosen c.classes (record { signature = g; this = None } ∷ []) (arguments os)) refl
   where
     by : (z : Choice) → chosen c.classes (record { signature = g; this = None } ∷ []) (arguments os) ≡ z
-        → On (Stands_made s c) (and_then (meant at z) (λ k. called c w at PointerCall g (one p) os))
+        → On (MadeStands s c) (and_then (meant at z) (λ k. called c w at PointerCall g (one p) os))
     by (best k) e = called_stands s c w w at PointerCall g (one p) os h i x (chosen_count c g os k e) (λ ts r f. record {
       call = pointer_call s p ts y.fits f.fit;
       row = pointer_row s c g d v p ts y (sound_parts c g i).1 f.right;
@@ -138,13 +138,13 @@ pointer_stands s c w at g d v p os h y i x = by (chosen c.classes (record { sign
     by none_best e = tt
 
 pointed_stands : (s : Setting) (c : Ctx) (w : Work) (at : At) (f : Form) (o : Operand) (os : List Operand) → Holds s c w → ProperOperand s c o
-    → value_form o ≡ f → ProperOperands s c os → On (Stands_made s c) (call_pointer c w at f (value o) os)
+    → value_form o ≡ f → ProperOperands s c os → On (MadeStands s c) (call_pointer c w at f (value o) os)
 pointed_stands s c w at (ptr (typ (func g) d v)) o os h x e xs = pointer_stands s c w at g d v (value o) os h
     (pointer_of s o (typ (func g) d v) (operand_is s c o x) e) (sym (ap (λ (z : Form). is_sound_form c.classes z) e) ∙ value_sound s c o x) xs
 pointed_stands s c w at f o os h x e xs = tt
 
 value_stands : (s : Setting) (c : Ctx) (w : Work) (at : At) (f : Form) (callee : Operand) (os : List Operand) → Holds s c w → ProperOperand s c callee
-    → form_in (typ_in callee.tree) ≡ f → ProperOperands s c os → On (Stands_made s c) (call_value c w at f callee os)
+    → form_in (typ_in callee.tree) ≡ f → ProperOperands s c os → On (MadeStands s c) (call_value c w at f callee os)
 value_stands s c w at (closure n) callee os h x e xs = closure_stands s c w at n callee os h x e xs
 value_stands s c w at f callee os h x e xs = pointed_stands s c w at (value_form callee) callee os h x refl xs
 
@@ -219,23 +219,23 @@ held_is : (t u : Typ) (q v : Bool) (x : Typ) → x ≡ typ (tx_ex t) q v → val
 held_is t u q v x e h = let d : Some t ≡ Some u = sym (ap (λ (z : Typ). value_type (form_in z)) e) ∙ h in cc
 
 get_stands : (s : Setting) (c : Ctx) (w : Work) (at : At) (t : Typ) (q v : Bool) (e : Tree) (os : List Operand) → Holds s c w → IsObject s c e
-    → typ_in e ≡ typ (tx_ex t) q v → On (Stands_made s c) (call_get c w at e os)
-get_stands s c w at t q v e [] h o d = expected (Stands_made s c) at NotCallable (value_type (form_in (typ_in e))) _ (λ u k.
-    checked (Stands_made s c) at NoViable (not (is_volatile_typ (typ_in e))) _ (λ n r.
+    → typ_in e ≡ typ (tx_ex t) q v → On (MadeStands s c) (call_get c w at e os)
+get_stands s c w at t q v e [] h o d = expected (MadeStands s c) at NotCallable (value_type (form_in (typ_in e))) _ (λ u k.
+    checked (MadeStands s c) at NoViable (not (is_volatile_typ (typ_in e))) _ (λ n r.
     subst (λ (z : Typ). Proper s c (exception_value c at e z)) (held_is t u q v (typ_in e) d k) (get_value s c w at t q v e h o d n)))
 get_stands s c w at t q v e (x ∷ os) h o d = tt
 
 -- `std::abort`
 
-abort_stands : (s : Setting) (c : Ctx) (w : Work) (at : At) (os : List Operand) → On (Stands_made s c) (call_abort w at Abort os)
+abort_stands : (s : Setting) (c : Ctx) (w : Work) (at : At) (os : List Operand) → On (MadeStands s c) (call_abort w at Abort os)
 abort_stands s c w at [] = λ r. builtin_proper s c Abort at none tt refl
 abort_stands s c w at (o ∷ os) = tt
 
 -- Member functions
 
 member_stands : (s : Setting) (c : Ctx) (w : Work) (at : At) (k : ℕ) (e : Tree) (os : List Operand) → Holds s c w → IsMethod c k → IsObject s c e
-    → ProperOperands s c os → On (Stands_made s c) (call_method c w at k e os)
-member_stands s c w at k e os h m o x = expected (Stands_made s c) at NotCallable (func_at c.funcs k).class _
+    → ProperOperands s c os → On (MadeStands s c) (call_method c w at k e os)
+member_stands s c w at k e os h m o x = expected (MadeStands s c) at NotCallable (func_at c.funcs k).class _
     (λ n d. method_stands s c w at n k e os h (by n (sym m.member ∙ ap (λ (f : Func). f.class) (sym (func_is c.funcs k m.func m.at)) ∙ d)) o x)
   where
     by : (n : ℕ) → Some m.class ≡ Some n → is_some (completion_of c.classes n) ≡ true
@@ -255,7 +255,7 @@ no_builtin s c b d v p kids h = clash ⊥ false refl (fits_row s within Value (B
     (h.stands.value refl within within_full))
 
 given_stands : (s : Setting) (c : Ctx) (w : Work) (at : At) (callee : Operand) (t : Tree) (os : List Operand) → callee.tree ≡ t → Holds s c w
-    → ProperOperand s c callee → Proper s c t → ProperOperands s c os → On (Stands_made s c) (call_form c w at callee t os)
+    → ProperOperand s c callee → Proper s c t → ProperOperands s c os → On (MadeStands s c) (call_form c w at callee t os)
 given_stands s c w at callee (node (FunctionNode k) (typ void d v) Lvalue p kids) os e h x y xs =
     absurd (no_function_void s k d v p kids (y.stands.value refl))
 given_stands s c w at callee (node Default t cat p kids) os e h x y xs = absurd (no_default s c t cat p kids y)
@@ -263,7 +263,7 @@ given_stands s c w at callee (node (BuiltinNode b) (typ void d v) Lvalue p kids)
 given_stands s c w at callee (node kind t cat p kids) os e h x y xs = value_stands s c w at (form_in t) callee os h x (ap (λ (z : Tree). form_in (typ_in z)) e) xs
 
 form_stands : (s : Setting) (c : Ctx) (w : Work) (at : At) (callee : Operand) (t : Tree) (os : List Operand) → callee.tree ≡ t → (callee.zero ≡ true → IsZero t)
-    → Holds s c w → Means s c t → ProperOperands s c os → On (Stands_made s c) (call_form c w at callee t os)
+    → Holds s c w → Means s c t → ProperOperands s c os → On (MadeStands s c) (call_form c w at callee t os)
 form_stands s c w at callee t os e z h (Means.standing p) xs = given_stands s c w at callee t os e h
     (record { proper = subst (λ (x : Tree). Proper s c x) (sym e) p; zero = λ y. subst (λ (x : Tree). IsZero x) (sym e) (z y) }) p xs
 form_stands s c w at callee t os e z h (Means.free_functions k p) xs = free_stands s c w at k os h xs
@@ -272,5 +272,5 @@ form_stands s c w at callee t os e z h (Means.getter p u q v object o x) xs = ge
 form_stands s c w at callee t os e z h (Means.aborting p) xs = abort_stands s c w at os
 
 pub calls_stand : (s : Setting) (c : Ctx) (w : Work) (at : At) (callee : Operand) (os : List Operand) → Holds s c w → MeansOperand s c callee
-    → ProperOperands s c os → On (Stands_made s c) (call c w at callee os)
+    → ProperOperands s c os → On (MadeStands s c) (call c w at callee os)
 calls_stand s c w at callee os h x xs = form_stands s c w at callee callee.tree os refl x.zero h x.means xs

@@ -52,7 +52,7 @@ use Rattle.elab_fits_objects.proofs.Fits.{within, within_full, value_kid, value_
 use Rattle.elab_fits_forms.specs.Types.{is_result}
 use Rattle.elab_fits_forms.specs.Meaning.{Proper, IsObject}
 use Rattle.elab_fits_forms.specs.Context.{HasSlot, Holds}
-use Rattle.elab_fits_forms.specs.Forms.{Stands_made, ProperOperands}
+use Rattle.elab_fits_forms.specs.Forms.{MadeStands, ProperOperands}
 use Rattle.elab_fits_forms.proofs.Places.{func_is, number_is}
 use Rattle.elab_fits_forms.proofs.Proper.{proper_value, object_word, object_fits}
 use Rattle.elab_fits_forms.proofs.Calling.{named_call, virtual_call, result_row, plain_result, named_row}
@@ -159,10 +159,10 @@ free_words f ts e h = ap (λ (ws : List WordOf). are_words ws (heads_of ts)) (si
 
 free_function : (s : Setting) (c : Ctx) (w : Work) (at : At) (i : ℕ) (f : Func) (os : List Operand) → Holds s c w → slice_get c.funcs i ≡ Some f
     → f.class ≡ None → ProperOperands s c os → count_of (signature_parameters f.declared.signature) ≡ length os
-    → On (Stands_made s c) (called c w at (call_kind f.builtin i) f.declared.signature none os)
+    → On (MadeStands s c) (called c w at (call_kind f.builtin i) f.declared.signature none os)
 free_function s c w at i f os h e n x k = by f.builtin refl
   where
-    by : (o : Option Builtin) → f.builtin ≡ o → On (Stands_made s c) (called c w at (call_kind o i) f.declared.signature none os)
+    by : (o : Option Builtin) → f.builtin ≡ o → On (MadeStands s c) (called c w at (call_kind o i) f.declared.signature none os)
     by None d = called_stands s c w w at (Call i) f.declared.signature none os h (h.functions i f e).sound x k (λ ts r g. record {
       call = named_call s i ts g.fit;
       row = named_row s c i f (heads_of ts) h.setting e (plain_special f.kind ((h.functions i f e).free n))
@@ -177,13 +177,13 @@ free_function s c w at i f os h e n x k = by f.builtin refl
         none_words (signature ps q safe) = refl
 
 pub free_stands : (s : Setting) (c : Ctx) (w : Work) (at : At) (k : ℕ) (os : List Operand) → Holds s c w → ProperOperands s c os
-    → On (Stands_made s c) (call_free c w at k os)
-free_stands s c w at k os h x = checked (Stands_made s c) at BadMain (not (is_main (func_at c.funcs k))) _ (λ y.
-    bind (IsMeant c (is_free (func_at c.funcs k).declared.name) (arguments os)) (Stands_made s c)
+    → On (MadeStands s c) (call_free c w at k os)
+free_stands s c w at k os h x = checked (MadeStands s c) at BadMain (not (is_main (func_at c.funcs k))) _ (λ y.
+    bind (IsMeant c (is_free (func_at c.funcs k).declared.name) (arguments os)) (MadeStands s c)
     (best_of c at (places_from (is_free (func_at c.funcs k).declared.name) 0 c.funcs) os) _
     (best_meant c at (is_free (func_at c.funcs k).declared.name) os)
     (λ i m. let n = free_class (func_at c.funcs k).declared.name m.func m.passes in
-    subst (λ (f : Func). On (Stands_made s c) (called c w at (call_kind f.builtin i) f.declared.signature none os)) (sym (func_is c.funcs i m.func m.at))
+    subst (λ (f : Func). On (MadeStands s c) (called c w at (call_kind f.builtin i) f.declared.signature none os)) (sym (func_is c.funcs i m.func m.at))
     (free_function s c w at i m.func os h m.at n x (sym (free_count m.func n) ∙ m.count ∙ many os))))
 
 -- Member functions
@@ -291,21 +291,21 @@ pub less_one : (a b : ℕ) → suc a ≡ suc b → a ≡ b
 less_one a b h = cc
 
 pub method_stands : (s : Setting) (c : Ctx) (w : Work) (at : At) (n k : ℕ) (e : Tree) (os : List Operand) → Holds s c w
-    → is_some (completion_of c.classes n) ≡ true → IsObject s c e → ProperOperands s c os → On (Stands_made s c) (call_method_of c w at n k e os)
+    → is_some (completion_of c.classes n) ≡ true → IsObject s c e → ProperOperands s c os → On (MadeStands s c) (call_method_of c w at n k e os)
 method_stands s c w at n k e os h q o x =
-    bind (IsMeant c (is_method n (func_at c.funcs k).declared.name) (arguments (record { tree = e; at = at; zero = false } ∷ os))) (Stands_made s c)
+    bind (IsMeant c (is_method n (func_at c.funcs k).declared.name) (arguments (record { tree = e; at = at; zero = false } ∷ os))) (MadeStands s c)
     (best_of c at (places_from (is_method n (func_at c.funcs k).declared.name) 0 c.funcs) (record { tree = e; at = at; zero = false } ∷ os)) _
     (best_meant c at (is_method n (func_at c.funcs k).declared.name) (record { tree = e; at = at; zero = false } ∷ os))
     (λ i m. by i m (and_parts (bytes_eq m.func.declared.name (func_at c.funcs k).declared.name && same_number n m.func.class) (is_plain_kind m.func.kind) m.passes))
   where
     by : (i : ℕ) (m : IsMeant c (is_method n (func_at c.funcs k).declared.name) (arguments (record { tree = e; at = at; zero = false } ∷ os)) i)
         → ((bytes_eq m.func.declared.name (func_at c.funcs k).declared.name && same_number n m.func.class) ≡ true) × (is_plain_kind m.func.kind ≡ true)
-        → On (Stands_made s c) (called c w at (member_kind c n i) (func_at c.funcs i).declared.signature (one (as_object at n e)) os)
+        → On (MadeStands s c) (called c w at (member_kind c n i) (func_at c.funcs i).declared.signature (one (as_object at n e)) os)
     by i m p =
         let d : m.func.class ≡ Some n = number_is n m.func.class
         (and_parts (bytes_eq m.func.declared.name (func_at c.funcs k).declared.name) (same_number n m.func.class) p.0).1 in
         let y : count_of (signature_parameters m.func.declared.signature) ≡ length os = less_one _ _ (sym (member_count m.func n d) ∙ m.count ∙ ap suc (many os)) in
-        subst (λ (f : Func). On (Stands_made s c) (called c w at (if f.declared.is_virtual then VirtualCall i n (slot_of_function c n i)
+        subst (λ (f : Func). On (MadeStands s c) (called c w at (if f.declared.is_virtual then VirtualCall i n (slot_of_function c n i)
         (unwrap_or (pointer_offset c.classes n) 0) else Call i) f.declared.signature (one (as_object at n e)) os)) (sym (func_is c.funcs i m.func m.at))
         (called_stands s c w w at _ m.func.declared.signature (one (as_object at n e)) os h (h.functions i m.func m.at).sound x y
         (λ ts r g. member_call s c w at i n m.func (as_object at n e) ts h m.at d (method_kind m.func.kind p.1) q (object_as s c at n e o) g))

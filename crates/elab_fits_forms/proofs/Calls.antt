@@ -28,7 +28,7 @@ use Rattle.elab_fits_objects.proofs.Passing as passing
 use Rattle.elab_fits_forms.specs.Types.{is_sound, is_result, is_sound_signature, are_parameters}
 use Rattle.elab_fits_forms.specs.Meaning.{Proper}
 use Rattle.elab_fits_forms.specs.Context.{Holds}
-use Rattle.elab_fits_forms.specs.Forms.{Stands_made, ProperOperands}
+use Rattle.elab_fits_forms.specs.Forms.{MadeStands, ProperOperands}
 use Rattle.elab_fits_forms.proofs.Places.{place_is, func_is}
 use Rattle.elab_fits_forms.proofs.Wholes.{class_whole}
 use Rattle.elab_fits_forms.proofs.Sources.{parameters_are, sources_of}
@@ -40,16 +40,16 @@ pub record HasWords (s : Setting) (w : Work) (ps : Typs) (m : MadeAll) : Type 0 
   pub fit : WordsFit s ps m.trees
   pub before : Reaches s w
 
-abbrev Words_made : Setting → Work → Typs → MadeAll → Type 0
-Words_made s w ps m = Reaches s m.work → HasWords s w ps m
+abbrev WordsMade : Setting → Work → Typs → MadeAll → Type 0
+WordsMade s w ps m = Reaches s m.work → HasWords s w ps m
 
 words_made : (s : Setting) (c : Ctx) (w w' : Work) (ps : Typs) (os : List Operand) → Holds s c w' → ProperOperands s c os → are_parameters c.classes ps ≡ true
-    → count_of ps ≡ length os → On (Words_made s w ps) (words c w ps os)
+    → count_of ps ≡ length os → On (WordsMade s w ps) (words c w ps os)
 words_made s c w w' ps os h x i n = by (words c w ps os)
     (passing.words_fit s c _ w ps os h.setting h.makers (sources_of s c os x) (parameters_are s c w' ps h i) n) (passing.words_keep s c w ps os)
   where
     by : (r : Result MadeAll ElabFault) → On (λ (m : MadeAll). Reaches s m.work → WordsFit s ps m.trees) r
-        → On (λ (m : MadeAll). Reaches s m.work → Reaches s w) r → On (Words_made s w ps) r
+        → On (λ (m : MadeAll). Reaches s m.work → Reaches s w) r → On (WordsMade s w ps) r
     by (Ok m) f k = λ r. record { fit = f r; before = k r }
     by (Err e) f k = tt
 
@@ -86,17 +86,17 @@ pub called_made : (s : Setting) (c : Ctx) (w w' : Work) (at : At) (kind : TKind)
     → is_sound_signature c.classes g ≡ true → ProperOperands s c os → count_of (signature_parameters g) ≡ length os
     → ((ts : Trees) → Reaches s w → WordsFit s (signature_parameters g) ts → IsGiven c (signature_result g)
     → Proper s c (call_node at kind (signature_result g) (followed_by before ts)))
-    → On (Stands_made s c) (called c w at kind g before os)
+    → On (MadeStands s c) (called c w at kind g before os)
 called_made s c w w' at kind g before os h i x n k =
-    bind (λ (y : Bool). IsGiven c (signature_result g)) (Stands_made s c) (complete_result c at (signature_result g)) _
+    bind (λ (y : Bool). IsGiven c (signature_result g)) (MadeStands s c) (complete_result c at (signature_result g)) _
     (complete_given c at (signature_result g)) (λ y d.
-    bind (Words_made s w (signature_parameters g)) (Stands_made s c) (words c w (signature_parameters g) os) _
+    bind (WordsMade s w (signature_parameters g)) (MadeStands s c) (words c w (signature_parameters g) os) _
     (words_made s c w w' (signature_parameters g) os h x (sound_parts c g i).0 n) (λ m f r. k m.trees (f r).before (f r).fit d))
 
 pub called_stands : (s : Setting) (c : Ctx) (w w' : Work) (at : At) (kind : TKind) (g : Signature) (before : Trees) (os : List Operand) → Holds s c w'
     → is_sound_signature c.classes g ≡ true → ProperOperands s c os → count_of (signature_parameters g) ≡ length os
     → ((ts : Trees) → Reaches s w → WordsFit s (signature_parameters g) ts → CallsWith s kind (signature_result g) (followed_by before ts))
-    → On (Stands_made s c) (called c w at kind g before os)
+    → On (MadeStands s c) (called c w at kind g before os)
 called_stands s c w w' at kind g before os h i x n k = called_made s c w w' at kind g before os h i x n (λ ts r f d.
     call_proper s c kind (followed_by before ts) (signature_result g) at (k ts r f).call (sound_parts c g i).1
     (λ o. class_whole s c w' (signature_result g) h (result_sound c (signature_result g) (sound_parts c g i).1) o d) (k ts r f).row)

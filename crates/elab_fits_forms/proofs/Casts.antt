@@ -37,7 +37,7 @@ use Rattle.elab_fits.proofs.Arithmetic.{value_of}
 use Rattle.elab_fits_forms.specs.Types.{is_sound, is_sound_form}
 use Rattle.elab_fits_forms.specs.Meaning.{Proper, ProperOperand}
 use Rattle.elab_fits_forms.specs.Context.{Holds}
-use Rattle.elab_fits_forms.specs.Forms.{Stands_made}
+use Rattle.elab_fits_forms.specs.Forms.{MadeStands}
 use Rattle.elab_fits_forms.proofs.Proper.{proper_value}
 use Rattle.elab_fits_forms.proofs.Names.{word_gives}
 use Rattle.elab_fits_forms.proofs.Dropped.{operand_is, dropped_value, nothing_proper}
@@ -75,8 +75,8 @@ zero_value : (at : At) (e : Tree) → IsZero e → IsZero (valued at e)
 zero_value at e z = subst (λ (x : Tree). IsZero (valued at x)) (sym z.is) (record { kind = z.kind; place = z.place; is = refl })
 
 scalar_stands : (s : Setting) (c : Ctx) (w : Work) (at : At) (f : Form) (q v : Bool) (o : Operand) → is_scalar f ≡ true → is_sound_form c.classes f ≡ true
-    → ProperOperand s c o → On (Stands_made s c) (scalar_cast c w at (typ f q v) o)
-scalar_stands s c w at f q v o k i p = either (Stands_made s c) (is_numeric (form_in (typ_in (value o))) && is_numeric f) _ _
+    → ProperOperand s c o → On (MadeStands s c) (scalar_cast c w at (typ f q v) o)
+scalar_stands s c w at f q v o k i p = either (MadeStands s c) (is_numeric (form_in (typ_in (value o))) && is_numeric f) _ _
     (λ h r. proper_value s c f (converted at (typ f q v) (value o))
     (converted_gives s at (value_form o) f q v (value o)
     (value_of s o (operand_is s c o p) (numeric_scalar (value_form o) (and_parts (is_numeric (value_form o)) (is_numeric f) h).0)) k) i)
@@ -84,17 +84,17 @@ scalar_stands s c w at f q v o k i p = either (Stands_made s c) (is_numeric (for
     (initial_gives s c w f false false (record { tree = value o; at = at; zero = o.zero })
     (record { stands = value_stands s o.at o.tree p.proper.stands; zero = λ z. zero_value o.at o.tree (p.zero z) }) k))
   where
-    by : (r : Result Made ElabFault) → On (MadeGives s f) r → On (Stands_made s c) r
+    by : (r : Result Made ElabFault) → On (MadeGives s f) r → On (MadeStands s c) r
     by (Ok m) g = λ x. proper_value s c f m.tree g i
     by (Err e) g = tt
 
 pub void_stands : (s : Setting) (c : Ctx) (w : Work) (at : At) (t : Typ) (o : Operand) → Holds s c w → ProperOperand s c o
-    → On (Stands_made s c) (cast_in c w at t void o)
+    → On (MadeStands s c) (cast_in c w at t void o)
 void_stands s c w at t o h p = λ r. nothing_proper s c at (dropped c w o).tree (dropped_value s c w w o h p r)
 
 -- neither a class nor a reference
 pub value_casts : (s : Setting) (c : Ctx) (w : Work) (at : At) (t : Typ) (o : Operand) → Holds s c w → is_sound c.classes t ≡ true
-    → is_class_typ t ≡ false → is_reference t ≡ false → ProperOperand s c o → On (Stands_made s c) (cast c w at t o)
+    → is_class_typ t ≡ false → is_reference t ≡ false → ProperOperand s c o → On (MadeStands s c) (cast c w at t o)
 value_casts s c w at (typ void q v) o h i k n p = void_stands s c w at (typ void q v) o h p
 value_casts s c w at (typ (ref u) q v) o h i k n p = absurd cc
 value_casts s c w at (typ (func g) q v) o h i k n p = tt
@@ -131,10 +131,10 @@ zero_stands s c at (typ f q v) i k n = proper_value s c f (node (Literal 0) (pla
     (word_gives s f 0 at (plain_scalar f q v k n) (zero_words f k)) i
 
 pub from_none : (s : Setting) (c : Ctx) (w : Work) (at : At) (t : Typ) → is_sound c.classes t ≡ true → is_class_typ t ≡ false
-    → On (Stands_made s c) (functional c w at t [])
-from_none s c w at t i k = rw k (either (Stands_made s c) (is_void t) _ _
+    → On (MadeStands s c) (functional c w at t [])
+from_none s c w at t i k = rw k (either (MadeStands s c) (is_void t) _ _
     (λ v r. nothing_proper s c at (number ULong 0 at) (number_gives s ULong 0 at (zero_word ULong)).fits)
-    (λ v. checked (Stands_made s c) at BadInit (is_some (kind_in (form_in t)) && not (is_reference t)) _ (λ x. by x)))
+    (λ v. checked (MadeStands s c) at BadInit (is_some (kind_in (form_in t)) && not (is_reference t)) _ (λ x. by x)))
   where
     is_not : (a b : Bool) → (a && not b) ≡ true → b ≡ false
     is_not a true h = absurd (by_false a h)

@@ -38,7 +38,7 @@ use Rattle.elab_fits.proofs.Choosing.{values_choose, choice_stands, own_branch, 
 use Rattle.elab_fits_forms.specs.Types.{is_sound, is_sound_form, is_target, IsWhole}
 use Rattle.elab_fits_forms.specs.Meaning.{Proper, ProperOperand}
 use Rattle.elab_fits_forms.specs.Context.{Holds}
-use Rattle.elab_fits_forms.specs.Forms.{Stands_made}
+use Rattle.elab_fits_forms.specs.Forms.{MadeStands}
 use Rattle.elab_fits_forms.proofs.Types.{class_no_void, class_target}
 use Rattle.elab_fits_forms.proofs.Proper.{proper_lvalue, proper_value, proper_valued}
 use Rattle.elab_fits_forms.proofs.Temporaries.{prvalue_class}
@@ -209,24 +209,24 @@ both_known s c (Err e) g h = tt
 joined_target : (c : Ctx) (t u : Typ) → is_sound c.classes t ≡ true → is_class_typ t ≡ true → is_target c.classes (joined_type t u) ≡ true
 joined_target c (typ f q v) (typ g d w) h k = class_target c.classes (typ f (q || d) (v || w)) h k
 
-made_of : (s : Setting) (c : Ctx) (w : Work) (r : Result Tree ElabFault) → On (Proper s c) r → On (Stands_made s c) (same_work w r)
+made_of : (s : Setting) (c : Ctx) (w : Work) (r : Result Tree ElabFault) → On (Proper s c) r → On (MadeStands s c) (same_work w r)
 made_of s c w (Ok e) h = λ r. h
 made_of s c w (Err e) h = tt
 
 pub branches_stand : (s : Setting) (c : Ctx) (w : Work) (at : At) (test : Tree) (a b : Operand) → Holds s c w → IsTruth s test → ProperOperand s c a
-    → ProperOperand s c b → (is_shared a b ≡ false → both_of_class a b ≡ true → On (Stands_made s c) (two_objects c w at test a b))
-    → On (Stands_made s c) (branches c w at test a b)
-branches_stand s c w at test a b o h x y two = either (Stands_made s c) (throws a.tree && throws b.tree) _ _
+    → ProperOperand s c b → (is_shared a b ≡ false → both_of_class a b ≡ true → On (MadeStands s c) (two_objects c w at test a b))
+    → On (MadeStands s c) (branches c w at test a b)
+branches_stand s c w at test a b o h x y two = either (MadeStands s c) (throws a.tree && throws b.tree) _ _
     (λ i. let d = and_parts (throws a.tree) (throws b.tree) i in λ r. both_throw s c at test a.tree b.tree h x.proper y.proper d.0 d.1)
-    (λ i. either (Stands_made s c) (throws b.tree) _ _
+    (λ i. either (MadeStands s c) (throws b.tree) _ _
     (λ t r. second_throws s c at test (settled c w a).tree b.tree h (settled_is s c w w a o x r) y.proper t)
-    (λ j. either (Stands_made s c) (throws a.tree) _ _
+    (λ j. either (MadeStands s c) (throws a.tree) _ _
     (λ t r. first_throws s c at test a.tree (settled c w b).tree h x.proper (settled_is s c w w b o y r) t)
-    (λ k. either (Stands_made s c) (same_lvalues a b || (is_void (typ_in a.tree) && is_void (typ_in b.tree))) _ _
+    (λ k. either (MadeStands s c) (same_lvalues a b || (is_void (typ_in a.tree) && is_void (typ_in b.tree))) _ _
     (λ l r. or_case (Proper s c (conditional_node at (typ_in a.tree) (cat_of a.tree) test a.tree b.tree)) (same_lvalues a b)
     (is_void (typ_in a.tree) && is_void (typ_in b.tree)) l lvalues voids)
-    (λ l. either (Stands_made s c) (is_shared a b) _ _ (λ m r. shares m)
-    (λ m. either (Stands_made s c) (both_of_class a b) _ _ (two m)
+    (λ l. either (MadeStands s c) (is_shared a b) _ _ (λ m r. shares m)
+    (λ m. either (MadeStands s c) (both_of_class a b) _ _ (two m)
     (λ n. made_of s c w (two_values at test (value_form a) (value_form b) a b)
     (both_known s c (two_values at test (value_form a) (value_form b) a b)
     (values_choose s at test (value_form a) (value_form b) a b h (operand_is s c a x) (operand_is s c b y) refl refl)
@@ -266,7 +266,7 @@ branches_stand s c w at test a b o h x y two = either (Stands_made s c) (throws 
 
 pub choices_stand : (s : Setting) (c : Ctx) (w : Work) (at : At) (test a b : Operand) → Holds s c w → ProperOperand s c test → ProperOperand s c a
     → ProperOperand s c b
-    → ((t : Tree) → IsTruth s t → is_shared a b ≡ false → both_of_class a b ≡ true → On (Stands_made s c) (two_objects c w at t a b))
-    → On (Stands_made s c) (conditional c w at test a b)
-choices_stand s c w at test a b o z x y two = bind (IsTruth s) (Stands_made s c) (truth c w test) _ (truth_gives s c w test (operand_is s c test z))
+    → ((t : Tree) → IsTruth s t → is_shared a b ≡ false → both_of_class a b ≡ true → On (MadeStands s c) (two_objects c w at t a b))
+    → On (MadeStands s c) (conditional c w at test a b)
+choices_stand s c w at test a b o z x y two = bind (IsTruth s) (MadeStands s c) (truth c w test) _ (truth_gives s c w test (operand_is s c test z))
     (λ t h. branches_stand s c w at t a b o h x y (two t h))

@@ -36,7 +36,7 @@ use Rattle.elab_fits_objects.proofs.Valued.{values_build}
 use Rattle.elab_fits_forms.specs.Types.{is_sound, is_sound_form, is_lambda, is_exception_value, IsWhole}
 use Rattle.elab_fits_forms.specs.Meaning.{Proper, ProperOperand}
 use Rattle.elab_fits_forms.specs.Context.{Holds}
-use Rattle.elab_fits_forms.specs.Forms.{Stands_made, ProperOperands}
+use Rattle.elab_fits_forms.specs.Forms.{MadeStands, ProperOperands}
 use Rattle.elab_fits_forms.proofs.Wholes.{class_whole, plain_exception}
 use Rattle.elab_fits_forms.proofs.Sources.{object_typ_is, parameter_is, sources_of}
 use Rattle.elab_fits_forms.proofs.Settled.{proper_built, own_builds}
@@ -203,7 +203,7 @@ expression_by s c w at f e true x h m k i d = absurd cc
 
 expression_made : (s : Setting) (c : Ctx) (w : Work) (at : At) (f : Form) (r : Result Made ElabFault) → Holds s c w → is_class_typ (plain f) ≡ true
     → is_sound_form c.classes f ≡ true → On (λ (m : Made). IsDone c (plain f)) r → On (λ (m : Made). Reaches s m.work → Makes s (plain f) m.tree) r
-    → On (Stands_made s c) (and_then r (λ (m : Made). Ok (with_tree (as_expression at (plain f)) m)))
+    → On (MadeStands s c) (and_then r (λ (m : Made). Ok (with_tree (as_expression at (plain f)) m)))
 expression_made s c w at f (Ok m) h k i d g = λ r. expression_by s c w at f m.tree (is_exception_form f && not (is_exception_form (form_in (typ_in m.tree)))) refl h
     (g r) k i d
 expression_made s c w at f (Err e) h k i d g = tt
@@ -221,25 +221,25 @@ class_initialised s c w f h k i = absurd cc
 
 class_values : (s : Setting) (c : Ctx) (w : Work) (at : At) (f : Form) (os : List Operand) → Holds s c w → is_class_typ (plain f) ≡ true
     → is_sound_form c.classes f ≡ true → ProperOperands s c os
-    → On (Stands_made s c) (and_then (from_values c w (plain f) at os) (λ (m : Made). Ok (with_tree (as_expression at (plain f)) m)))
+    → On (MadeStands s c) (and_then (from_values c w (plain f) at os) (λ (m : Made). Ok (with_tree (as_expression at (plain f)) m)))
 class_values s c w at f os h k i x = expression_made s c w at f (from_values c w (plain f) at os) h k i (values_done c w (plain f) at os)
     (values_build s c _ w (plain f) at os h.setting h.makers (sources_of s c os x) (class_initialised s c w f h k i))
 
 pub casts_stand : (s : Setting) (c : Ctx) (w : Work) (at : At) (t : Typ) (o : Operand) → Holds s c w → is_sound c.classes t ≡ true → ProperOperand s c o
-    → On (Stands_made s c) (cast c w at t o)
+    → On (MadeStands s c) (cast c w at t o)
 casts_stand s c w at (typ (class n) q v) o h i x = class_values s c w at (class n) (o ∷ []) h refl i (ProperOperands.more x ProperOperands.none)
 casts_stand s c w at (typ (closure n) q v) o h i x = class_values s c w at (closure n) (o ∷ []) h refl i (ProperOperands.more x ProperOperands.none)
 casts_stand s c w at (typ (tx_ex u) q v) o h i x = class_values s c w at (tx_ex u) (o ∷ []) h refl i (ProperOperands.more x ProperOperands.none)
 casts_stand s c w at (typ f q v) o h i x = scalar_casts s c w at (typ f q v) o h i refl x
 
 functional_class : (s : Setting) (c : Ctx) (w : Work) (at : At) (f : Form) (q v : Bool) (os : List Operand) → Holds s c w → is_class_typ (plain f) ≡ true
-    → is_sound_form c.classes f ≡ true → ProperOperands s c os → On (Stands_made s c) (functional c w at (typ f q v) os)
+    → is_sound_form c.classes f ≡ true → ProperOperands s c os → On (MadeStands s c) (functional c w at (typ f q v) os)
 functional_class s c w at f q v [] h k i x = rw k (class_values s c w at f [] h k i x)
 functional_class s c w at f q v (o ∷ []) h k i (ProperOperands.more x xs) = casts_stand s c w at (typ f q v) o h i x
 functional_class s c w at f q v (o ∷ u ∷ os) h k i x = rw k (class_values s c w at f (o ∷ u ∷ os) h k i x)
 
 pub functionals_stand : (s : Setting) (c : Ctx) (w : Work) (at : At) (t : Typ) (os : List Operand) → Holds s c w → is_sound c.classes t ≡ true
-    → ProperOperands s c os → On (Stands_made s c) (functional c w at t os)
+    → ProperOperands s c os → On (MadeStands s c) (functional c w at t os)
 functionals_stand s c w at (typ (class n) q v) os h i x = functional_class s c w at (class n) q v os h refl i x
 functionals_stand s c w at (typ (closure n) q v) os h i x = functional_class s c w at (closure n) q v os h refl i x
 functionals_stand s c w at (typ (tx_ex u) q v) os h i x = functional_class s c w at (tx_ex u) q v os h refl i x

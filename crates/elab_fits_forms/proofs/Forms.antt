@@ -25,8 +25,8 @@ use Rattle.elab_fits.proofs.Steps.{bind, expected, either}
 use Rattle.elab_fits_forms.specs.Types.{is_empty}
 use Rattle.elab_fits_forms.specs.Meaning.{Proper, Means, ProperOperand}
 use Rattle.elab_fits_forms.specs.Context.{Holds}
-use Rattle.elab_fits_forms.specs.Names.{Made_means, Typed_means}
-use Rattle.elab_fits_forms.specs.Forms.{Stands_made, ProperOperands, Covered}
+use Rattle.elab_fits_forms.specs.Names.{MadeMeans, TypedMeans}
+use Rattle.elab_fits_forms.specs.Forms.{MadeStands, ProperOperands, Covered}
 use Rattle.elab_fits_forms.proofs.Members.{members_mean}
 use Rattle.elab_fits_forms.proofs.Leaves.{plain_operand}
 use Rattle.elab_fits_forms.proofs.Settled.{commas_stand}
@@ -38,19 +38,19 @@ use Rattle.elab_fits_forms.proofs.Operators.{indirection_proper, subscript_prope
 
 -- Answers
 
-pub tree_typed : (s : Setting) (c : Ctx) (at : At) (w : Work) (r : Result Tree ElabFault) → On (Proper s c) r → On (Typed_means s c) (a_tree at w r)
+pub tree_typed : (s : Setting) (c : Ctx) (at : At) (w : Work) (r : Result Tree ElabFault) → On (Proper s c) r → On (TypedMeans s c) (a_tree at w r)
 tree_typed s c at w (Ok e) h = λ r. plain_operand s c at e (Means.standing h)
 tree_typed s c at w (Err e) h = tt
 
-pub made_typed : (s : Setting) (c : Ctx) (at : At) (r : Result Made ElabFault) → On (Stands_made s c) r → On (Typed_means s c) (an_operand at r)
+pub made_typed : (s : Setting) (c : Ctx) (at : At) (r : Result Made ElabFault) → On (MadeStands s c) r → On (TypedMeans s c) (an_operand at r)
 made_typed s c at (Ok m) h = λ r. plain_operand s c at m.tree (Means.standing (h r))
 made_typed s c at (Err e) h = tt
 
-means_typed : (s : Setting) (c : Ctx) (at : At) (r : Result Made ElabFault) → On (Made_means s c) r → On (Typed_means s c) (an_operand at r)
+means_typed : (s : Setting) (c : Ctx) (at : At) (r : Result Made ElabFault) → On (MadeMeans s c) r → On (TypedMeans s c) (an_operand at r)
 means_typed s c at (Ok m) h = λ r. plain_operand s c at m.tree (h r)
 means_typed s c at (Err e) h = tt
 
-worked : (s : Setting) (c : Ctx) (w : Work) (r : Result Tree ElabFault) → On (Proper s c) r → On (Stands_made s c) (same_work w r)
+worked : (s : Setting) (c : Ctx) (w : Work) (r : Result Tree ElabFault) → On (Proper s c) r → On (MadeStands s c) (same_work w r)
 worked s c w (Ok e) h = λ r. h
 worked s c w (Err e) h = tt
 
@@ -79,8 +79,8 @@ unary_proper s c w at name a x = either (Proper s c) (bytes_eq name (codes "++")
     (λ m. either (Proper s c) (bytes_eq name (codes "*")) _ _ (λ n. indirection_proper s c at a x) (λ n. address_proper s c at a x)))))))
 
 assignment_proper : (s : Setting) (c : Ctx) (w : Work) (at : At) (name : List ℕ) (a b : Operand) → Holds s c w → ProperOperand s c a → ProperOperand s c b
-    → On (Stands_made s c) (assignment_of c w at name a b)
-assignment_proper s c w at name a b h x y = either (Stands_made s c) (bytes_eq name (codes "=")) _ _ (λ g. assignments_stand s c w at a b h x y)
+    → On (MadeStands s c) (assignment_of c w at name a b)
+assignment_proper s c w at name a b h x y = either (MadeStands s c) (bytes_eq name (codes "=")) _ _ (λ g. assignments_stand s c w at a b h x y)
     (λ g. worked s c w (and_then (expect at OutOfProfile (compound_operator name)) (λ (op : BinOp). compound c op at a b))
     (expected (Proper s c) at OutOfProfile (compound_operator name) _ (λ op e. compound_proper s c op at a b x y)))
 
@@ -94,7 +94,7 @@ pointed_proper s c at a x = by (indirection at a) (indirection_proper s c at a x
     by (Err e) h = tt
 
 pub rows_mean : (lexemes : List Lexeme) (s : Setting) (c : Ctx) (w : Work) (kind : NodeKind) (at : At) (t : ℕ) (os : List Operand) → Holds s c w
-    → is_empty (spelling lexemes t) ≡ false → ProperOperands s c os → Covered kind os → On (Typed_means s c) (row_of lexemes c w kind at t os)
+    → is_empty (spelling lexemes t) ≡ false → ProperOperands s c os → Covered kind os → On (TypedMeans s c) (row_of lexemes c w kind at t os)
 rows_mean l s c w k.Subscript at t (a ∷ b ∷ []) h n (ProperOperands.more x (ProperOperands.more y xs)) i =
     tree_typed s c at w (subscript c at a b) (subscript_proper s c at a b x y)
 rows_mean l s c w k.PostfixIncrement at t (a ∷ []) h n (ProperOperands.more x xs) i =
@@ -115,7 +115,7 @@ rows_mean l s c w k.MemberAccess at t (a ∷ []) h n (ProperOperands.more x xs) 
     means_typed s c at (member_access c w at (token_place l at.source t) (spelling l t) a)
     (members_mean s c w at (token_place l at.source t) (spelling l t) a h n x)
 rows_mean l s c w k.PointerMemberAccess at t (a ∷ []) h n (ProperOperands.more x xs) i =
-    bind (ProperOperand s c) (Typed_means s c) (pointed_operand at a) _ (pointed_proper s c at a x)
+    bind (ProperOperand s c) (TypedMeans s c) (pointed_operand at a) _ (pointed_proper s c at a x)
     (λ o y. means_typed s c at (member_access c w at (token_place l at.source t) (spelling l t) o)
     (members_mean s c w at (token_place l at.source t) (spelling l t) o h n y))
 rows_mean l s c w kind at t os h n x i = tt

@@ -30,7 +30,7 @@ use Rattle.elab_fits_objects.proofs.Keeping as keeping
 use Rattle.elab_fits_forms.specs.Types.{is_sound, IsWhole}
 use Rattle.elab_fits_forms.specs.Meaning.{ProperOperand}
 use Rattle.elab_fits_forms.specs.Context.{Holds}
-use Rattle.elab_fits_forms.specs.Forms.{Stands_made}
+use Rattle.elab_fits_forms.specs.Forms.{MadeStands}
 use Rattle.elab_fits_forms.proofs.Wholes.{class_whole}
 use Rattle.elab_fits_forms.proofs.Sources.{object_typ_is, source_of}
 use Rattle.elab_fits_forms.proofs.Settled.{proper_built}
@@ -116,11 +116,11 @@ own_class e h = by (is_class_prvalue (typ_in e) (cat_of e)) (typ_in e) h
     by false (typ f q v) k = k
 
 two_stand : (s : Setting) (c : Ctx) (w : Work) (at : At) (test : Tree) (a b : Operand) → Holds s c w → IsTruth s test → ProperOperand s c a
-    → ProperOperand s c b → both_of_class a b ≡ true → On (Stands_made s c) (two_objects c w at test a b)
+    → ProperOperand s c b → both_of_class a b ≡ true → On (MadeStands s c) (two_objects c w at test a b)
 two_stand s c w at test a b h t x y k =
-    bind (IsExact s c w (common_class a b)) (Stands_made s c) (exact_object c w (common_class a b) a.at a) _
+    bind (IsExact s c w (common_class a b)) (MadeStands s c) (exact_object c w (common_class a b) a.at a) _
     (exact_is s c w w (common_class a b) a.at a h sound typed x) (λ m g.
-    bind (IsExact s c m.work (common_class a b)) (Stands_made s c) (exact_object c m.work (common_class a b) b.at b) _
+    bind (IsExact s c m.work (common_class a b)) (MadeStands s c) (exact_object c m.work (common_class a b) b.at b) _
     (exact_is s c m.work w (common_class a b) b.at b h sound typed y) (λ n i r.
     proper_built s c (conditional_node at (common_class a b) Prvalue test m.tree n.tree)
     (choice_built s c at (common_class a b) test m.tree n.tree typed sound g.whole t (g.makes (i.before r)).makes.one.fits (i.makes r).makes.one.fits
@@ -134,5 +134,5 @@ two_stand s c w at test a b h t x y k =
         (own_class a.tree (and_parts (is_class_typ (typ_in a.tree)) (form_eq (form_in (typ_in a.tree)) (form_in (typ_in b.tree))) k).0)
 
 pub all_choices : (s : Setting) (c : Ctx) (w : Work) (at : At) (test a b : Operand) → Holds s c w → ProperOperand s c test → ProperOperand s c a
-    → ProperOperand s c b → On (Stands_made s c) (conditional c w at test a b)
+    → ProperOperand s c b → On (MadeStands s c) (conditional c w at test a b)
 all_choices s c w at test a b o z x y = choices_stand s c w at test a b o z x y (λ t h n m. two_stand s c w at t a b o h x y m)

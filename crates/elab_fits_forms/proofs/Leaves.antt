@@ -33,7 +33,7 @@ use Rattle.elab_fits.proofs.Steps.{expected}
 use Rattle.elab_fits_forms.specs.Types.{is_empty}
 use Rattle.elab_fits_forms.specs.Meaning.{Proper, Means, MeansOperand}
 use Rattle.elab_fits_forms.specs.Context.{Holds}
-use Rattle.elab_fits_forms.specs.Names.{Typed_means}
+use Rattle.elab_fits_forms.specs.Names.{TypedMeans}
 use Rattle.elab_fits_forms.proofs.Words.{word_in_kind, literal_word}
 use Rattle.elab_fits_forms.proofs.Proper.{proper_value}
 use Rattle.elab_fits_forms.proofs.Variables.{IsThisTree, this_tree_is}
@@ -44,7 +44,7 @@ pub plain_operand : (s : Setting) (c : Ctx) (at : At) (e : Tree) → Means s c e
 plain_operand s c at e m = record { means = m; zero = λ h. absurd cc }
 
 pub tree_means : (s : Setting) (c : Ctx) (at : At) (w : Work) (r : Result Tree ElabFault) → (Reaches s w → On (Means s c) r)
-    → On (Typed_means s c) (a_tree at w r)
+    → On (TypedMeans s c) (a_tree at w r)
 tree_means s c at w (Ok e) h = λ r. plain_operand s c at e (h r)
 tree_means s c at w (Err e) h = tt
 
@@ -54,13 +54,13 @@ number_proper s c k n at h = proper_value s c (int k) (node (Literal n) (plain (
 zero_is : (k : IntKind) (n : ℕ) (at : At) → (n == 0) ≡ true → IsZero (node (Literal n) (plain (int k)) Prvalue at none)
 zero_is k n at h = record { kind = k; place = at; is = ap (λ (w : ℕ). node (Literal w) (plain (int k)) Prvalue at none) (eqb-true n 0 h) }
 
-integer_means : (s : Setting) (c : Ctx) (w : Work) (at : At) (bytes : List ℕ) (n : ℕ) → On (Typed_means s c) (integer_literal at bytes n w)
-integer_means s c w at bytes n = expected (Typed_means s c) at OutOfProfile (int_type_of bytes n) _ (λ kind e. λ r. record {
+integer_means : (s : Setting) (c : Ctx) (w : Work) (at : At) (bytes : List ℕ) (n : ℕ) → On (TypedMeans s c) (integer_literal at bytes n w)
+integer_means s c w at bytes n = expected (TypedMeans s c) at OutOfProfile (int_type_of bytes n) _ (λ kind e. λ r. record {
   means = Means.standing (number_proper s c kind n at (literal_word bytes n kind e));
   zero = zero_is kind n at;
 })
 
-word_means : (s : Setting) (c : Ctx) (w : Work) (at : At) (kind : IntKind) (n : ℕ) → On (Typed_means s c) (literal_of at kind n w)
+word_means : (s : Setting) (c : Ctx) (w : Work) (at : At) (kind : IntKind) (n : ℕ) → On (TypedMeans s c) (literal_of at kind n w)
 word_means s c w at kind n = λ r. plain_operand s c at (node (Literal (word_in kind n)) (plain (int kind)) Prvalue at none)
     (Means.standing (number_proper s c kind (word_in kind n) at (word_in_kind kind n)))
 
@@ -94,7 +94,7 @@ this_means s c w at h r = by (this_tree c at) (this_tree_is s c w at h r)
     by (Err e) g = tt
 
 pub leaves_mean : (lexemes : List Lexeme) (s : Setting) (c : Ctx) (w : Work) (kind : NodeKind) (at : At) (t : ℕ) → Holds s c w
-    → is_empty (spelling lexemes t) ≡ false → On (Typed_means s c) (leaf_of lexemes c w kind at t)
+    → is_empty (spelling lexemes t) ≡ false → On (TypedMeans s c) (leaf_of lexemes c w kind at t)
 leaves_mean l s c w k.IntegerLiteral at t h n = integer_means s c w at (spelling l t) (value_at l t)
 leaves_mean l s c w k.CharacterLiteral at t h n = word_means s c w at Char (value_at l t)
 leaves_mean l s c w k.BooleanLiteral at t h n = word_means s c w at BoolKind (truth_word (spelling l t))

@@ -31,7 +31,7 @@ use Rattle.elab_fits.proofs.Steps.{bind, checked, expected}
 use Rattle.elab_fits_forms.specs.Types.{is_empty, is_sound, is_sound_form, is_target}
 use Rattle.elab_fits_forms.specs.Meaning.{IsObject, IsMethod, Means, ProperOperand}
 use Rattle.elab_fits_forms.specs.Context.{Holds}
-use Rattle.elab_fits_forms.specs.Names.{Made_means}
+use Rattle.elab_fits_forms.specs.Names.{MadeMeans}
 use Rattle.elab_fits_forms.proofs.Places.{place_is, number_is}
 use Rattle.elab_fits_forms.proofs.Types.{declared_target, qualified_target}
 use Rattle.elab_fits_forms.proofs.Proper.{proper_part, proper_retyped, proper_object, object_word, object_fits}
@@ -169,12 +169,12 @@ getter_means s c at name e x o = by (bytes_eq name (codes "get")) (typ_in e) ref
     by false t f k = tt
 
 made_by : (s : Setting) (c : Ctx) (w : Work) (r : Result Tree ElabFault) → (Reaches s w → On (Means s c) r)
-    → On (Made_means s c) (and_then r (λ (t : Tree). Ok (record { tree = t; work = w })))
+    → On (MadeMeans s c) (and_then r (λ (t : Tree). Ok (record { tree = t; work = w })))
 made_by s c w (Ok e) h = h
 made_by s c w (Err e) h = tt
 
 pub members_mean : (s : Setting) (c : Ctx) (w : Work) (at dot : At) (name : List ℕ) (o : Operand) → Holds s c w → is_empty name ≡ false
-    → ProperOperand s c o → On (Made_means s c) (member_access c w at dot name o)
+    → ProperOperand s c o → On (MadeMeans s c) (member_access c w at dot name o)
 members_mean s c w at dot name o h n p = by (is_tx_exception (typ_in o.tree)) refl
   where
     object : is_class_typ (typ_in (object_of c w o.at o.tree).tree) ≡ true → Reaches s (object_of c w o.at o.tree).work
@@ -182,7 +182,7 @@ members_mean s c w at dot name o h n p = by (is_tx_exception (typ_in o.tree)) re
     object k r = object_is s c w o.at o.tree h.setting h.makers.specials p.proper (ap is_class_typ (sym (object_typ c w o.at o.tree)) ∙ k) r
 
     by : (b : Bool) → is_tx_exception (typ_in o.tree) ≡ b
-        → On (Made_means s c) (if b then and_then (exception_member at name (object_of c w o.at o.tree).tree)
+        → On (MadeMeans s c) (if b then and_then (exception_member at name (object_of c w o.at o.tree).tree)
         (λ (t : Tree). Ok (record { tree = t; work = (object_of c w o.at o.tree).work }))
         else and_then (class_member c at dot name (object_of c w o.at o.tree).tree)
         (λ (t : Tree). Ok (record { tree = t; work = (object_of c w o.at o.tree).work })))

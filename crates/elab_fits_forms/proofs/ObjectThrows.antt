@@ -37,7 +37,7 @@ use Rattle.elab_fits.proofs.Steps.{bind, checked, known}
 use Rattle.elab_fits_forms.specs.Types.{is_sound, IsWhole}
 use Rattle.elab_fits_forms.specs.Meaning.{IsObject, ProperOperand}
 use Rattle.elab_fits_forms.specs.Context.{Holds}
-use Rattle.elab_fits_forms.specs.Forms.{Stands_made, ProperOperands, FieldsAgree}
+use Rattle.elab_fits_forms.specs.Forms.{MadeStands, ProperOperands, FieldsAgree}
 use Rattle.elab_fits_forms.proofs.Readiness.{any_ready}
 use Rattle.elab_fits_forms.proofs.Proper.{object_fits}
 use Rattle.elab_fits_forms.proofs.Temporaries.{object_is, object_typ}
@@ -115,13 +115,13 @@ small c at t = by (nat_le (size_of c.classes t) EXCEPTION_SIZE) refl
     by true h = h
     by false h = tt
 
-abbrev Value_made : Setting → Made → Type 0
-Value_made s m = Reaches s m.work → FitsAs s Value m.tree
+abbrev ValueMade : Setting → Made → Type 0
+ValueMade s m = Reaches s m.work → FitsAs s Value m.tree
 
 throws_object : (s : Setting) (c : Ctx) (w : Work) (at : At) (o : Operand) → FieldsAgree → Holds s c w → ProperOperand s c o
-    → is_class_typ (typ_in o.tree) ≡ true → IsWhole c.classes (typ_in o.tree) → On (Value_made s) (throw_object c w at o)
-throws_object s c w at o agree h x k y = checked (Value_made s) o.at NoCopy (not (is_volatile_typ (typ_in o.tree))) _ (λ z.
-    bind (λ (b : Bool). nat_le (size_of c.classes (typ_in o.tree)) EXCEPTION_SIZE ≡ true) (Value_made s) (within_exception c at (typ_in o.tree)) _
+    → is_class_typ (typ_in o.tree) ≡ true → IsWhole c.classes (typ_in o.tree) → On (ValueMade s) (throw_object c w at o)
+throws_object s c w at o agree h x k y = checked (ValueMade s) o.at NoCopy (not (is_volatile_typ (typ_in o.tree))) _ (λ z.
+    bind (λ (b : Bool). nat_le (size_of c.classes (typ_in o.tree)) EXCEPTION_SIZE ≡ true) (ValueMade s) (within_exception c at (typ_in o.tree)) _
     (small c at (typ_in o.tree)) (λ b n r. thrown_by s c w at (typ_in o.tree) (object_of c w o.at o.tree).tree agree h
     (object_is s c w o.at o.tree h.setting h.makers.specials x.proper k r) (object_typ c w o.at o.tree) k y n))
 
@@ -133,8 +133,8 @@ decayed_closure (typ (closure m) q v) n e = e
 decayed_closure (typ f q v) n e = absurd cc
 
 thrown_in : (s : Setting) (c : Ctx) (w : Work) (at : At) (f : Form) (o : Operand) → FieldsAgree → Holds s c w → ProperOperand s c o
-    → form_in (typ_in o.tree) ≡ f → On (Value_made s) (throw_in c w at f o)
-thrown_in s c w at (class n) o agree h x e = checked (Value_made s) at NotTriviallyCopyable (traits_at c n).is_trivially_copyable _ (λ y.
+    → form_in (typ_in o.tree) ≡ f → On (ValueMade s) (throw_in c w at f o)
+thrown_in s c w at (class n) o agree h x e = checked (ValueMade s) at NotTriviallyCopyable (traits_at c n).is_trivially_copyable _ (λ y.
     throws_object s c w at o agree h x (form_typ (typ_in o.tree) (class n) e refl)
     (class_whole s c w (typ_in o.tree) h x.proper.sound (form_typ (typ_in o.tree) (class n) e refl)
     (λ m q v d. let i : class n ≡ class m = sym e ∙ ap form_in d in let j : n ≡ m = cc in
@@ -145,21 +145,21 @@ thrown_in s c w at (tx_ex t) o agree h x e = throws_object s c w at o agree h x 
   where
     apart : (u : Typ) (m : ℕ) → tx_ex u ≡ class m → ⊥
     apart u m i = cc
-thrown_in s c w at (closure n) o agree h x e = checked (Value_made s) at BadThrow (is_thrown_scalar (form_in (typ_in (value o)))) _
+thrown_in s c w at (closure n) o agree h x e = checked (ValueMade s) at BadThrow (is_thrown_scalar (form_in (typ_in (value o)))) _
     (λ y. clash _ (is_thrown_scalar (closure n)) refl
     (sym (ap is_thrown_scalar (value_form_is o.at o.tree ∙ decayed_closure (typ_in o.tree) n e)) ∙ y))
 thrown_in s c w at f o agree h x e = given (throw_in c w at f o) (no_object_thrown s c w at f o refl x)
   where
-    given : (r : Result Made ElabFault) → On (λ (m : Made). FitsAs s Value m.tree) r → On (Value_made s) r
+    given : (r : Result Made ElabFault) → On (λ (m : Made). FitsAs s Value m.tree) r → On (ValueMade s) r
     given (Ok m) g = λ r. g
     given (Err z) g = tt
 
 pub throws_stand : FieldsAgree → (s : Setting) (c : Ctx) (w : Work) (at : At) (os : List Operand) → Holds s c w → ProperOperands s c os
-    → On (Stands_made s c) (throw c w at os)
+    → On (MadeStands s c) (throw c w at os)
 throws_stand agree s c w at [] h x = λ r. rethrow_proper s c at
 throws_stand agree s c w at (o ∷ os) h (ProperOperands.more x xs) =
     by (throw_in c w at (form_in (typ_in o.tree)) o) (thrown_in s c w at (form_in (typ_in o.tree)) o agree h x refl)
   where
-    by : (r : Result Made ElabFault) → On (Value_made s) r → On (Stands_made s c) (and_then r (λ (m : Made). Ok (with_tree (without_value at) m)))
+    by : (r : Result Made ElabFault) → On (ValueMade s) r → On (MadeStands s c) (and_then r (λ (m : Made). Ok (with_tree (without_value at) m)))
     by (Ok m) g = λ r. nothing_proper s c at m.tree (g r)
     by (Err e) g = tt

@@ -27,7 +27,7 @@ use Rattle.elab_fits_objects.proofs.Referring.{binds}
 use Rattle.elab_fits_forms.specs.Types.{is_sound, is_target}
 use Rattle.elab_fits_forms.specs.Meaning.{Proper, ProperOperand}
 use Rattle.elab_fits_forms.specs.Context.{Holds}
-use Rattle.elab_fits_forms.specs.Forms.{Stands_made, ProperOperands}
+use Rattle.elab_fits_forms.specs.Forms.{MadeStands, ProperOperands}
 use Rattle.elab_fits_forms.proofs.Types.{target_type}
 use Rattle.elab_fits_forms.proofs.Proper.{lvalue_node, proper_retyped}
 use Rattle.elab_fits_forms.proofs.Sources.{source_of}
@@ -61,23 +61,23 @@ bound_lvalue u e h = sym (head_cat e) ∙ lvalue_is (head_of e).cat (and_parts (
 
 cast_made : (s : Setting) (c : Ctx) (at : At) (u : Typ) (q v : Bool) (r : Result Made ElabFault) → is_target c.classes u ≡ true
     → On (λ (m : Made). Reaches s m.work → Initialises s (typ (ref u) q v) m.tree) r
-    → On (Stands_made s c) (and_then r (λ (m : Made). Ok (with_tree (reference_cast at u) m)))
+    → On (MadeStands s c) (and_then r (λ (m : Made). Ok (with_tree (reference_cast at u) m)))
 cast_made s c at u q v (Ok m) i h = λ r. cast_fits s c at u m.tree i (h r).fits (bound_lvalue u m.tree (h r).initialises)
 cast_made s c at u q v (Err e) i h = tt
 
 reference_casts : (s : Setting) (c : Ctx) (w : Work) (at : At) (u : Typ) (q v : Bool) (o : Operand) → Holds s c w → is_target c.classes u ≡ true
-    → ProperOperand s c o → On (Stands_made s c) (cast c w at (typ (ref u) q v) o)
+    → ProperOperand s c o → On (MadeStands s c) (cast c w at (typ (ref u) q v) o)
 reference_casts s c w at u q v o h i x = cast_made s c at u q v (initial c w (typ (ref u) q v) o) i
     (binds s c _ w u q v o h.setting h.makers (source_of s c o x) (target_type c.classes u i))
 
 -- to what is no class
 pub scalar_casts : (s : Setting) (c : Ctx) (w : Work) (at : At) (t : Typ) (o : Operand) → Holds s c w → is_sound c.classes t ≡ true
-    → is_class_typ t ≡ false → ProperOperand s c o → On (Stands_made s c) (cast c w at t o)
+    → is_class_typ t ≡ false → ProperOperand s c o → On (MadeStands s c) (cast c w at t o)
 scalar_casts s c w at (typ (ref u) q v) o h i k x = reference_casts s c w at u q v o h i x
 scalar_casts s c w at (typ f q v) o h i k x = value_casts s c w at (typ f q v) o h i k refl x
 
 pub scalar_functionals : (s : Setting) (c : Ctx) (w : Work) (at : At) (t : Typ) (os : List Operand) → Holds s c w → is_sound c.classes t ≡ true
-    → is_class_typ t ≡ false → ProperOperands s c os → On (Stands_made s c) (functional c w at t os)
+    → is_class_typ t ≡ false → ProperOperands s c os → On (MadeStands s c) (functional c w at t os)
 scalar_functionals s c w at t [] h i k x = from_none s c w at t i k
 scalar_functionals s c w at t (o ∷ []) h i k (ProperOperands.more x xs) = scalar_casts s c w at t o h i k x
 scalar_functionals s c w at t (o ∷ u ∷ os) h i k x = rw k tt

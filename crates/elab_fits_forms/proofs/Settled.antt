@@ -31,7 +31,7 @@ use Rattle.elab_fits_forms.specs.Types.{is_sound, IsWhole}
 use Rattle.elab_fits_objects.specs.Contexts.{copies_itself}
 use Rattle.elab_fits_forms.specs.Meaning.{Proper, IsObject, ProperOperand}
 use Rattle.elab_fits_forms.specs.Context.{Holds}
-use Rattle.elab_fits_forms.specs.Forms.{Stands_made}
+use Rattle.elab_fits_forms.specs.Forms.{MadeStands}
 use Rattle.elab_fits_forms.proofs.Readiness.{any_ready}
 use Rattle.elab_fits_forms.proofs.Proper.{object_fits}
 use Rattle.elab_fits_forms.proofs.Temporaries.{prvalue_class, object_is, object_typ}
@@ -234,6 +234,6 @@ pair_proper s c at x y h g = by (is_class_prvalue (typ_in y) (cat_of y)) refl
     }
 
 pub commas_stand : (s : Setting) (c : Ctx) (w : Work) (at : At) (a b : Operand) → Holds s c w → ProperOperand s c a → ProperOperand s c b
-    → Stands_made s c (comma c w at a b)
+    → MadeStands s c (comma c w at a b)
 commas_stand s c w at a b h x y = λ r. pair_proper s c at (dropped c w a).tree (settled c (dropped c w a).work b).tree
     (dropped_value s c w w a h x (before_settled s c (dropped c w a).work b r)) (settled_is s c (dropped c w a).work w b h y r)

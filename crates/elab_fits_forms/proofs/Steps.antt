@@ -44,7 +44,7 @@ use Rattle.elab_fits_forms.specs.Types.{is_sound, is_sound_form, is_target, is_l
 use Rattle.elab_fits_objects.specs.Contexts.{copies_itself}
 use Rattle.elab_fits_forms.specs.Meaning.{Proper, IsObject, ProperOperand}
 use Rattle.elab_fits_forms.specs.Context.{Holds}
-use Rattle.elab_fits_forms.specs.Forms.{Stands_made}
+use Rattle.elab_fits_forms.specs.Forms.{MadeStands}
 use Rattle.elab_fits_forms.proofs.Types.{target_type}
 use Rattle.elab_fits_forms.proofs.Proper.{proper_lvalue, proper_retyped, object_word, object_fits}
 use Rattle.elab_fits_forms.proofs.Temporaries.{object_is, object_typ}
@@ -121,13 +121,13 @@ assignment_target c w at a b n = skip (λ (m : Made). IsTarget a m.tree) (target
     (λ m. assigned_target at (kind_in (form_in (typ_in a.tree))) a m.tree m.work))))
 
 made_known : (s : Setting) (c : Ctx) (a : Operand) (r : Result Made ElabFault) → ProperOperand s c a → cat_of a.tree ≡ Lvalue
-    → On (λ (m : Made). Stands s m.tree) r → On (λ (m : Made). IsTarget a m.tree) r → On (Stands_made s c) r
+    → On (λ (m : Made). Stands s m.tree) r → On (λ (m : Made). IsTarget a m.tree) r → On (MadeStands s c) r
 made_known s c a (Ok m) x l h k = λ r. changed_known s c a (Ok m.tree) x l h k
 made_known s c a (Err e) x l h k = tt
 
 pub scalar_assigned : (s : Setting) (c : Ctx) (w : Work) (at : At) (a b : Operand) → ProperOperand s c a → ProperOperand s c b
-    → is_class_typ (typ_in a.tree) ≡ false → On (Stands_made s c) (assignment c w at a b)
-scalar_assigned s c w at a b x y n = known_target (Stands_made s c) at a _
+    → is_class_typ (typ_in a.tree) ≡ false → On (MadeStands s c) (assignment c w at a b)
+scalar_assigned s c w at a b x y n = known_target (MadeStands s c) at a _
     (λ l. made_known s c a (assignment c w at a b) x l (assignment_stands s c w at a b (operand_is s c a x) (operand_is s c b y) n)
     (assignment_target c w at a b n))
 
@@ -210,11 +210,11 @@ numbered_class c (typ (closure n) q v) o h = refl
 numbered_class c (typ f q v) o h = absurd cc
 
 class_assigns : (s : Setting) (c : Ctx) (w : Work) (at : At) (a b : Operand) (n : ℕ) → Holds s c w → ProperOperand s c a → ProperOperand s c b
-    → cat_of a.tree ≡ Lvalue → form_in (typ_in a.tree) ≡ class n → On (Stands_made s c) (class_assigned_in c w at a b (class n))
-class_assigns s c w at a b n h x y l e = checked (Stands_made s c) b.at NoConversion
+    → cat_of a.tree ≡ Lvalue → form_in (typ_in a.tree) ≡ class n → On (MadeStands s c) (class_assigned_in c w at a b (class n))
+class_assigns s c w at a b n h x y l e = checked (MadeStands s c) b.at NoConversion
     (is_same_or_base c.classes (class_number (typ_in b.tree)) (Some n)) _ (λ k.
-    checked (Stands_made s c) at NoCopy ((traits_at c n).is_assignable && not (is_volatile_typ (typ_in a.tree))) _ (λ m.
-    checked (Stands_made s c) b.at NoCopy (not (is_volatile_typ (typ_in b.tree))) _ (λ v r. by k
+    checked (MadeStands s c) at NoCopy ((traits_at c n).is_assignable && not (is_volatile_typ (typ_in a.tree))) _ (λ m.
+    checked (MadeStands s c) b.at NoCopy (not (is_volatile_typ (typ_in b.tree))) _ (λ v r. by k
     (and_parts (traits_at c n).is_assignable (not (is_volatile_typ (typ_in a.tree))) m).0 r)))
   where
     object : is_same_or_base c.classes (class_number (typ_in b.tree)) (Some n) ≡ true → Reaches s (object_of c w b.at b.tree).work
@@ -249,10 +249,10 @@ exception_copies s c w at t h i = plain_exception (λ (u : Typ). CopiesOne s (pl
 
 exception_assigns : (s : Setting) (c : Ctx) (w : Work) (at : At) (a b : Operand) (t : Typ) → Holds s c w → ProperOperand s c a → ProperOperand s c b
     → cat_of a.tree ≡ Lvalue → not (const_of (typ_in a.tree)) ≡ true → form_in (typ_in a.tree) ≡ tx_ex t
-    → On (Stands_made s c) (class_assigned_in c w at a b (tx_ex t))
-exception_assigns s c w at a b t h x y l g e = checked (Stands_made s c) b.at NoConversion (form_eq (form_in (typ_in b.tree)) (tx_ex t)) _ (λ k.
-    checked (Stands_made s c) at NoCopy (is_assignable_form c (form_in t) && not (is_volatile_typ (typ_in a.tree))) _ (λ m.
-    checked (Stands_made s c) b.at NoCopy (not (is_volatile_typ (typ_in b.tree))) _ (λ v r. by (form_same (form_in (typ_in b.tree)) (tx_ex t) k)
+    → On (MadeStands s c) (class_assigned_in c w at a b (tx_ex t))
+exception_assigns s c w at a b t h x y l g e = checked (MadeStands s c) b.at NoConversion (form_eq (form_in (typ_in b.tree)) (tx_ex t)) _ (λ k.
+    checked (MadeStands s c) at NoCopy (is_assignable_form c (form_in t) && not (is_volatile_typ (typ_in a.tree))) _ (λ m.
+    checked (MadeStands s c) b.at NoCopy (not (is_volatile_typ (typ_in b.tree))) _ (λ v r. by (form_same (form_in (typ_in b.tree)) (tx_ex t) k)
     (and_parts (is_assignable_form c (form_in t)) (not (is_volatile_typ (typ_in a.tree))) m).1 r)))
   where
     by : form_in (typ_in b.tree) ≡ tx_ex t → not (is_volatile_typ (typ_in a.tree)) ≡ true → Reaches s (object_of c w b.at b.tree).work
@@ -264,7 +264,7 @@ exception_assigns s c w at a b t h x y l g e = checked (Stands_made s c) b.at No
         (exception_copies s c w at t h (exception_sound c (typ_in a.tree) t e x.proper.sound)))
 
 object_assigns : (s : Setting) (c : Ctx) (w : Work) (at : At) (a b : Operand) (f : Form) → Holds s c w → ProperOperand s c a → ProperOperand s c b
-    → cat_of a.tree ≡ Lvalue → not (const_of (typ_in a.tree)) ≡ true → form_in (typ_in a.tree) ≡ f → On (Stands_made s c) (class_assigned_in c w at a b f)
+    → cat_of a.tree ≡ Lvalue → not (const_of (typ_in a.tree)) ≡ true → form_in (typ_in a.tree) ≡ f → On (MadeStands s c) (class_assigned_in c w at a b f)
 object_assigns s c w at a b (class n) h x y l g e = class_assigns s c w at a b n h x y l e
 object_assigns s c w at a b (tx_ex t) h x y l g e = exception_assigns s c w at a b t h x y l g e
 object_assigns s c w at a b f h x y l g e = tt
@@ -283,12 +283,12 @@ target_changes at a = checked (λ (b : Bool). IsChanged a) at NotLvalue (is_lval
     by false n l = tt
 
 pub assignments_stand : (s : Setting) (c : Ctx) (w : Work) (at : At) (a b : Operand) → Holds s c w → ProperOperand s c a → ProperOperand s c b
-    → On (Stands_made s c) (assignment c w at a b)
+    → On (MadeStands s c) (assignment c w at a b)
 assignments_stand s c w at a b h x y = by (is_class_typ (typ_in a.tree)) refl
   where
-    by : (z : Bool) → is_class_typ (typ_in a.tree) ≡ z → On (Stands_made s c) (assignment c w at a b)
+    by : (z : Bool) → is_class_typ (typ_in a.tree) ≡ z → On (MadeStands s c) (assignment c w at a b)
     by false n = scalar_assigned s c w at a b x y n
-    by true n = bind (λ (z : Bool). IsChanged a) (Stands_made s c) (target at a) _ (target_changes at a)
-        (λ z g. either (Stands_made s c) (is_class_typ (typ_in a.tree)) _ _
+    by true n = bind (λ (z : Bool). IsChanged a) (MadeStands s c) (target at a) _ (target_changes at a)
+        (λ z g. either (MadeStands s c) (is_class_typ (typ_in a.tree)) _ _
         (λ k. object_assigns s c w at a b (form_in (typ_in a.tree)) h x y g.category g.changes refl)
         (λ k. clash _ (is_class_typ (typ_in a.tree)) k n))

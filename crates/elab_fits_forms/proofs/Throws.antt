@@ -36,7 +36,7 @@ use Rattle.elab_fits.proofs.Arithmetic.{value_of}
 use Rattle.elab_fits.proofs.Values.{given_typ, given_cat}
 use Rattle.elab_fits_forms.specs.Meaning.{Proper, ProperOperand}
 use Rattle.elab_fits_forms.specs.Context.{Holds}
-use Rattle.elab_fits_forms.specs.Forms.{Stands_made, ProperOperands}
+use Rattle.elab_fits_forms.specs.Forms.{MadeStands, ProperOperands}
 use Rattle.elab_fits_forms.proofs.Dropped.{operand_is, nothing_proper}
 
 -- Kids
@@ -130,12 +130,12 @@ no_class_form : (t : Typ) → is_class_typ t ≡ false → is_class_typ (typ (fo
 no_class_form (typ f q v) h = h
 
 thrown_made : (s : Setting) (c : Ctx) (at : At) (r : Result Made ElabFault) → On (λ (m : Made). FitsAs s Value m.tree) r
-    → On (Stands_made s c) (and_then r (λ (m : Made). Ok (with_tree (without_value at) m)))
+    → On (MadeStands s c) (and_then r (λ (m : Made). Ok (with_tree (without_value at) m)))
 thrown_made s c at (Ok m) h = λ r. nothing_proper s c at m.tree h
 thrown_made s c at (Err e) h = tt
 
 pub value_throws : (s : Setting) (c : Ctx) (w : Work) (at : At) (os : List Operand) → Holds s c w → ProperOperands s c os
-    → ((o : Operand) (rest : List Operand) → os ≡ o ∷ rest → is_class_typ (typ_in o.tree) ≡ false) → On (Stands_made s c) (throw c w at os)
+    → ((o : Operand) (rest : List Operand) → os ≡ o ∷ rest → is_class_typ (typ_in o.tree) ≡ false) → On (MadeStands s c) (throw c w at os)
 value_throws s c w at [] h x k = λ r. rethrow_proper s c at
 value_throws s c w at (o ∷ os) h (ProperOperands.more x xs) k = thrown_made s c at (throw_in c w at (form_in (typ_in o.tree)) o)
     (no_object_thrown s c w at (form_in (typ_in o.tree)) o (no_class_form (typ_in o.tree) (k o os refl)) x)

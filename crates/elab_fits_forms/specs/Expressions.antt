@@ -13,7 +13,7 @@ use Rattle.elab_rules.specs.Expressions.{expression_with, operands_with}
 use Rattle.elab_fits.specs.Standing.{Reaches, On}
 use Rattle.elab_fits_forms.specs.Types.{is_empty, is_lambda}
 use Rattle.elab_fits_forms.specs.Context.{Holds}
-use Rattle.elab_fits_forms.specs.Names.{Typed_means}
+use Rattle.elab_fits_forms.specs.Names.{TypedMeans}
 use Rattle.elab_fits_forms.specs.Forms.{ProperOperands}
 
 -- each token of a tree is spelled with something
@@ -60,7 +60,7 @@ pub record ClosuresHold (c : Ctx) (l : List Closure) : Type 0 where
 
 abbrev pub ExpressionsMean : Type 0
 ExpressionsMean = (lexemes : List Lexeme) (s : Setting) (c : Ctx) (l : List Closure) (w : Work) (e : syntax.Tree) → Holds s c w → ClosuresHold c l
-    → is_spelled lexemes e ≡ true → On (Typed_means s c) (expression_with lexemes c l w e)
+    → is_spelled lexemes e ≡ true → On (TypedMeans s c) (expression_with lexemes c l w e)
 
 abbrev pub OperandsStand : Type 0
 OperandsStand = (lexemes : List Lexeme) (s : Setting) (c : Ctx) (l : List Closure) (w : Work) (es : syntax.Trees) → Holds s c w → ClosuresHold c l

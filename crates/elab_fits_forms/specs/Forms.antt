@@ -25,11 +25,11 @@ use Rattle.elab_fits.specs.Standing.{Reaches, On}
 use Rattle.elab_fits_forms.specs.Types.{is_empty, is_sound}
 use Rattle.elab_fits_forms.specs.Meaning.{Proper, ProperOperand, MeansOperand}
 use Rattle.elab_fits_forms.specs.Context.{Holds}
-use Rattle.elab_fits_forms.specs.Names.{Typed_means}
+use Rattle.elab_fits_forms.specs.Names.{TypedMeans}
 
 -- what a form makes stands where all that is made has its place
-abbrev pub Stands_made : Setting → Ctx → Made → Type 0
-Stands_made s c m = Reaches s m.work → Proper s c m.tree
+abbrev pub MadeStands : Setting → Ctx → Made → Type 0
+MadeStands s c m = Reaches s m.work → Proper s c m.tree
 
 pub data ProperOperands (s : Setting) (c : Ctx) : List Operand → Type 0 where
   none : ProperOperands s c []
@@ -43,21 +43,21 @@ FieldsAgree = (classes : List Class) (at : At) (f : Form) (q v : Bool) → InOrd
 
 abbrev pub ThrowsStand : Type 0
 ThrowsStand = FieldsAgree → (s : Setting) (c : Ctx) (w : Work) (at : At) (os : List Operand) → Holds s c w → ProperOperands s c os
-    → On (Stands_made s c) (throw c w at os)
+    → On (MadeStands s c) (throw c w at os)
 
 -- the same of what is no object of a class, and of nothing
 abbrev pub ValueThrowsStand : Type 0
 ValueThrowsStand = (s : Setting) (c : Ctx) (w : Work) (at : At) (os : List Operand) → Holds s c w → ProperOperands s c os
-    → ((o : Operand) (rest : List Operand) → os ≡ o ∷ rest → is_class_typ (typ_in o.tree) ≡ false) → On (Stands_made s c) (throw c w at os)
+    → ((o : Operand) (rest : List Operand) → os ≡ o ∷ rest → is_class_typ (typ_in o.tree) ≡ false) → On (MadeStands s c) (throw c w at os)
 
 -- casts to a type that a program can write
 abbrev pub CastsStand : Type 0
 CastsStand = (s : Setting) (c : Ctx) (w : Work) (at : At) (t : Typ) (o : Operand) → Holds s c w → is_sound c.classes t ≡ true → ProperOperand s c o
-    → On (Stands_made s c) (cast c w at t o)
+    → On (MadeStands s c) (cast c w at t o)
 
 abbrev pub FunctionalsStand : Type 0
 FunctionalsStand = (s : Setting) (c : Ctx) (w : Work) (at : At) (t : Typ) (os : List Operand) → Holds s c w → is_sound c.classes t ≡ true → ProperOperands s c os
-    → On (Stands_made s c) (functional c w at t os)
+    → On (MadeStands s c) (functional c w at t os)
 
 -- `sizeof`
 abbrev pub SizesStand : Type 0
@@ -66,20 +66,20 @@ SizesStand = (s : Setting) (c : Ctx) (at operand : At) (t : Typ) → On (Proper 
 -- `a, b`, `a ? b : d` and `a = b`, with objects of classes too
 abbrev pub ObjectCommasStand : Type 0
 ObjectCommasStand = (s : Setting) (c : Ctx) (w : Work) (at : At) (a b : Operand) → Holds s c w → ProperOperand s c a → ProperOperand s c b
-    → Stands_made s c (comma c w at a b)
+    → MadeStands s c (comma c w at a b)
 
 abbrev pub ObjectChoicesStand : Type 0
 ObjectChoicesStand = (s : Setting) (c : Ctx) (w : Work) (at : At) (test a b : Operand) → Holds s c w → ProperOperand s c test → ProperOperand s c a
-    → ProperOperand s c b → On (Stands_made s c) (conditional c w at test a b)
+    → ProperOperand s c b → On (MadeStands s c) (conditional c w at test a b)
 
 abbrev pub ObjectAssignmentsStand : Type 0
 ObjectAssignmentsStand = (s : Setting) (c : Ctx) (w : Work) (at : At) (a b : Operand) → Holds s c w → ProperOperand s c a → ProperOperand s c b
-    → On (Stands_made s c) (assignment c w at a b)
+    → On (MadeStands s c) (assignment c w at a b)
 
 -- calls of what is named or given
 abbrev pub CallsStand : Type 0
 CallsStand = (s : Setting) (c : Ctx) (w : Work) (at : At) (callee : Operand) (os : List Operand) → Holds s c w → MeansOperand s c callee → ProperOperands s c os
-    → On (Stands_made s c) (call c w at callee os)
+    → On (MadeStands s c) (call c w at callee os)
 
 -- the rows of which all is told: what is thrown is no object of a class
 abbrev pub Covered : NodeKind → List Operand → Type 0
@@ -89,4 +89,4 @@ Covered kind os = Unit {0}
 -- a form over operands that stand
 abbrev pub RowsMean : Type 0
 RowsMean = (lexemes : List Lexeme) (s : Setting) (c : Ctx) (w : Work) (kind : NodeKind) (at : At) (t : ℕ) (os : List Operand) → Holds s c w
-    → is_empty (spelling lexemes t) ≡ false → ProperOperands s c os → Covered kind os → On (Typed_means s c) (row_of lexemes c w kind at t os)
+    → is_empty (spelling lexemes t) ≡ false → ProperOperands s c os → Covered kind os → On (TypedMeans s c) (row_of lexemes c w kind at t os)

@@ -16,11 +16,11 @@ use Rattle.elab_fits_forms.specs.Meaning.{Proper, Means, ProperOperand, MeansOpe
 use Rattle.elab_fits_forms.specs.Context.{Holds}
 
 -- what a form makes means something where all that is made has its place
-abbrev pub Made_means : Setting → Ctx → Made → Type 0
-Made_means s c m = Reaches s m.work → Means s c m.tree
+abbrev pub MadeMeans : Setting → Ctx → Made → Type 0
+MadeMeans s c m = Reaches s m.work → Means s c m.tree
 
-abbrev pub Typed_means : Setting → Ctx → Typed → Type 0
-Typed_means s c x = Reaches s x.work → MeansOperand s c x.operand
+abbrev pub TypedMeans : Setting → Ctx → Typed → Type 0
+TypedMeans s c x = Reaches s x.work → MeansOperand s c x.operand
 
 -- a variable stands, captured or not
 abbrev pub VariablesStand : Type 0
@@ -37,7 +37,7 @@ EntitiesMean = (s : Setting) (c : Ctx) (w : Work) (at : At) (kind : EntityKind) 
 -- `a.name`; names are not empty, and members without a name are those of lambdas
 abbrev pub MembersMean : Type 0
 MembersMean = (s : Setting) (c : Ctx) (w : Work) (at dot : At) (name : List ℕ) (o : Operand) → Holds s c w → is_empty name ≡ false → ProperOperand s c o
-    → On (Made_means s c) (member_access c w at dot name o)
+    → On (MadeMeans s c) (member_access c w at dot name o)
 
 abbrev pub NamesMean : Type 0
 NamesMean = (s : Setting) (c : Ctx) (w : Work) (at : At) (name : List ℕ) → Holds s c w → Reaches s w → is_empty name ≡ false → On (Means s c) (named c w at name)
@@ -49,4 +49,4 @@ ResolvedStand = (s : Setting) (c : Ctx) (w : Work) (e : Tree) → Holds s c w �
 -- literals, names and `this`
 abbrev pub LeavesMean : Type 0
 LeavesMean = (lexemes : List Lexeme) (s : Setting) (c : Ctx) (w : Work) (kind : NodeKind) (at : At) (t : ℕ) → Holds s c w
-    → is_empty (spelling lexemes t) ≡ false → On (Typed_means s c) (leaf_of lexemes c w kind at t)
+    → is_empty (spelling lexemes t) ≡ false → On (TypedMeans s c) (leaf_of lexemes c w kind at t)

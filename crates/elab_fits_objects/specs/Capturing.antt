@@ -1,18 +1,16 @@
 -- What makes a lambda's object fits where it comes to stand (C++14 5.1.2).
-use Rattle.std.specs.Prelude.{◌≡◌, ℕ, Bool, true, false, ◌||◌, List, [], ◌∷◌, Some, is_some}
-use Rattle.elab_rules.specs.cpp_types.Typ.{Typ, ref, closure}
+use Rattle.std.specs.Prelude.{◌≡◌, ℕ, Bool, true, false, ◌||◌, is_some}
+use Rattle.elab_rules.specs.cpp_types.Typ.{Typ, ref}
 use Rattle.elab_rules.specs.cpp_types.Conversion.{is_object_form, decayed}
-use Rattle.elab_rules.specs.cpp_types.declared.classes.At.{At}
 use Rattle.elab_rules.specs.cpp_types.declared.ranks.Cat.TheVariants.{Lvalue}
-use Rattle.elab_rules.specs.cpp_tree.Notation.{plain}
 use Rattle.elab_rules.specs.cpp_tree.Trees.{Tree, typ_in, cat_of}
 use Rattle.elab_rules.specs.cpp_tree.Typing.{form_in, same_shape}
 use Rattle.elab_rules.specs.cpp_tree.Parts.{size_in}
 use Rattle.elab_rules.specs.cpp_tree.Rows.{Setting}
-use Rattle.elab_rules.specs.elab_ctx.Ctx.{Ctx, Work, Capture, Closure}
+use Rattle.elab_rules.specs.elab_ctx.Ctx.{Ctx, Work, Capture}
 use Rattle.elab_rules.specs.elab_ctx.Steps.{Made}
-use Rattle.elab_rules.specs.Objects.{Part, parts_of, is_array}
-use Rattle.elab_rules.specs.Expressions.{captured_value, capture_source, closure_at, closure_object}
+use Rattle.elab_rules.specs.Objects.{is_array}
+use Rattle.elab_rules.specs.Expressions.{captured_value}
 use Rattle.elab_fits.specs.Standing.{BuildsOne, IsSetting, Reaches, On}
 use Rattle.elab_fits.specs.Scalars.{is_scalar}
 use Rattle.elab_fits_objects.specs.Contexts.{refers, IsObjectTyp, IsCapture, HasMakers}
@@ -46,25 +44,3 @@ abbrev pub CapturesBuild : Type 0
 CapturesBuild = (s : Setting) (c : Ctx) (lambda : ℕ → Bool) (w : Work) (x : Capture) (t : Typ) (e : Tree) → IsSetting s c → HasMakers c lambda
     → IsCaptureTyp c lambda t → IsCaptured s c lambda t e
     → On (λ (m : Made). Reaches s m.work → BuildsOne s t m.tree) (captured_value c w x t (record { tree = e; at = x.at; zero = false }))
-
--- a capture and its part of the lambda's object, which has its type
-pub record IsCapturedPart (s : Setting) (c : Ctx) (lambda : ℕ → Bool) (p : Part) (x : Capture) : Type 0 where
-  pub typed : x.typ ≡ p.typ
-  pub capture : IsCaptureTyp c lambda p.typ
-  pub source : (w : Work) → Reaches s w → On (IsCaptured s c lambda p.typ) (capture_source c w x x.variable)
-
--- one for each
-abbrev pub AreCaptured : Setting → Ctx → (ℕ → Bool) → List Part → List Capture → Type 0
-AreCaptured s c lambda [] [] = Unit {0}
-AreCaptured s c lambda (p ∷ ps) (x ∷ xs) = IsCapturedPart s c lambda p x × AreCaptured s c lambda ps xs
-AreCaptured s c lambda ps xs = ⊥
-
--- a lambda of the full-expression: its class is a lambda's, and its captures are the parts of its object
-pub record IsLambda (s : Setting) (c : Ctx) (lambda : ℕ → Bool) (x : Closure) : Type 0 where
-  pub object : IsObjectTyp c lambda (plain (closure x.class))
-  pub captured : AreCaptured s c lambda (parts_of c.classes x.class) x.captures
-
-abbrev pub LambdasStand : Type 0
-LambdasStand = (s : Setting) (c : Ctx) (lambda : ℕ → Bool) (l : List Closure) (w : Work) (at : At) → IsSetting s c → HasMakers c lambda
-    → ((x : Closure) → closure_at at l ≡ Some x → IsLambda s c lambda x)
-    → On (λ (m : Made). Reaches s m.work → IsSourceTree s c lambda m.tree) (closure_object c l w at)

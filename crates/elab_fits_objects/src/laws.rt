@@ -1,7 +1,7 @@
 //! Laws of what initialises objects of class type. A function here does nothing: its clauses are the laws.
 
 ghost use Rattle.elab_fits_objects.specs.Items.{ItemsBuild};
-ghost use Rattle.elab_fits_objects.specs.Capturing.{CapturesBuild, LambdasStand};
+ghost use Rattle.elab_fits_objects.specs.Capturing.{CapturesBuild};
 ghost use Rattle.elab_fits_objects.specs.Making.{ObjectsPlaced, ClassesBuild, ExactsBuild, WordsPass, AllWordsFit, WordsKeep, ChosenViable};
 ghost use Rattle.elab_fits_objects.specs.Making.{NothingBuilds, ConstructorsBuild, ScalarsBuild, ExceptionsBuild, ValuesBuild, CastsStand, FunctionalsStand};
 
@@ -36,8 +36,7 @@ pub fn casts()
     ensures functionals { FunctionalsStand }
 {}
 
-/// What a lambda captures, and its object.
+/// What a lambda captures.
 pub fn lambdas()
     ensures captures { CapturesBuild }
-    ensures lambdas { LambdasStand }
 {}

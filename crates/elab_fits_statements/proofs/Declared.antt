@@ -12,6 +12,7 @@ use Rattle.elab_rules.specs.elab_ctx.Ctx.{Ctx, next_place}
 use Rattle.elab_rules.specs.elab_ctx.Steps.{at_of, spelling}
 use Rattle.elab_rules.specs.Braces.{item_of, string_token, is_char_array, syntax_place, string_object}
 use Rattle.elab_rules.specs.Expressions.{operands_of, declared_by, type_of_specifiers}
+use Rattle.elab_rules.specs.Operators.{within_if_sized}
 use Rattle.elab_rules.specs.Sizes.{typ_sized}
 use Rattle.elab_rules.specs.Strings.{string_bytes}
 use Rattle.elab_rules.specs.Types.{has_auto, is_bounded}
@@ -66,18 +67,18 @@ module _ (w : Words) (lams : Lambdas) (s : List Lexeme) (d : Discipline w lams s
   -- an initialiser that is one expression
   by_fits : (st v : State) (t : Typ) (at : At) (e : syntax.Tree) (b : Bool) (o : Option ℕ) (init : syntax.Trees)
       → ((c : Ctx) → may_be_skipped c t init ≡ false) → w.Good v → w.Object v t → HasItem (w.at v) (next_place st.work) t → w.Text e
-      → On (Inits w v t init) (by_expression lams s st v t at e b o)
-  by_fits st v t at e true (Some n) init kept g o i x = told (Inits w v t init) (string_object v.ctx t (syntax_place e) (string_bytes (spelling s n))) _
+      → is_char_array t ≡ b → On (Inits w v t init) (by_expression lams s st v t at e b o)
+  by_fits st v t at e true (Some n) init kept g o i x r = told (Inits w v t init) (string_object v.ctx t (syntax_place e) (string_bytes (spelling s n))) _
       (λ z h. record {
         goes = goes_still w lams s d v g;
         serve = (
           variable_fits (w.at v) v t at (syntax_place e) (variable_tree st t at) z (variable_stands (w.at v) st t at i) refl refl
-              (d.strings v t (syntax_place e) (string_bytes (spelling s n)) z g o h) (d.leaves v v t at g o g (d.stays v)),
+              (d.strings v t (syntax_place e) (string_bytes (spelling s n)) z g o r h) (d.leaves v v t at g o g (d.stays v)),
           tt,
         );
         skip = λ m q. clash _ (may_be_skipped v.ctx t init) (kept v.ctx) m;
       })
-  by_fits st v t at e b o init kept g j i x = told (Inits w v t init) (full_operand lams s v e) _ (λ f h.
+  by_fits st v t at e b o init kept g j i x c = told (Inits w v t init) (full_operand lams s v e) _ (λ f h.
       let r = d.reads v e f g x h in
       let u = d.object_still v f.state t r.goes.leads j in
       told (Inits w v t init) (copy_initialised f.state.ctx f.state.work t f.operand) _ (λ m l.
@@ -139,7 +140,7 @@ module _ (w : Words) (lams : Lambdas) (s : List Lexeme) (d : Discipline w lams s
   with_fits st v t at (syntax.more (syntax.node k.EqualInitializer p token (syntax.more e syntax.none)) syntax.none) g o i x =
       by_fits st v t at e (is_char_array t) (string_token e) (syntax.more (syntax.node k.EqualInitializer p token (syntax.more e syntax.none)) syntax.none)
       (λ c. refl) g o i (d.first e syntax.none (d.kids k.EqualInitializer p token (syntax.more e syntax.none)
-      (d.first (syntax.node k.EqualInitializer p token (syntax.more e syntax.none)) syntax.none x)))
+      (d.first (syntax.node k.EqualInitializer p token (syntax.more e syntax.none)) syntax.none x))) refl
   with_fits st v t at init g o i x = tt
 
   -- an array without a bound has that of its initialiser
@@ -155,14 +156,15 @@ module _ (w : Words) (lams : Lambdas) (s : List Lexeme) (d : Discipline w lams s
   plain_fits st name t at init g wr n x = told (Inits w st t init) (declarable st.ctx at (bound_by_initialiser s t init)) _
       (λ a h. checked (Inits w st t init) at BadDeclaration (is_bounded (bound_by_initialiser s t init)) _
       (λ b. told (Inits w st t init) (typ_sized st.ctx.classes at (bound_by_initialiser s t init)) _ (λ c l.
-      let o = d.objects st at t init a c g wr n h b l in
+      told (Inits w st t init) (within_if_sized st.ctx at (bound_by_initialiser s t init)) _ (λ e k.
+      let o = d.objects st at t init a c e g wr n h b l k in
       let p = d.places st name (bound_by_initialiser s t init) g o in
       let v = placed_variable st name (bound_by_initialiser s t init) in
       mapped (Inits w v (bound_by_initialiser s t init) init) (Inits w st t init) (with_initialiser lams s st v (bound_by_initialiser s t init) at init)
       (with_fits st v (bound_by_initialiser s t init) at init p.good (d.object_still st v (bound_by_initialiser s t init) p.leads o) p.item x)
       (λ y i. behind_place st v t init
       (record { good = p.good; leads = p.leads; stands = record { label = refl; breaks = refl; continues = refl; typ = refl; past = λ z. z } }) y
-      (bound_as_written v t init y i)))))
+      (bound_as_written v t init y i))))))
 
   -- `auto`
   auto_fits : (st : State) (name : List ℕ) (t : Typ) (at : At) (before : Option Typ) (init : syntax.Trees) (e : syntax.Tree) → w.Good st → w.Written st t
@@ -175,12 +177,12 @@ module _ (w : Words) (lams : Lambdas) (s : List Lexeme) (d : Discipline w lams s
       told (λ (x : Deduction). Inits w st t init x.done) (full_operand lams s v e) _ (λ f h.
       let r = d.reads v e f named x h in
       told (λ (x : Deduction). Inits w st t init x.done) (deduced_type at t f.operand) _ (λ u c.
-      let o = d.deduces f.state at t u f.operand r.goes.good
-      (d.written_still st f.state t (d.goes_on st v f.state (d.names_leads st name) r.goes.leads) wr) auto r.operand c in
       checked (λ (x : Deduction). Inits w st t init x.done) at TypeDiffers (same_deduction before u) _ (λ y.
       bind (Inits w st t init) (λ (x : Deduction). Inits w st t init x.done)
       (auto_initialised f.state t at (length st.ctx.variables) (replaced u t) f.operand (auto_object f.state t at (replaced u t) f.operand)) _
       (told (Inits w st t init) (copy_initialised f.state.ctx f.state.work (replaced u t) f.operand) _ (λ m l.
+      let o = d.deduces f.state at t u f.operand m r.goes.good
+      (d.written_still st f.state t (d.goes_on st v f.state (d.names_leads st name) r.goes.leads) wr) auto r.operand c l in
       let q = d.copies f.state (replaced u t) f.operand m r.goes.good o r.operand l in
       let a = with_work f.state m.work in
       let p = d.autos a (length st.ctx.variables) (replaced u t) q.goes.good (d.object_still f.state a (replaced u t) q.goes.leads o) in

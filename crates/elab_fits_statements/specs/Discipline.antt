@@ -21,11 +21,11 @@ use Rattle.elab_rules.specs.cpp_tree.WellFormed.{fits}
 use Rattle.elab_rules.specs.elab_ctx.declared.env.Label.{Label}
 use Rattle.elab_rules.specs.elab_ctx.Ctx.{Labels, known, opened, next_place}
 use Rattle.elab_rules.specs.elab_ctx.Steps.{and_then, Operand, Made, Typed, TypedAll}
-use Rattle.elab_rules.specs.Braces.{item_of, string_object}
+use Rattle.elab_rules.specs.Braces.{item_of, string_object, is_char_array}
 use Rattle.elab_rules.specs.Expressions.{expression_of, operands_of, chosen_operand, type_of_specifiers, declared_by}
 use Rattle.elab_rules.specs.Initialising.{class_from, initial}
 use Rattle.elab_rules.specs.Objects.{destroys}
-use Rattle.elab_rules.specs.Operators.{dropped}
+use Rattle.elab_rules.specs.Operators.{dropped, within_if_sized}
 use Rattle.elab_rules.specs.Sizes.{typ_sized}
 use Rattle.elab_rules.specs.Types.{Declared, has_auto, is_bounded}
 use Rattle.elab_rules.specs.Statements.{State, Lambdas, Full, with_work, full_operand, declared_variable, placed_variable, auto_placed, with_labels, outer}
@@ -145,8 +145,8 @@ pub record Discipline (w : Words) (lams : Lambdas) (s : List Lexeme) : Type 0 wh
   pub copies : (a : State) (t : Typ) (o : Operand) (m : Made) → w.Good a → w.Object a t → w.Reads a o → copy_initialised a.ctx a.work t o ≡ Ok m
       → Gains w a (with_work a m.work) (λ (x : Setting). BuildsWhole x t m.tree)
   pub defaults : (a : State) (t : Typ) (p : At) (e : Tree) → w.Good a → w.Object a t → default_object a.ctx t p ≡ Ok e → BuildsWhole (w.at a) t e
-  pub strings : (a : State) (t : Typ) (p : At) (bytes : List ℕ) (e : Tree) → w.Good a → w.Object a t → string_object a.ctx t p bytes ≡ Ok e
-      → BuildsWhole (w.at a) t e
+  pub strings : (a : State) (t : Typ) (p : At) (bytes : List ℕ) (e : Tree) → w.Good a → w.Object a t → is_char_array t ≡ true
+      → string_object a.ctx t p bytes ≡ Ok e → BuildsWhole (w.at a) t e
   pub values : (a x : State) (t : Typ) (p q : At) (es : syntax.Trees) (xs : TypedAll) (m : Made) → w.Good a → w.Object a t → w.Texts es
       → all_lambdas lams s a es ≡ Ok x → operands_of s x.ctx x.work es ≡ Ok xs → directly_initialised x.ctx xs.work t p xs.operands ≡ Ok m
       → BuildsAll w a (with_work x m.work) t m.tree (destroys x.ctx q t)
@@ -158,11 +158,12 @@ pub record Discipline (w : Words) (lams : Lambdas) (s : List Lexeme) : Type 0 wh
   pub specifiers : (a : State) (e : syntax.Tree) (t : Typ) → w.Good a → w.Text e → type_of_specifiers s a.ctx a.work e ≡ Ok t → w.Written a t
   pub declares : (a : State) (p : At) (t : Typ) (d : syntax.Tree) (r : Declared) → w.Good a → w.Text d → w.Written a t
       → declared_by s a.ctx a.work p t d ≡ Ok r → w.Written a r.typ
-  pub objects : (a : State) (p : At) (t : Typ) (init : syntax.Trees) (x y : Bool) → w.Good a → w.Written a t → has_auto t ≡ false
+  pub objects : (a : State) (p : At) (t : Typ) (init : syntax.Trees) (x y z : Bool) → w.Good a → w.Written a t → has_auto t ≡ false
       → declarable a.ctx p (bound_by_initialiser s t init) ≡ Ok x → is_bounded (bound_by_initialiser s t init) ≡ true
-      → typ_sized a.ctx.classes p (bound_by_initialiser s t init) ≡ Ok y → w.Object a (bound_by_initialiser s t init)
-  pub deduces : (a : State) (p : At) (t u : Typ) (o : Operand) → w.Good a → w.Written a t → has_auto t ≡ true → w.Reads a o → deduced_type p t o ≡ Ok u
-      → w.Object a (replaced u t)
+      → typ_sized a.ctx.classes p (bound_by_initialiser s t init) ≡ Ok y → within_if_sized a.ctx p (bound_by_initialiser s t init) ≡ Ok z
+      → w.Object a (bound_by_initialiser s t init)
+  pub deduces : (a : State) (p : At) (t u : Typ) (o : Operand) (m : Made) → w.Good a → w.Written a t → has_auto t ≡ true → w.Reads a o
+      → deduced_type p t o ≡ Ok u → copy_initialised a.ctx a.work (replaced u t) o ≡ Ok m → w.Object a (replaced u t)
   -- variables
   pub places : (a : State) (name : List ℕ) (t : Typ) → w.Good a → w.Object a t → Places w a (placed_variable a name t) (next_place a.work) t
   pub names : (a : State) (name : List ℕ) → w.Good a → w.Good (declared_variable a name None)

@@ -1,91 +1,88 @@
 -- Objects of a type that may be caught can be variables.
-use Rattle.std.proofs.Common.{◌≡◌, refl, ap, ◌∙◌, subst, Bool, true, false, List, Result, Ok, Err, is_some}
+use Rattle.std.proofs.Common.{◌≡◌, refl, subst, ℕ, Bool, true, false, not, ◌||◌, List, Result, Ok, Err, is_some}
+use Rattle.std.proofs.lemmas.Bool.{and_parts}
 use Rattle.elab_rules.specs.cpp_types.Typ.{Typ, typ, Form, int, enum, class, tx_ex, ref}
+use Rattle.elab_rules.specs.cpp_types.Class.{completion_of}
 use Rattle.elab_rules.specs.cpp_types.declared.classes.At.{At}
 use Rattle.elab_rules.specs.cpp_lex.Tokens.{Lexeme}
 use Rattle.elab_rules.specs.cpp_tree.declared.faults.ElabFault.{ElabFault}
 use Rattle.elab_rules.specs.cpp_tree.declared.faults.IllRule.{IllRule}
 use Rattle.elab_rules.specs.cpp_tree.declared.faults.IllRule.TheVariants.{BadCatch, OutOfProfile}
-use Rattle.elab_rules.specs.cpp_tree.Notation.{plain}
 use Rattle.elab_rules.specs.cpp_tree.Typing.{form_in}
 use Rattle.elab_rules.specs.cpp_tree.Units.{Func as UnitFunc}
 use Rattle.elab_rules.specs.elab_ctx.Steps.{and_then, check}
-use Rattle.elab_rules.specs.Objects.{traits_at}
+use Rattle.elab_rules.specs.Objects.{is_array, traits_at}
 use Rattle.elab_rules.specs.Names.{is_const_typ}
 use Rattle.elab_rules.specs.Statements.{State, caught_form, caught_type}
-use Rattle.elab_fits.specs.Objects.{is_closure, has_lambdas}
-use Rattle.elab_fits.proofs.Nodes.{both}
-use Rattle.elab_fits_objects.specs.Contexts.{IsObjectTyp, is_whole}
-use Rattle.elab_fits_forms.specs.Types.{is_lambda, is_sound, is_sound_form, is_declared, is_parameter, IsWhole}
-use Rattle.elab_fits_forms.proofs.Readiness.{any_ready}
-use Rattle.elab_fits_forms.proofs.Sources.{parameter_is, object_typ_is}
-use Rattle.elab_fits_forms.proofs.Types.{target_sound}
-use Rattle.elab_fits_forms.proofs.Wholes.{exception_whole}
+use Rattle.elab_sound_types.specs.Types.{is_sound, is_sound_form, target, variable, denoted}
 use Rattle.elab_fits_statements.specs.Discipline.{CanBeCaught}
-use Rattle.setting_growth.proofs.Classes.{completion_same, known_if}
-use Rattle.state_growth.proofs.Steps.{goes, stays}
-use Rattle.elab_fits_states.specs.States.{setting, Comes, IsGood, IsSettled, IsWritten, IsVariableType, words}
+use Rattle.elab_holds.specs.Contexts.{ContextsHold}
+use Rattle.elab_fits_states.specs.States.{setting, IsGood, IsSettled, IsVariableType, words}
+use Rattle.elab_fits_states.proofs.Good.{holds_of, earlier_of, comes_still}
+use Rattle.elab_fits_states.proofs.Variables.{declares, sized, variable_type}
 
-variable_of : (f : UnitFunc) (b : State) (t : Typ) → IsGood f b → is_declared b.ctx.classes t ≡ true → is_parameter b.ctx.classes t ≡ true
-    → IsObjectTyp b.ctx (is_lambda b.ctx.classes) t → IsWhole b.ctx.classes t → has_lambdas t ≡ false → IsVariableType b t
-variable_of f b t g d p o w n = record {
-  declared = d;
-  initialised = record { value = λ e. parameter_is (setting f b) b.ctx b.work t g.holds p; object = λ e. o };
-  sized = w.sized;
-  ready = any_ready b.ctx.classes (is_closure (form_in t)) t w.ready;
-  single = n;
-}
+module _ (b : ContextsHold) (f : UnitFunc) where
+  checked_true : (at : At) (rule : IllRule) (c x : Bool) → check at rule c ≡ Ok x → c ≡ true
+  checked_true at rule true x h = refl
+  checked_true at rule false x h = absurd cc
 
-checked_true : (at : At) (rule : IllRule) (c x : Bool) → check at rule c ≡ Ok x → c ≡ true
-checked_true at rule true x h = refl
-checked_true at rule false x h = absurd cc
+  class_is : (n k : ℕ) → class n ≡ class k → n ≡ k
+  class_is n k e = cc
 
-caught_by : (f : UnitFunc) (a b : State) (at : At) (g : Form) (q v x : Bool) → IsGood f a → IsGood f b → Comes a b → caught_form a.ctx at g ≡ Ok x
-    → is_sound_form b.ctx.classes g ≡ true → IsVariableType b (typ g q v)
-caught_by f a b at (int j) q v x h k l e i = variable_of f b (typ (int j) q v) k refl refl
-    (record { sorted = refl; whole = λ n. by; complete = λ n. refl })
-    (record { sized = (exception_whole (setting f b) b.ctx b.work (plain (int j)) q v k.holds refl).sized; ready = refl }) refl
-  where
-    by : is_whole b.ctx.classes (typ (int j) q v) ≡ true
-    by = both (exception_whole (setting f b) b.ctx b.work (plain (int j)) q v k.holds refl).sized refl
-caught_by f a b at (enum n s) q v x h k l e i = variable_of f b (typ (enum n s) q v) k refl refl
-    (record { sorted = refl; whole = λ n. refl; complete = λ n. refl }) (record { sized = refl; ready = refl }) refl
-caught_by f a b at (class n) q v x h k l e i =
-    let d = h.holds.copyable n (checked_true at BadCatch (traits_at a.ctx n).is_trivially_copyable x e) in
-    let c = ap is_some (completion_same a.ctx.classes b.ctx.classes l.goes.grows.unit.classes n (known_if a.ctx.classes n d)) ∙ d in
-    variable_of f b (typ (class n) q v) k i i (object_typ_is (setting f b) b.ctx b.work (typ (class n) q v) k.holds i refl)
-    ((k.holds.complete n c).whole (class n) q v refl i) refl
-caught_by f a b at (tx_ex t) q v x h k l e i = variable_of f b (typ (tx_ex t) q v) k i i
-    (object_typ_is (setting f b) b.ctx b.work (typ (tx_ex t) q v) k.holds i refl) (exception_whole (setting f b) b.ctx b.work t q v k.holds i) refl
-caught_by f a b at g q v x h k l e i = absurd cc
+  of_type : (a : State) (t : Typ) → IsGood f a → is_sound a.ctx.classes variable t ≡ true → is_array t ≡ false
+      → ((n : ℕ) → form_in t ≡ class n → is_some (completion_of a.ctx.classes n) ≡ true) → IsVariableType a t
+  of_type a t g i n c = variable_type a t (earlier_of b f a g) i (sized (setting f a) a.ctx a.work (holds_of b f a g) t i n c)
 
-type_told : (t u : Typ) → ◌≡◌ {A = Result Typ ElabFault} (Ok t) (Ok u) → t ≡ u
-type_told t u h = cc
+  caught_by : (a : State) (at : At) (g : Form) (q v x : Bool) → IsGood f a → caught_form a.ctx at g ≡ Ok x → is_sound_form a.ctx.classes target (q || v) g ≡ true
+      → IsVariableType a (typ g q v)
+  caught_by a at (int j) q v x h e i = of_type a (typ (int j) q v) h refl refl (λ n d. absurd cc)
+  caught_by a at (enum m s) q v x h e i = of_type a (typ (enum m s) q v) h refl refl (λ n d. absurd cc)
+  caught_by a at (class m) q v x h e i = of_type a (typ (class m) q v) h i refl (λ n d.
+      subst (λ (k : ℕ). is_some (completion_of a.ctx.classes k) ≡ true) (class_is m n d)
+      (h.sound.context.copied m (checked_true at BadCatch (traits_at a.ctx m).is_trivially_copyable x e)))
+  caught_by a at (tx_ex (typ t c d)) q v x h e i = of_type a (typ (tx_ex (typ t c d)) q v) h i refl (λ n d. absurd cc)
+  caught_by a at g q v x h e i = absurd cc
 
-ok_told : (A : Type 0) (r : Result Bool ElabFault) (t u : Typ) → and_then r (λ z. Ok t) ≡ Ok u → ((x : Bool) → r ≡ Ok x → t ≡ u → A) → A
-ok_told A (Ok x) t u h f = f x refl (type_told t u h)
-ok_told A (Err e) t u h f = absurd cc
+  type_told : (t u : Typ) → ◌≡◌ {A = Result Typ ElabFault} (Ok t) (Ok u) → t ≡ u
+  type_told t u h = cc
 
-behind_step : {A : Type 0} (r : Result A ElabFault) (x : Result Typ ElabFault) (u : Typ) → and_then r (λ k. x) ≡ Ok u → x ≡ Ok u
-behind_step (Ok a) x u h = h
-behind_step (Err f) x u h = absurd cc
+  ok_told : (A : Type 0) (r : Result Bool ElabFault) (t u : Typ) → and_then r (λ z. Ok t) ≡ Ok u → ((x : Bool) → r ≡ Ok x → t ≡ u → A) → A
+  ok_told A (Ok x) t u h f = f x refl (type_told t u h)
+  ok_told A (Err e) t u h f = absurd cc
 
-caught_typ : (f : UnitFunc) (a b : State) (at : At) (t u : Typ) (x : Bool) → IsGood f a → IsGood f b → Comes a b → caught_form a.ctx at (form_in t) ≡ Ok x → t ≡ u
-    → is_sound b.ctx.classes t ≡ true → IsVariableType b u
-caught_typ f a b at (typ g q v) u x h k l e r i = subst (λ (z : Typ). IsVariableType b z) r (caught_by f a b at g q v x h k l e i)
+  behind_step : {A : Type 0} (r : Result A ElabFault) (x : Result Typ ElabFault) (u : Typ) → and_then r (λ k. x) ≡ Ok u → x ≡ Ok u
+  behind_step (Ok a) x u h = h
+  behind_step (Err f) x u h = absurd cc
 
-caught_in : (f : UnitFunc) (a b : State) (at : At) (t u : Typ) → IsGood f a → IsGood f b → Comes a b → caught_type a.ctx at t ≡ Ok u
-    → is_sound b.ctx.classes t ≡ true → IsVariableType b u
-caught_in f a b at (typ (ref t) q v) u h k l e i = ok_told (IsVariableType b u) (caught_form a.ctx at (form_in t)) t u
-    (behind_step (check at OutOfProfile (is_const_typ t)) (and_then (caught_form a.ctx at (form_in t)) (λ z. Ok t)) u e)
-    (λ x n r. caught_typ f a b at t u x h k l n r (target_sound b.ctx.classes t i))
-caught_in f a b at (typ g q v) u h k l e i = ok_told (IsVariableType b u) (caught_form a.ctx at g) (typ g q v) u e
-    (λ x n r. caught_typ f a b at (typ g q v) u x h k l n r i)
+  -- what is caught by value is no reference, and what a reference refers to may be caught
+  as_target : (a : State) (at : At) (g : Form) (own x : Bool) → caught_form a.ctx at g ≡ Ok x → is_sound_form a.ctx.classes denoted own g ≡ true
+      → is_sound_form a.ctx.classes target own g ≡ true
+  as_target a at (int j) own x e i = refl
+  as_target a at (enum m s) own x e i = refl
+  as_target a at (class m) own x e i = i
+  as_target a at (tx_ex (typ t c d)) own x e i = i
+  as_target a at g own x e i = absurd cc
 
-pub can_be_caught : (f : UnitFunc) (s : List Lexeme) (a : State) (at : At) (t u : Typ) → IsSettled f a → IsWritten f a t → caught_type a.ctx at t ≡ Ok u
-    → CanBeCaught (words f s) a u
-can_be_caught f s a at t u g w e = let x = caught_in f a a at t u g.good g.good (record { goes = goes a a (stays a); names = λ n k e. refl }) e (w a (record { goes = goes a a (stays a); names = λ n k e. refl }) g.good).sound in record {
-  object = λ b l k. caught_in f a b at t u g.good k l e (w b l k).sound;
-  sized = x.sized;
-  ready = x.ready;
-}
+  caught_typ : (a : State) (at : At) (t u : Typ) (x : Bool) → IsGood f a → caught_form a.ctx at (form_in t) ≡ Ok x → t ≡ u
+      → is_sound a.ctx.classes target t ≡ true → IsVariableType a u
+  caught_typ a at (typ g q v) u x h e r i = subst (λ (z : Typ). IsVariableType a z) r (caught_by a at g q v x h e i)
+
+  value_typ : (a : State) (at : At) (t u : Typ) (x : Bool) → IsGood f a → caught_form a.ctx at (form_in t) ≡ Ok x → t ≡ u
+      → is_sound a.ctx.classes denoted t ≡ true → IsVariableType a u
+  value_typ a at (typ g q v) u x h e r i = caught_typ a at (typ g q v) u x h e r (as_target a at g (q || v) x e i)
+
+  caught_in : (a : State) (at : At) (t u : Typ) → IsGood f a → caught_type a.ctx at t ≡ Ok u → is_sound a.ctx.classes denoted t ≡ true → IsVariableType a u
+  caught_in a at (typ (ref t) q v) u h e i = ok_told (IsVariableType a u) (caught_form a.ctx at (form_in t)) t u
+      (behind_step (check at OutOfProfile (is_const_typ t)) (and_then (caught_form a.ctx at (form_in t)) (λ z. Ok t)) u e)
+      (λ x n r. caught_typ a at t u x h n r (and_parts (not (q || v)) (is_sound a.ctx.classes target t) i).1)
+  caught_in a at (typ g q v) u h e i = ok_told (IsVariableType a u) (caught_form a.ctx at g) (typ g q v) u e
+      (λ x n r. value_typ a at (typ g q v) u x h n r i)
+
+  pub can_be_caught : (s : List Lexeme) (a : State) (at : At) (t u : Typ) → IsSettled f a → is_sound a.ctx.classes denoted t ≡ true
+      → caught_type a.ctx at t ≡ Ok u → CanBeCaught (words f s) a u
+  can_be_caught s a at t u g w e = let x = caught_in a at t u g.good e w in
+      let y = declares (setting f a) a.ctx a.work (holds_of b f a g.good) u x.sound (x.sized a (comes_still a)) in record {
+        object = x;
+        sized = x.sized a (comes_still a);
+        ready = y.ready;
+      }

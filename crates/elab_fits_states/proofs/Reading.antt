@@ -1,5 +1,5 @@
 -- Operands that are read, and what holds of them where more is made.
-use Rattle.std.proofs.Common.{◌≡◌, refl, sym, ap, ◌∙◌, subst, ℕ, zero, suc, ◌≤◌, List, [], ◌∷◌, length, slice_get, Some, Result, Ok, arith}
+use Rattle.std.proofs.Common.{◌≡◌, refl, sym, ap, ◌∙◌, subst, zero, List, [], Result, Ok}
 use Rattle.elab_rules.specs.cpp_lex.Tokens.{Lexeme}
 use Rattle.elab_rules.specs.cpp_ast.Trees as syntax
 use Rattle.elab_rules.specs.cpp_tree.declared.faults.ElabFault.{ElabFault}
@@ -17,7 +17,7 @@ use Rattle.elab_fits.specs.Scalars.{IsZero}
 use Rattle.elab_growth.proofs.Growth.{Behind}
 use Rattle.elab_fits_forms.specs.Meaning.{Proper, ProperOperand, MeansOperand}
 use Rattle.elab_fits_forms.specs.Context.{Holds}
-use Rattle.elab_fits_forms.specs.Names.{Typed_means}
+use Rattle.elab_fits_forms.specs.Names.{TypedMeans}
 use Rattle.elab_fits_forms.proofs.Names.{resolved_stand}
 use Rattle.elab_fits_expressions.proofs.Expressions.{of_expression}
 use Rattle.elab_fits_statements.specs.Discipline.{HasRead, StandsSomewhere}
@@ -32,25 +32,20 @@ use Rattle.state_growth.proofs.Going.{goes_on_law}
 use Rattle.elab_growth.proofs.Kept.{follows}
 use Rattle.elab_fits_states.specs.States.{IsText, Comes, IsGood, IsSettled, words}
 use Rattle.elab_fits_states.specs.Premises.{Premises, GoesWell}
-use Rattle.elab_fits_expressions.specs.Growing as growing
-use Rattle.elab_fits_expressions.proofs.Growing as made_growing
-use Rattle.elab_fits_states.proofs.Good.{good_worked, leads_worked}
+use Rattle.elab_sound_types.proofs.Expressions.{Chosen, operand_sound}
+use Rattle.elab_sound_types.proofs.Growth.{kept_joined}
+use Rattle.elab_throws_apart.proofs.Expressions.{chosen_law}
+use Rattle.elab_fits_states.proofs.Good.{holds_of, good_worked, leads_worked}
+use Rattle.elab_fits_states.proofs.Types.{spelled}
 
 -- what is said of an answer, of the answer that is given
 pub answered : {A : Type 0} (P : A → Type 0) (r : Result A ElabFault) (x : A) → On P r → r ≡ Ok x → P x
 answered P r x h e = subst (λ (z : Result _ ElabFault). On P z) e h
 
--- a class that stands in an earlier state stands in a later one
-in_range : {A : Type 0} (xs ys : List A) (n : ℕ) (x : A) → slice_get xs n ≡ Some x → length xs ≤ length ys → (y : A) × (slice_get ys n ≡ Some y)
-in_range [] ys n x h l = absurd cc
-in_range (z ∷ xs) [] n x h l = absurd (omega (arith, l))
-in_range (z ∷ xs) (y ∷ ys) zero x h l = (y, refl)
-in_range (z ∷ xs) (y ∷ ys) (suc n) x h l = in_range xs ys n x h (omega (arith, l))
-
 pub comes_on : (a b c : State) → Comes a b → Comes b c → Comes a c
 comes_on a b c h k = record {
   goes = goes_on_law a b c h.goes k.goes;
-  names = λ n x e. let y = in_range a.ctx.classes b.ctx.classes n x e h.goes.grows.unit.classes.many in k.names n y.0 y.1 ∙ h.names n x e;
+  kept = kept_joined a.ctx.classes b.ctx.classes c.ctx.classes h.kept k.kept;
 }
 
 -- the same context holds in a setting of its own
@@ -108,6 +103,9 @@ zero_chosen c e t z h = record { kind = z.kind; place = z.place; is = ok t (sym 
     ok b e = cc
 
 module _ (f : UnitFunc) (lams : Lambdas) (s : List Lexeme) (p : Premises f lams s) where
+  holds : (x : State) → IsGood f x → Holds (setting_at f x.ctx x.work) x.ctx x.work
+  holds x g = holds_of p.contexts f x g
+
   -- in the setting of what was made with it
   pub read_one : (x : State) (e : syntax.Tree) (o : Typed) → IsGood f x → IsText s e → and_then (expression_of s x.ctx x.work e) (chosen_operand x.ctx) ≡ Ok o
       → ProperOperand (setting_at f x.ctx o.work) x.ctx o.operand
@@ -119,33 +117,40 @@ module _ (f : UnitFunc) (lams : Lambdas) (s : List Lexeme) (p : Premises f lams 
       S = setting_at f x.ctx o.work
 
       means : (y : Typed) → expression_of s x.ctx x.work e ≡ Ok y → y.work ≡ o.work → MeansOperand S x.ctx y.operand
-      means y h q = answered (Typed_means S x.ctx) (expression_of s x.ctx x.work e) y
-          (of_expression s S x.ctx x.ctx.closures x.work e (later f x.ctx x.work o.work g.holds) g.closures t.spelled) h
+      means y h q = answered (TypedMeans S x.ctx) (expression_of s x.ctx x.work e) y
+          (of_expression s S x.ctx x.ctx.closures x.work e (later f x.ctx x.work o.work (holds x g)) g.closures t.spelled) h
           (subst (λ (v : Work). Reaches S v) (sym q) (reached_law f x.ctx o.work))
 
       of_chosen : (y : Typed) → expression_of s x.ctx x.work e ≡ Ok y
           → On (λ (z : Typed). z.work ≡ o.work → ProperOperand S x.ctx z.operand) (chosen_operand x.ctx y)
       of_chosen y h = told (λ (z : Typed). z.work ≡ o.work → ProperOperand S x.ctx z.operand) (resolved x.ctx y.operand.tree) _ (λ u i q. record {
         proper = answered (Proper S x.ctx) (resolved x.ctx y.operand.tree) u
-            (resolved_stand S x.ctx x.work y.operand.tree (later f x.ctx x.work o.work g.holds) (means y h q).means) i;
+            (resolved_stand S x.ctx x.work y.operand.tree (later f x.ctx x.work o.work (holds x g)) (means y h q).means) i;
         zero = λ z. zero_chosen x.ctx y.operand.tree u ((means y h q).zero z) i;
       })
+
+  -- its type is sound, and so is what was made with it
+  pub sound_one : (x : State) (e : syntax.Tree) (o : Typed) → IsGood f x → IsText s e → and_then (expression_of s x.ctx x.work e) (chosen_operand x.ctx) ≡ Ok o
+      → Chosen x.ctx o
+  sound_one x e o g t k = answered (Chosen x.ctx) (and_then (expression_of s x.ctx x.work e) (chosen_operand x.ctx)) o
+      (operand_sound s x.ctx x.ctx.closures x.work e g.sound.context g.sound.closures (spelled s e t.spelled)) k
 
   read_behind : (a x : State) (e : syntax.Tree) (o : Typed) → GoesWell f a x → IsText s e
       → and_then (expression_of s x.ctx x.work e) (chosen_operand x.ctx) ≡ Ok o
       → HasRead (words f s) a (record { operand = o.operand; state = with_work x o.work })
-  read_behind a x e o l t k = let r = and_then (expression_of s x.ctx x.work e) (chosen_operand x.ctx) in
-      let b = answered (λ (y : Typed). Behind x.work y.work) r o (operand_grows s x.ctx x.work e) k in
-      let g = answered (λ (y : Typed). growing.Behind x.work y.work) r o
-      (made_growing.chosen x.ctx x.work (expression_of s x.ctx x.work e) (made_growing.expression s x.ctx x.ctx.closures x.work e)) k in record {
+  read_behind a x e o l t k =
+      let b = answered (λ (y : Typed). Behind x.work y.work) (and_then (expression_of s x.ctx x.work e) (chosen_operand x.ctx)) o
+      (operand_grows s x.ctx x.work e) k in
+      let i = sound_one x e o l.good t k in record {
         goes = record {
-          good = good_worked f x l.good o.work b g;
+          good = good_worked p.contexts f x l.good o.work b i.1;
           leads = comes_on a x (with_work x o.work) l.leads (leads_worked x o.work b);
           stands = stands_then a x (with_work x o.work) l.stands (record { label = refl; breaks = refl; continues = refl; typ = refl; past = λ i. i });
         };
         operand = record {
           proper = operand_settled (setting_at f x.ctx o.work) x.ctx [] o.operand (read_one x e o l.good t k);
-          no_throw = p.throws.read x.ctx x.work e o k;
+          sound = i.0;
+          apart = chosen_law s x.ctx x.ctx.closures x.work e o k;
         };
       }
 

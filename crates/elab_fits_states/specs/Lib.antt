@@ -1,4 +1,5 @@
 pub mod Bodies
 pub mod Lambdas
+pub mod Made
 pub mod Premises
 pub mod States

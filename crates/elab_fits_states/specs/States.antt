@@ -1,30 +1,33 @@
 -- The states of elaboration inside of the body of a function.
-use Rattle.std.specs.Prelude.{◌≡◌, ℕ, nat_lt, Bool, true, false, not, ◌&&◌, ◌||◌, List, [], Some, is_some, slice_get}
-use Rattle.elab_rules.specs.cpp_types.Typ.{Typ, typ, ptr, ref, array, closure}
-use Rattle.elab_rules.specs.cpp_types.Class.{Class}
+use Rattle.std.specs.Prelude.{◌≡◌, Bool, true, false, ◌&&◌, List, [], Some, is_some}
+use Rattle.elab_rules.specs.cpp_types.Typ.{Typ, ptr}
 use Rattle.elab_rules.specs.cpp_lex.Tokens.{Lexeme}
 use Rattle.elab_rules.specs.cpp_ast.declared.kinds.NodeKind.{NodeKind}
 use Rattle.elab_rules.specs.cpp_ast.declared.kinds.NodeKind.TheVariants as k
 use Rattle.elab_rules.specs.cpp_ast.Trees as syntax
+use Rattle.elab_rules.specs.cpp_tree.declared.program.FuncKind.TheVariants.{ClosureCall}
 use Rattle.elab_rules.specs.cpp_tree.Notation.{plain}
 use Rattle.elab_rules.specs.cpp_tree.Typing.{is_class_typ}
 use Rattle.elab_rules.specs.cpp_tree.Parts.{size_in}
 use Rattle.elab_rules.specs.cpp_tree.Units.{Func as UnitFunc}
 use Rattle.elab_rules.specs.cpp_tree.Rows.{Setting, result_of}
-use Rattle.elab_rules.specs.elab_ctx.Ctx.{known}
+use Rattle.elab_rules.specs.elab_ctx.Ctx.{Lambda, known}
 use Rattle.elab_rules.specs.elab_ctx.Steps.{Operand}
-use Rattle.elab_rules.specs.Values.{builder}
-use Rattle.elab_rules.specs.Statements.{State, throws_object}
-use Rattle.elab_fits.specs.Objects.{is_ready, has_lambdas}
-use Rattle.elab_fits_objects.specs.Contexts.{IsInitialised}
-use Rattle.elab_fits_forms.specs.Types.{is_lambda, is_sound, is_declared, is_result}
+use Rattle.elab_rules.specs.Statements.{State}
+use Rattle.elab_contexts.specs.Holding.{UnitHolds}
+use Rattle.elab_sound_types.specs.Types.{is_sound, IsExpression, variable as a_variable, denoted as a_denoted, result as a_result}
+use Rattle.elab_sound_types.specs.States.{IsSoundState, Kept}
+use Rattle.elab_throws_apart.specs.Throws.{is_apart}
 use Rattle.elab_fits_forms.specs.Meaning.{ProperOperand}
-use Rattle.elab_fits_forms.specs.Context.{Holds}
 use Rattle.elab_fits_forms.specs.Expressions.{is_spelled, are_spelled, ClosuresHold}
 use Rattle.elab_fits_statements.specs.Variables.{HasItem}
 use Rattle.elab_fits_statements.specs.Discipline.{Words}
+use Rattle.elab_fits_braces.specs.Defaults.{AllDefaultsFit}
 use Rattle.state_growth.specs.Settings.{setting_at}
 use Rattle.state_growth.specs.States.{Goes}
+use Rattle.elab_holds.specs.Contexts.{HasSlots}
+use Rattle.elab_holds.specs.Locals.{LocalsHold}
+use Rattle.elab_fits_states.specs.Made.{AllBodiesFit}
 
 -- The text of a body
 
@@ -58,69 +61,55 @@ setting f st = setting_at f st.ctx st.work
 
 -- a state in the body of a function whose result is known
 pub record IsGood (f : UnitFunc) (st : State) : Type 0 where
-  -- what the laws of expressions ask of the context, in the setting of the state
-  pub holds : Holds (setting f st) st.ctx st.work
-  -- what they ask of the lambdas at hand
+  -- the classes and functions of the unit are as elaboration makes them
+  pub unit : UnitHolds st.ctx
+  -- virtual functions have their slots
+  pub slots : HasSlots st.ctx
+  -- what is declared has types that can be declared
+  pub sound : IsSoundState st
+  -- variables and the object at hand have their items in the frame, and the classes around are complete
+  pub locals : LocalsHold st.ctx st.work
+  -- a lambda is around in the body of its call alone
+  pub around : (l : Lambda) → st.ctx.lambda ≡ Some l → f.kind ≡ ClosureCall
+  -- what the laws of expressions ask of the lambdas at hand
   pub closures : ClosuresHold st.ctx st.ctx.closures
   pub returns : st.ctx.returns ≡ known (result_of f)
-  pub sound : is_result st.ctx.classes (result_of f) ≡ true
+  pub typed : is_sound st.ctx.classes a_result (result_of f) ≡ true
   -- the address of a result of class type is the first item of the frame
   pub result : is_class_typ (result_of f) ≡ true → HasItem (setting f st) 0 (plain (ptr (result_of f)))
+  -- the bodies that were made fit, and so do the initialisers of members
+  pub bodies : AllBodiesFit st
+  pub defaults : AllDefaultsFit (setting f st) st.ctx.defaults
 
 -- the same between full-expressions, where no lambdas are at hand
 pub record IsSettled (f : UnitFunc) (st : State) : Type 0 where
   pub good : IsGood f st
   pub none : st.ctx.closures ≡ []
 
--- no `throw` of an object stands for an operand, which has no value
-pub record IsNoThrow (o : Operand) : Type 0 where
-  pub tree : throws_object o.tree ≡ false
-  pub built : throws_object (builder o.tree) ≡ false
-
 -- an operand that was read in a state
 pub record IsRead (f : UnitFunc) (st : State) (o : Operand) : Type 0 where
   pub proper : ProperOperand (setting f st) st.ctx o
-  pub no_throw : IsNoThrow o
+  pub sound : IsExpression st.ctx.classes o.tree
+  pub apart : is_apart o.tree ≡ true
 
 -- States that come of others: what stood in the one stands in the other, and a class has a name or none as before
 pub record Comes (a b : State) : Type 0 where
   pub goes : Goes a b
-  pub names : (n : ℕ) (k : Class) → slice_get a.ctx.classes n ≡ Some k → is_lambda b.ctx.classes n ≡ is_lambda a.ctx.classes n
+  pub kept : Kept a.ctx.classes b.ctx.classes
 
 -- Types
 
--- an element of an array is no reference and no object of a lambda, and an array that is one has elements itself
-abbrev pub is_element : Typ → Bool
-is_element (typ (array t n) c v) = not (c || v) && (nat_lt 0 n && is_element t)
-is_element (typ (ref t) c v) = false
-is_element (typ (closure n) c v) = false
-is_element t = true
-
--- nor has an array or a reference qualifiers of its own
-abbrev pub is_formed : Typ → Bool
-is_formed (typ (array t n) c v) = not (c || v) && is_element t
-is_formed (typ (ref t) c v) = not (c || v)
-is_formed t = true
-
-pub record IsWrittenType (st : State) (t : Typ) : Type 0 where
-  pub sound : is_sound st.ctx.classes t ≡ true
-  pub formed : is_formed t ≡ true
-
--- a type that is written is such, whatever is elaborated behind it
+-- a type that specifiers and declarators write
 abbrev pub IsWritten : UnitFunc → State → Typ → Type 0
-IsWritten f a t = (b : State) → Comes a b → IsGood f b → IsWrittenType b t
+IsWritten f a t = is_sound a.ctx.classes a_denoted t ≡ true
 
--- objects of the type can be variables
+-- a type of variables, whose objects have a size, whatever is elaborated behind it
 pub record IsVariableType (st : State) (t : Typ) : Type 0 where
-  pub declared : is_declared st.ctx.classes t ≡ true
-  pub initialised : IsInitialised st.ctx (is_lambda st.ctx.classes) t
-  pub sized : is_some (size_in st.ctx.classes t) ≡ true
-  pub ready : is_ready st.ctx.classes true t ≡ true
-  pub single : has_lambdas t ≡ false
+  pub sound : is_sound st.ctx.classes a_variable t ≡ true
+  pub sized : (z : State) → Comes st z → is_some (size_in z.ctx.classes t) ≡ true
 
--- the same, whatever is elaborated behind it
 abbrev pub IsObjectType : UnitFunc → State → Typ → Type 0
-IsObjectType f a t = (b : State) → Comes a b → IsGood f b → IsVariableType b t
+IsObjectType f a t = IsVariableType a t
 
 -- What the theorem of elab_fits_statements asks for
 
