@@ -31,6 +31,10 @@ use Rattle.elab_contexts.specs.Steps.{view, Steps, IsOpen}
 use Rattle.elab_contexts.specs.Holding.{IsKnown, IsOfClass, IsRecorded, of_unit, of_another, UnitHolds, StateHolds, HasEnumerators, HasTypeNames, StartsHold}
 use Rattle.elab_contexts.specs.Holding.{LaterStartsHold, DeclarationsHold, UnitsHold, LambdasHold, OperandsHold, StatementsHold, VariablesHold, AliasesHold}
 use Rattle.elab_contexts.specs.Holding.{EnumsHold, NamesHold, FunctionsHold, OutsideHold, ClassesHold, MemberDefaultsHold, MethodsHold, ImpliedHold, SpecialsHold}
+use Rattle.elab_contexts.specs.Steps.{View, is_same_declared}
+use Rattle.elab_contexts.specs.Slots.{slots_at, HasSlotsIn}
+use Rattle.elab_rules.specs.cpp_tree.Units.{SlotFunc}
+use Rattle.elab_rules.specs.cpp_types.Class.{completion_of}
 use Rattle.elab_contexts.proofs.Walking.{Leaves, Ends, weaken, kept_by_steps}
 use Rattle.elab_contexts.proofs.Found.{At}
 use Rattle.elab_contexts.proofs.Makers.{IsDestructor, IsCopy, IsDefault, Proper, AllProper}
@@ -87,6 +91,7 @@ shown c h e t = record {
   free = λ k f q. (h.proper k f q).free;
   owned = λ k f n q. h.owned k f q n;
   recorded = λ n i k g q r. h.recorded n k q i g r;
+  slotted = h.slotted;
   objects = λ n i k m q. h.objects n k q i m;
   numbered = h.ordered.numbered;
   earlier = h.ordered.earlier;
@@ -130,6 +135,7 @@ taken c h = record {
   plain = λ n k q. record { base = λ b. h.bases n b k q; members = λ r i m. h.members n i k m q r };
   owned = λ k f q n. h.owned k f n q;
   recorded = λ n k q i g. h.recorded n i k g q;
+  slotted = h.slotted;
 }
 
 -- The start
@@ -160,6 +166,46 @@ builtins_free cs k f e n q = let x = builtins_proper k f e in by k f e n q
     by (suc (suc (suc zero))) f e n q = none_of _ f refl e n q
     by (suc (suc (suc (suc k)))) f e n q = absurd cc
 
+apart_by : {A : Type 0} (x y f g : Func) → Some x ≡ Some f → Some y ≡ Some g → is_same_declared x y ≡ false → is_same_declared f g ≡ true → A
+apart_by {A = A} x y f g e q n t = absurd (no_way (sym n ∙ subst (λ (z : Func). is_same_declared z y ≡ true) (sym (same_Some x f e))
+    (subst (λ (z : Func). is_same_declared f z ≡ true) (sym (same_Some y g q)) t)))
+  where
+    no_way : false ≡ true → ⊥
+    no_way z = absurd cc
+
+builtins_distinct : (j k : ℕ) (f g : Func) → slice_get builtins j ≡ Some f → slice_get builtins k ≡ Some g → is_same_declared f g ≡ true → j ≡ k
+builtins_distinct zero zero f g e q t = refl
+builtins_distinct zero (suc zero) f g e q t = apart_by _ _ f g e q refl t
+builtins_distinct zero (suc (suc zero)) f g e q t = apart_by _ _ f g e q refl t
+builtins_distinct zero (suc (suc (suc zero))) f g e q t = apart_by _ _ f g e q refl t
+builtins_distinct (suc zero) zero f g e q t = apart_by _ _ f g e q refl t
+builtins_distinct (suc zero) (suc zero) f g e q t = refl
+builtins_distinct (suc zero) (suc (suc zero)) f g e q t = apart_by _ _ f g e q refl t
+builtins_distinct (suc zero) (suc (suc (suc zero))) f g e q t = apart_by _ _ f g e q refl t
+builtins_distinct (suc (suc zero)) zero f g e q t = apart_by _ _ f g e q refl t
+builtins_distinct (suc (suc zero)) (suc zero) f g e q t = apart_by _ _ f g e q refl t
+builtins_distinct (suc (suc zero)) (suc (suc zero)) f g e q t = refl
+builtins_distinct (suc (suc zero)) (suc (suc (suc zero))) f g e q t = apart_by _ _ f g e q refl t
+builtins_distinct (suc (suc (suc zero))) zero f g e q t = apart_by _ _ f g e q refl t
+builtins_distinct (suc (suc (suc zero))) (suc zero) f g e q t = apart_by _ _ f g e q refl t
+builtins_distinct (suc (suc (suc zero))) (suc (suc zero)) f g e q t = apart_by _ _ f g e q refl t
+builtins_distinct (suc (suc (suc zero))) (suc (suc (suc zero))) f g e q t = refl
+builtins_distinct (suc (suc (suc (suc j)))) k f g e q t = absurd cc
+builtins_distinct j (suc (suc (suc (suc k)))) f g e q t = absurd cc
+
+-- no member function yet
+no_slots : (v : View) → v.funcs ≡ builtins → length v.slots ≡ length v.classes
+    → ((n i : ℕ) (x : SlotFunc) → slice_get (slots_at v.slots n) i ≡ Some x → is_some (completion_of v.classes x.class) ≡ true) → HasSlotsIn v
+no_slots v b m w = record {
+  many = m;
+  whole = w;
+  own = λ k n f e c p z d a. no_class_of k f n (ap (λ (fs : List Func). slice_get fs k) (sym b) ∙ e) c;
+  distinct = λ j k f g e q p t. builtins_distinct j k f g (ap (λ (fs : List Func). slice_get fs j) (sym b) ∙ e) (ap (λ (fs : List Func). slice_get fs k) (sym b) ∙ q) t;
+}
+  where
+    no_class_of : {A : Type 0} (k : ℕ) (f : Func) (n : ℕ) → slice_get builtins k ≡ Some f → f.class ≡ Some n → A
+    no_class_of k f n e c = let x = builtins_free [] k f e n c in let z : None ≡ Some x.class = x.at in absurd cc
+
 start_holds : (source : ℕ) → Holds (view (start source).ctx)
 start_holds source = record {
   many = refl;
@@ -173,6 +219,7 @@ start_holds source = record {
   plain = λ n k e. absurd cc;
   owned = builtins_free [];
   recorded = λ n k e i g q. absurd cc;
+  slotted = no_slots (view (start source).ctx) refl refl (λ n i x e. absurd cc);
 }
 
 pub starts_law : StartsHold
@@ -211,6 +258,7 @@ later_law source p x st h b = shown (start_behind source (with_unit p x st) st.c
       plain = λ n k q. record { base = λ b. h.bases n b k q; members = λ r i m. h.members n i k m q r };
       owned = builtins_free st.ctx.classes;
       recorded = λ n k q i g r. recorded_later st.ctx.classes st.ctx.funcs builtins b n g (h.recorded n i k g q r);
+      slotted = no_slots (view (start_behind source (with_unit p x st) st.ctx.traits).ctx) refl h.slotted.many h.slotted.whole;
     }) (λ i e q. absurd cc) (λ i e q. absurd cc)
 
 -- Declarations and statements

@@ -19,7 +19,9 @@ use Rattle.std.proofs.lemmas.Option.{same_Some}
 use Rattle.elab_rules.specs.cpp_tree.declared.program.FuncKind.TheVariants.{ClosureCall}
 use Rattle.elab_contexts.specs.Steps.{View, view, Step, function_added, function_defined, class_begun, class_completed, closure_added, FunctionAdded}
 use Rattle.elab_contexts.specs.Steps.{FunctionDefined, ClassNamed, ClassCompleted, ClosureAdded, SameFunction, IsOpen, IsWhole, IsBase, IsMember}
+use Rattle.elab_contexts.specs.Slots.{HasSlotsIn}
 use Rattle.elab_contexts.specs.Texts.{is_no_name}
+use Rattle.elab_contexts.proofs.Slots.{slots_added, slots_defined, slots_named, slots_closed, slots_closure}
 use Rattle.elab_contexts.specs.Holding.{is_object_member, IsRecorded, of_unit}
 use Rattle.elab_contexts.proofs.Lists.{one_more, one_set}
 use Rattle.elab_contexts.proofs.Found.{At, Stay, stay, stay_added, stay_set, at_still, at_the_end}
@@ -146,6 +148,7 @@ pub record Holds (v : View) : Type 0 where
   pub plain : AllPlain v.classes
   pub owned : AllOwned v.classes v.funcs
   pub recorded : AllRecorded v.classes v.funcs
+  pub slotted : HasSlotsIn v
 
 no_builtin : (o : Option Builtin) (b : Builtin) (A : Type 0) → o ≡ None → o ≡ Some b → A
 no_builtin None b A e f = absurd cc
@@ -174,6 +177,7 @@ added_kept a b s h = subst Holds (sym s.is) (record {
   plain = h.plain;
   owned = one_more (OwnedBy a.classes) a.funcs s.func h.owned (λ n e. open_owned a.classes n s.func h.tidy (s.unclosed n e));
   recorded = all_recorded_still a.classes a.funcs (a.funcs ++ s.func ∷ []) (stay_added a.funcs s.func) h.recorded;
+  slotted = slots_added a s.func s.unclosed s.fresh h.slotted;
 })
 
 defined_kept : (a b : View) → FunctionDefined a b → Holds a → Holds b
@@ -189,6 +193,7 @@ defined_kept a b s h = subst Holds (sym s.is) (record {
   plain = h.plain;
   owned = one_set (OwnedBy a.classes) a.funcs s.place s.func h.owned (λ f e. owned_same a.classes f s.func (s.same f e) (h.owned s.place f e));
   recorded = all_recorded_still a.classes a.funcs (slice_set a.funcs s.place s.func) (stay_set a.funcs s.place s.func s.same) h.recorded;
+  slotted = slots_defined a s.place s.func s.same (stay_set a.funcs s.place s.func s.same) h.slotted;
 })
 
 named_kept : (a b : View) → ClassNamed a b → Holds a → Holds b
@@ -205,6 +210,7 @@ named_kept a b s h = subst Holds (sym s.is) (record {
   plain = plain_added a.classes (class_named s.name None false [] [] None) (record { base = λ b e. absurd cc; members = λ q i m e. absurd cc }) h.plain;
   owned = owned_added a.classes (class_named s.name None false [] [] None) a.funcs h.owned;
   recorded = recorded_added a.classes (class_named s.name None false [] [] None) a.funcs a.funcs (stay a.funcs) (λ i g e. absurd cc) h.recorded;
+  slotted = slots_named a (a.traits ++ no_traits ∷ []) (class_named s.name None false [] [] None) refl h.slotted;
 })
 
 incomplete_is : (cs : List Class) (n : ℕ) → IsOpen cs n → completion_of cs n ≡ None
@@ -241,6 +247,7 @@ closed_kept c n name base ms d x w q large b f o h = record {
       (owned_set c.classes n x.class c.funcs d.funcs (ap is_no_name x.closed.name ∙ q) w x.added h.owned);
   recorded = subst (λ (cs : List Class). AllRecorded cs d.funcs) (sym x.classes)
       (recorded_set c.classes n x.class c.funcs d.funcs x.stays x.methods h.recorded);
+  slotted = slots_closed c n name base ms d x w h.slotted;
 }
   where
     z : completion_of c.classes n ≡ None
@@ -307,6 +314,7 @@ closure_from c xs g ps closed w z h =
           (closure_owned c.classes _ f refl refl);
       recorded = recorded_added c.classes _ c.funcs (c.funcs ++ f ∷ []) (stay_added c.funcs f) (call_recorded (with_closure c xs g ps closed).classes
           c.funcs f (length c.classes) refl g refl) h.recorded;
+      slotted = slots_closure (view c) (c.traits ++ t ∷ []) _ f refl (λ j n g e q. ap is_some (h.owned j g e n q).at) h.slotted;
     }
 
 closure_kept : (a b : View) → ClosureAdded a b → Holds a → Holds b

@@ -5,6 +5,7 @@ pub mod Classes
 pub mod Declared
 pub mod Defined
 pub mod Found
+pub mod Functions
 pub mod Going
 pub mod Holding
 pub mod Implied
@@ -16,8 +17,10 @@ pub mod Members
 pub mod Names
 pub mod Order
 pub mod Outside
+pub mod Overriding
 pub mod Owned
 pub mod Sized
+pub mod Slots
 pub mod Statements
 pub mod Units
 pub mod Walking

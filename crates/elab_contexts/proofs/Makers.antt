@@ -26,6 +26,8 @@ use Rattle.elab_rules.specs.cpp_tree.Units.{Param}
 use Rattle.elab_rules.specs.cpp_tree.declared.kinds.Builtin.{Builtin}
 use Rattle.std.specs.Prelude.{count_by, map, filter, cond}
 use Rattle.elab_rules.specs.Calls.{is_of_class}
+use Rattle.elab_rules.specs.cpp_tree.Units.{SlotFunc}
+use Rattle.elab_rules.specs.Classes.{overriding, base_slots, new_slots, slots_of}
 use Rattle.std.proofs.lemmas.Option.{same_Some}
 use Rattle.elab_fits.proofs.Equal.{typ_same}
 use Rattle.elab_contexts.specs.Holding.{IsKnown}
@@ -137,14 +139,15 @@ pub record Proper (f : Func) : Type 0 where
 abbrev pub AllProper : List Func → Type 0
 AllProper fs = (k : ℕ) (f : Func) → slice_get fs k ≡ Some f → Proper f
 
--- a function that was there, or a new one of the class
+-- a function that was there, or a new one of the class, which is not a plain one
 pub data IsOldOr (old : List Func) (n k : ℕ) (f : Func) : Type 0 where
   is_old : slice_get old k ≡ Some f → IsOldOr old n k f
-  is_own : f.class ≡ Some n → IsOldOr old n k f
+  is_own : f.class ≡ Some n → same_kind f.kind Plain ≡ false → IsOldOr old n k f
 
 pub record MadeOf (n : ℕ) (P : Func → Type 0) (c : Ctx) (x : Specials) : Type 0 where
   pub classes : x.ctx.classes ≡ c.classes
   pub traits : x.ctx.traits ≡ c.traits
+  pub slots : x.ctx.slots ≡ c.slots
   pub stays : Stay c.funcs x.ctx.funcs
   pub proper : AllProper c.funcs → AllProper x.ctx.funcs
   pub added : (k : ℕ) (f : Func) → slice_get x.ctx.funcs k ≡ Some f → IsOldOr c.funcs n k f
@@ -155,7 +158,7 @@ made_if n P c true x y g h = g
 made_if n P c false x y g h = h
 
 kept_made : (n : ℕ) (P : Func → Type 0) (c : Ctx) (s : Special) → ((k : ℕ) → s ≡ function k → At P c.funcs k) → MadeOf n P c (kept_special c s)
-kept_made n P c s h = record { classes = refl; traits = refl; stays = stay c.funcs; proper = λ p. p; added = λ k f e. is_old e; special = h }
+kept_made n P c s h = record { classes = refl; traits = refl; slots = refl; stays = stay c.funcs; proper = λ p. p; added = λ k f e. is_old e; special = h }
 
 not_there : (n : ℕ) (P : Func → Type 0) (c : Ctx) → MadeOf n P c (kept_special c absent)
 not_there n P c = kept_made n P c absent (λ k e. absurd cc)
@@ -171,13 +174,15 @@ number_in trivial = 0
 found_made : (n : ℕ) (P : Func → Type 0) (c : Ctx) (i : ℕ) → At P c.funcs i → MadeOf n P c (kept_special c (function i))
 found_made n P c i x = kept_made n P c (function i) (λ k e. subst (λ (j : ℕ). At P c.funcs j) (ap number_in e) x)
 
-implicit_made : (n : ℕ) (P : Func → Type 0) (c : Ctx) (f : Func) → P f → f.class ≡ Some n → Proper f → MadeOf n P c (with_implicit c f)
-implicit_made n P c f p o q = record {
+implicit_made : (n : ℕ) (P : Func → Type 0) (c : Ctx) (f : Func) → P f → f.class ≡ Some n → same_kind f.kind Plain ≡ false → Proper f
+    → MadeOf n P c (with_implicit c f)
+implicit_made n P c f p o z q = record {
   classes = refl;
   traits = refl;
+  slots = refl;
   stays = stay_added c.funcs f;
   proper = λ h. one_more Proper c.funcs f h q;
-  added = one_more_at (λ (k : ℕ) (g : Func). IsOldOr c.funcs n k g) c.funcs f (λ i y e. is_old e) (is_own o);
+  added = one_more_at (λ (k : ℕ) (g : Func). IsOldOr c.funcs n k g) c.funcs f (λ i y e. is_old e) (is_own o z);
   special = λ k e. subst (λ (j : ℕ). At P (c.funcs ++ f ∷ []) j) (ap number_in e)
       (record { func = f; at = at_the_end c.funcs f; is = p });
 }
@@ -195,7 +200,7 @@ destructor_made c home at ms (Some i) e = found_made home.number (IsDestructor h
     (passed (IsDestructor home.number) (is_destructor_of home.number) (destructor_is home.number) c.funcs i e)
 destructor_made c home at ms None e = made_if home.number (IsDestructor home.number) c (all_held (λ n. is_trivial (traits_at c n).destructor) home.base ms) _ _
     (nothing_to_do home.number (IsDestructor home.number) c)
-    (implicit_made home.number (IsDestructor home.number) c _ (record { class = refl; kind = refl }) refl (implicit_proper home.number Destructor [] _))
+    (implicit_made home.number (IsDestructor home.number) c _ (record { class = refl; kind = refl }) refl refl (implicit_proper home.number Destructor [] _))
 
 either_found : (n : ℕ) (name : List ℕ) (fs : List Func) (a b : Option ℕ) → first_from (is_copy_from n true) 0 fs ≡ a
     → first_from (is_written_copy n name) 0 fs ≡ b → (k : ℕ) → either a b ≡ Some k → At (IsCopy n) fs k
@@ -209,7 +214,7 @@ copy_made c home at ms (Some i) e = found_made home.number (IsCopy home.number) 
 copy_made c home at ms None e = made_if home.number (IsCopy home.number) c (not (may_copy c home.base ms)) _ _ (not_there home.number (IsCopy home.number) c)
     (made_if home.number (IsCopy home.number) c (has_no_pointer c home && all_held (λ n. is_trivial (traits_at c n).copy) home.base ms) _ _
     (nothing_to_do home.number (IsCopy home.number) c)
-    (implicit_made home.number (IsCopy home.number) c _ (record { kind = refl; class = refl; takes = eq-eqb home.number home.number refl }) refl
+    (implicit_made home.number (IsCopy home.number) c _ (record { kind = refl; class = refl; takes = eq-eqb home.number home.number refl }) refl refl
     (implicit_proper home.number Constructor _ _)))
 
 written_made : (c : Ctx) (n : ℕ) (o : Option ℕ) → first_from (is_default_constructor n) 0 c.funcs ≡ o
@@ -223,7 +228,7 @@ default_made c home at ms initialised false = written_made c home.number (first_
 default_made c home at ms initialised true =
     made_if home.number (IsDefault home.number) c (not (base_default c home.base && members_default c initialised 0 ms)) _ _ (not_there home.number (IsDefault home.number) c)
     (made_if home.number (IsDefault home.number) c (is_trivial_default c home ms initialised) _ _ (nothing_to_do home.number (IsDefault home.number) c)
-    (implicit_made home.number (IsDefault home.number) c _ (record { kind = refl; class = refl; takes = refl }) refl (implicit_proper home.number Constructor [] _)))
+    (implicit_made home.number (IsDefault home.number) c _ (record { kind = refl; class = refl; takes = refl }) refl refl (implicit_proper home.number Constructor [] _)))
 
 -- All of them, at the brace
 
@@ -257,6 +262,12 @@ own_methods n (f ∷ fs) i g e = no_method n f fs (is_of_class n f) refl i g (ow
 pub record Closing (c : Ctx) (n : ℕ) (name : List ℕ) (base : Option ℕ) (ms : List Member) (d : Ctx) : Type 0 where
   pub class : Class
   pub closed : IsClosed c.classes name base ms class
+  pub functions : class.functions ≡ own_functions n d.funcs
+  -- the context before the class got its record
+  pub last : Ctx
+  pub last_classes : last.classes ≡ c.classes
+  pub last_slots : last.slots ≡ c.slots
+  pub slots : d.slots ≡ slice_set c.slots n (overriding last.classes n class.functions (base_slots last base) ++ new_slots last base n 0 class.functions)
   pub methods : (i : ℕ) (g : Function) → slice_get class.functions i ≡ Some g → IsMethodOf n g d.funcs
   pub added : (k : ℕ) (f : Func) → slice_get d.funcs k ≡ Some f → IsOldOr c.funcs n k f
   pub classes : d.classes ≡ slice_set c.classes n class
@@ -270,7 +281,7 @@ pub record Closing (c : Ctx) (n : ℕ) (name : List ℕ) (base : Option ℕ) (ms
 
 older : (a b : List Func) (n k : ℕ) (f : Func) → ((k : ℕ) (f : Func) → slice_get b k ≡ Some f → IsOldOr a n k f) → IsOldOr b n k f → IsOldOr a n k f
 older a b n k f h (is_old e) = h k f e
-older a b n k f h (is_own e) = is_own e
+older a b n k f h (is_own e z) = is_own e z
 
 pub closing : (c : Ctx) (home : Home) (at : Place) (ms : List Member) (initialised : List ℕ)
     → Closing c home.number home.name home.base ms (completed c home at ms initialised)
@@ -290,6 +301,11 @@ closing c home at ms initialised =
         base = refl;
         members = refl;
       };
+      functions = refl;
+      last = x.ctx;
+      last_classes = xm.classes ∙ km.classes ∙ dm.classes;
+      last_slots = xm.slots ∙ km.slots ∙ dm.slots;
+      slots = ap (λ (ss : List (List SlotFunc)). slice_set ss n (slots_of x.ctx home (own_functions n x.ctx.funcs))) (xm.slots ∙ km.slots ∙ dm.slots);
       methods = own_methods n x.ctx.funcs;
       added = λ i f e. older c.funcs d.ctx.funcs n i f dm.added
           (older d.ctx.funcs k.ctx.funcs n i f km.added (xm.added i f e));

@@ -102,7 +102,7 @@ owned_set cs n x old new q o a h k f e m g = by (a k f e)
   where
     by : IsOldOr old n k f → IsOfClass (slice_set cs n x) m f
     by (is_old z) = owned_set_by cs n x f q m (h k f z m g)
-    by (is_own z) = record {
+    by (is_own z y) = record {
       class = x;
       at = subst (λ (i : ℕ). slice_get (slice_set cs n x) i ≡ Some x) (same_Some n m (sym z ∙ g)) (set_here cs n x o.class o.at);
       call = λ i. no_name_false (is_no_name x.name) (f.kind ≡ ClosureCall) q i;

@@ -32,7 +32,8 @@ use Rattle.elab_rules.specs.Units.{start, file_declaration, alias_of, defined_wi
 use Rattle.elab_fits.specs.Standing.{On}
 use Rattle.elab_fits.specs.Objects.{IsDestructorOf, HasSpecials}
 use Rattle.elab_fits_objects.specs.Contexts.{IsCopyOf, IsDefaultOf}
-use Rattle.elab_contexts.specs.Steps.{has_name, is_written}
+use Rattle.elab_contexts.specs.Slots.{HasSlotsIn}
+use Rattle.elab_contexts.specs.Steps.{view, has_name, is_written}
 use Rattle.elab_contexts.specs.Texts.{is_no_name, have_class_names}
 
 -- Enumerators
@@ -96,6 +97,8 @@ pub record UnitHolds (c : Ctx) : Type 0 where
   -- the record of a class has functions that were declared
   pub recorded : (n i : ℕ) (k : Class) (g : Function) → slice_get c.classes n ≡ Some k → slice_get k.functions i ≡ Some g
       → IsRecorded c.classes c.funcs n g
+  -- virtual functions of complete classes have their slots, where they are alone
+  pub slotted : HasSlotsIn (view c)
   -- a data member is an object, but for what a lambda captured
   pub objects : (n i : ℕ) (k : Class) (m : Member) → slice_get c.classes n ≡ Some k → slice_get k.members i ≡ Some m → is_object_member k m ≡ true
   -- what a complete class holds by value was complete before it

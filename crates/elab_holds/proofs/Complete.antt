@@ -28,7 +28,7 @@ use Rattle.elab_holds.proofs.Ready.{named_ready, listed_ready}
 
 -- Objects
 
-class_at : (o : Option Class) (A : Type 0) → is_some (option_and_then (λ (c : Class). c.complete) o) ≡ true
+pub class_at : (o : Option Class) (A : Type 0) → is_some (option_and_then (λ (c : Class). c.complete) o) ≡ true
     → ((k : Class) → o ≡ Some k → is_some k.complete ≡ true → A) → A
 class_at None A h f = absurd cc
 class_at (Some k) A h f = f k refl h

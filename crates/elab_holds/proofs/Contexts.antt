@@ -29,6 +29,7 @@ use Rattle.elab_holds.proofs.Sound.{typ_sound, target_sound, declared_sound, sig
 use Rattle.elab_holds.proofs.Order.{order_law, member_sound}
 use Rattle.elab_holds.proofs.Complete.{complete_law}
 use Rattle.elab_holds.proofs.Makers.{makers_law, lambda_complete}
+use Rattle.elab_holds.proofs.Slots.{slots_law}
 
 pub settings_are : SettingsHold
 settings_are f c w u h = stand_law f c w (order_law c w u h)
@@ -126,7 +127,7 @@ no_claim c u claim q n h = by (completion_of c.classes n) refl
     by None e = no_way (claim (traits_at c n)) _ (ap claim (u.bare n e) ∙ q) h
 
 pub contexts_law : ContextsHold
-contexts_law f c w u s h l = record {
+contexts_law f c w u o h l = record {
   setting = settings_are f c w u h;
   makers = makers_law c w u h;
   variables = λ i v t o e k. let x = l.variables i v t o e k in record {
@@ -136,9 +137,9 @@ contexts_law f c w u s h l = record {
     at = x.at;
     is = x.is;
   };
-  this = λ t e. let o = this_object c.classes c.this t h.this e in record {
-    object = class_typ c.classes t.typ o;
-    sound = class_sound c.classes t.typ o;
+  this = λ t e. let z = this_object c.classes c.this t h.this e in record {
+    object = class_typ c.classes t.typ z;
+    sound = class_sound c.classes t.typ z;
     at = l.this t e;
   };
   inside = λ t n e q. l.inside n q;
@@ -146,7 +147,7 @@ contexts_law f c w u s h l = record {
   captures = λ x i y e q. declared_sound c.classes variable y.typ refl (captures_sound c.classes c.lambda x h.captures e i y q);
   globals = λ i g e. target_sound c.classes g.typ (at_place (is_sound_global c.classes) w.globals i g h.globals e);
   enumerators = λ i e q. enumerator_is e (u.enumerators i e q);
-  functions = function_is c w u s h;
+  functions = function_is c w u (slots_law c w u h o) h;
   fields = λ n i k m e q. record {
     declared = member_declared c.classes (is_nothing m.name) m.typ (member_sound c w h n i k m e q);
     object = λ z. field_object (is_no_name k.name) (is_no_name m.name) (is_reference m.typ) (u.objects n i k m e q) (name_same m.name ∙ z);

@@ -4,4 +4,5 @@ pub mod Locals
 pub mod Makers
 pub mod Order
 pub mod Ready
+pub mod Slots
 pub mod Sound

@@ -10,6 +10,7 @@ use Rattle.elab_fits_forms.specs.Context.{Holds, IsComplete, HasSlot}
 use Rattle.elab_fits_forms.specs.Types.{is_lambda}
 use Rattle.elab_sound_types.specs.Contexts.{HasSoundTypes}
 use Rattle.elab_contexts.specs.Holding.{UnitHolds, HasListedFunctions}
+use Rattle.elab_contexts.specs.Slots.{HasOverriders}
 use Rattle.state_growth.specs.Settings.{setting_at}
 use Rattle.elab_holds.specs.Locals.{LocalsHold}
 
@@ -32,9 +33,13 @@ MakersHold = (c : Ctx) (w : Work) → UnitHolds c → HasSoundTypes c w → HasM
 abbrev pub ClassesComplete : Type 0
 ClassesComplete = (c : Ctx) (w : Work) (n : ℕ) → UnitHolds c → HasSoundTypes c w → is_some (completion_of c.classes n) ≡ true → IsComplete c.classes n
 
+-- where what overrides is a plain function or a destructor, by its name
+abbrev pub SlotsHold : Type 0
+SlotsHold = (c : Ctx) (w : Work) → UnitHolds c → HasSoundTypes c w → HasOverriders c.funcs → HasSlots c
+
 -- of functions with sound types, for a unit that stands behind this one
 abbrev pub FunctionsListed : Type 0
 FunctionsListed = (c : Ctx) (w : Work) → HasSoundTypes c w → HasListedFunctions c
 
 abbrev pub ContextsHold : Type 0
-ContextsHold = (f : UnitFunc) (c : Ctx) (w : Work) → UnitHolds c → HasSlots c → HasSoundTypes c w → LocalsHold c w → Holds (setting_at f c w) c w
+ContextsHold = (f : UnitFunc) (c : Ctx) (w : Work) → UnitHolds c → HasOverriders c.funcs → HasSoundTypes c w → LocalsHold c w → Holds (setting_at f c w) c w

@@ -1,6 +1,6 @@
 //! Laws of the contexts that elaboration makes. A function here does nothing: its clauses are the laws.
 
-ghost use Rattle.elab_holds.specs.Contexts.{ClassesInOrder, SettingsHold, MakersHold, ClassesComplete, FunctionsListed, ContextsHold};
+ghost use Rattle.elab_holds.specs.Contexts.{ClassesInOrder, SettingsHold, MakersHold, ClassesComplete, SlotsHold, FunctionsListed, ContextsHold};
 ghost use Rattle.elab_holds.specs.Locals.{LocalsStay, FunctionsEntered, ObjectsEntered, ParametersPlaced, LambdasEntered, VariablesPlaced, VariablesDeclared};
 
 /// The function at hand, from its parameters on.
@@ -20,6 +20,7 @@ pub fn contexts()
     ensures settings { SettingsHold }
     ensures makers { MakersHold }
     ensures complete { ClassesComplete }
+    ensures slots { SlotsHold }
     ensures listed { FunctionsListed }
     ensures contexts { ContextsHold }
 {}

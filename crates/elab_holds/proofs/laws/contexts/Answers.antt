@@ -1,6 +1,7 @@
 use Rattle.elab_holds.proofs.Order.{order_law, listed_law}
 use Rattle.elab_holds.proofs.Complete.{complete_law}
 use Rattle.elab_holds.proofs.Makers.{makers_law}
+use Rattle.elab_holds.proofs.Slots.{slots_law}
 use Rattle.elab_holds.proofs.Contexts.{settings_are, contexts_law}
 use Rattle.elab_holds.proofs.laws.contexts.Goals as goal
 
@@ -21,3 +22,6 @@ returns-clause-listed c = listed_law
 
 pub returns-clause-contexts : goal.returns-clause-contexts
 returns-clause-contexts c = contexts_law
+
+pub returns-clause-slots : goal.returns-clause-slots
+returns-clause-slots c = slots_law
