@@ -44,7 +44,7 @@ function_body_fits x lams s st h this place kind p token kids k g = skip (LastFi
     (λ e q. bind (λ (d : Done). Reaches x d.state.work → ResultItems x (signature_result h.signature) d) (LastFits x) (statements_of lams s e kids) _ (g e q)
     (λ d f. made_fits x st h.at place
     (statement (forms.Block false) (at_of p) (followed_by d.trees (end_of d.state.ctx (signature_result h.signature) (at_of p)))) d.state
-    (λ r. let z = f r in function_fits x d.state.ctx (signature_result h.signature) (at_of p) d.trees z.setting z.result k z.serve)))))
+    (λ r. let z = f r in function_fits x d.state.ctx (signature_result h.signature) (at_of p) d.trees z.setting z.result k z.serve))))
 
 pub constructor_body_fits : (x : Setting) (lams : Lambdas) (s : List Lexeme) (before : State) (h : Header) (n place : ℕ) (parts : Done) (kind : NodeKind)
     (p : SyntaxAt) (token : Option ℕ) (kids : syntax.Trees) → is_constructor x.function.kind ≡ true

@@ -34,6 +34,7 @@ use Rattle.elab_contexts.proofs.Kept.{Holds, each_kept}
 use Rattle.elab_contexts.proofs.Walking.{Leaves, kept_by_steps}
 use Rattle.elab_holds.specs.Contexts.{HasSlots}
 use Rattle.elab_holds.specs.Locals.{LocalsHold}
+use Rattle.elab_holds.proofs.Locals.{lambdas_law}
 use Rattle.elab_sound_types.specs.Types.{is_sound, is_sound_signature, are_sound, result as a_result}
 use Rattle.elab_sound_types.specs.States.{IsSoundState, Kept}
 use Rattle.elab_sound_types.proofs.Growth.{signature_more, kept_same}
@@ -98,7 +99,7 @@ module _ (b : Below) (f : UnitFunc) (s : List Lexeme) where
     unit = unit_by st e (record { walk = steps; same = refl }) g.unit;
     slots = b.slots st.ctx e.ctx steps g.unit g.slots;
     sound = entered s st x (known r) r sig g.sound l j refl;
-    locals = b.entered st st x (known r) r sig g.locals;
+    locals = lambdas_law st st x (known r) r sig g.locals;
     around = λ y h. refl;
     closures = none_hold e.ctx [] refl;
     returns = ap known (sym given);
@@ -106,8 +107,8 @@ module _ (b : Below) (f : UnitFunc) (s : List Lexeme) where
         (call_known st x (signature no_typs (plain void) false) sig) sig j);
     result = λ k. subst (λ (u : Typ). HasItem (setting (called st x sig) e) 0 (plain (ptr u))) (sym given)
         (item_first (is_class_typ r) (plain (ptr r)) (plain (ptr (typ (closure (length st.ctx.classes)) (not x.is_mutable) false)) ∷ []) (subst (λ (u : Typ). is_class_typ u ≡ true) given k));
-    bodies = bodies_stay st e (earlier_of b.contexts f st g) (grows_begun st x r sig) refl g.bodies;
-    defaults = defaults_stay (setting f st) (setting (called st x sig) e) st.ctx.defaults (earlier_of b.contexts f st g) (settings_begun f st x r sig) g.defaults;
+    bodies = bodies_stay st e (earlier_of f st g) (grows_begun st x r sig) refl g.bodies;
+    defaults = defaults_stay (setting f st) (setting (called st x sig) e) st.ctx.defaults (earlier_of f st g) (settings_begun f st x r sig) g.defaults;
   }
     where
       e : State
@@ -157,16 +158,16 @@ comes_placed e y i g = record {
   kept = subst (λ (ks : List Class). Kept e.ctx.classes ks) (sym (ap (λ (c : Ctx). c.classes) i.ctx)) (kept_same e.ctx.classes);
 }
 
-pub good_placed : (b : Below) (g : UnitFunc) (e y : State) → IsGood g e → e.ctx.closures ≡ [] → IsPlaced e y → Comes e y → IsSoundState y
+pub good_placed : (g : UnitFunc) (e y : State) → IsGood g e → e.ctx.closures ≡ [] → IsPlaced e y → Comes e y → IsSoundState y
     → LocalsHold y.ctx y.work → IsSettled g y
-good_placed b g e y h n i l s v = record {
-  good = carried b.contexts g e y h l
+good_placed g e y h n i l s v = record {
+  good = carried g e y h l
       (subst (λ (c : Ctx). UnitHolds c) (sym i.ctx)
       (unit_other e.ctx y.ctx.scopes y.ctx.variables e.ctx.breaks e.ctx.continues e.ctx.label e.ctx.labels e.ctx.closures h.unit))
       (subst (λ (c : Ctx). HasSlots c) (sym i.ctx)
       (slots_other e.ctx y.ctx.scopes y.ctx.variables e.ctx.breaks e.ctx.continues e.ctx.label e.ctx.labels e.ctx.closures h.slots))
       s v (none_hold y.ctx y.ctx.closures none) (ap (λ (c : Ctx). c.lambda) i.ctx) (ap (λ (c : Ctx). c.returns) i.ctx) (ap (λ (c : Ctx). c.defaults) i.ctx)
-      (bodies_stay e y (earlier_of b.contexts g e h) l.goes.grows.unit i.bodies h.bodies);
+      (bodies_stay e y (earlier_of g e h) l.goes.grows.unit i.bodies h.bodies);
   none = none;
 }
   where

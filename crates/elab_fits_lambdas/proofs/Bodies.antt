@@ -42,6 +42,7 @@ use Rattle.elab_fits_bodies.specs.Functions.{IsBody, IsResult}
 use Rattle.elab_fits_bodies.proofs.Ends.{function_fits}
 use Rattle.elab_contexts.proofs.Captures.{AllWhole}
 use Rattle.elab_holds.specs.Locals.{LocalsHold}
+use Rattle.elab_holds.proofs.Locals.{parameters_law as parameters_hold}
 use Rattle.elab_sound_types.specs.Types.{is_sound, is_sound_signature, result as a_result}
 use Rattle.elab_sound_types.specs.States.{Kept}
 use Rattle.elab_sound_types.proofs.Bodies.{with_parameters as sound_parameters}
@@ -62,7 +63,7 @@ use Rattle.elab_fits_states.proofs.Good.{holds_of, earlier_of, comes_still}
 use Rattle.elab_fits_states.proofs.Lambdas.{no_lambdas_keep}
 use Rattle.elab_fits_states.proofs.Lists.{in_longer, last_item}
 use Rattle.elab_fits_states.proofs.Reading.{answered, comes_on}
-use Rattle.elab_fits_states.proofs.Types.{sound_is}
+use Rattle.elab_holds.proofs.Sound.{typ_sound}
 use Rattle.elab_fits_lambdas.specs.Lambdas.{Below}
 use Rattle.elab_fits_lambdas.proofs.Begun.{call, called, begun, call_result, good_begun, IsPlaced, all_placed, comes_placed, good_placed}
 use Rattle.elab_fits_lambdas.proofs.Sound.{IsSoundLambda, with_lambda, with_nothing, lambda_kept}
@@ -118,7 +119,7 @@ pub record IsLeftBy (st : State) (x : Written) (r : Typ) (sig : Signature) (w : 
 
 module _ (b : Below) (s : List Lexeme) where
   premises : (g : UnitFunc) → Premises g no_lambda s
-  premises g = record { contexts = b.contexts; lambdas = no_lambdas_keep g s; braces = b.braces }
+  premises g = record { lambdas = no_lambdas_keep g s; braces = b.braces }
 
   alone : (e y : State) → IsPlaced e y → is_direct_label e.ctx.label ≡ false → e.ctx.breaks ≡ false → e.ctx.continues ≡ false → StandsAlone y
   alone e y i l p q = record {
@@ -133,10 +134,10 @@ module _ (b : Below) (s : List Lexeme) where
   in_body f st x r sig l g t = told (InBody c e) (with_parameters s e x.params) _ (λ y h.
       let i = answered (IsPlaced e) (with_parameters s e x.params) y (all_placed s e x.params) h in
       let k = comes_placed e y i (answered (Goes e) (with_parameters s e x.params) y (parameters_law s e x.params) h) in
-      let n = good_placed b c e y g refl i k
+      let n = good_placed c e y g refl i k
       (answered (After false e) (with_parameters s e x.params) y (sound_parameters s e x.params g.sound
       (parameters_more st.ctx.classes (with_lambda st x sig) (lambda_kept st x sig) x.params l.params)) h).sound
-      (answered (λ (z : State). LocalsHold z.ctx z.work) (with_parameters s e x.params) y (b.placed s e x.params g.locals) h) in
+      (answered (λ (z : State). LocalsHold z.ctx z.work) (with_parameters s e x.params) y (parameters_hold s e x.params g.locals) h) in
       mapped (BodyFits c y) (InBody c e) (statements_of no_lambda s y x.body)
       (bodies_fit c no_lambda s y x.body (premises c) n (alone e y i refl refl refl) t)
       (λ d j. record { settled = j.settled; comes = comes_on e y d.state k j.leads; serve = j.serve }))
@@ -176,8 +177,8 @@ module _ (b : Below) (s : List Lexeme) where
       kept = kept_joined st.ctx.classes (with_lambda st x sig) d.state.ctx.classes (lambda_kept st x sig) i.comes.kept
 
       whole : is_class_typ r ≡ true → types.IsWhole d.state.ctx.classes r
-      whole k = class_whole (setting c d.state) d.state.ctx d.state.work r (holds_of b.contexts c d.state i.settled.good)
-          (sound_is d.state.ctx.classes a_result r sound) k (λ n p v e. kept.complete n (complete_by st.ctx r h n p v e))
+      whole k = class_whole (setting c d.state) d.state.ctx d.state.work r (holds_of c d.state i.settled.good)
+          (typ_sound d.state.ctx.classes a_result r sound) k (λ n p v e. kept.complete n (complete_by st.ctx r h n p v e))
 
   bodies_left : (st : State) (x : Written) (r : Typ) (sig : Signature) (d : Done) → signature_result sig ≡ r → is_complete st.ctx (held r) ≡ true
       → InBody (called st x sig) (begun st x r sig) d → AllBodiesFit (left st x r sig d)
@@ -199,14 +200,14 @@ module _ (b : Below) (s : List Lexeme) where
       new = record { func = length st.ctx.funcs; tree = tree; frame = d.state.work.frame }
 
       body : IsBody (setting c d.state) tree
-      body = function_fits (setting c d.state) d.state.ctx r x.body_at d.trees (holds_of b.contexts c d.state i.settled.good).setting
+      body = function_fits (setting c d.state) d.state.ctx r x.body_at d.trees (holds_of c d.state i.settled.good).setting
           (result_stands st x r sig d q h i) refl i.serve
 
       made : MadeFits w new
       made = let k = i.comes.goes.grows.unit.funcs.kept (length st.ctx.funcs) (call st x sig) (last_item st.ctx.funcs (call st x sig)) in record {
         func = k.func;
         at = k.at;
-        fits = fits_law (setting c d.state) (setting (shown d.state.ctx.classes k.func) d.state) (earlier_of b.contexts c d.state i.settled.good)
+        fits = fits_law (setting c d.state) (setting (shown d.state.ctx.classes k.func) d.state) (earlier_of c d.state i.settled.good)
             (states_law c (shown d.state.ctx.classes k.func) d.state d.state k.same.kind (ap (λ (g : Function). g.signature) k.same.declared)
             (comes_still d.state).goes.grows) outermost Statement tree body.nodes;
       }

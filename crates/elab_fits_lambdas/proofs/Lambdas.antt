@@ -48,7 +48,8 @@ use Rattle.elab_fits_states.proofs.Lambdas.{good_behind}
 use Rattle.elab_fits_states.proofs.Lists.{in_longer, last_item}
 use Rattle.elab_fits_states.proofs.Reading.{answered}
 use Rattle.elab_fits_states.proofs.Texts
-use Rattle.elab_fits_states.proofs.Types.{spelled, lambda_same}
+use Rattle.elab_fits_states.proofs.Spelled.{spelled}
+use Rattle.elab_holds.proofs.Sound.{lambda_same}
 use Rattle.elab_fits_lambdas.specs.Lambdas.{Below, LambdasAreGood}
 use Rattle.elab_fits_lambdas.proofs.Begun.{begun, grows_begun}
 use Rattle.elab_fits_lambdas.proofs.Bodies.{left, IsLeftBy, lambda_left}
@@ -94,15 +95,15 @@ capture_still c y d v t h = record {
 }
 
 lambda_still : (m n : List Class) (i : ℕ) → Kept m n → is_lambda m i ≡ true → is_lambda n i ≡ true
-lambda_still m n i h e = lambda_same n i ∙ lambda_more m n h i (sym (lambda_same m i) ∙ e)
+lambda_still m n i h e = sym (lambda_same n i) ∙ lambda_more m n h i (lambda_same m i ∙ e)
 
-module _ (b : Below) (f : UnitFunc) (s : List Lexeme) (no : f.kind ≡ ClosureCall → ⊥) where
+module _ (b : Below) (f : UnitFunc) (s : List Lexeme) (apart : f.kind ≡ ClosureCall → ⊥) where
   outside : (st : State) → IsGood f st → st.ctx.lambda ≡ None
   outside st g = by st.ctx.lambda refl
     where
       by : (o : Option Lambda) → st.ctx.lambda ≡ o → st.ctx.lambda ≡ None
       by None e = e
-      by (Some l) e = absurd (no (g.around l e))
+      by (Some l) e = absurd (apart (g.around l e))
 
   module _ (st : State) (x : Written) (r : Typ) (sig : Signature) (g : IsGood f st) (h : IsKnown s st x) (w : State) (y : IsLeftBy st x r sig w) where
     abbrev grown : UnitGrows st y.done.state
@@ -115,7 +116,7 @@ module _ (b : Below) (f : UnitFunc) (s : List Lexeme) (no : f.kind ≡ ClosureCa
     z = with_written (left st x r sig y.done) (length st.ctx.classes) x
 
     old_closure : (c : Closure) → IsClosure st.ctx c → IsClosure z.ctx c
-    old_closure c i = let o = known_if st.ctx.classes c.class ((holds_of b.contexts f st g).lambdas c.class i.lambda) in record {
+    old_closure c i = let o = known_if st.ctx.classes c.class ((holds_of f st g).lambdas c.class i.lambda) in record {
       outside = outside st g;
       lambda = lambda_still st.ctx.classes y.done.state.ctx.classes c.class kept i.lambda;
       parts = parts_same st.ctx.classes y.done.state.ctx.classes c.class o.owner o.found (grown.classes.complete c.class o.number o.owner o.found o.complete)
@@ -130,7 +131,7 @@ module _ (b : Below) (f : UnitFunc) (s : List Lexeme) (no : f.kind ≡ ClosureCa
     new_closure : IsClosure z.ctx (record { at = x.at; class = length st.ctx.classes; captures = x.captures })
     new_closure = record {
       outside = outside st g;
-      lambda = lambda_same y.done.state.ctx.classes (length st.ctx.classes)
+      lambda = sym (lambda_same y.done.state.ctx.classes (length st.ctx.classes))
           ∙ lambda_more (with_lambda st x sig) y.done.state.ctx.classes y.body.comes.kept (length st.ctx.classes) (one_nameless st.ctx.classes own_class refl);
       parts = parts_captured y.done.state.ctx.classes (length st.ctx.classes) own_class x.captures
           (y.body.comes.goes.grows.unit.classes.complete (length st.ctx.classes) (count_by is_completed st.ctx.classes) own_class
@@ -235,8 +236,8 @@ module _ (b : Below) (f : UnitFunc) (s : List Lexeme) (no : f.kind ≡ ClosureCa
     among_behind a syntax.none g t = still_behind a g
     among_behind a (syntax.more e es) g t = told IsBehind (lambdas_of s a e) _ (λ x h.
         let i = answered IsBehind (lambdas_of s a e) x (each_behind a e g (Texts.first s e es t)) h in
-        among_behind x es (good_behind f s b.contexts a x e g (Texts.first s e es t) h (left_by a x e g h i)).good (Texts.rest s e es t))
+        among_behind x es (good_behind f s a x e g (Texts.first s e es t) h (left_by a x e g h i)).good (Texts.rest s e es t))
 
 pub lambdas_are_good : LambdasAreGood
-lambdas_are_good f s b no a x e g t h = good_behind f s b.contexts a x e g t h
-    (left_by b f s no a x e g h (answered IsBehind (lambdas_of s a e) x (each_behind b f s no a e g t) h))
+lambdas_are_good f s b apart a x e g t h = good_behind f s a x e g t h
+    (left_by b f s apart a x e g h (answered IsBehind (lambdas_of s a e) x (each_behind b f s apart a e g t) h))

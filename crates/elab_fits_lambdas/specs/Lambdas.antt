@@ -7,20 +7,14 @@ use Rattle.elab_rules.specs.elab_ctx.Ctx.{Ctx}
 use Rattle.elab_rules.specs.Lambdas.{lambdas_of}
 use Rattle.elab_contexts.specs.Holding.{UnitHolds}
 use Rattle.elab_contexts.specs.Steps.{view, Steps}
-use Rattle.elab_holds.specs.Contexts.{HasSlots, ContextsHold}
-use Rattle.elab_holds.specs.Locals.{LambdasEntered, ParametersPlaced}
+use Rattle.elab_holds.specs.Contexts.{HasSlots}
 use Rattle.elab_fits_items.specs.Items.{BracesBuild}
 use Rattle.elab_fits_states.specs.Premises.{KeepsGood}
 
--- what crates below are to prove
+-- what other crates are to prove
 pub record Below : Type 0 where
-  -- what elaboration makes holds what the laws of expressions ask
-  pub contexts : ContextsHold
   -- virtual functions have their slots still where a unit has gone on by steps
   pub slots : (a b : Ctx) → Steps (view a) (view b) → UnitHolds a → HasSlots a → HasSlots b
-  -- the function at hand is known where the body of a lambda begins, and behind parameters
-  pub entered : LambdasEntered
-  pub placed : ParametersPlaced
   -- braces build the object that they initialise
   pub braces : BracesBuild
 

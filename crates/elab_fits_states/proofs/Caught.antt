@@ -16,12 +16,11 @@ use Rattle.elab_rules.specs.Names.{is_const_typ}
 use Rattle.elab_rules.specs.Statements.{State, caught_form, caught_type}
 use Rattle.elab_sound_types.specs.Types.{is_sound, is_sound_form, target, variable, denoted}
 use Rattle.elab_fits_statements.specs.Discipline.{CanBeCaught}
-use Rattle.elab_holds.specs.Contexts.{ContextsHold}
 use Rattle.elab_fits_states.specs.States.{setting, IsGood, IsSettled, IsVariableType, words}
 use Rattle.elab_fits_states.proofs.Good.{holds_of, earlier_of, comes_still}
 use Rattle.elab_fits_states.proofs.Variables.{declares, sized, variable_type}
 
-module _ (b : ContextsHold) (f : UnitFunc) where
+module _ (f : UnitFunc) where
   checked_true : (at : At) (rule : IllRule) (c x : Bool) → check at rule c ≡ Ok x → c ≡ true
   checked_true at rule true x h = refl
   checked_true at rule false x h = absurd cc
@@ -31,7 +30,7 @@ module _ (b : ContextsHold) (f : UnitFunc) where
 
   of_type : (a : State) (t : Typ) → IsGood f a → is_sound a.ctx.classes variable t ≡ true → is_array t ≡ false
       → ((n : ℕ) → form_in t ≡ class n → is_some (completion_of a.ctx.classes n) ≡ true) → IsVariableType a t
-  of_type a t g i n c = variable_type a t (earlier_of b f a g) i (sized (setting f a) a.ctx a.work (holds_of b f a g) t i n c)
+  of_type a t g i n c = variable_type a t (earlier_of f a g) i (sized (setting f a) a.ctx a.work (holds_of f a g) t i n c)
 
   caught_by : (a : State) (at : At) (g : Form) (q v x : Bool) → IsGood f a → caught_form a.ctx at g ≡ Ok x → is_sound_form a.ctx.classes target (q || v) g ≡ true
       → IsVariableType a (typ g q v)
@@ -81,7 +80,7 @@ module _ (b : ContextsHold) (f : UnitFunc) where
   pub can_be_caught : (s : List Lexeme) (a : State) (at : At) (t u : Typ) → IsSettled f a → is_sound a.ctx.classes denoted t ≡ true
       → caught_type a.ctx at t ≡ Ok u → CanBeCaught (words f s) a u
   can_be_caught s a at t u g w e = let x = caught_in a at t u g.good e w in
-      let y = declares (setting f a) a.ctx a.work (holds_of b f a g.good) u x.sound (x.sized a (comes_still a)) in record {
+      let y = declares (setting f a) a.ctx a.work (holds_of f a g.good) u x.sound (x.sized a (comes_still a)) in record {
         object = x;
         sized = x.sized a (comes_still a);
         ready = y.ready;

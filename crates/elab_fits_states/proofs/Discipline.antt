@@ -87,7 +87,8 @@ use Rattle.elab_fits_states.proofs.Making
 use Rattle.elab_fits_states.proofs.Making.{result_parameter, initial_made, copy_made, direct_made, default_made}
 use Rattle.elab_fits_states.proofs.Reading.{answered, comes_on, later, operand_later, has_read, is_constant}
 use Rattle.elab_fits_states.proofs.Texts
-use Rattle.elab_fits_states.proofs.Types.{result_is, all_spelled}
+use Rattle.elab_holds.proofs.Sound.{result_sound as result_is}
+use Rattle.elab_fits_states.proofs.Spelled.{all_spelled}
 use Rattle.elab_fits_states.proofs.Variables.{Declares, declares, sized, variable_type, variable_by, sized_if, bound_written, members_single, copied_no_array, copied_complete}
 
 -- What a state behind an expression reaches
@@ -100,7 +101,7 @@ reached_behind f c w v b = record {
 
 module _ (f : UnitFunc) (lams : Lambdas) (s : List Lexeme) (p : Premises f lams s) where
   holds : (a : State) → IsGood f a → Holds (setting f a) a.ctx a.work
-  holds a g = holds_of p.contexts f a g
+  holds a g = holds_of f a g
 
   -- States
 
@@ -116,11 +117,11 @@ module _ (f : UnitFunc) (lams : Lambdas) (s : List Lexeme) (p : Premises f lams 
       mapped (GoesWell f x) (GoesWell f a) (all_lambdas lams s x es) (all_well x es l.good (Texts.rest s e es t)) (λ y k. well_then a x y l k))
 
   still : (a b : State) → IsSettled f a → Comes a b → (q : Position) (role : Role) (e : Tree) → fits (setting f a) q role e ≡ true → fits (setting f b) q role e ≡ true
-  still a b g l q role e h = fits_law (setting f a) (setting f b) (earlier_of p.contexts f a g.good) (states_law f f a b refl refl l.goes.grows) q role e h
+  still a b g l q role e h = fits_law (setting f a) (setting f b) (earlier_of f a g.good) (states_law f f a b refl refl l.goes.grows) q role e h
 
   pub worked : (a : State) (v : Work) → IsGood f a → Behind a.work v → HasSoundTypes a.ctx v → discipline.Goes (words f s) a (with_work a v)
   worked a v g b h = record {
-    good = good_worked p.contexts f a g v b h;
+    good = good_worked f a g v b h;
     leads = leads_worked a v b;
     stands = record { label = refl; breaks = refl; continues = refl; typ = refl; past = λ i. i };
   }
@@ -196,7 +197,7 @@ module _ (f : UnitFunc) (lams : Lambdas) (s : List Lexeme) (p : Premises f lams 
   leaves : (a b : State) (t : Typ) (at : At) → IsSettled f a → IsObjectType f a t → IsSettled f b → Comes a b
       → DestroysOne (setting f b) t (destroys a.ctx at t)
   leaves a b t at g h k l = let o = object_here a t g.good h in destroyed_law t (destroys a.ctx at t) (setting f a) (setting f b)
-      (earlier_of p.contexts f a g.good) (states_law f f a b refl refl l.goes.grows)
+      (earlier_of f a g.good) (states_law f f a b refl refl l.goes.grows)
       (destructions_law (setting f a) a.ctx at t (holds a g.good).setting (holds a g.good).makers.specials (sized_here a t h) o.ready o.single)
 
   copies : (a : State) (t : Typ) (o : Operand) (m : Made) → IsSettled f a → IsObjectType f a t → IsRead f a o → copy_initialised a.ctx a.work t o ≡ Ok m
@@ -241,7 +242,7 @@ module _ (f : UnitFunc) (lams : Lambdas) (s : List Lexeme) (p : Premises f lams 
       stands = stands_then a x (with_work x m.work) l.stands k.stands;
     };
     builds = b;
-    destroys = destroyed_law t (destroys x.ctx q t) (setting f x) (setting f (with_work x m.work)) (earlier_of p.contexts f x l.good)
+    destroys = destroyed_law t (destroys x.ctx q t) (setting f x) (setting f (with_work x m.work)) (earlier_of f x l.good)
         (states_law f f x (with_work x m.work) refl refl k.leads.goes.grows)
         (destructions_law (setting f x) x.ctx q t (holds x l.good).setting (holds x l.good).makers.specials (sized_here x t o) j.ready j.single);
   }
@@ -285,11 +286,11 @@ module _ (f : UnitFunc) (lams : Lambdas) (s : List Lexeme) (p : Premises f lams 
       ((answered (Whole S x.work t) z m (p.braces s S x.ctx x.work variable t r token es (later f x.ctx x.work m.work (holds x l.good))
       (record {
         closures = l.good.closures;
-        defaults = defaults_stay (setting f x) S x.ctx.defaults (earlier_of p.contexts f x l.good) (unit_grows (setting f x) S j) l.good.defaults;
+        defaults = defaults_stay (setting f x) S x.ctx.defaults (earlier_of f x l.good) (unit_grows (setting f x) S j) l.good.defaults;
         single = members_single x.ctx x.work l.good.sound.context;
       })
       (record { declared = o.declared; sized = sized_here x t u; ready = o.ready; single = o.single })
-      (λ y full. fits_law (setting f x) S (earlier_of p.contexts f x l.good) j y Value variable (still a x g l.leads y Value variable (v y))) c ts.spelled) n).builds
+      (λ y full. fits_law (setting f x) S (earlier_of f x l.good) j y Value variable (still a x g l.leads y Value variable (v y))) c ts.spelled) n).builds
       (reached_law f x.ctx m.work))
 
   -- Types
@@ -307,22 +308,22 @@ module _ (f : UnitFunc) (lams : Lambdas) (s : List Lexeme) (p : Premises f lams 
       → IsObjectType f a (bound_by_initialiser s t init)
   objects a at t init x y z g w n d b l k = let u = bound_by_initialiser s t init in
       let i = variable_by a.ctx at u x (bound_written a.ctx.classes s t init w) d b in
-      variable_type a u (earlier_of p.contexts f a g.good) i (sized_if a.ctx at u x z i d k)
+      variable_type a u (earlier_of f a g.good) i (sized_if a.ctx at u x z i d k)
 
   deduces : (a : State) (at : At) (t u : Typ) (o : Operand) (m : Made) → IsSettled f a → IsWritten f a t → has_auto t ≡ true → IsRead f a o
       → deduced_type at t o ≡ Ok u → copy_initialised a.ctx a.work (replaced u t) o ≡ Ok m → IsObjectType f a (replaced u t)
   deduces a at t u o m g w n x h k =
       let i = answered (IsReplaced a.ctx.classes t) (deduced_type at t o) u (deduced_sound a.ctx.classes at t o x.sound (as_declared a.ctx.classes t w)) h in
-      variable_type a (replaced u t) (earlier_of p.contexts f a g.good) i (sized (setting f a) a.ctx a.work (holds a g.good) (replaced u t) i
+      variable_type a (replaced u t) (earlier_of f a g.good) i (sized (setting f a) a.ctx a.work (holds a g.good) (replaced u t) i
       (copied_no_array a.ctx a.work (replaced u t) o m k) (copied_complete a.ctx a.work (replaced u t) o m k))
 
   -- Variables
 
   places : (a : State) (name : List ℕ) (t : Typ) → IsSettled f a → IsObjectType f a t → Places (words f s) a (placed_variable a name t) (next_place a.work) t
-  places a name t g h = record { good = good_placed p.contexts f a g name t h.sound; leads = leads_placed a name t; item = item_there a t }
+  places a name t g h = record { good = good_placed f a g name t h.sound; leads = leads_placed a name t; item = item_there a t }
 
   autos : (a : State) (i : ℕ) (t : Typ) → IsSettled f a → IsObjectType f a t → Places (words f s) a (auto_placed a i t) (next_place a.work) t
-  autos a i t g h = record { good = good_auto p.contexts f a g i t h.sound; leads = leads_auto a i t; item = item_there a t }
+  autos a i t g h = record { good = good_auto f a g i t h.sound; leads = leads_auto a i t; item = item_there a t }
 
   result_item : (a : State) (t : Typ) → IsSettled f a → result_of (setting f a).function ≡ t → is_class_typ t ≡ true → HasItem (setting f a) 0 (plain (ptr t))
   result_item a t g q k = subst (λ (u : Typ). HasItem (setting f a) 0 (plain (ptr u))) q (g.good.result (subst (λ (u : Typ). is_class_typ u ≡ true) (sym q) k))
@@ -344,13 +345,13 @@ module _ (f : UnitFunc) (lams : Lambdas) (s : List Lexeme) (p : Premises f lams 
     ordered = λ a g. (holds a g.good).setting.ordered;
     written_still = λ a b t l h. sound_more a.ctx.classes b.ctx.classes l.kept a_denoted t h;
     object_still = object_later;
-    settles = λ a g. good_settled p.contexts f a g;
+    settles = λ a g. good_settled f a g;
     settles_leads = λ a. leads_as a (with_work a a.work) (stays a) refl;
-    opens = λ a l ls b c g. good_within p.contexts f a g l ls b c;
+    opens = λ a l ls b c g. good_within f a g l ls b c;
     opens_leads = λ a l ls b c. leads_as a (discipline.within a l ls b c) (stays a) refl;
-    closes = λ a b g k l. good_outer p.contexts f b k a;
+    closes = λ a b g k l. good_outer f b k a;
     closes_leads = λ a b. leads_as b (Statements.outer a b) (stays b) refl;
-    relabels = λ a ls g. good_labels p.contexts f a g ls;
+    relabels = λ a ls g. good_labels f a g ls;
     relabels_leads = λ a ls. leads_as a (Statements.with_labels a ls) (stays a) refl;
     returns = λ a g. g.good.returns;
     result = result_item;
@@ -371,8 +372,8 @@ module _ (f : UnitFunc) (lams : Lambdas) (s : List Lexeme) (p : Premises f lams 
     objects = objects;
     deduces = deduces;
     places = places;
-    names = λ a name g. good_named p.contexts f a g name;
+    names = λ a name g. good_named f a g name;
     names_leads = λ a name. leads_as a (Statements.declared_variable a name None) (stays a) refl;
     autos = autos;
-    caught = λ a at t u g w e. can_be_caught p.contexts f s a at t u g w e;
+    caught = λ a at t u g w e. can_be_caught f s a at t u g w e;
   }

@@ -32,7 +32,8 @@ use Rattle.state_growth.proofs.Lists.{behind, added}
 use Rattle.state_growth.proofs.Settings.{states_law}
 use Rattle.state_growth.proofs.Works.{one_item}
 use Rattle.state_growth.proofs.Steps.{seen, Steps, kept_refl, goes, stays}
-use Rattle.elab_holds.specs.Contexts.{HasSlots, ContextsHold}
+use Rattle.elab_holds.specs.Contexts.{HasSlots}
+use Rattle.elab_holds.proofs.Contexts.{contexts_law}
 use Rattle.elab_holds.specs.Locals.{HasItemOf, LocalsHold}
 use Rattle.elab_fits_states.specs.Made.{AllBodiesFit}
 use Rattle.elab_fits_states.specs.States.{setting, Comes, IsGood, IsSettled}
@@ -109,62 +110,61 @@ module _ (c : Ctx) (names : List Names) (variables : List Variable) (breaks cont
   pub slots_other : HasSlots c → HasSlots (other c names variables breaks continues label labels closures)
   slots_other h = λ k n f e o p v d. let x = h k n f e o p v d in record { slot = x.slot; pointer = x.pointer }
 
-module _ (b : ContextsHold) where
-  -- what the laws of expressions ask
-  pub holds_of : (f : UnitFunc) (st : State) → IsGood f st → Holds (setting f st) st.ctx st.work
-  holds_of f st g = b f st.ctx st.work g.unit g.slots g.sound.context g.locals
+-- what the laws of expressions ask
+pub holds_of : (f : UnitFunc) (st : State) → IsGood f st → Holds (setting f st) st.ctx st.work
+holds_of f st g = contexts_law f st.ctx st.work g.unit g.slots g.sound.context g.locals
 
-  pub earlier_of : (f : UnitFunc) (st : State) → IsGood f st → HeldEarlier st.ctx.classes
-  earlier_of f st g = order_law st.ctx.classes (holds_of f st g).setting.ordered
+pub earlier_of : (f : UnitFunc) (st : State) → IsGood f st → HeldEarlier st.ctx.classes
+earlier_of f st g = order_law st.ctx.classes (holds_of f st g).setting.ordered
 
-  -- what holds of a state, holds of one that came of it, of the same function
-  pub carried : (f : UnitFunc) (a z : State) → IsGood f a → Comes a z → UnitHolds z.ctx → HasSlots z.ctx → IsSoundState z → LocalsHold z.ctx z.work
-      → ClosuresHold z.ctx z.ctx.closures → z.ctx.lambda ≡ a.ctx.lambda → z.ctx.returns ≡ a.ctx.returns → z.ctx.defaults ≡ a.ctx.defaults → AllBodiesFit z → IsGood f z
-  carried f a z g l u w s v c q r d m = record {
-    unit = u;
-    slots = w;
-    sound = s;
-    locals = v;
-    around = λ x e. g.around x (sym q ∙ e);
-    closures = c;
-    returns = r ∙ g.returns;
-    typed = sound_more a.ctx.classes z.ctx.classes l.kept a_result (result_of f) g.typed;
-    result = λ q. item_kept a.work.frame z.work.frame l.goes.grows.frame 0 (plain (ptr (result_of f))) (g.result q);
-    bodies = m;
-    defaults = subst (λ (ds : List Default). AllDefaultsFit (setting f z) ds) (sym d) (defaults_stay (setting f a) (setting f z) a.ctx.defaults (earlier_of f a g)
-        (unit_grows (setting f a) (setting f z) (states_law f f a z refl refl l.goes.grows)) g.defaults);
-  }
+-- what holds of a state, holds of one that came of it, of the same function
+pub carried : (f : UnitFunc) (a z : State) → IsGood f a → Comes a z → UnitHolds z.ctx → HasSlots z.ctx → IsSoundState z → LocalsHold z.ctx z.work
+    → ClosuresHold z.ctx z.ctx.closures → z.ctx.lambda ≡ a.ctx.lambda → z.ctx.returns ≡ a.ctx.returns → z.ctx.defaults ≡ a.ctx.defaults → AllBodiesFit z → IsGood f z
+carried f a z g l u w s v c q r d m = record {
+  unit = u;
+  slots = w;
+  sound = s;
+  locals = v;
+  around = λ x e. g.around x (sym q ∙ e);
+  closures = c;
+  returns = r ∙ g.returns;
+  typed = sound_more a.ctx.classes z.ctx.classes l.kept a_result (result_of f) g.typed;
+  result = λ q. item_kept a.work.frame z.work.frame l.goes.grows.frame 0 (plain (ptr (result_of f))) (g.result q);
+  bodies = m;
+  defaults = subst (λ (ds : List Default). AllDefaultsFit (setting f z) ds) (sym d) (defaults_stay (setting f a) (setting f z) a.ctx.defaults (earlier_of f a g)
+      (unit_grows (setting f a) (setting f z) (states_law f f a z refl refl l.goes.grows)) g.defaults);
+}
 
-  module _ (f : UnitFunc) (st : State) (h : IsGood f st) where
-    known_still : (v : Work) → Items st.work.frame v.frame → Known st.ctx v st.ctx.variables
-    known_still v k i x t o e n = place_kept st.work v k x.place t (h.locals.variables i x t o e n)
+module _ (f : UnitFunc) (st : State) (h : IsGood f st) where
+  known_still : (v : Work) → Items st.work.frame v.frame → Known st.ctx v st.ctx.variables
+  known_still v k i x t o e n = place_kept st.work v k x.place t (h.locals.variables i x t o e n)
 
-    good_other : (names : List Names) (variables : List Variable) (breaks continues : Bool) (label : Label) (labels : Labels) (closures : List Closure)
-        (v : Work) → closures ≡ []
-        → Comes st (record { ctx = other st.ctx names variables breaks continues label labels closures; work = v; bodies = st.bodies })
-        → IsSoundState (record { ctx = other st.ctx names variables breaks continues label labels closures; work = v; bodies = st.bodies })
-        → Known st.ctx v variables
-        → IsSettled f (record { ctx = other st.ctx names variables breaks continues label labels closures; work = v; bodies = st.bodies })
-    good_other names variables breaks continues label labels closures v none l s known =
-        let z : State = record { ctx = other st.ctx names variables breaks continues label labels closures; work = v; bodies = st.bodies } in record {
-          good = carried f st z h l (unit_other st.ctx names variables breaks continues label labels closures h.unit)
-          (slots_other st.ctx names variables breaks continues label labels closures h.slots) s (record {
-            variables = known;
-            this = λ t e. l.goes.grows.frame _ _ (h.locals.this t e);
-            inside = h.locals.inside;
-            lambda = h.locals.lambda;
-          }) (none_hold z.ctx closures none) refl refl refl (bodies_stay st z (earlier_of f st h) l.goes.grows.unit refl h.bodies);
-          none = none;
-        }
+  good_other : (names : List Names) (variables : List Variable) (breaks continues : Bool) (label : Label) (labels : Labels) (closures : List Closure)
+      (v : Work) → closures ≡ []
+      → Comes st (record { ctx = other st.ctx names variables breaks continues label labels closures; work = v; bodies = st.bodies })
+      → IsSoundState (record { ctx = other st.ctx names variables breaks continues label labels closures; work = v; bodies = st.bodies })
+      → Known st.ctx v variables
+      → IsSettled f (record { ctx = other st.ctx names variables breaks continues label labels closures; work = v; bodies = st.bodies })
+  good_other names variables breaks continues label labels closures v none l s known =
+      let z : State = record { ctx = other st.ctx names variables breaks continues label labels closures; work = v; bodies = st.bodies } in record {
+        good = carried f st z h l (unit_other st.ctx names variables breaks continues label labels closures h.unit)
+        (slots_other st.ctx names variables breaks continues label labels closures h.slots) s (record {
+          variables = known;
+          this = λ t e. l.goes.grows.frame _ _ (h.locals.this t e);
+          inside = h.locals.inside;
+          lambda = h.locals.lambda;
+        }) (none_hold z.ctx closures none) refl refl refl (bodies_stay st z (earlier_of f st h) l.goes.grows.unit refl h.bodies);
+        none = none;
+      }
 
-    -- elsewhere, with the same variables
-    elsewhere : (names : List Names) (breaks continues : Bool) (label : Label) (labels : Labels) → st.ctx.closures ≡ []
-        → IsSettled f (record { ctx = other st.ctx names st.ctx.variables breaks continues label labels st.ctx.closures; work = st.work; bodies = st.bodies })
-    elsewhere names breaks continues label labels none =
-        let z : State = record { ctx = other st.ctx names st.ctx.variables breaks continues label labels st.ctx.closures; work = st.work; bodies = st.bodies } in
-        good_other names st.ctx.variables breaks continues label labels st.ctx.closures st.work none
-        (record { goes = goes st z (stays st); kept = kept_same st.ctx.classes }) (sound.elsewhere st names breaks continues label labels h.sound)
-        (known_still st.work (λ i t e. e))
+  -- elsewhere, with the same variables
+  elsewhere : (names : List Names) (breaks continues : Bool) (label : Label) (labels : Labels) → st.ctx.closures ≡ []
+      → IsSettled f (record { ctx = other st.ctx names st.ctx.variables breaks continues label labels st.ctx.closures; work = st.work; bodies = st.bodies })
+  elsewhere names breaks continues label labels none =
+      let z : State = record { ctx = other st.ctx names st.ctx.variables breaks continues label labels st.ctx.closures; work = st.work; bodies = st.bodies } in
+      good_other names st.ctx.variables breaks continues label labels st.ctx.closures st.work none
+      (record { goes = goes st z (stays st); kept = kept_same st.ctx.classes }) (sound.elsewhere st names breaks continues label labels h.sound)
+      (known_still st.work (λ i t e. e))
 
 -- States that come of others
 
@@ -202,11 +202,11 @@ new_place w t u e = subst (λ (z : Typ). HasItemOf (with_item w t).frame (next_p
 
 -- States of a function
 
-module _ (b : ContextsHold) (f : UnitFunc) where
+module _ (f : UnitFunc) where
   -- behind an expression
   pub good_worked : (st : State) → IsGood f st → (v : Work) → Behind st.work v → HasSoundTypes st.ctx v → IsSettled f (with_work st v)
-  good_worked st h v l s = good_other b f st h st.ctx.scopes st.ctx.variables st.ctx.breaks st.ctx.continues st.ctx.label st.ctx.labels [] v refl
-      (leads_worked st v l) (sound.made_sound st v s h.sound) (known_still b f st h v (behind st.work.frame v.frame l.items l.frame))
+  good_worked st h v l s = good_other f st h st.ctx.scopes st.ctx.variables st.ctx.breaks st.ctx.continues st.ctx.label st.ctx.labels [] v refl
+      (leads_worked st v l) (sound.made_sound st v s h.sound) (known_still f st h v (behind st.work.frame v.frame l.items l.frame))
 
   module _ (st : State) (h : IsSettled f st) where
     -- one more item
@@ -214,21 +214,21 @@ module _ (b : ContextsHold) (f : UnitFunc) where
     longer t i u e = added st.work.frame (t ∷ []) i u e
 
     pub good_settled : IsSettled f (with_work st st.work)
-    good_settled = good_other b f st h.good st.ctx.scopes st.ctx.variables st.ctx.breaks st.ctx.continues st.ctx.label st.ctx.labels [] st.work refl
+    good_settled = good_other f st h.good st.ctx.scopes st.ctx.variables st.ctx.breaks st.ctx.continues st.ctx.label st.ctx.labels [] st.work refl
         (record { goes = goes st (with_work st st.work) (stays st); kept = kept_same st.ctx.classes })
-        (sound.made_sound st st.work h.good.sound.context h.good.sound) (known_still b f st h.good st.work (λ i t e. e))
+        (sound.made_sound st st.work h.good.sound.context h.good.sound) (known_still f st h.good st.work (λ i t e. e))
 
     pub good_within : (l : Label) (ls : Labels) (c d : Bool) → IsSettled f (within st l ls c d)
-    good_within l ls c d = elsewhere b f st h.good ([] ∷ st.ctx.scopes) c d l ls h.none
+    good_within l ls c d = elsewhere f st h.good ([] ∷ st.ctx.scopes) c d l ls h.none
 
     pub good_outer : (before : State) → IsSettled f (outer before st)
-    good_outer before = elsewhere b f st h.good (drop 1 st.ctx.scopes) before.ctx.breaks before.ctx.continues before.ctx.label before.ctx.labels h.none
+    good_outer before = elsewhere f st h.good (drop 1 st.ctx.scopes) before.ctx.breaks before.ctx.continues before.ctx.label before.ctx.labels h.none
 
     pub good_labels : (ls : Labels) → IsSettled f (with_labels st ls)
-    good_labels ls = elsewhere b f st h.good st.ctx.scopes st.ctx.breaks st.ctx.continues st.ctx.label ls h.none
+    good_labels ls = elsewhere f st h.good st.ctx.scopes st.ctx.breaks st.ctx.continues st.ctx.label ls h.none
 
     pub good_named : (name : List ℕ) → IsSettled f (declared_variable st name None)
-    good_named name = good_other b f st h.good (with_name st.ctx.scopes name (next_variable st.ctx))
+    good_named name = good_other f st h.good (with_name st.ctx.scopes name (next_variable st.ctx))
         (st.ctx.variables ++ record { typ = None; place = next_place st.work } ∷ []) st.ctx.breaks st.ctx.continues st.ctx.label st.ctx.labels
         st.ctx.closures st.work h.none
         (record { goes = goes st (declared_variable st name None) (stays st); kept = kept_same st.ctx.classes })
@@ -237,18 +237,18 @@ module _ (b : ContextsHold) (f : UnitFunc) where
         (record { typ = None; place = next_place st.work }) i x e (λ n. absurd cc) (λ k n. h.good.locals.variables i x t o k n))
 
     pub good_placed : (name : List ℕ) (t : Typ) → is_sound st.ctx.classes a_variable t ≡ true → IsSettled f (placed_variable st name t)
-    good_placed name t d = good_other b f st h.good (with_name st.ctx.scopes name (next_variable st.ctx))
+    good_placed name t d = good_other f st h.good (with_name st.ctx.scopes name (next_variable st.ctx))
         (st.ctx.variables ++ record { typ = Some t; place = next_place st.work } ∷ [])
         st.ctx.breaks st.ctx.continues st.ctx.label st.ctx.labels st.ctx.closures (with_item st.work t) h.none (leads_placed st name t)
         (sound.placed_sound st name t d h.good.sound)
         (λ i x u o e. in_longer (λ (y : Variable). y.typ ≡ Some u → HasItemOf (with_item st.work t).frame y.place u) st.ctx.variables
         (record { typ = Some t; place = next_place st.work }) i x e (λ n. new_place st.work t u (same_Some t u n))
-        (λ k n. known_still b f st h.good (with_item st.work t) (longer t) i x u o k n))
+        (λ k n. known_still f st h.good (with_item st.work t) (longer t) i x u o k n))
 
     pub good_auto : (i : ℕ) (t : Typ) → is_sound st.ctx.classes a_variable t ≡ true → IsSettled f (auto_placed st i t)
-    good_auto i t d = good_other b f st h.good st.ctx.scopes (slice_set st.ctx.variables i (record { typ = Some t; place = next_place st.work }))
+    good_auto i t d = good_other f st h.good st.ctx.scopes (slice_set st.ctx.variables i (record { typ = Some t; place = next_place st.work }))
         st.ctx.breaks st.ctx.continues st.ctx.label st.ctx.labels st.ctx.closures (with_item st.work t) h.none (leads_auto st i t)
         (sound.auto_sound st i t d h.good.sound)
         (λ n x u o e. in_changed (λ (y : Variable). y.typ ≡ Some u → HasItemOf (with_item st.work t).frame y.place u) st.ctx.variables i
         (record { typ = Some t; place = next_place st.work }) n x e (λ q. new_place st.work t u (same_Some t u q))
-        (λ k q. known_still b f st h.good (with_item st.work t) (longer t) n x u o k q))
+        (λ k q. known_still f st h.good (with_item st.work t) (longer t) n x u o k q))

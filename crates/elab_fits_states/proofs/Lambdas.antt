@@ -1,5 +1,5 @@
 -- What lambdas leave as it was, and that the states behind them are good.
-use Rattle.std.proofs.Common.{◌≡◌, refl, ap, ◌∙◌, subst, ℕ, List, Option, Some, None, slice_get}
+use Rattle.std.proofs.Common.{◌≡◌, refl, ap, ◌∙◌, subst, ℕ, List, Option, Some, None, Ok, slice_get}
 use Rattle.elab_rules.specs.cpp_types.Typ.{Typ, Signature}
 use Rattle.elab_rules.specs.cpp_types.Class.{held}
 use Rattle.elab_rules.specs.cpp_types.declared.classes.At.{At}
@@ -22,8 +22,8 @@ use Rattle.elab_rules.specs.Statements.{State}
 use Rattle.elab_fits.specs.Standing.{On}
 use Rattle.elab_fits.proofs.Steps.{bind, skip}
 use Rattle.elab_rules.specs.cpp_tree.Units.{Func as UnitFunc}
-use Rattle.elab_contexts.specs.Holding.{StateHolds, LambdasHold}
-use Rattle.elab_holds.specs.Contexts.{ContextsHold}
+use Rattle.elab_contexts.specs.Holding.{StateHolds}
+use Rattle.elab_contexts.proofs.Holding.{lambdas_law as units_behind}
 use Rattle.elab_sound_types.specs.States.{Kept}
 use Rattle.elab_sound_types.proofs.Bodies.{lambdas_law as sound_lambdas}
 use Rattle.elab_fits_statements.specs.Discipline.{StandsAs}
@@ -36,7 +36,7 @@ use Rattle.elab_fits_states.specs.Premises.{GoesWell}
 use Rattle.elab_fits_states.specs.States.{IsText, Comes, IsGood}
 use Rattle.elab_fits_states.proofs.Good.{carried, comes_still}
 use Rattle.elab_fits_states.proofs.Reading.{answered}
-use Rattle.elab_fits_states.proofs.Types.{spelled}
+use Rattle.elab_fits_states.proofs.Spelled.{spelled}
 
 refused_same : (st : State) (o : Option At) → On (λ (x : State). st ≡ x) (refused_at st o)
 refused_same st (Some at) = tt
@@ -151,9 +151,9 @@ locals_same c d w v k x t n l f h = record {
 }
 
 -- one state behind lambdas
-pub good_behind : (f : UnitFunc) (s : List Lexeme) → ContextsHold → LambdasHold → (a z : State) (e : syntax.Tree) → IsGood f a → IsText s e
+pub good_behind : (f : UnitFunc) (s : List Lexeme) (a z : State) (e : syntax.Tree) → IsGood f a → IsText s e
     → lambdas_of s a e ≡ Ok z → IsLeft z → GoesWell f a z
-good_behind f s b units a z e g t i x = record { good = good; leads = l; stands = same.stands }
+good_behind f s a z e g t i x = record { good = good; leads = l; stands = same.stands }
   where
     same : IsSame a z
     same = answered (IsSame a) (lambdas_of s a e) z (each_same s a e) i
@@ -162,10 +162,10 @@ good_behind f s b units a z e g t i x = record { good = good; leads = l; stands 
     l = record { goes = answered (Goes a) (lambdas_of s a e) z (lambdas_go s a e) i; kept = (sound_lambdas s a e z g.sound (spelled s e t.spelled) i).grown.kept }
 
     good : IsGood f z
-    good = carried b f a z g l (answered StateHolds (lambdas_of s a e) z (units s a e g.unit) i) x.slots
+    good = carried f a z g l (answered StateHolds (lambdas_of s a e) z (units_behind s a e g.unit) i) x.slots
         (sound_lambdas s a e z g.sound (spelled s e t.spelled) i).sound
         (locals_same a.ctx z.ctx a.work z.work l.kept same.variables same.this same.class same.lambda same.frame g.locals) x.closures same.lambda same.returns
         same.defaults x.bodies
 
 pub lambdas_keep : LambdasKeep
-lambdas_keep f s b units left a z e g t i = good_behind f s b units a z e g t i (left a z e g t i)
+lambdas_keep f s left a z e g t i = good_behind f s a z e g t i (left a z e g t i)

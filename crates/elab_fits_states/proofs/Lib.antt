@@ -8,6 +8,6 @@ pub mod Lists
 pub mod Made
 pub mod Making
 pub mod Reading
+pub mod Spelled
 pub mod Texts
-pub mod Types
 pub mod Variables

@@ -36,7 +36,7 @@ use Rattle.elab_sound_types.proofs.Expressions.{Chosen, operand_sound}
 use Rattle.elab_sound_types.proofs.Growth.{kept_joined}
 use Rattle.elab_throws_apart.proofs.Expressions.{chosen_law}
 use Rattle.elab_fits_states.proofs.Good.{holds_of, good_worked, leads_worked}
-use Rattle.elab_fits_states.proofs.Types.{spelled}
+use Rattle.elab_fits_states.proofs.Spelled.{spelled}
 
 -- what is said of an answer, of the answer that is given
 pub answered : {A : Type 0} (P : A → Type 0) (r : Result A ElabFault) (x : A) → On P r → r ≡ Ok x → P x
@@ -104,7 +104,7 @@ zero_chosen c e t z h = record { kind = z.kind; place = z.place; is = ok t (sym 
 
 module _ (f : UnitFunc) (lams : Lambdas) (s : List Lexeme) (p : Premises f lams s) where
   holds : (x : State) → IsGood f x → Holds (setting_at f x.ctx x.work) x.ctx x.work
-  holds x g = holds_of p.contexts f x g
+  holds x g = holds_of f x g
 
   -- in the setting of what was made with it
   pub read_one : (x : State) (e : syntax.Tree) (o : Typed) → IsGood f x → IsText s e → and_then (expression_of s x.ctx x.work e) (chosen_operand x.ctx) ≡ Ok o
@@ -143,7 +143,7 @@ module _ (f : UnitFunc) (lams : Lambdas) (s : List Lexeme) (p : Premises f lams 
       (operand_grows s x.ctx x.work e) k in
       let i = sound_one x e o l.good t k in record {
         goes = record {
-          good = good_worked p.contexts f x l.good o.work b i.1;
+          good = good_worked f x l.good o.work b i.1;
           leads = comes_on a x (with_work x o.work) l.leads (leads_worked x o.work b);
           stands = stands_then a x (with_work x o.work) l.stands (record { label = refl; breaks = refl; continues = refl; typ = refl; past = λ i. i });
         };

@@ -1,8 +1,8 @@
 -- Types of variables, and what elaboration has checked of them.
-use Rattle.std.proofs.Common.{◌≡◌, refl, ap, ◌∙◌, subst, ℕ, zero, suc, Bool, true, false, not, nat_le, ◌&&◌, ◌||◌, cond, List, [], ◌∷◌, slice_get, Option, Some, None, is_some}
+use Rattle.std.proofs.Common.{◌≡◌, refl, ap, ◌∙◌, subst, ℕ, zero, suc, Bool, true, false, not, nat_lt, nat_le, ◌&&◌, ◌||◌, cond, List, [], ◌∷◌, slice_get, Option, Some, None, is_some, arith}
 use Rattle.std.proofs.Common.{Result, Ok, Err, if◌then◌else◌}
 use Rattle.std.specs.List.{list_all}
-use Rattle.std.proofs.lemmas.Bool.{and_parts}
+use Rattle.std.proofs.lemmas.Bool.{and_parts, lt-ltb}
 use Rattle.std.proofs.lemmas.Option.{same_Some}
 use Rattle.elab_rules.specs.cpp_types.Typ.{Typ, typ, void, int, enum, null, ptr, ref, array, func, class, closure, tx_ex}
 use Rattle.elab_rules.specs.cpp_types.Class.{Class, completion_of, held, held_form}
@@ -38,13 +38,13 @@ use Rattle.elab_fits_forms.proofs.Readiness.{any_ready}
 use Rattle.elab_fits_forms.proofs.Sources as sources
 use Rattle.elab_fits_forms.proofs.Types.{target_no_void}
 use Rattle.elab_fits_forms.proofs.Wholes.{exception_whole}
-use Rattle.elab_sound_types.specs.Types.{Use, target, object, variable, denoted, may_be_array, is_sound}
+use Rattle.elab_sound_types.specs.Types.{Use, target, object, variable, denoted, may_be_array, is_positive, is_sound}
 use Rattle.setting_growth.specs.Growth.{HeldEarlier}
 use Rattle.setting_growth.proofs.Sizes.{size_still}
 use Rattle.elab_sound_types.specs.Contexts.{HasSoundTypes, member_use, is_sound_member, has_sound_members}
 use Rattle.elab_fits_items.specs.Items.{MembersSingle}
 use Rattle.elab_fits_states.specs.States.{IsVariableType}
-use Rattle.elab_fits_states.proofs.Types.{form_is, declared_is, sound_is}
+use Rattle.elab_holds.proofs.Sound.{form_sound, typ_sound, declared_sound}
 
 -- Sizes
 
@@ -126,6 +126,10 @@ pub members_single : (c : Ctx) (w : Work) → HasSoundTypes c w → MembersSingl
 members_single c w h n i k m e g d = single_typ c.classes (member_use (is_nothing m.name)) m.typ
     (all_at (is_sound_member c.classes) k.members i m (all_at (has_sound_members c.classes) c.classes n k h.members e) g)
 
+positive : (n : ℕ) → is_positive n ≡ true → nat_lt 0 n ≡ true
+positive zero h = absurd cc
+positive (suc n) h = lt-ltb 0 (suc n) (omega arith)
+
 module _ (s : Setting) (c : Ctx) (w : Work) (h : Holds s c w) where
   ready_object : (t : Typ) → is_sound c.classes object t ≡ true → holds_complete c.classes (form_in t) ≡ true → is_ready c.classes false t ≡ true
   ready_object (typ void q v) i k = absurd cc
@@ -134,12 +138,12 @@ module _ (s : Setting) (c : Ctx) (w : Work) (h : Holds s c w) where
   ready_object (typ null q v) i k = refl
   ready_object (typ (ptr t) q v) i k = refl
   ready_object (typ (ref t) q v) i k = absurd cc
-  ready_object (typ (array (typ f d y) n) q v) i k = let a = and_parts (may_be_array object n) (not (q || v) && is_sound c.classes object (typ f d y)) i in
-      let b = and_parts (not (q || v)) (is_sound c.classes object (typ f d y)) a.1 in both b.0 (both a.0 (ready_object (typ f d y) b.1 k))
+  ready_object (typ (array (typ f d y) n) q v) i k = let a = and_parts (is_positive n) (not (q || v) && is_sound c.classes object (typ f d y)) i in
+      let b = and_parts (not (q || v)) (is_sound c.classes object (typ f d y)) a.1 in both b.0 (both (positive n a.0) (ready_object (typ f d y) b.1 k))
   ready_object (typ (func g) q v) i k = absurd cc
-  ready_object (typ (class n) q v) i k = ((h.complete n k).whole (class n) q v refl (form_is c.classes object (q || v) (class n) i)).ready
+  ready_object (typ (class n) q v) i k = ((h.complete n k).whole (class n) q v refl (form_sound c.classes object (q || v) (class n) i)).ready
   ready_object (typ (closure n) q v) i k = absurd cc
-  ready_object (typ (tx_ex t) q v) i k = (exception_whole s c w t q v h (form_is c.classes object (q || v) (tx_ex t) i)).ready
+  ready_object (typ (tx_ex t) q v) i k = (exception_whole s c w t q v h (form_sound c.classes object (q || v) (tx_ex t) i)).ready
 
   scalar_declares : (t : Typ) → forms.is_declared c.classes t ≡ true → IsParameter c (forms.is_lambda c.classes) t
       → IsObjectTyp c (forms.is_lambda c.classes) t → is_ready c.classes true t ≡ true → has_lambdas t ≡ false → Declares c t
@@ -148,10 +152,10 @@ module _ (s : Setting) (c : Ctx) (w : Work) (h : Holds s c w) where
   class_declares : (t : Typ) → is_sound c.classes variable t ≡ true → forms.is_parameter c.classes t ≡ true → is_class_typ t ≡ true → forms.IsWhole c.classes t
       → has_lambdas t ≡ false → Declares c t
   class_declares t i p k o n = record {
-    declared = declared_is c.classes t i;
+    declared = declared_sound c.classes variable t refl i;
     initialised = record {
       value = λ e. sources.parameter_is s c w t h p;
-      object = λ e. sources.object_typ_is s c w t h (sound_is c.classes variable t i) k;
+      object = λ e. sources.object_typ_is s c w t h (typ_sound c.classes variable t i) k;
     };
     ready = any_ready c.classes (is_closure (form_in t)) t o.ready;
     single = n;
@@ -166,10 +170,10 @@ module _ (s : Setting) (c : Ctx) (w : Work) (h : Holds s c w) where
       (record { sorted = refl; whole = λ n. both z refl; complete = λ n. refl }) refl refl
   declares (typ null q v) i z = scalar_declares (typ null q v) refl (sources.parameter_is s c w (typ null q v) h refl)
       (record { sorted = refl; whole = λ n. both z refl; complete = λ n. refl }) refl refl
-  declares (typ (ptr t) q v) i z = let d = declared_is c.classes (typ (ptr t) q v) i in
+  declares (typ (ptr t) q v) i z = let d = declared_sound c.classes variable (typ (ptr t) q v) refl i in
       scalar_declares (typ (ptr t) q v) d (sources.parameter_is s c w (typ (ptr t) q v) h d)
       (record { sorted = refl; whole = λ n. both z refl; complete = λ n. refl }) refl refl
-  declares (typ (ref t) q v) i z = let d = declared_is c.classes (typ (ref t) q v) i in record {
+  declares (typ (ref t) q v) i z = let d = declared_sound c.classes variable (typ (ref t) q v) refl i in record {
     declared = d;
     initialised = record {
       value = λ e. sources.parameter_is s c w (typ (ref t) q v) h d;
@@ -179,11 +183,11 @@ module _ (s : Setting) (c : Ctx) (w : Work) (h : Holds s c w) where
     single = refl;
   }
   declares (typ (array (typ f d y) n) q v) i z = let e = typ f d y in
-      let a = and_parts (may_be_array variable n) (not (q || v) && is_sound c.classes object (typ f d y)) i in
+      let a = and_parts (is_positive n) (not (q || v) && is_sound c.classes object (typ f d y)) i in
       let b = and_parts (not (q || v)) (is_sound c.classes object (typ f d y)) a.1 in
       let k = sized_complete c.classes (typ (array (typ f d y) n) q v) z in
-      let r : is_ready c.classes false (typ (array (typ f d y) n) q v) ≡ true = both b.0 (both a.0 (ready_object (typ f d y) b.1 k)) in record {
-        declared = declared_is c.classes (typ (array (typ f d y) n) q v) i;
+      let r : is_ready c.classes false (typ (array (typ f d y) n) q v) ≡ true = both b.0 (both (positive n a.0) (ready_object (typ f d y) b.1 k)) in record {
+        declared = declared_sound c.classes variable (typ (array (typ f d y) n) q v) refl i;
         initialised = record {
           value = λ e. absurd cc;
           object = λ e. record { sorted = refl; whole = λ x. both z r; complete = λ x. k };
@@ -191,11 +195,11 @@ module _ (s : Setting) (c : Ctx) (w : Work) (h : Holds s c w) where
         ready = any_ready c.classes false (typ (array (typ f d y) n) q v) r;
         single = single_typ c.classes variable (typ (array (typ f d y) n) q v) i;
       }
-  declares (typ (class n) q v) i z = let x = form_is c.classes variable (q || v) (class n) i in
+  declares (typ (class n) q v) i z = let x = form_sound c.classes variable (q || v) (class n) i in
       class_declares (typ (class n) q v) i x refl ((h.complete n (sized_complete c.classes (typ (class n) q v) z)).whole (class n) q v refl x) refl
-  declares (typ (closure n) q v) i z = let x = form_is c.classes variable (q || v) (closure n) i in
+  declares (typ (closure n) q v) i z = let x = form_sound c.classes variable (q || v) (closure n) i in
       class_declares (typ (closure n) q v) i x refl ((h.complete n (h.lambdas n x)).whole (closure n) q v refl x) refl
-  declares (typ (tx_ex t) q v) i z = let x = form_is c.classes variable (q || v) (tx_ex t) i in
+  declares (typ (tx_ex t) q v) i z = let x = form_sound c.classes variable (q || v) (tx_ex t) i in
       class_declares (typ (tx_ex t) q v) i x refl (exception_whole s c w t q v h x) refl
 
   number_sized : (j : Typ) → forms.is_exception_value c.classes j ≡ true → is_some (size_in c.classes (typ (tx_ex j) false false)) ≡ true
@@ -212,10 +216,10 @@ module _ (s : Setting) (c : Ctx) (w : Work) (h : Holds s c w) where
   sized (typ (ptr t) q v) i n k = refl
   sized (typ (ref t) q v) i n k = refl
   sized (typ (array e m) q v) i n k = absurd cc
-  sized (typ (class m) q v) i n k = ((h.complete m (k m refl)).whole (class m) q v refl (form_is c.classes variable (q || v) (class m) i)).sized
-  sized (typ (closure m) q v) i n k = let x = form_is c.classes variable (q || v) (closure m) i in
+  sized (typ (class m) q v) i n k = ((h.complete m (k m refl)).whole (class m) q v refl (form_sound c.classes variable (q || v) (class m) i)).sized
+  sized (typ (closure m) q v) i n k = let x = form_sound c.classes variable (q || v) (closure m) i in
       ((h.complete m (h.lambdas m x)).whole (closure m) q v refl x).sized
-  sized (typ (tx_ex t) q v) i n k = (exception_whole s c w t q v h (form_is c.classes variable (q || v) (tx_ex t) i)).sized
+  sized (typ (tx_ex t) q v) i n k = (exception_whole s c w t q v h (form_sound c.classes variable (q || v) (tx_ex t) i)).sized
 
 -- a type of variables that has a size has one whatever is elaborated behind it
 one_size : (o : Option ℕ) → is_some o ≡ true → (n : ℕ) × (o ≡ Some n)

@@ -5,8 +5,7 @@ use Rattle.elab_rules.specs.cpp_ast.Trees as syntax
 use Rattle.elab_rules.specs.cpp_tree.Units.{Func as UnitFunc}
 use Rattle.elab_rules.specs.Lambdas.{lambdas_of, no_lambda}
 use Rattle.elab_rules.specs.Statements.{State}
-use Rattle.elab_contexts.specs.Holding.{LambdasHold}
-use Rattle.elab_holds.specs.Contexts.{HasSlots, ContextsHold}
+use Rattle.elab_holds.specs.Contexts.{HasSlots}
 use Rattle.elab_fits_forms.specs.Expressions.{ClosuresHold}
 use Rattle.elab_fits_states.specs.Made.{AllBodiesFit}
 use Rattle.elab_fits_states.specs.Premises.{KeepsGood}
@@ -24,5 +23,5 @@ pub record IsLeft (st : State) : Type 0 where
 
 -- elsewhere: where that holds of the states behind them, those are good, and came of the ones before
 abbrev pub LambdasKeep : Type 0
-LambdasKeep = (f : UnitFunc) (s : List Lexeme) → ContextsHold → LambdasHold
+LambdasKeep = (f : UnitFunc) (s : List Lexeme)
     → ((a b : State) (e : syntax.Tree) → IsGood f a → IsText s e → lambdas_of s a e ≡ Ok b → IsLeft b) → KeepsGood f lambdas_of s

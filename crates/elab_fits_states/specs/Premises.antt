@@ -7,7 +7,6 @@ use Rattle.elab_rules.specs.cpp_tree.Units.{Func as UnitFunc}
 use Rattle.elab_rules.specs.Statements.{State, Lambdas}
 use Rattle.elab_fits_items.specs.Items.{BracesBuild}
 use Rattle.elab_fits_statements.specs.Discipline.{StandsAs}
-use Rattle.elab_holds.specs.Contexts.{ContextsHold}
 use Rattle.elab_fits_states.specs.States.{IsText, Comes, IsGood}
 
 -- a good state that came of another, in the same place
@@ -21,8 +20,6 @@ abbrev pub KeepsGood : UnitFunc → Lambdas → List Lexeme → Type 0
 KeepsGood f lams s = (a b : State) (e : syntax.Tree) → IsGood f a → IsText s e → lams s a e ≡ Ok b → GoesWell f a b
 
 pub record Premises (f : UnitFunc) (lams : Lambdas) (s : List Lexeme) : Type 0 where
-  -- what elaboration makes holds what the laws of expressions ask
-  pub contexts : ContextsHold
   -- the lambdas of an expression lead to a good state
   pub lambdas : KeepsGood f lams s
   -- braces build an object of the type of their variable
