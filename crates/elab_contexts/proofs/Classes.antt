@@ -207,7 +207,7 @@ function_added : (n : ℕ) (st : State) (h : Header) (m : Marks) (o : Option Fun
 function_added n st h m o d w z q =
     let f : Func = as_defined d (member_func h m o) in
     let s = defined_same d (member_func h m o) in
-    let x = added_further st.ctx f s.builtin (λ e. no_function_here h.class n (f.kind ≡ Plain) w (sym s.class ∙ e))
+    let x = added_further st.ctx f s.builtin s.implicit (λ e. no_function_here h.class n (f.kind ≡ Plain) w (sym s.class ∙ e))
     (λ i e. subst (λ (j : ℕ). IsOpen st.ctx.classes j) (same_Some n i (sym w ∙ sym s.class ∙ e)) z)
     (same_declared d (member_func h m o) st.ctx.funcs q) in
     record { walk = x.walk; same = x.same }

@@ -52,6 +52,7 @@ pub record FunctionAdded (a b : View) : Type 0 where
   pub func : Func
   pub is : b ≡ record a { funcs = a.funcs ++ func ∷ [] }
   pub unknown : func.builtin ≡ None
+  pub written : func.implicit ≡ false
   pub free : func.class ≡ None → func.kind ≡ Plain
   -- its class is still open, and no other function is the same
   pub unclosed : (n : ℕ) → func.class ≡ Some n → IsOpen a.classes n
