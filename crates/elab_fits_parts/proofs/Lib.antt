@@ -1,3 +1,6 @@
+pub mod Homes
+pub mod Implicit
 pub mod Objects
-pub mod Pointers
 pub mod Parts
+pub mod Pointers
+pub mod Walks
