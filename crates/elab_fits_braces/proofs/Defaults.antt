@@ -50,7 +50,7 @@ module _ (s : Setting) (w : Work) (t : Typ) (this : ThisAt) (d : Default) (i : I
         ∙ builds_plain t (head_of e) ∙ b.builds;
   }
 
-  part_moved : (e : Tree) → as_part (relocated (length w.frame) this e) ≡ relocated (length w.frame) this (as_part e)
+  pub part_moved : (e : Tree) → as_part (relocated (length w.frame) this e) ≡ relocated (length w.frame) this (as_part e)
   part_moved (node (Load k false) u Prvalue at (more (node (Local zero) x cat p kids) none)) = part_read (this at) (i.read at)
   part_moved (node (Materialize place a) u cat at kids) = refl
   part_moved (node FullExpression u cat at none) = refl

@@ -4,13 +4,13 @@ use Rattle.std.proofs.Common.{Option, Some, None, is_some, cond, option_map, opt
 use Rattle.std.proofs.lemmas.Bool.{and_parts, and_from}
 use Rattle.std.specs.List.{list_all}
 use Rattle.elab_rules.specs.cpp_types.Typ.{Typ, typ, Form, void, int, enum, null, ptr, ref, array, func, class, closure, tx_ex}
-use Rattle.elab_rules.specs.cpp_types.Class.{Class, Member, InOrder, HoldsEarlier, CompleteBelow, completion_of, held, held_form}
+use Rattle.elab_rules.specs.cpp_types.Class.{Class, Member, InOrder, CompleteBelow, completion_of, held, held_form}
 use Rattle.elab_rules.specs.cpp_types.Order.{each_passes}
 use Rattle.elab_rules.specs.cpp_layout.Measured.{member_offset}
 use Rattle.elab_rules.specs.cpp_tree.Typing.{form_in}
 use Rattle.elab_rules.specs.cpp_tree.Parts as told
 use Rattle.elab_rules.specs.cpp_tree.Parts.{part_of, part_in, part_behind, member_part, sized_class, size_in}
-use Rattle.elab_rules.specs.Objects.{Part, parts_of, parts_in, base_part, members_from}
+use Rattle.elab_rules.specs.Objects.{parts_of, parts_in, base_part, members_from}
 use Rattle.elab_fits.specs.Objects.{is_single, typ_ready, form_ready, part_ready, class_ready, is_ready}
 use Rattle.elab_fits.proofs.Nodes.{both}
 use Rattle.elab_fits.proofs.Objects.{rank, rank_below, rank_within, sized_from}
@@ -132,7 +132,7 @@ sized_owner true o c h = h
 sized_owner false o c h = absurd cc
 
 module _ (classes : List Class) (o : InOrder classes) where
-  parts_plain : (d n k : ℕ) → d ≡ length classes → completion_of classes n ≡ Some k → class_ready d classes false n ≡ true
+  pub parts_plain : (d n k : ℕ) → d ≡ length classes → completion_of classes n ≡ Some k → class_ready d classes false n ≡ true
       → list_all (part_ready (is_plain classes) false) (parts_of classes n) ≡ true
   parts_plain zero n k l c h = let x = complete_is classes n k c in let y = rank_within classes n k x.owner x.found x.complete in absurd (omega arith)
   parts_plain (suc d) n k l c h = let x = complete_is classes n k c in

@@ -5,6 +5,7 @@ pub mod MovedKinds
 pub mod PartRows
 pub mod Plain
 pub mod PlainRows
+pub mod Pliable
 pub mod Qualifiers
 pub mod Requalified
 pub mod Staying

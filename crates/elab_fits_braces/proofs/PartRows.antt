@@ -1,7 +1,7 @@
 -- Rows of parts and elements, in an object with more qualifiers.
-use Rattle.std.proofs.Common.{◌≡◌, refl, sym, ap, ◌∙◌, subst, ℕ, zero, suc, ◌*◌, ◌-◌, ◌<◌, Bool, true, false, not, ◌&&◌, ◌||◌, ◌==◌, nat_le, nat_lt, List, [], ◌∷◌, map}
+use Rattle.std.proofs.Common.{◌≡◌, refl, sym, ap, ◌∙◌, ℕ, suc, ◌*◌, ◌-◌, ◌<◌, Bool, true, false, not, ◌&&◌, ◌||◌, ◌==◌, nat_le, nat_lt, List, [], ◌∷◌, map}
 use Rattle.std.proofs.Common.{Option, Some, None, is_some, arith, lt-ltb, ltb-true}
-use Rattle.std.proofs.lemmas.Bool.{and_parts, and_from}
+use Rattle.std.proofs.lemmas.Bool.{and_parts}
 use Rattle.std.specs.List.{list_all}
 use Rattle.elab_rules.specs.cpp_types.Typ.{Typ, typ, Form, void, int, enum, null, ptr, ref, array, func, class, closure, tx_ex}
 use Rattle.elab_rules.specs.cpp_types.Class.{Class}
@@ -228,7 +228,7 @@ module _ (classes : List Class) (plain : ℕ → Bool) (closed : ArePlain classe
   pub record ElementAt (count stride before : ℕ) (t : Typ) (h : Head) : Type 0 where
     pub element : Typ
     pub ready : typ_ready plain false element ≡ true
-    pub builds : builds element h ≡ true
+    pub built : builds element h ≡ true
     pub again : (g : Head) → builds (qualified q v element) g ≡ true → are_elements classes count stride before (qualified q v t) g ≡ true
 
   pub element_found : (count stride before : ℕ) (t : Typ) (h : Head) → typ_ready plain false t ≡ true → are_elements classes count stride before t h ≡ true
@@ -244,11 +244,11 @@ module _ (classes : List Class) (plain : ℕ → Bool) (closed : ArePlain classe
       record {
         element = e;
         ready = k;
-        builds = f.1;
+        built = f.1;
         again = λ y z. both a.0 (or_left _ (both (both f.0 z) (stride_again classes q v e stride ∙ d.1)));
       })
       (λ b. let y = element_found count stride (before * many) e h k b in
-      record { element = y.element; ready = y.ready; builds = y.builds; again = λ z w. both a.0 (or_right _ (y.again z w)) })
+      record { element = y.element; ready = y.ready; built = y.built; again = λ z w. both a.0 (or_right _ (y.again z w)) })
   element_found count stride before (typ void c x) h r g = absurd cc
   element_found count stride before (typ (int k) c x) h r g = absurd cc
   element_found count stride before (typ (enum n s) c x) h r g = absurd cc

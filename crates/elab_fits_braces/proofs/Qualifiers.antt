@@ -1,12 +1,10 @@
 -- Types with more qualifiers: what the tests of objects say of them.
-use Rattle.std.proofs.Common.{◌≡◌, refl, sym, ap, ◌∙◌, subst, ℕ, Bool, true, false, not, ◌&&◌, ◌||◌, ◌==◌, ◌*◌, nat_le, nat_lt, List, [], ◌∷◌}
-use Rattle.std.proofs.Common.{Option, Some, None, is_some, cond, slice_get}
-use Rattle.std.proofs.lemmas.Bool.{and_parts}
+use Rattle.std.proofs.Common.{◌≡◌, refl, sym, ap, ◌∙◌, ℕ, Bool, true, false, ◌&&◌, ◌||◌, ◌==◌, ◌*◌, nat_le, nat_lt, List, [], ◌∷◌}
+use Rattle.std.proofs.Common.{Option, None, is_some, cond, slice_get}
 use Rattle.std.specs.List.{list_all}
 use Rattle.elab_rules.specs.cpp_types.Typ.{Typ, typ, Form, void, int, enum, null, ptr, ref, array, func, class, closure, tx_ex}
 use Rattle.elab_rules.specs.cpp_types.Class.{Class, completion_of, held, held_form}
 use Rattle.elab_rules.specs.cpp_types.Order.{each_passes}
-use Rattle.elab_rules.specs.cpp_types.Equal.{form_eq}
 use Rattle.elab_rules.specs.cpp_tree.declared.kinds.TKind.{TKind}
 use Rattle.elab_rules.specs.cpp_tree.declared.kinds.TKind.TheVariants.{Destroy}
 use Rattle.elab_rules.specs.cpp_tree.Typing.{Head, passes, form_in, qualified, same_shape, is_class_typ, is_class}

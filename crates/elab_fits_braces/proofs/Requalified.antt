@@ -1,11 +1,10 @@
 -- What builds an object builds one with more qualifiers.
-use Rattle.std.proofs.Common.{◌≡◌, refl, sym, ap, ◌∙◌, subst, ℕ, zero, suc, Bool, true, false, not, ◌&&◌, ◌||◌, nat_lt, List, [], ◌∷◌, map, length, is_some, slice_get}
+use Rattle.std.proofs.Common.{◌≡◌, refl, sym, ap, ◌∙◌, subst, ℕ, suc, Bool, true, false, not, ◌&&◌, ◌||◌, nat_lt, List, [], ◌∷◌, map, length, None, is_some, slice_get, arith, le-leb}
 use Rattle.std.proofs.lemmas.Bool.{and_parts}
-use Rattle.std.specs.List.{list_all}
 use Rattle.std.specs.Prelude.{if◌then◌else◌}
 use Rattle.elab_rules.specs.tx_ints.declared.kinds.IntKind.{IntKind}
 use Rattle.elab_rules.specs.cpp_types.Typ.{Typ, typ, Form, void, int, enum, null, ptr, ref, array, func, class, closure, tx_ex}
-use Rattle.elab_rules.specs.cpp_types.Class.{Class, InOrder}
+use Rattle.elab_rules.specs.cpp_types.Class.{InOrder}
 use Rattle.elab_rules.specs.cpp_types.Equal.{flag_eq}
 use Rattle.elab_rules.specs.cpp_types.Conversion.{is_lvalue}
 use Rattle.elab_rules.specs.cpp_types.declared.classes.At.{At}
@@ -17,7 +16,7 @@ use Rattle.elab_rules.specs.cpp_tree.declared.roles.Role.{Role}
 use Rattle.elab_rules.specs.cpp_tree.declared.roles.Role.TheVariants.{Value, Word, Initialiser, CopyInit, Destruction}
 use Rattle.elab_rules.specs.cpp_tree.Trees.{Tree, node, Trees, none, more, kind_of, typ_in}
 use Rattle.elab_rules.specs.cpp_tree.Typing.{Head, head_of, passes, form_in, qualified, builds, same_shape, without_exception, is_prvalue, is_class, is_class_typ}
-use Rattle.elab_rules.specs.cpp_tree.Typing.{goes_both_ways, kind_in, is_kind, initialises, is_volatile_typ, are_words}
+use Rattle.elab_rules.specs.cpp_tree.Typing.{goes_both_ways, kind_in, is_kind, initialises, are_words}
 use Rattle.elab_rules.specs.cpp_tree.Parts.{are_pieces, are_elements, size_in}
 use Rattle.elab_rules.specs.cpp_tree.Units.{Func}
 use Rattle.elab_rules.specs.cpp_tree.Roles.{Kids, only, and_any, serves, way_fits, is_piece, part_role, object_role}
@@ -28,13 +27,13 @@ use Rattle.elab_rules.specs.Braces.{requalified, all_requalified}
 use Rattle.elab_fits.specs.Standing.{BuildsOne}
 use Rattle.elab_fits.specs.Objects.{typ_ready, is_ready}
 use Rattle.elab_fits.proofs.Equal.{flag_same, flag_refl}
-use Rattle.elab_fits.proofs.Nodes.{both, or_left, or_right, node_fits, head_kind, head_typ}
+use Rattle.elab_fits.proofs.Nodes.{both, or_right, node_fits, head_kind, head_typ}
 use Rattle.elab_fits.proofs.Pieces.{object_as, part_as}
-use Rattle.elab_fits_braces.specs.Qualified.{is_made, are_made, is_pliable, QualifiedBuild}
+use Rattle.elab_fits_braces.specs.Qualified.{is_made, are_made, QualifiedBuild}
 use Rattle.elab_fits_braces.proofs.PlainRows.{passes_same}
 use Rattle.elab_fits_braces.proofs.Qualifiers.{or_swap, shape_again, class_again, number_again, destructions_again}
 use Rattle.elab_fits_braces.proofs.Depth.{ArePlain, is_plain, all_plain, ready_plain}
-use Rattle.elab_fits_braces.proofs.PartRows.{changed, Own, own_type, are_ready, pieces_ready, pieces_again, ElementAt, element_found, single_again}
+use Rattle.elab_fits_braces.proofs.PartRows.{changed, own_type, are_ready, pieces_ready, pieces_again, element_found}
 
 -- What the test of a node says
 
@@ -248,9 +247,9 @@ module _ (s : Setting) (plain : ℕ → Bool) (closed : ArePlain s.classes plain
 
   construct_row : (f : ℕ) (u : Typ) (cat : Cat) (hs : List Head) → row_fits s (Construct f) (qualified q v u) cat hs ≡ row_fits s (Construct f) u cat hs
   construct_row f u cat hs = ap (λ (x : Bool). is_prvalue cat && x) (passes_same
-      (λ (g : Func). is_constructor_of (qualified q v u) g.kind g.class && are_words (signature_words _ g.declared.signature) hs)
-      (λ (g : Func). is_constructor_of u g.kind g.class && are_words (signature_words _ g.declared.signature) hs)
-      (λ (g : Func). ap (λ (x : Bool). (is_constructor g.kind && x) && are_words (signature_words _ g.declared.signature) hs)
+      (λ (g : Func). is_constructor_of (qualified q v u) g.kind g.class && are_words (signature_words None g.declared.signature) hs)
+      (λ (g : Func). is_constructor_of u g.kind g.class && are_words (signature_words None g.declared.signature) hs)
+      (λ (g : Func). ap (λ (x : Bool). (is_constructor g.kind && x) && are_words (signature_words None g.declared.signature) hs)
       (passes_same (λ (n : ℕ). is_class n (form_in (qualified q v u))) (λ (n : ℕ). is_class n (form_in u)) (λ n. number_again q v n u) g.class))
       (slice_get s.funcs f))
 
@@ -372,7 +371,7 @@ module _ (s : Setting) (plain : ℕ → Bool) (closed : ArePlain s.classes plain
           fits = node_fits s p (object_as copying) Pieces (qualified q v u) cat at (all_requalified q v kids) (and_any [] (part_as copying)) f.serves
               (way_plain copying Pieces (qualified q v u) cat refl) refl refl
               (both x.0 (ap (are_pieces s.classes (qualified q v u)) y.heads ∙ pieces_again s.classes plain closed q v u (heads_of kids) x.1))
-              (ap (and_any []) (part_asked copying)) refl refl y.fits;
+              (ap (and_any []) (part_asked copying)) (le-leb 0 (length (heads_of (all_requalified q v kids))) (omega arith)) refl y.fits;
           builds = o.again Pieces;
         }
     object_again copying p t (node (Elements n stride) u cat at none) r b m h =
@@ -388,7 +387,7 @@ module _ (s : Setting) (plain : ℕ → Bool) (closed : ArePlain s.classes plain
         let k : kids_fit s p (and_any (object_as copying ∷ []) Destruction) 0 (more e ds) ≡ true =
         ap (λ (w : Role). kids_fit s p (and_any (w ∷ []) Destruction) 0 (more e ds)) (sym (element_asked copying)) ∙ f.kids in
         let l = object_split copying s p e ds k in
-        let i = object_again copying p z.element e z.ready z.builds m l.fits in
+        let i = object_again copying p z.element e z.ready z.built m l.fits in
         record {
           fits = node_fits s p (object_as copying) (Elements n stride) (qualified q v u) cat at (more (requalified q v e) ds)
               (and_any (object_as copying ∷ []) Destruction) f.serves (way_plain copying (Elements n stride) (qualified q v u) cat refl) refl refl
@@ -453,6 +452,9 @@ module _ (s : Setting) (plain : ℕ → Bool) (closed : ArePlain s.classes plain
           heads = rw (hx, hy) refl;
         }
 
+abbrev inner : Position
+inner = record { full = true; breaks = false; continues = false }
+
 -- what keeps its own type is left as it is
 left_alone : (q v : Bool) (e : Tree) → goes_both_ways (kind_of e) ≡ true → requalified q v e ≡ e
 left_alone q v (node (Store k marked) t cat at kids) h = absurd cc
@@ -483,9 +485,6 @@ module _ (s : Setting) (q v : Bool) (t : Typ) (e : Tree) (h : BuildsOne s t e) w
         fits = λ p full. (object_again s (is_plain s.classes) c q v false p t e x h.builds m (h.fits p full)).fits;
         builds = (object_again s (is_plain s.classes) c q v false inner t e x h.builds m (h.fits inner refl)).builds;
       }
-    where
-      abbrev inner : Position
-      inner = record { full = true; breaks = false; continues = false }
 
   by_kind : (b : Bool) → goes_both_ways (kind_of e) ≡ b → InOrder s.classes → is_some (size_in s.classes t) ≡ true → is_ready s.classes false t ≡ true
       → (if b then is_class_typ t && same_shape t (typ_in e) else is_made e) ≡ true → BuildsOne s (qualified q v t) (requalified q v e)

@@ -1,7 +1,7 @@
 -- Initialisers of members fit still where the unit has grown.
-use Rattle.std.proofs.Common.{◌≡◌, refl, sym, ap, ◌∙◌, subst, ℕ, true, List, Option, Some, None, is_some, slice_get, option_and_then}
+use Rattle.std.proofs.Common.{◌≡◌, refl, sym, ap, ◌∙◌, ℕ, true, Option, Some, None, is_some, slice_get, option_and_then}
 use Rattle.elab_rules.specs.cpp_types.Typ.{Typ}
-use Rattle.elab_rules.specs.cpp_types.Class.{Class, Member, completion_of}
+use Rattle.elab_rules.specs.cpp_types.Class.{Class, completion_of}
 use Rattle.elab_rules.specs.cpp_tree.Units.{Func}
 use Rattle.elab_rules.specs.cpp_tree.Rows.{Setting}
 use Rattle.elab_rules.specs.cpp_tree.Trees.{Tree}
@@ -13,7 +13,7 @@ use Rattle.setting_growth.proofs.Settings.{frame_stays}
 use Rattle.setting_growth.proofs.Trees.{fits_law}
 use Rattle.elab_fits.specs.Standing.{BuildsOne}
 use Rattle.elab_fits_braces.specs.Moving.{DefaultFits, alone}
-use Rattle.elab_fits_braces.specs.Defaults.{IsDefault, AllDefaultsFit, UnitGrows, DefaultsStay}
+use Rattle.elab_fits_braces.specs.Defaults.{IsDefault, UnitGrows, DefaultsStay}
 
 module _ (old new : Setting) (o : HeldEarlier old.classes) (g : UnitGrows old new) where
   record Kept (n : ℕ) : Type 0 where

@@ -1,9 +1,9 @@
 -- The initialisers of members that a context has.
 use Rattle.std.specs.Prelude.{◌≡◌, ℕ, true, List, Some, is_some, slice_get}
-use Rattle.elab_rules.specs.cpp_types.Class.{Class, Member, completion_of}
+use Rattle.elab_rules.specs.cpp_types.Class.{Member, completion_of}
 use Rattle.elab_rules.specs.cpp_tree.Units.{Func}
 use Rattle.elab_rules.specs.cpp_tree.Rows.{Setting}
-use Rattle.elab_rules.specs.elab_ctx.Ctx.{Ctx, Default}
+use Rattle.elab_rules.specs.elab_ctx.Ctx.{Default}
 use Rattle.elab_rules.specs.Names.{members_in}
 use Rattle.setting_growth.specs.Growth.{HeldEarlier, ClassesGrow, SlotsGrow, FuncsGrow, GlobalsGrow}
 use Rattle.elab_fits_braces.specs.Moving.{DefaultFits}

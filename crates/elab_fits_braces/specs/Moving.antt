@@ -1,6 +1,7 @@
 -- Initialisers of members that are made once, and stand in the functions that build the objects (C++14 9.2 p5, 12.6.2 p9).
-use Rattle.std.specs.Prelude.{◌≡◌, ℕ, zero, ◌<◌, Bool, true, false, ◌&&◌, List, ◌∷◌, Some, slice_get}
+use Rattle.std.specs.Prelude.{◌≡◌, ℕ, zero, ◌<◌, Bool, true, false, ◌&&◌, List, ◌∷◌, Some, is_some, slice_get}
 use Rattle.elab_rules.specs.cpp_types.Typ.{Typ, ptr, class}
+use Rattle.elab_rules.specs.cpp_types.Class.{InOrder}
 use Rattle.elab_rules.specs.cpp_types.Equal.{typ_eq}
 use Rattle.elab_rules.specs.cpp_types.declared.classes.At.{At}
 use Rattle.elab_rules.specs.cpp_types.declared.ranks.Cat.TheVariants.{Lvalue, Prvalue}
@@ -11,14 +12,16 @@ use Rattle.elab_rules.specs.cpp_tree.declared.roles.Role.{Role}
 use Rattle.elab_rules.specs.cpp_tree.declared.roles.Role.TheVariants.{Value}
 use Rattle.elab_rules.specs.cpp_tree.Trees.{Tree, node, Trees, none, more, kind_of, typ_in, cat_of}
 use Rattle.elab_rules.specs.cpp_tree.Notation.{plain}
-use Rattle.elab_rules.specs.cpp_tree.Typing.{is_class_typ, unqualified}
+use Rattle.elab_rules.specs.cpp_tree.Typing.{is_class_typ, unqualified, qualified}
+use Rattle.elab_rules.specs.cpp_tree.Parts.{size_in}
 use Rattle.elab_rules.specs.cpp_tree.Units.{Func}
 use Rattle.elab_rules.specs.cpp_tree.Rows.{Setting, result_of}
 use Rattle.elab_rules.specs.elab_ctx.Ctx.{Work, Default}
 use Rattle.elab_rules.specs.Names.{this_pointer}
 use Rattle.elab_rules.specs.Members.{own_this}
-use Rattle.elab_rules.specs.Braces.{ThisAt, this_of, moved_place, relocated, as_part, default_whole, default_made}
+use Rattle.elab_rules.specs.Braces.{ThisAt, this_of, moved_place, relocated, as_part, default_whole, default_made, requalified}
 use Rattle.elab_fits.specs.Standing.{FitsAs, BuildsOne, Reaches}
+use Rattle.elab_fits.specs.Objects.{is_ready}
 use Rattle.elab_fits_braces.specs.Qualified.{is_pliable}
 
 -- a node that says nothing of its function
@@ -84,6 +87,12 @@ pub record DefaultFits (s : Setting) (t : Typ) (d : Default) : Type 0 where
 abbrev pub DefaultsBuild : Type 0
 DefaultsBuild = (s : Setting) (w : Work) (t : Typ) (this : ThisAt) (d : Default) → IsThis s (this_typ d) this → DefaultFits s t d
     → Reaches s (default_whole w this d).work → BuildsOne s t (default_whole w this d).tree × BuildsOne s t (default_made w this d).tree
+
+-- and as a part of an object with more qualifiers, which has no references
+abbrev pub DefaultsQualified : Type 0
+DefaultsQualified = (s : Setting) (q v : Bool) (w : Work) (t : Typ) (this : ThisAt) (d : Default) → InOrder s.classes → is_some (size_in s.classes t) ≡ true
+    → is_ready s.classes false t ≡ true → IsThis s (this_typ d) this → DefaultFits s t d → Reaches s (default_whole w this d).work
+    → BuildsOne s (qualified q v t) (requalified q v (default_made w this d).tree)
 
 -- The pointer `this` where an object is built
 

@@ -1,7 +1,7 @@
 //! Laws of what braces initialise. A function here does nothing: its clauses are the laws.
 
 ghost use Rattle.elab_fits_braces.specs.Strings.{StringsBuild};
-ghost use Rattle.elab_fits_braces.specs.Moving.{MovedFit, DefaultsBuild, ObjectsAreThis, OwnIsThis};
+ghost use Rattle.elab_fits_braces.specs.Moving.{MovedFit, DefaultsBuild, DefaultsQualified, ObjectsAreThis, OwnIsThis};
 ghost use Rattle.elab_fits_braces.specs.Qualified.{QualifiedBuild};
 ghost use Rattle.elab_fits_braces.specs.Defaults.{DefaultsStay};
 
@@ -20,6 +20,7 @@ pub fn defaults()
 /// An object with more qualifiers.
 pub fn qualified()
     ensures qualified { QualifiedBuild }
+    ensures defaults { DefaultsQualified }
 {}
 
 /// The pointer `this`, where such an initialiser stands.

@@ -32,7 +32,7 @@ use Rattle.elab_contexts.proofs.Going.{leaves_are}
 use Rattle.elab_contexts.proofs.Holding.{shown as shown_holds, taken}
 use Rattle.elab_contexts.proofs.Kept.{Holds, each_kept}
 use Rattle.elab_contexts.proofs.Walking.{Leaves, kept_by_steps}
-use Rattle.elab_holds.specs.Contexts.{HasSlots}
+use Rattle.elab_contexts.specs.Slots.{HasOverriders, is_overrider}
 use Rattle.elab_holds.specs.Locals.{LocalsHold}
 use Rattle.elab_holds.proofs.Locals.{lambdas_law}
 use Rattle.elab_sound_types.specs.Types.{is_sound, is_sound_signature, are_sound, result as a_result}
@@ -46,9 +46,9 @@ use Rattle.state_growth.specs.Settings.{shown, UnitGrows}
 use Rattle.state_growth.specs.States.{Goes}
 use Rattle.state_growth.proofs.Settings.{begun_law, funcs_grow}
 use Rattle.elab_fits_states.specs.States.{setting, Comes, IsGood, IsSettled}
-use Rattle.elab_fits_states.proofs.Good.{earlier_of, carried, none_hold, unit_other, slots_other}
+use Rattle.elab_fits_states.proofs.Good.{earlier_of, carried, none_hold, unit_other}
+use Rattle.elab_fits_states.proofs.Lists.{in_longer}
 use Rattle.elab_fits_states.proofs.Made.{bodies_stay}
-use Rattle.elab_fits_lambdas.specs.Lambdas.{Below}
 use Rattle.elab_fits_lambdas.proofs.Sound.{IsSoundLambda, with_lambda, with_nothing, call_known, entered}
 
 -- the call of a lambda, as its unit shows it
@@ -91,13 +91,13 @@ settings_begun f st x r sig = let u = grows_begun st x r sig in record {
 unit_by : (a c : State) → Leaves a c → UnitHolds a.ctx → UnitHolds c.ctx
 unit_by a c l h = let g = leaves_are a c l in shown_holds c.ctx (kept_by_steps Holds each_kept l.walk (taken a.ctx h)) (g.enumerators h.enumerators) (g.types h.types)
 
-module _ (b : Below) (f : UnitFunc) (s : List Lexeme) where
+module _ (f : UnitFunc) (s : List Lexeme) where
   pub good_begun : (st : State) (x : Written) (r : Typ) (sig : Signature) → IsGood f st → AllWhole st.ctx x.captures
       → nat_le (class_extent (declared_closure st x sig).classes (length st.ctx.classes)).size GREATEST_SIZE ≡ true → IsSoundLambda s st.ctx.classes x
       → is_sound_signature (with_nothing st x) sig ≡ true → signature_result sig ≡ r → IsGood (called st x sig) (begun st x r sig)
   good_begun st x r sig g w z l j q = record {
     unit = unit_by st e (record { walk = steps; same = refl }) g.unit;
-    slots = b.slots st.ctx e.ctx steps g.unit g.slots;
+    overriders = λ i h k. in_longer (λ (u : Func). is_overrider u ≡ true) st.ctx.funcs (call st x sig) i h k refl (g.overriders i h);
     sound = entered s st x (known r) r sig g.sound l j refl;
     locals = lambdas_law st st x (known r) r sig g.locals;
     around = λ y h. refl;
@@ -164,8 +164,7 @@ good_placed g e y h n i l s v = record {
   good = carried g e y h l
       (subst (λ (c : Ctx). UnitHolds c) (sym i.ctx)
       (unit_other e.ctx y.ctx.scopes y.ctx.variables e.ctx.breaks e.ctx.continues e.ctx.label e.ctx.labels e.ctx.closures h.unit))
-      (subst (λ (c : Ctx). HasSlots c) (sym i.ctx)
-      (slots_other e.ctx y.ctx.scopes y.ctx.variables e.ctx.breaks e.ctx.continues e.ctx.label e.ctx.labels e.ctx.closures h.slots))
+      (subst (λ (c : Ctx). HasOverriders c.funcs) (sym i.ctx) h.overriders)
       s v (none_hold y.ctx y.ctx.closures none) (ap (λ (c : Ctx). c.lambda) i.ctx) (ap (λ (c : Ctx). c.returns) i.ctx) (ap (λ (c : Ctx). c.defaults) i.ctx)
       (bodies_stay e y (earlier_of g e h) l.goes.grows.unit i.bodies h.bodies);
   none = none;

@@ -56,7 +56,6 @@ use Rattle.state_growth.proofs.Going.{parameters_law}
 use Rattle.state_growth.proofs.Settings.{states_law}
 use Rattle.elab_fits_states.specs.Bodies.{BodyFits, StandsAlone}
 use Rattle.elab_fits_states.specs.Made.{MadeFits, AllBodiesFit}
-use Rattle.elab_fits_states.specs.Premises.{Premises}
 use Rattle.elab_fits_states.specs.States.{AreTexts, setting, Comes, IsGood, IsSettled}
 use Rattle.elab_fits_states.proofs.Bodies.{bodies_fit}
 use Rattle.elab_fits_states.proofs.Good.{holds_of, earlier_of, comes_still}
@@ -64,7 +63,6 @@ use Rattle.elab_fits_states.proofs.Lambdas.{no_lambdas_keep}
 use Rattle.elab_fits_states.proofs.Lists.{in_longer, last_item}
 use Rattle.elab_fits_states.proofs.Reading.{answered, comes_on}
 use Rattle.elab_holds.proofs.Sound.{typ_sound}
-use Rattle.elab_fits_lambdas.specs.Lambdas.{Below}
 use Rattle.elab_fits_lambdas.proofs.Begun.{call, called, begun, call_result, good_begun, IsPlaced, all_placed, comes_placed, good_placed}
 use Rattle.elab_fits_lambdas.proofs.Sound.{IsSoundLambda, with_lambda, with_nothing, lambda_kept}
 
@@ -117,10 +115,7 @@ pub record IsLeftBy (st : State) (x : Written) (r : Typ) (sig : Signature) (w : 
   pub body : InBody (called st x sig) (begun st x r sig) done
   pub bodies : AllBodiesFit (left st x r sig done)
 
-module _ (b : Below) (s : List Lexeme) where
-  premises : (g : UnitFunc) → Premises g no_lambda s
-  premises g = record { lambdas = no_lambdas_keep g s; braces = b.braces }
-
+module _ (s : List Lexeme) where
   alone : (e y : State) → IsPlaced e y → is_direct_label e.ctx.label ≡ false → e.ctx.breaks ≡ false → e.ctx.continues ≡ false → StandsAlone y
   alone e y i l p q = record {
     label = ap (λ (c : Ctx). is_direct_label c.label) i.ctx ∙ l;
@@ -139,7 +134,7 @@ module _ (b : Below) (s : List Lexeme) where
       (parameters_more st.ctx.classes (with_lambda st x sig) (lambda_kept st x sig) x.params l.params)) h).sound
       (answered (λ (z : State). LocalsHold z.ctx z.work) (with_parameters s e x.params) y (parameters_hold s e x.params g.locals) h) in
       mapped (BodyFits c y) (InBody c e) (statements_of no_lambda s y x.body)
-      (bodies_fit c no_lambda s y x.body (premises c) n (alone e y i refl refl refl) t)
+      (bodies_fit c no_lambda s y x.body (no_lambdas_keep c s) n (alone e y i refl refl refl) t)
       (λ d j. record { settled = j.settled; comes = comes_on e y d.state k j.leads; serve = j.serve }))
     where
       c : UnitFunc
@@ -220,7 +215,7 @@ module _ (b : Below) (s : List Lexeme) where
       (λ z k. told (IsLeftBy st x r sig) (body_statements s (begun st x r sig) x) _
       (λ d n. told (IsLeftBy st x r sig) (within_frame d.state.ctx x.at d.state.work.frame) _
       (λ o m. let i = answered (InBody (called st x sig) (begun st x r sig)) (body_statements s (begun st x r sig) x) d
-      (in_body f st x r sig l (good_begun b f s st x r sig g v (sized_true x.at (class_extent (declared_closure st x sig).classes (length st.ctx.classes)).size z k)
+      (in_body f st x r sig l (good_begun f s st x r sig g v (sized_true x.at (class_extent (declared_closure st x sig).classes (length st.ctx.classes)).size z k)
       l j q) t) n in record {
         done = d;
         is = refl;

@@ -1,5 +1,5 @@
 -- The lambdas of an expression lead from good states to good ones.
-use Rattle.std.proofs.Common.{◌≡◌, refl, sym, ap, ◌∙◌, subst, ℕ, true, false, not, List, [], ◌∷◌, length, slice_get, Option, Some, None, Ok}
+use Rattle.std.proofs.Common.{◌≡◌, refl, sym, ap, ◌∙◌, subst, ℕ, true, false, not, List, [], ◌∷◌, length, slice_get, Option, Some, None}
 use Rattle.std.specs.Prelude.{count_by}
 use Rattle.elab_rules.specs.cpp_types.Typ.{Typ, Signature}
 use Rattle.elab_rules.specs.cpp_types.Class.{Class}
@@ -26,10 +26,8 @@ use Rattle.elab_rules.specs.Statements.{State}
 use Rattle.elab_fits.specs.Standing.{On}
 use Rattle.elab_fits.proofs.Steps.{bind, skip}
 use Rattle.elab_fits_forms.specs.Types.{is_lambda}
-use Rattle.elab_fits_forms.specs.Expressions.{IsCapture, IsClosure, ClosuresHold}
+use Rattle.elab_fits_forms.specs.Expressions.{IsCapture, IsClosure}
 use Rattle.elab_fits_statements.proofs.States.{told, mapped}
-use Rattle.elab_contexts.proofs.Bodies.{lambdas_lawful}
-use Rattle.elab_contexts.proofs.Walking.{Leaves}
 use Rattle.elab_contexts.proofs.Captures.{AllWhole, explicit_all, default_all}
 use Rattle.elab_sound_types.specs.States.{Kept}
 use Rattle.elab_sound_types.proofs.Closures.{one_nameless}
@@ -41,7 +39,6 @@ use Rattle.setting_growth.proofs.Classes.{known_if}
 use Rattle.state_growth.specs.Settings.{UnitGrows}
 use Rattle.state_growth.proofs.Going.{units_on_law}
 use Rattle.elab_fits_states.specs.Lambdas.{IsLeft}
-use Rattle.elab_fits_states.specs.Made.{AllBodiesFit}
 use Rattle.elab_fits_states.specs.States.{IsText, AreTexts, IsGood}
 use Rattle.elab_fits_states.proofs.Good.{holds_of}
 use Rattle.elab_fits_states.proofs.Lambdas.{good_behind}
@@ -50,7 +47,7 @@ use Rattle.elab_fits_states.proofs.Reading.{answered}
 use Rattle.elab_fits_states.proofs.Texts
 use Rattle.elab_fits_states.proofs.Spelled.{spelled}
 use Rattle.elab_holds.proofs.Sound.{lambda_same}
-use Rattle.elab_fits_lambdas.specs.Lambdas.{Below, LambdasAreGood}
+use Rattle.elab_fits_lambdas.specs.Lambdas.{LambdasAreGood}
 use Rattle.elab_fits_lambdas.proofs.Begun.{begun, grows_begun}
 use Rattle.elab_fits_lambdas.proofs.Bodies.{left, IsLeftBy, lambda_left}
 use Rattle.elab_fits_lambdas.proofs.Captured.{AllCaptured, explicit_captured, default_captured}
@@ -76,11 +73,6 @@ pub record IsKnown (s : List Lexeme) (st : State) (x : Written) : Type 0 where
   pub sound : IsSoundLambda s st.ctx.classes x
   pub texts : AreTexts s x.body
 
--- a state behind lambdas, whose bodies fit and whose lambdas hold
-pub record IsBehind (z : State) : Type 0 where
-  pub closures : ClosuresHold z.ctx z.ctx.closures
-  pub bodies : AllBodiesFit z
-
 -- lambdas hold still where classes are added
 capture_still : (c : Ctx) (y : Capture) (d : Ctx) → d.variables ≡ c.variables → d.this ≡ c.this → IsCapture c y → IsCapture d y
 capture_still c y d v t h = record {
@@ -97,7 +89,7 @@ capture_still c y d v t h = record {
 lambda_still : (m n : List Class) (i : ℕ) → Kept m n → is_lambda m i ≡ true → is_lambda n i ≡ true
 lambda_still m n i h e = sym (lambda_same n i) ∙ lambda_more m n h i (lambda_same m i ∙ e)
 
-module _ (b : Below) (f : UnitFunc) (s : List Lexeme) (apart : f.kind ≡ ClosureCall → ⊥) where
+module _ (f : UnitFunc) (s : List Lexeme) (apart : f.kind ≡ ClosureCall → ⊥) where
   outside : (st : State) → IsGood f st → st.ctx.lambda ≡ None
   outside st g = by st.ctx.lambda refl
     where
@@ -139,8 +131,9 @@ module _ (b : Below) (f : UnitFunc) (s : List Lexeme) (apart : f.kind ≡ Closur
       captures = λ j d e. capture_still st.ctx d z.ctx refl refl (h.captured j d e);
     }
 
-    behind_left : IsBehind z
+    behind_left : IsLeft z
     behind_left = record {
+      overriders = y.body.settled.good.overriders;
       closures = record {
         closures = λ j c e. in_longer (IsClosure z.ctx) st.ctx.closures (record { at = x.at; class = length st.ctx.classes; captures = x.captures }) j c e
             new_closure (λ k. old_closure c (g.closures.closures j c k));
@@ -149,17 +142,17 @@ module _ (b : Below) (f : UnitFunc) (s : List Lexeme) (apart : f.kind ≡ Closur
     }
 
   behind_by : (st : State) (x : Written) (r : Typ) (sig : Signature) → IsGood f st → IsKnown s st x → (w : State) → IsLeftBy st x r sig w
-      → IsBehind (with_written w (length st.ctx.classes) x)
-  behind_by st x r sig g h w y = subst (λ (v : State). IsBehind (with_written v (length st.ctx.classes) x)) (sym y.is) (behind_left st x r sig g h w y)
+      → IsLeft (with_written w (length st.ctx.classes) x)
+  behind_by st x r sig g h w y = subst (λ (v : State). IsLeft (with_written v (length st.ctx.classes) x)) (sym y.is) (behind_left st x r sig g h w y)
 
-  made_behind : (st : State) (x : Written) → IsGood f st → IsKnown s st x → On IsBehind (lambda_made s st x)
-  made_behind st x g h = told IsBehind (result_of s st x x.result) _ (λ r i.
+  made_behind : (st : State) (x : Written) → IsGood f st → IsKnown s st x → On IsLeft (lambda_made s st x)
+  made_behind st x g h = told IsLeft (result_of s st x x.result) _ (λ r i.
       let d = answered (sound.IsDeclared (with_nothing st x)) (result_of s st x x.result) r (sound.result_of s st x x.result g.sound h.sound h.sound.result) i in
-      bind (λ (w : State). IsBehind (with_written w (length st.ctx.classes) x)) IsBehind (lambda_known s st x r) _
-      (told (λ (w : State). IsBehind (with_written w (length st.ctx.classes) x)) (lambda_type st.ctx x r) _ (λ t j.
-      mapped (IsLeftBy st x r (signature_in (form_in t))) (λ (w : State). IsBehind (with_written w (length st.ctx.classes) x))
+      bind (λ (w : State). IsLeft (with_written w (length st.ctx.classes) x)) IsLeft (lambda_known s st x r) _
+      (told (λ (w : State). IsLeft (with_written w (length st.ctx.classes) x)) (lambda_type st.ctx x r) _ (λ t j.
+      mapped (IsLeftBy st x r (signature_in (form_in t))) (λ (w : State). IsLeft (with_written w (length st.ctx.classes) x))
       (lambda_with s st x r (signature_in (form_in t)))
-      (lambda_left b s f st x r (signature_in (form_in t)) g h.whole h.sound
+      (lambda_left s f st x r (signature_in (form_in t)) g h.whole h.sound
       (sound.signature_sound (with_nothing st x) t (answered (IsDenoted (with_nothing st x)) (lambda_type st.ctx x r) t
       (sound.lambda_type s st x r h.sound d) j))
       (answered (Gives r) (lambda_type st.ctx x r) t (type_gives st.ctx x r) j) h.texts)
@@ -167,12 +160,12 @@ module _ (b : Below) (f : UnitFunc) (s : List Lexeme) (apart : f.kind ≡ Closur
       (λ w y. y))
 
   written_behind : (st : State) (at : At) (intro parts : syntax.Trees) (body : syntax.Tree) → IsGood f st → IsText s body
-      → On IsBehind (lambda_written s st at intro parts body)
-  written_behind st at intro parts body g t = told IsBehind (explicit_captures s st.ctx (default_in s intro) intro) _
-      (λ xs i. told IsBehind (parameters_among s st.ctx st.work parts) _
-      (λ ps j. skip IsBehind (not_dynamic at (qualifiers_from s no_qualifiers parts)) _
-      (λ y. told IsBehind (result_among s st.ctx st.work parts) _
-      (λ r l. told IsBehind (default_captures st.ctx (default_in s intro) xs (used_in s st.ctx ps body)) _
+      → On IsLeft (lambda_written s st at intro parts body)
+  written_behind st at intro parts body g t = told IsLeft (explicit_captures s st.ctx (default_in s intro) intro) _
+      (λ xs i. told IsLeft (parameters_among s st.ctx st.work parts) _
+      (λ ps j. skip IsLeft (not_dynamic at (qualifiers_from s no_qualifiers parts)) _
+      (λ y. told IsLeft (result_among s st.ctx st.work parts) _
+      (λ r l. told IsLeft (default_captures st.ctx (default_in s intro) xs (used_in s st.ctx ps body)) _
       (λ ys m. made_behind st (record {
         at = at;
         captures = ys;
@@ -207,7 +200,7 @@ module _ (b : Below) (f : UnitFunc) (s : List Lexeme) (apart : f.kind ≡ Closur
       body_texts : (u : syntax.Tree) → IsText s u → AreTexts s (kids_of u)
       body_texts (syntax.node kind p token kids) v = Texts.kids s kind p token kids v
 
-  one_behind : (st : State) (at : At) (kids : syntax.Trees) → IsGood f st → AreTexts s kids → On IsBehind (lambda_of s st at kids)
+  one_behind : (st : State) (at : At) (kids : syntax.Trees) → IsGood f st → AreTexts s kids → On IsLeft (lambda_of s st at kids)
   one_behind st at (syntax.more intro (syntax.more parts (syntax.more body syntax.none))) g t =
       written_behind st at (kids_of intro) (kids_of parts) body g (Texts.first s body syntax.none
       (Texts.rest s parts (syntax.more body syntax.none) (Texts.rest s intro (syntax.more parts (syntax.more body syntax.none)) t)))
@@ -215,29 +208,22 @@ module _ (b : Below) (f : UnitFunc) (s : List Lexeme) (apart : f.kind ≡ Closur
       written_behind st at (kids_of intro) syntax.none body g (Texts.first s body syntax.none (Texts.rest s intro (syntax.more body syntax.none) t))
   one_behind st at kids g t = tt
 
-  still_behind : (st : State) → IsGood f st → IsBehind st
-  still_behind st g = record { closures = g.closures; bodies = g.bodies }
-
-  left_by : (a x : State) (e : syntax.Tree) → IsGood f a → lambdas_of s a e ≡ Ok x → IsBehind x → IsLeft x
-  left_by a x e g h i = record {
-    slots = b.slots a.ctx x.ctx (answered (Leaves a) (lambdas_of s a e) x (lambdas_lawful.each s a e) h).walk g.unit g.slots;
-    closures = i.closures;
-    bodies = i.bodies;
-  }
+  still_behind : (st : State) → IsGood f st → IsLeft st
+  still_behind st g = record { overriders = g.overriders; closures = g.closures; bodies = g.bodies }
 
   mutual
-    each_behind : (a : State) (e : syntax.Tree) → IsGood f a → IsText s e → On IsBehind (lambdas_of s a e)
+    each_behind : (a : State) (e : syntax.Tree) → IsGood f a → IsText s e → On IsLeft (lambdas_of s a e)
     each_behind a (syntax.node k.Lambda p token kids) g t = one_behind a (at_of p) kids g (Texts.kids s k.Lambda p token kids t)
     each_behind a (syntax.node k.SizeofExpression p token kids) g t = still_behind a g
     each_behind a (syntax.node k.SizeofType p token kids) g t = still_behind a g
     each_behind a (syntax.node kind p token kids) g t = among_behind a kids g (Texts.kids s kind p token kids t)
 
-    among_behind : (a : State) (es : syntax.Trees) → IsGood f a → AreTexts s es → On IsBehind (lambdas_among s a es)
+    among_behind : (a : State) (es : syntax.Trees) → IsGood f a → AreTexts s es → On IsLeft (lambdas_among s a es)
     among_behind a syntax.none g t = still_behind a g
-    among_behind a (syntax.more e es) g t = told IsBehind (lambdas_of s a e) _ (λ x h.
-        let i = answered IsBehind (lambdas_of s a e) x (each_behind a e g (Texts.first s e es t)) h in
-        among_behind x es (good_behind f s a x e g (Texts.first s e es t) h (left_by a x e g h i)).good (Texts.rest s e es t))
+    among_behind a (syntax.more e es) g t = told IsLeft (lambdas_of s a e) _ (λ x h.
+        let i = answered IsLeft (lambdas_of s a e) x (each_behind a e g (Texts.first s e es t)) h in
+        among_behind x es (good_behind f s a x e g (Texts.first s e es t) h i).good (Texts.rest s e es t))
 
 pub lambdas_are_good : LambdasAreGood
-lambdas_are_good f s b apart a x e g t h = good_behind f s a x e g t h
-    (left_by b f s apart a x e g h (answered IsBehind (lambdas_of s a e) x (each_behind b f s apart a e g t) h))
+lambdas_are_good f s apart a x e g t h = good_behind f s a x e g t h
+    (answered IsLeft (lambdas_of s a e) x (each_behind f s apart a e g t) h)

@@ -64,6 +64,7 @@ use Rattle.elab_fits_forms.specs.Context.{Holds}
 use Rattle.elab_fits_braces.proofs.Strings.{strings_build}
 use Rattle.elab_fits_braces.proofs.Staying.{defaults_stay}
 use Rattle.elab_fits_items.specs.Items.{Whole}
+use Rattle.elab_fits_items.proofs.Braced.{braces_build}
 use Rattle.elab_growth.proofs.Kept.{follows}
 use Rattle.elab_sound_types.specs.Types.{variable as a_variable, denoted as a_denoted}
 use Rattle.elab_sound_types.specs.Contexts.{HasSoundTypes}
@@ -79,7 +80,7 @@ use Rattle.elab_throws_apart.proofs.Initials.{initialisers_law}
 use Rattle.elab_throws_apart.proofs.Objects.{class_apart}
 use Rattle.elab_throws_apart.proofs.Trees.{Apart, MadeApart, no_throw_of}
 use Rattle.elab_fits_states.specs.States.{AreTexts, IsText, setting, Comes, IsGood, IsSettled, IsRead, IsWritten, IsObjectType, words}
-use Rattle.elab_fits_states.specs.Premises.{Premises, GoesWell}
+use Rattle.elab_fits_states.specs.Premises.{KeepsGood, GoesWell}
 use Rattle.elab_fits_states.proofs.Caught.{can_be_caught}
 use Rattle.elab_fits_states.proofs.Good.{holds_of, earlier_of, comes_still, unit_grows, good_worked, good_settled, good_within, good_outer, good_labels, good_named}
 use Rattle.elab_fits_states.proofs.Good.{good_placed, good_auto, leads_worked, leads_placed, leads_auto, item_there}
@@ -99,7 +100,7 @@ reached_behind f c w v b = record {
   globals = λ i g e. record { global = g; at = behind w.globals v.globals b.texts b.globals i g e; is = refl };
 }
 
-module _ (f : UnitFunc) (lams : Lambdas) (s : List Lexeme) (p : Premises f lams s) where
+module _ (f : UnitFunc) (lams : Lambdas) (s : List Lexeme) (p : KeepsGood f lams s) where
   holds : (a : State) → IsGood f a → Holds (setting f a) a.ctx a.work
   holds a g = holds_of f a g
 
@@ -113,7 +114,7 @@ module _ (f : UnitFunc) (lams : Lambdas) (s : List Lexeme) (p : Premises f lams 
 
   pub all_well : (a : State) (es : syntax.Trees) → IsGood f a → AreTexts s es → On (GoesWell f a) (all_lambdas lams s a es)
   all_well a syntax.none g t = well_still a g
-  all_well a (syntax.more e es) g t = told (GoesWell f a) (lams s a e) _ (λ x h. let l = p.lambdas a x e g (Texts.first s e es t) h in
+  all_well a (syntax.more e es) g t = told (GoesWell f a) (lams s a e) _ (λ x h. let l = p a x e g (Texts.first s e es t) h in
       mapped (GoesWell f x) (GoesWell f a) (all_lambdas lams s x es) (all_well x es l.good (Texts.rest s e es t)) (λ y k. well_then a x y l k))
 
   still : (a b : State) → IsSettled f a → Comes a b → (q : Position) (role : Role) (e : Tree) → fits (setting f a) q role e ≡ true → fits (setting f b) q role e ≡ true
@@ -283,7 +284,7 @@ module _ (f : UnitFunc) (lams : Lambdas) (s : List Lexeme) (p : Premises f lams 
       let u = object_later a x t l.leads h in let o = object_here x t l.good u in
       all_made a x t q m h l
       (worked x m.work l.good b (sound_made x z m l.good (item_kept s x.ctx x.work variable t (syntax.node kinds.BracedInitList r token es)) n))
-      ((answered (Whole S x.work t) z m (p.braces s S x.ctx x.work variable t r token es (later f x.ctx x.work m.work (holds x l.good))
+      ((answered (Whole S x.work t) z m (braces_build s S x.ctx x.work variable t r token es (later f x.ctx x.work m.work (holds x l.good))
       (record {
         closures = l.good.closures;
         defaults = defaults_stay (setting f x) S x.ctx.defaults (earlier_of f x l.good) (unit_grows (setting f x) S j) l.good.defaults;

@@ -32,7 +32,7 @@ use Rattle.state_growth.proofs.Lists.{behind, added}
 use Rattle.state_growth.proofs.Settings.{states_law}
 use Rattle.state_growth.proofs.Works.{one_item}
 use Rattle.state_growth.proofs.Steps.{seen, Steps, kept_refl, goes, stays}
-use Rattle.elab_holds.specs.Contexts.{HasSlots}
+use Rattle.elab_contexts.specs.Slots.{HasOverriders}
 use Rattle.elab_holds.proofs.Contexts.{contexts_law}
 use Rattle.elab_holds.specs.Locals.{HasItemOf, LocalsHold}
 use Rattle.elab_fits_states.specs.Made.{AllBodiesFit}
@@ -95,6 +95,7 @@ module _ (c : Ctx) (names : List Names) (variables : List Variable) (breaks cont
     free = h.free;
     owned = h.owned;
     recorded = h.recorded;
+    slotted = h.slotted;
     objects = h.objects;
     numbered = h.numbered;
     earlier = h.earlier;
@@ -107,22 +108,19 @@ module _ (c : Ctx) (names : List Names) (variables : List Variable) (breaks cont
     types = h.types;
   }
 
-  pub slots_other : HasSlots c → HasSlots (other c names variables breaks continues label labels closures)
-  slots_other h = λ k n f e o p v d. let x = h k n f e o p v d in record { slot = x.slot; pointer = x.pointer }
-
 -- what the laws of expressions ask
 pub holds_of : (f : UnitFunc) (st : State) → IsGood f st → Holds (setting f st) st.ctx st.work
-holds_of f st g = contexts_law f st.ctx st.work g.unit g.slots g.sound.context g.locals
+holds_of f st g = contexts_law f st.ctx st.work g.unit g.overriders g.sound.context g.locals
 
 pub earlier_of : (f : UnitFunc) (st : State) → IsGood f st → HeldEarlier st.ctx.classes
 earlier_of f st g = order_law st.ctx.classes (holds_of f st g).setting.ordered
 
 -- what holds of a state, holds of one that came of it, of the same function
-pub carried : (f : UnitFunc) (a z : State) → IsGood f a → Comes a z → UnitHolds z.ctx → HasSlots z.ctx → IsSoundState z → LocalsHold z.ctx z.work
+pub carried : (f : UnitFunc) (a z : State) → IsGood f a → Comes a z → UnitHolds z.ctx → HasOverriders z.ctx.funcs → IsSoundState z → LocalsHold z.ctx z.work
     → ClosuresHold z.ctx z.ctx.closures → z.ctx.lambda ≡ a.ctx.lambda → z.ctx.returns ≡ a.ctx.returns → z.ctx.defaults ≡ a.ctx.defaults → AllBodiesFit z → IsGood f z
 carried f a z g l u w s v c q r d m = record {
   unit = u;
-  slots = w;
+  overriders = w;
   sound = s;
   locals = v;
   around = λ x e. g.around x (sym q ∙ e);
@@ -148,7 +146,7 @@ module _ (f : UnitFunc) (st : State) (h : IsGood f st) where
   good_other names variables breaks continues label labels closures v none l s known =
       let z : State = record { ctx = other st.ctx names variables breaks continues label labels closures; work = v; bodies = st.bodies } in record {
         good = carried f st z h l (unit_other st.ctx names variables breaks continues label labels closures h.unit)
-        (slots_other st.ctx names variables breaks continues label labels closures h.slots) s (record {
+        h.overriders s (record {
           variables = known;
           this = λ t e. l.goes.grows.frame _ _ (h.locals.this t e);
           inside = h.locals.inside;

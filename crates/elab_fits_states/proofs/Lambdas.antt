@@ -162,7 +162,7 @@ good_behind f s a z e g t i x = record { good = good; leads = l; stands = same.s
     l = record { goes = answered (Goes a) (lambdas_of s a e) z (lambdas_go s a e) i; kept = (sound_lambdas s a e z g.sound (spelled s e t.spelled) i).grown.kept }
 
     good : IsGood f z
-    good = carried f a z g l (answered StateHolds (lambdas_of s a e) z (units_behind s a e g.unit) i) x.slots
+    good = carried f a z g l (answered StateHolds (lambdas_of s a e) z (units_behind s a e g.unit) i) x.overriders
         (sound_lambdas s a e z g.sound (spelled s e t.spelled) i).sound
         (locals_same a.ctx z.ctx a.work z.work l.kept same.variables same.this same.class same.lambda same.frame g.locals) x.closures same.lambda same.returns
         same.defaults x.bodies

@@ -31,7 +31,7 @@ use Rattle.state_growth.proofs.Works.{operand_grows}
 use Rattle.state_growth.proofs.Going.{goes_on_law}
 use Rattle.elab_growth.proofs.Kept.{follows}
 use Rattle.elab_fits_states.specs.States.{IsText, Comes, IsGood, IsSettled, words}
-use Rattle.elab_fits_states.specs.Premises.{Premises, GoesWell}
+use Rattle.elab_fits_states.specs.Premises.{KeepsGood, GoesWell}
 use Rattle.elab_sound_types.proofs.Expressions.{Chosen, operand_sound}
 use Rattle.elab_sound_types.proofs.Growth.{kept_joined}
 use Rattle.elab_throws_apart.proofs.Expressions.{chosen_law}
@@ -102,7 +102,7 @@ zero_chosen c e t z h = record { kind = z.kind; place = z.place; is = ok t (sym 
     ok : (b : Tree) → resolved c (number z.kind 0 z.place) ≡ Ok b → b ≡ number z.kind 0 z.place
     ok b e = cc
 
-module _ (f : UnitFunc) (lams : Lambdas) (s : List Lexeme) (p : Premises f lams s) where
+module _ (f : UnitFunc) (lams : Lambdas) (s : List Lexeme) (p : KeepsGood f lams s) where
   holds : (x : State) → IsGood f x → Holds (setting_at f x.ctx x.work) x.ctx x.work
   holds x g = holds_of f x g
 
@@ -157,7 +157,7 @@ module _ (f : UnitFunc) (lams : Lambdas) (s : List Lexeme) (p : Premises f lams 
   pub has_read : (a : State) (e : syntax.Tree) (u : Full) → IsSettled f a → IsText s e → full_operand lams s a e ≡ Ok u → HasRead (words f s) a u
   has_read a e u g t h = answered (HasRead (words f s) a) (full_operand lams s a e) u
       (told (HasRead (words f s) a) (lams s a e) _ (λ x i. told (HasRead (words f s) a) (and_then (expression_of s x.ctx x.work e) (chosen_operand x.ctx)) _
-      (λ o k. read_behind a x e o (p.lambdas a x e g.good t i) t k))) h
+      (λ o k. read_behind a x e o (p a x e g.good t i) t k))) h
 
   pub is_constant : (a : State) (e : syntax.Tree) (o : Typed) → IsSettled f a → IsText s e
       → and_then (expression_of s a.ctx a.work e) (chosen_operand a.ctx) ≡ Ok o → StandsSomewhere o.operand

@@ -8,7 +8,7 @@ use Rattle.elab_rules.specs.Statements.{State, Done, Lambdas, statements_of, is_
 use Rattle.elab_fits.specs.Standing.{On}
 use Rattle.elab_fits_statements.specs.Anywhere.{AllServe}
 use Rattle.elab_fits_states.specs.States.{AreTexts, setting, Comes, IsSettled}
-use Rattle.elab_fits_states.specs.Premises.{Premises}
+use Rattle.elab_fits_states.specs.Premises.{KeepsGood}
 
 -- the state behind them is good and came of the one before, and they fit in its setting
 pub record BodyFits (f : UnitFunc) (st : State) (d : Done) : Type 0 where
@@ -23,5 +23,5 @@ pub record StandsAlone (st : State) : Type 0 where
   pub continues : st.ctx.continues ≡ false
 
 abbrev pub BodiesFit : Type 0
-BodiesFit = (f : UnitFunc) (lams : Lambdas) (s : List Lexeme) (st : State) (ts : syntax.Trees) → Premises f lams s → IsSettled f st → StandsAlone st
+BodiesFit = (f : UnitFunc) (lams : Lambdas) (s : List Lexeme) (st : State) (ts : syntax.Trees) → KeepsGood f lams s → IsSettled f st → StandsAlone st
     → AreTexts s ts → On (BodyFits f st) (statements_of lams s st ts)

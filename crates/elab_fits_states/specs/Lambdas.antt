@@ -5,7 +5,7 @@ use Rattle.elab_rules.specs.cpp_ast.Trees as syntax
 use Rattle.elab_rules.specs.cpp_tree.Units.{Func as UnitFunc}
 use Rattle.elab_rules.specs.Lambdas.{lambdas_of, no_lambda}
 use Rattle.elab_rules.specs.Statements.{State}
-use Rattle.elab_holds.specs.Contexts.{HasSlots}
+use Rattle.elab_contexts.specs.Slots.{HasOverriders}
 use Rattle.elab_fits_forms.specs.Expressions.{ClosuresHold}
 use Rattle.elab_fits_states.specs.Made.{AllBodiesFit}
 use Rattle.elab_fits_states.specs.Premises.{KeepsGood}
@@ -17,7 +17,7 @@ NoLambdasKeep = (f : UnitFunc) (s : List Lexeme) → KeepsGood f no_lambda s
 
 -- what is asked of the state behind the lambdas of an expression beside its unit, its types and its place
 pub record IsLeft (st : State) : Type 0 where
-  pub slots : HasSlots st.ctx
+  pub overriders : HasOverriders st.ctx.funcs
   pub closures : ClosuresHold st.ctx st.ctx.closures
   pub bodies : AllBodiesFit st
 

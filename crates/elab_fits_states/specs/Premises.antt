@@ -1,11 +1,10 @@
--- What is not yet proved of elaboration, and what the law of bodies takes from it.
+-- Where the lambdas of an expression lead.
 use Rattle.std.specs.Prelude.{◌≡◌, List, Ok}
 use Rattle.elab_rules.specs.cpp_lex.Tokens.{Lexeme}
 use Rattle.elab_rules.specs.cpp_ast.Trees as syntax
 use Rattle.elab_rules.specs.cpp_tree.Trees.{Tree}
 use Rattle.elab_rules.specs.cpp_tree.Units.{Func as UnitFunc}
 use Rattle.elab_rules.specs.Statements.{State, Lambdas}
-use Rattle.elab_fits_items.specs.Items.{BracesBuild}
 use Rattle.elab_fits_statements.specs.Discipline.{StandsAs}
 use Rattle.elab_fits_states.specs.States.{IsText, Comes, IsGood}
 
@@ -18,9 +17,3 @@ pub record GoesWell (f : UnitFunc) (a b : State) : Type 0 where
 -- the lambdas of an expression lead from good states to good ones
 abbrev pub KeepsGood : UnitFunc → Lambdas → List Lexeme → Type 0
 KeepsGood f lams s = (a b : State) (e : syntax.Tree) → IsGood f a → IsText s e → lams s a e ≡ Ok b → GoesWell f a b
-
-pub record Premises (f : UnitFunc) (lams : Lambdas) (s : List Lexeme) : Type 0 where
-  -- the lambdas of an expression lead to a good state
-  pub lambdas : KeepsGood f lams s
-  -- braces build an object of the type of their variable
-  pub braces : BracesBuild

@@ -25,7 +25,7 @@ use Rattle.elab_fits_statements.specs.Discipline.{Words}
 use Rattle.elab_fits_braces.specs.Defaults.{AllDefaultsFit}
 use Rattle.state_growth.specs.Settings.{setting_at}
 use Rattle.state_growth.specs.States.{Goes}
-use Rattle.elab_holds.specs.Contexts.{HasSlots}
+use Rattle.elab_contexts.specs.Slots.{HasOverriders}
 use Rattle.elab_holds.specs.Locals.{LocalsHold}
 use Rattle.elab_fits_states.specs.Made.{AllBodiesFit}
 
@@ -63,8 +63,8 @@ setting f st = setting_at f st.ctx st.work
 pub record IsGood (f : UnitFunc) (st : State) : Type 0 where
   -- the classes and functions of the unit are as elaboration makes them
   pub unit : UnitHolds st.ctx
-  -- virtual functions have their slots
-  pub slots : HasSlots st.ctx
+  -- what overrides is a plain function or a destructor, by its name
+  pub overriders : HasOverriders st.ctx.funcs
   -- what is declared has types that can be declared
   pub sound : IsSoundState st
   -- variables and the object at hand have their items in the frame, and the classes around are complete

@@ -1,0 +1,5 @@
+pub mod Exceptions
+pub mod Kept
+pub mod Made
+pub mod Movable
+pub mod Pliable

@@ -1,0 +1,12 @@
+pub mod Calls
+pub mod Choices
+pub mod Counting
+pub mod Defaults
+pub mod Expressions
+pub mod Initials
+pub mod Lambdas
+pub mod Names
+pub mod Operators
+pub mod Parts
+pub mod Steps
+pub mod Values
