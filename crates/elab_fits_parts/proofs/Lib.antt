@@ -1,3 +1,4 @@
+pub mod Bases
 pub mod Homes
 pub mod Implicit
 pub mod Objects

@@ -1,6 +1,7 @@
 //! Laws of classes that have a name and their brace. A function here does nothing: its clauses are the laws.
 
 ghost use Rattle.elab_fits_parts.specs.Parts.{PartsHold, ObjectsAreMade, TypesAreSound};
+ghost use Rattle.elab_fits_parts.specs.Bases.{BasesBuild};
 ghost use Rattle.elab_fits_parts.specs.Implicit.{StartsImplicit, LaterStartsImplicit, StepsImplicit, HomesStay, DeclarationsImplicit, UnitsImplicit};
 ghost use Rattle.elab_fits_parts.specs.Implicit.{LambdasImplicit, OperandsImplicit, StatementsImplicit};
 ghost use Rattle.elab_fits_parts.specs.Implicit.{VariablesImplicit, AliasesImplicit, EnumsImplicit, NamesImplicit, FunctionsImplicit, OutsideImplicit};
@@ -38,4 +39,9 @@ pub fn declarations()
     ensures defaults { MemberDefaultsImplicit }
     ensures methods { MethodsImplicit }
     ensures bodies { BodiesImplicit }
+{}
+
+/// The base of an object under construction, by parenthesised values.
+pub fn bases()
+    ensures build { BasesBuild }
 {}
