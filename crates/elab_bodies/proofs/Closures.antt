@@ -1,6 +1,7 @@
 -- The bodies of lambdas' calls: with them all bodies fit still.
-use Rattle.std.proofs.Common.{◌≡◌, refl, sym, ap, ◌∙◌, subst, ℕ, zero, suc, Bool, false, not, List, [], ◌∷◌, ◌++◌, append_assoc, map, length, slice_get}
+use Rattle.std.proofs.Common.{◌≡◌, refl, sym, ap, ◌∙◌, subst, ℕ, zero, suc, ◌+◌, arith, Bool, false, not, List, [], ◌∷◌, ◌++◌, append_assoc, map, length, slice_get}
 use Rattle.std.proofs.Common.{Option, Some, None, Result, Ok, Err, eq-eqb}
+use Rattle.std.specs.Prelude.{◌≤◌, ◌==◌}
 use Rattle.std.proofs.lemmas.Option.{same_Some}
 use Rattle.elab_rules.specs.cpp_types.Typ.{Typ, typ, func, ptr, closure, Signature, signature}
 use Rattle.elab_rules.specs.cpp_types.Class.{held as held_class}
@@ -11,6 +12,8 @@ use Rattle.elab_rules.specs.cpp_ast.Trees as syntax
 use Rattle.elab_rules.specs.cpp_tree.declared.faults.ElabFault.{ElabFault}
 use Rattle.elab_rules.specs.cpp_tree.declared.faults.IllRule.TheVariants.{AbstractObject, BadDeclaration, Incomplete, OutOfProfile}
 use Rattle.elab_rules.specs.cpp_tree.Notation.{plain}
+use Rattle.elab_rules.specs.cpp_tree.declared.program.FuncKind.TheVariants.{ClosureCall}
+use Rattle.elab_rules.specs.Programs.{one_if}
 use Rattle.elab_rules.specs.cpp_tree.Typing.{form_in}
 use Rattle.elab_rules.specs.elab_ctx.Ctx.{Ctx, Func, known}
 use Rattle.elab_rules.specs.elab_ctx.Steps.{check, at_of}
@@ -22,17 +25,26 @@ use Rattle.elab_rules.specs.Functions.{param_of, result_items, with_parameters, 
 use Rattle.elab_rules.specs.Lambdas.{Written, lambdas_of, lambdas_among, lambda_of, lambda_written, lambda_made, lambda_with, lambda_known, lambda_type, refused_at}
 use Rattle.elab_rules.specs.Lambdas.{no_lambda, first_lambda, lambda_entered, declared_closure, inside, body_statements, signature_in, result_of, kids_of, has_mutable}
 use Rattle.elab_rules.specs.Lambdas.{explicit_captures, default_in, parameters_among, not_dynamic, result_among, default_captures, used_in, place_of_tree, closing}
-use Rattle.elab_rules.specs.Lambdas.{call_func, call_record}
+use Rattle.elab_rules.specs.Lambdas.{call_func, call_record, closure_sized}
 use Rattle.elab_fits.specs.Standing.{On}
 use Rattle.state_growth.proofs.Lists.{added}
-use Rattle.state_growth.proofs.Steps.{bind, skip, weaken, Ends}
+use Rattle.state_growth.proofs.Steps.{bind, skip, Ends}
 use Rattle.state_growth.proofs.Statements.{statements_kept}
 use Rattle.state_growth.proofs.Bodies.{no_lambda_lawful}
-use Rattle.elab_bodies.specs.Bodies.{number_of, param_items, Begin, BodyFits, AllFit, BodiesFit}
+use Rattle.elab_bodies.specs.Bodies.{number_of, WellSigned, param_items, Begin, BodyFits, times_made, due_to, AllFit, BodiesFit}
 use Rattle.elab_bodies.specs.Making.{LambdasFit, StatementsFit}
 use Rattle.elab_bodies.proofs.Frames.{WithItems, parameters_added, words_by}
 use Rattle.elab_bodies.proofs.Making.{holds, plain_block}
 use Rattle.elab_bodies.proofs.Holding as holding
+
+-- How many bodies a function has
+
+pub times_more : (n : ℕ) (bs : List Body) (b : Body) → times_made n (bs ++ b ∷ []) ≡ times_made n bs + one_if (b.func == n)
+times_more n [] b = omega arith
+times_more n (c ∷ bs) b = let r = times_more n bs b in omega arith
+
+pub own_time : (b : Body) → one_if (b.func == b.func) ≡ 1
+own_time b = ap one_if (eq-eqb b.func b.func refl)
 
 -- One function more, one body more
 
@@ -40,43 +52,64 @@ pub at_end : (fs : List Func) (f : Func) → slice_get (fs ++ f ∷ []) (length 
 at_end [] f = refl
 at_end (g ∷ fs) f = at_end fs f
 
-pub function_more : (fs : List Func) (f : Func) (bs : List Body) → AllFit fs bs → AllFit (fs ++ f ∷ []) bs
-function_more fs f bs h = record {
-  each = λ i b e. let x = h.each i b e in record { func = x.func; at = added fs (f ∷ []) b.func x.func x.at; defined = x.defined; signed = x.signed; fits = x.fits };
-}
+pub fits_further : (fs : List Func) (f : Func) (b : Body) → BodyFits fs b → BodyFits (fs ++ f ∷ []) b
+fits_further fs f b x =
+    record { func = x.func; at = added fs (f ∷ []) b.func x.func x.at; defined = x.defined; signed = x.signed; fits = x.fits }
 
-each_more : (P : Body → Type 0) (bs : List Body) (b : Body) → ((i : ℕ) (c : Body) → slice_get bs i ≡ Some c → P c) → P b
+pub function_more : (now : Option ℕ) (fs : List Func) (f : Func) (bs : List Body) → AllFit now fs bs → AllFit now (fs ++ f ∷ []) bs
+function_more now fs f bs h = record { each = λ i b e l. fits_further fs f b (h.each i b e l) }
+
+pub each_more : (P : Body → Type 0) (bs : List Body) (b : Body) → ((i : ℕ) (c : Body) → slice_get bs i ≡ Some c → P c) → P b
     → (i : ℕ) (c : Body) → slice_get (bs ++ b ∷ []) i ≡ Some c → P c
 each_more P [] b h p zero c e = subst P (same_Some b c e) p
 each_more P [] b h p (suc i) c e = absurd cc
 each_more P (d ∷ bs) b h p zero c e = h 0 c e
 each_more P (d ∷ bs) b h p (suc i) c e = each_more P bs b (λ j x q. h (suc j) x q) p i c e
 
-pub body_more : (fs : List Func) (bs : List Body) (b : Body) → AllFit fs bs → BodyFits fs b → AllFit fs (bs ++ b ∷ [])
-body_more fs bs b h p = record { each = each_more (BodyFits fs) bs b h.each p }
+pub body_more : (now : Option ℕ) (fs : List Func) (bs : List Body) (b : Body) → AllFit now fs bs → BodyFits fs b → AllFit now fs (bs ++ b ∷ [])
+body_more now fs bs b h p = record {
+  each = each_more (λ (c : Body). times_made c.func (bs ++ b ∷ []) + due_to now c.func ≤ 1 → BodyFits fs c) bs b
+      (λ i c e l. h.each i c e (let r = times_more c.func bs b in omega arith)) (λ l. p);
+}
+
+-- the body of the function at hand
+pub body_last : (fs : List Func) (bs : List Body) (b : Body) → AllFit (Some b.func) fs bs → (times_made b.func bs ≡ 0 → BodyFits fs b)
+    → AllFit None fs (bs ++ b ∷ [])
+body_last fs bs b h p = record {
+  each = each_more (λ (c : Body). times_made c.func (bs ++ b ∷ []) + due_to None c.func ≤ 1 → BodyFits fs c) bs b
+      (λ i c e l. h.each i c e (let r = times_more c.func bs b in omega arith))
+      (λ l. p (let r = times_more b.func bs b in let o = own_time b in omega arith));
+}
+
+-- What lambdas keep
+
+-- the call of a lambda is written, and is no constructor or destructor
+pub record IsCall (f : Func) : Type 0 where
+  pub kind : f.kind ≡ ClosureCall
+  pub written : f.implicit ≡ false
+  pub signed : WellSigned f
+
+-- it holds still with the call of a lambda, and with a body that fits
+pub record Grows (P : List Func → List Body → Type 0) : Type 0 where
+  pub call : (fs : List Func) (bs : List Body) (f : Func) → IsCall f → P fs bs → P (fs ++ f ∷ []) bs
+  pub body : (fs : List Func) (bs : List Body) (b : Body) → BodyFits fs b → P fs bs → P fs (bs ++ b ∷ [])
+
+pub fits_grow : (now : Option ℕ) → Grows (AllFit now)
+fits_grow now = record { call = λ fs bs f i h. function_more now fs f bs h; body = λ fs bs b p h. body_more now fs bs b h p }
 
 -- The call of a lambda
 
 -- what a function of this type is declared with
-as_many : (ps : List Parameter) → number_of (types_of ps) ≡ length (map param_of ps)
+pub as_many : (ps : List Parameter) → number_of (types_of ps) ≡ length (map param_of ps)
 as_many [] = refl
 as_many (p ∷ ps) = ap suc (as_many ps)
 
 abbrev call_of : State → Written → Signature → Func
 call_of st x sig = record (call_func (length st.ctx.classes) (call_record x.at sig x.qualifiers x.is_mutable) x.params) { closed_at = x.closed }
 
--- the bodies fit, and something else holds of the functions
-pub record FitsWith (E : List Func → Type 0) (funcs : List Func) (bodies : List Body) : Type 0 where
-  pub fit : AllFit funcs bodies
-  pub extra : E funcs
-
-abbrev pub Fine : (List Func → Type 0) → State → Type 0
-Fine E st = FitsWith E st.ctx.funcs st.bodies
-
--- they do, and the call is there
-record HasCall (E : List Func → Type 0) (place : ℕ) (g : Func) (funcs : List Func) (bodies : List Body) : Type 0 where
-  fit : AllFit funcs bodies
-  extra : E funcs
+-- it holds, and the call is there
+record HasCall (P : List Func → List Body → Type 0) (place : ℕ) (g : Func) (funcs : List Func) (bodies : List Body) : Type 0 where
+  has : P funcs bodies
   at : slice_get funcs place ≡ Some g
 
 refused_holds : (P : List Func → List Body → Type 0) (st : State) (o : Option At) → P st.ctx.funcs st.bodies
@@ -85,16 +118,16 @@ refused_holds P st (Some at) h = tt
 refused_holds P st None h = h
 
 -- behind the statements of its body
-record Said (E : List Func → Type 0) (place : ℕ) (g : Func) (words : List Typ) (d : Done) : Type 0 where
-  has : HasCall E place g d.state.ctx.funcs d.state.bodies
+record Said (P : List Func → List Body → Type 0) (place : ℕ) (g : Func) (words : List Typ) (d : Done) : Type 0 where
+  has : HasCall P place g d.state.ctx.funcs d.state.bodies
   first : Begin words d.state.work.frame
 
 pub both : {A : Type 0} (P Q R : A → Type 0) (r : Result A ElabFault) → ((a : A) → P a → Q a → R a) → On P r → On Q r → On R r
 both P Q R (Ok a) f h g = f a h g
 both P Q R (Err e) f h g = tt
 
-record Entered (E : List Func → Type 0) (place : ℕ) (g : Func) (words : List Typ) (y : State) : Type 0 where
-  has : HasCall E place g y.ctx.funcs y.bodies
+record Entered (P : List Func → List Body → Type 0) (place : ℕ) (g : Func) (words : List Typ) (y : State) : Type 0 where
+  has : HasCall P place g y.ctx.funcs y.bodies
   first : y.work.frame ≡ words
 
 -- its type is that of its parameters and its result
@@ -108,18 +141,18 @@ typed c x r = bind P P (function_of c x.at r x.params (is_declared_safe x.qualif
     P : Typ → Type 0
     P t = t ≡ plain (func (signature (types_of x.params) r (is_declared_safe x.qualifiers)))
 
-module _ (E : List Func → Type 0) (more : (fs : List Func) (f : Func) → E fs → E (fs ++ f ∷ [])) where
+module _ (P : List Func → List Body → Type 0) (grows : Grows P) where
   abbrev F : State → Type 0
-  F st = Fine E st
+  F st = P st.ctx.funcs st.bodies
 
-  said : (s : List Lexeme) (e : State) (x : Written) (place : ℕ) (g : Func) → HasCall E place g e.ctx.funcs e.bodies
-      → On (Said E place g (e.work.frame ++ param_items (map param_of x.params))) (body_statements s e x)
-  said s e x place g h = bind (Entered E place g words) (Said E place g words) (with_parameters s e x.params) _
-      (both (holding.Held (HasCall E place g)) (WithItems e items) (Entered E place g words) (with_parameters s e x.params)
-      (λ y i j. record { has = i; first = j }) (holding.parameters_held (HasCall E place g) s e x.params h) (parameters_added s e x.params))
-      (λ y i. both (holding.Ends (HasCall E place g)) (Ends y) (Said E place g words) (statements_of no_lambda s y x.body)
+  said : (s : List Lexeme) (e : State) (x : Written) (place : ℕ) (g : Func) → HasCall P place g e.ctx.funcs e.bodies
+      → On (Said P place g (e.work.frame ++ param_items (map param_of x.params))) (body_statements s e x)
+  said s e x place g h = bind (Entered P place g words) (Said P place g words) (with_parameters s e x.params) _
+      (both (holding.Held (HasCall P place g)) (WithItems e items) (Entered P place g words) (with_parameters s e x.params)
+      (λ y i j. record { has = i; first = j }) (holding.parameters_held (HasCall P place g) s e x.params h) (parameters_added s e x.params))
+      (λ y i. both (holding.Ends (HasCall P place g)) (Ends y) (Said P place g words) (statements_of no_lambda s y x.body)
       (λ d j l. record { has = j; first = λ n t q. l.kept.frame n t (ap (λ (z : List Typ). slice_get z n) i.first ∙ q) })
-      (holding.statements_held (HasCall E place g) no_lambda s (λ st t u. refused_holds (HasCall E place g) st (first_lambda t) u) y x.body i.has)
+      (holding.statements_held (HasCall P place g) no_lambda s (λ st t u. refused_holds (HasCall P place g) st (first_lambda t) u) y x.body i.has)
       (statements_kept no_lambda no_lambda_lawful s y x.body))
     where
       items : List Typ
@@ -131,24 +164,19 @@ module _ (E : List Func → Type 0) (more : (fs : List Func) (f : Func) → E fs
   with_fit : (s : List Lexeme) (st : State) (x : Written) (r : Typ) (safe : Bool) → F st
       → On F (lambda_with s st x r (signature (types_of x.params) r safe))
   with_fit s st x r safe h = skip F (check x.at Incomplete (is_complete st.ctx (held_class r))) _
-      (λ y. bind (Said E place g (e.work.frame ++ items)) F (body_statements s e x) _ (said s e x place g record {
-        fit = function_more st.ctx.funcs g st.bodies h.fit;
-        extra = more st.ctx.funcs g h.extra;
-        at = at_end st.ctx.funcs g;
-      })
+      (λ y. skip F (closure_sized st x sig) _
+      (λ v. bind (Said P place g (e.work.frame ++ items)) F (body_statements s e x) _
+      (said s e x place g (record { has = grows.call st.ctx.funcs st.bodies g is_call h; at = at_end st.ctx.funcs g }))
       (λ d i. skip F (within_frame d.state.ctx x.at d.state.work.frame) _
-      (λ z. record {
-        fit = body_more d.state.ctx.funcs d.state.bodies _ i.has.fit (record {
-          func = g;
-          at = i.has.at;
-          defined = refl;
-          signed = record { params = as_many x.params; result = refl };
-          fits = plain_block g place d.state.ctx r x.body_at d.trees d.state.work.frame refl refl
-              (words_by g (Some own) r items (e.work.frame ++ items) d.state.work.frame (eq-eqb n n refl) refl refl
-              (append_assoc (result_items r) (plain (ptr own) ∷ []) items) i.first);
-        });
-        extra = i.has.extra;
-      })))
+      (λ z. grows.body d.state.ctx.funcs d.state.bodies _ (record {
+        func = g;
+        at = i.has.at;
+        defined = refl;
+        signed = is_call.signed;
+        fits = plain_block g place d.state.ctx r x.body_at d.trees d.state.work.frame refl refl
+            (words_by g (Some own) r items (e.work.frame ++ items) d.state.work.frame (eq-eqb n n refl) refl refl
+            (append_assoc (result_items r) (plain (ptr own) ∷ []) items) i.first);
+      }) i.has.has))))
     where
       sig : Signature
       sig = signature (types_of x.params) r safe
@@ -164,6 +192,9 @@ module _ (E : List Func → Type 0) (more : (fs : List Func) (f : Func) → E fs
 
       g : Func
       g = call_of st x sig
+
+      is_call : IsCall g
+      is_call = record { kind = refl; written = refl; signed = record { params = as_many x.params; result = refl } }
 
       e : State
       e = inside st (lambda_entered st x (known r) r) (declared_closure st x sig)
@@ -218,17 +249,15 @@ module _ (E : List Func → Type 0) (more : (fs : List Func) (f : Func) → E fs
     among_fit s st syntax.none h = h
     among_fit s st (syntax.more t ts) h = bind F F (lambdas_of s st t) _ (each_fit s st t h) (λ x i. among_fit s x ts i)
 
--- Nothing else
+-- Bodies that fit
 
-abbrev nothing : List Func → Type 0
-nothing fs = Unit {0}
-
-pub bodies_fit : (st : State) (t : syntax.Tree) (s : List Lexeme) → BodiesFit st → On BodiesFit (lambdas_of s st t)
-bodies_fit st t s h = weaken (Fine nothing) BodiesFit (lambdas_of s st t) (λ x i. i.fit) (each_fit nothing (λ fs f e. tt) s st t (record { fit = h; extra = tt }))
+pub bodies_fit : (now : Option ℕ) (st : State) (t : syntax.Tree) (s : List Lexeme) → AllFit now st.ctx.funcs st.bodies
+    → On (λ (x : State). AllFit now x.ctx.funcs x.bodies) (lambdas_of s st t)
+bodies_fit now st t s h = each_fit (AllFit now) (fits_grow now) s st t h
 
 pub lambdas_law : LambdasFit
-lambdas_law s st t x h e = holds BodiesFit (lambdas_of s st t) x (bodies_fit st t s h) e
+lambdas_law s st t x h e = holds BodiesFit (lambdas_of s st t) x (bodies_fit None st t s h) e
 
 pub statements_law : StatementsFit
 statements_law s st ts d h e = holds (λ (z : Done). BodiesFit z.state) (statements_of lambdas_of s st ts) d
-    (holding.statements_held AllFit lambdas_of s (λ x t i. bodies_fit x t s i) st ts h) e
+    (holding.statements_held (AllFit None) lambdas_of s (λ x t i. bodies_fit None x t s i) st ts h) e

@@ -40,11 +40,12 @@ use Rattle.state_growth.proofs.Steps.{bind, skip}
 use Rattle.state_growth.proofs.Members.{each_holds}
 use Rattle.elab_bodies.proofs.Holding as holding
 
--- the bodies before the last
-pub record EndsWith (P : List Func → List Body → Type 0) (x : State) : Type 0 where
+-- the last body is that of this function; it holds of the bodies before that
+pub record EndsWith (P : List Func → List Body → Type 0) (func : ℕ) (x : State) : Type 0 where
   pub others : List Body
   pub body : Body
   pub bodies : x.bodies ≡ others ++ body ∷ []
+  pub is : body.func ≡ func
   pub held : P x.ctx.funcs others
 
 module _ (P : List Func → List Body → Type 0) where
@@ -57,11 +58,12 @@ module _ (P : List Func → List Body → Type 0) where
   abbrev Gives : Giving → Type 0
   Gives g = P g.state.ctx.funcs g.state.bodies
 
-  made : (before : State) (at : At) (func : ℕ) (tree : Tree) (st : State) → Held st → On (EndsWith P) (body_made before at func tree st)
-  made before at func tree st h = skip (EndsWith P) (within_frame st.ctx at st.work.frame) _ (λ y. record {
+  made : (before : State) (at : At) (func : ℕ) (tree : Tree) (st : State) → Held st → On (EndsWith P func) (body_made before at func tree st)
+  made before at func tree st h = skip (EndsWith P func) (within_frame st.ctx at st.work.frame) _ (λ y. record {
     others = st.bodies;
     body = record { func = func; tree = tree; frame = st.work.frame };
     bodies = refl;
+    is = refl;
     held = h;
   })
 
@@ -103,15 +105,15 @@ module _ (P : List Func → List Body → Type 0) where
       (λ b i. bind Ends Ends (members_copied at n source is_const b.state 0 (members_in (slice_get st.ctx.classes n))) _
       (copies_held at n source is_const b.state 0 (members_in (slice_get st.ctx.classes n)) i) (λ d j. j))
 
-  constructor_ends : (st : State) (at : At) (func n : ℕ) (ps : Typs) → Held st → On (EndsWith P) (constructor_implied st at func n ps)
+  constructor_ends : (st : State) (at : At) (func n : ℕ) (ps : Typs) → Held st → On (EndsWith P func) (constructor_implied st at func n ps)
   constructor_ends st at func n (and_typ t ps) h =
-      bind Ends (EndsWith P) (parts_copied (with_source (in_object st n) t) at n (source_object n t at) (source_const t)) _
+      bind Ends (EndsWith P func) (parts_copied (with_source (in_object st n) t) at n (source_object n t at) (source_const t)) _
       (copied_held (with_source (in_object st n) t) at n (source_object n t at) (source_const t) h)
       (λ d i. made st at func (constructor_tree at d.trees none) d.state i)
-  constructor_ends st at func n no_typs h = bind Ends (EndsWith P) (parts_built (in_object st n) at n []) _ (parts_held (in_object st n) at n [] h)
+  constructor_ends st at func n no_typs h = bind Ends (EndsWith P func) (parts_built (in_object st n) at n []) _ (parts_held (in_object st n) at n [] h)
       (λ d i. made st at func (constructor_tree at d.trees none) d.state i)
 
-  pub implied_ends : (st : State) (at : At) (func n : ℕ) (kind : FuncKind) (ps : Typs) → Held st → On (EndsWith P) (body_implied st at func n kind ps)
+  pub implied_ends : (st : State) (at : At) (func n : ℕ) (kind : FuncKind) (ps : Typs) → Held st → On (EndsWith P func) (body_implied st at func n kind ps)
   implied_ends st at func n Destructor ps h = made st at func (destructor_tree st.ctx at at n none) (in_object st n) h
   implied_ends st at func n Constructor ps h = constructor_ends st at func n ps h
   implied_ends st at func n Plain ps h = constructor_ends st at func n ps h
@@ -119,12 +121,12 @@ module _ (P : List Func → List Body → Type 0) where
 
   module _ (lams : Lambdas) (s : List Lexeme) (keeps : (st : State) (t : syntax.Tree) → P st.ctx.funcs st.bodies → On (λ (x : State). P x.ctx.funcs x.bodies) (lams s st t)) where
     pub function_ends : (st : State) (h : Header) (this : Option Typ) (func : ℕ) (t : syntax.Tree) → Held st
-        → On (EndsWith P) (function_body lams s st h this func t)
+        → On (EndsWith P func) (function_body lams s st h this func t)
     function_ends st h this func (syntax.node kind p token kids) i =
-        skip (EndsWith P) (check h.at Incomplete (is_complete st.ctx (held_class (signature_result h.signature)))) _
-        (λ x. bind Held (EndsWith P) (with_parameters s (entered st (signature_result h.signature) this h.class) h.params) _
+        skip (EndsWith P func) (check h.at Incomplete (is_complete st.ctx (held_class (signature_result h.signature)))) _
+        (λ x. bind Held (EndsWith P func) (with_parameters s (entered st (signature_result h.signature) this h.class) h.params) _
         (holding.parameters_held P s (entered st (signature_result h.signature) this h.class) h.params i)
-        (λ e j. bind Ends (EndsWith P) (statements_of lams s e kids) _ (holding.statements_held P lams s keeps e kids j)
+        (λ e j. bind Ends (EndsWith P func) (statements_of lams s e kids) _ (holding.statements_held P lams s keeps e kids j)
         (λ d l. made st h.at func (statement (forms.Block false) (at_of p)
         (followed_by d.trees (end_of d.state.ctx (signature_result h.signature) (at_of p)))) d.state l)))
 
@@ -150,17 +152,17 @@ module _ (P : List Func → List Body → Type 0) where
     one_given n g t h = h
 
     pub written_ends : (st : State) (h : Header) (n func : ℕ) (inits : syntax.Trees) (t : syntax.Tree) → Held st
-        → On (EndsWith P) (constructor_body lams s st h n func inits t)
+        → On (EndsWith P func) (constructor_body lams s st h n func inits t)
     written_ends st h n func inits (syntax.node kind p token kids) i =
-        bind Held (EndsWith P) (with_parameters s (in_object st n) h.params) _ (holding.parameters_held P s (in_object st n) h.params i)
-        (λ e j. bind Gives (EndsWith P) (all_given lams s n (record { state = e; given = [] }) inits) _
+        bind Held (EndsWith P func) (with_parameters s (in_object st n) h.params) _ (holding.parameters_held P s (in_object st n) h.params i)
+        (λ e j. bind Gives (EndsWith P func) (all_given lams s n (record { state = e; given = [] }) inits) _
         (each_holds Gives (given_by lams s n) (record { state = e; given = [] }) inits j (λ g t q. one_given n g t q))
-        (λ g l. bind Ends (EndsWith P) (parts_built g.state h.at n g.given) _ (parts_held g.state h.at n g.given l)
-        (λ parts q. bind Ends (EndsWith P) (statements_of lams s parts.state kids) _ (holding.statements_held P lams s keeps parts.state kids q)
+        (λ g l. bind Ends (EndsWith P func) (parts_built g.state h.at n g.given) _ (parts_held g.state h.at n g.given l)
+        (λ parts q. bind Ends (EndsWith P func) (statements_of lams s parts.state kids) _ (holding.statements_held P lams s keeps parts.state kids q)
         (λ d r. made st h.at func (constructor_tree (at_of p) parts.trees d.trees) d.state r))))
 
-    pub destructor_ends : (st : State) (h : Header) (n func : ℕ) (t : syntax.Tree) → Held st → On (EndsWith P) (destructor_body lams s st h n func t)
-    destructor_ends st h n func (syntax.node kind p token kids) i = bind Ends (EndsWith P) (statements_of lams s (in_object st n) kids) _
+    pub destructor_ends : (st : State) (h : Header) (n func : ℕ) (t : syntax.Tree) → Held st → On (EndsWith P func) (destructor_body lams s st h n func t)
+    destructor_ends st h n func (syntax.node kind p token kids) i = bind Ends (EndsWith P func) (statements_of lams s (in_object st n) kids) _
         (holding.statements_held P lams s keeps (in_object st n) kids i)
         (λ d j. made st h.at func (destructor_tree d.state.ctx h.at (at_of p) n d.trees) d.state j)
 

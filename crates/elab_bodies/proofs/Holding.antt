@@ -15,7 +15,7 @@ use Rattle.elab_rules.specs.cpp_tree.Typing.{is_class_typ, form_in, is_void, kin
 use Rattle.elab_rules.specs.elab_ctx.Ctx.{Returns, known, deduced}
 use Rattle.elab_rules.specs.elab_ctx.Steps.{and_then, check, expect, at_of, spelling, Operand, Made, TypedAll}
 use Rattle.elab_rules.specs.Initialising.{class_from, initial}
-use Rattle.elab_rules.specs.Operators.{value, truth, is_complete}
+use Rattle.elab_rules.specs.Operators.{value, truth, is_complete, within_if_sized}
 use Rattle.elab_rules.specs.Types.{Parameter, has_auto, is_bounded}
 use Rattle.elab_rules.specs.Braces.{item_of, string_token, is_char_array, syntax_place, string_object}
 use Rattle.elab_rules.specs.Expressions.{expression_of, operands_of, chosen_operand, declared_by, type_of_specifiers}
@@ -166,7 +166,8 @@ module _ (P : List Func → List Body → Type 0) where
 
     plain_held : (st : State) (name : List ℕ) (t : Typ) (at : At) (init : syntax.Trees) → Held st → On Ends (plain_variable lams s st name t at init)
     plain_held st name t at init h = skip Ends (declarable st.ctx at t) _ (λ x. skip Ends (check at BadDeclaration (is_bounded t)) _
-        (λ z. skip Ends (typ_sized st.ctx.classes at t) _ (λ y. initialiser_held st (placed_variable st name t) t at init h)))
+        (λ z. skip Ends (typ_sized st.ctx.classes at t) _ (λ y. skip Ends (within_if_sized st.ctx at t) _
+        (λ w. initialiser_held st (placed_variable st name t) t at init h))))
 
     auto_variable_held : (st : State) (i : ℕ) (t : Typ) (at : At) (before : Option Typ) (e : syntax.Tree) → Held st
         → On Deduces (auto_variable lams s st i t at before e)

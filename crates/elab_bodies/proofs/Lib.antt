@@ -1,6 +1,5 @@
 pub use Rattle.elab_rules.proofs as elab_rules
 pub mod Closures
-pub mod Defining
 pub mod Ending
 pub mod Frames
 pub mod Holding

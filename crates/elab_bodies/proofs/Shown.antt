@@ -1,7 +1,7 @@
 -- What the unit shows of a function with its body.
 use Rattle.std.proofs.Common.{◌≡◌, refl, sym, ap, ◌∙◌, subst, ℕ, zero, suc, ◌+◌, Bool, true, false, List, [], ◌∷◌, ◌++◌, map, length, drop, slice_get}
 use Rattle.std.proofs.Common.{Option, Some, None, eqb-true, eq-eqb, arith, length-append}
-use Rattle.std.specs.Prelude.{is_some, cond, if◌then◌else◌}
+use Rattle.std.specs.Prelude.{◌≤◌, is_some, cond, if◌then◌else◌}
 use Rattle.std.proofs.lemmas.Bool.{and_from}
 use Rattle.std.proofs.lemmas.Option.{same_Some}
 use Rattle.elab_rules.specs.cpp_types.Typ.{Typ, typ, ptr, Signature, signature, Typs, none as no_typs, more as and_typ}
@@ -22,7 +22,7 @@ use Rattle.elab_rules.specs.Programs.{typed_func, typed_funcs, body_of, is_body_
 use Rattle.elab_fits.proofs.Equal.{typ_refl}
 use Rattle.state_growth.proofs.Lists.{added}
 use Rattle.elab_bodies.specs.Bodies.{result_of, number_of, WellSigned, is_object_of, param_items, Begin, BeginsWithCall, IsBodyOf}
-use Rattle.elab_bodies.specs.Bodies.{BodiesFit, FitsFunction, ShownFit, UnitsFit}
+use Rattle.elab_bodies.specs.Bodies.{times_made, BodiesFit, FitsFunction, ShownFit, UnitsFit}
 
 -- The first items
 
@@ -136,12 +136,12 @@ shown_law classes f b h k = record {
 
 -- The functions of a unit
 
-record ShownAt (st : State) (fs : List Func) (k j : ℕ) (f : UnitFunc) : Type 0 where
-  func : Func
-  at : slice_get fs k ≡ Some func
-  is : typed_func st.ctx.classes func (body_of j st.bodies) ≡ f
+pub record ShownAt (st : State) (fs : List Func) (k j : ℕ) (f : UnitFunc) : Type 0 where
+  pub func : Func
+  pub at : slice_get fs k ≡ Some func
+  pub is : typed_func st.ctx.classes func (body_of j st.bodies) ≡ f
 
-shown_at : (st : State) (i : ℕ) (fs : List Func) (k : ℕ) (f : UnitFunc) (j : ℕ) → j ≡ i + k → slice_get (typed_funcs st i fs) k ≡ Some f → ShownAt st fs k j f
+pub shown_at : (st : State) (i : ℕ) (fs : List Func) (k : ℕ) (f : UnitFunc) (j : ℕ) → j ≡ i + k → slice_get (typed_funcs st i fs) k ≡ Some f → ShownAt st fs k j f
 shown_at st i [] k f j e h = absurd cc
 shown_at st i (g ∷ fs) zero f j e h = record {
   func = g;
@@ -150,17 +150,17 @@ shown_at st i (g ∷ fs) zero f j e h = record {
 }
 shown_at st i (g ∷ fs) (suc k) f j e h = let r = shown_at st (suc i) fs k f j (omega arith) h in record { func = r.func; at = r.at; is = r.is }
 
-record FoundAt (k : ℕ) (bs : List Body) (b : Body) : Type 0 where
-  place : ℕ
-  at : slice_get bs place ≡ Some b
-  func : b.func ≡ k
+pub record FoundAt (k : ℕ) (bs : List Body) (b : Body) : Type 0 where
+  pub place : ℕ
+  pub at : slice_get bs place ≡ Some b
+  pub func : b.func ≡ k
 
 found_by : (k : ℕ) (c : Body) (bs : List Body) (b : Body) (t : Bool) → is_body_of k c ≡ t → (body_of k bs ≡ Some b → FoundAt k bs b)
     → cond t (Some c) (body_of k bs) ≡ Some b → FoundAt k (c ∷ bs) b
 found_by k c bs b true e f h = record { place = 0; at = h; func = subst (λ (z : Body). z.func ≡ k) (same_Some c b h) (eqb-true c.func k e) }
 found_by k c bs b false e f h = let r = f h in record { place = suc r.place; at = r.at; func = r.func }
 
-found : (k : ℕ) (bs : List Body) (b : Body) → body_of k bs ≡ Some b → FoundAt k bs b
+pub found : (k : ℕ) (bs : List Body) (b : Body) → body_of k bs ≡ Some b → FoundAt k bs b
 found k [] b h = absurd cc
 found k (c ∷ bs) b h = found_by k c bs b (is_body_of k c) refl (found k bs b) h
 
@@ -169,12 +169,13 @@ of_body : (classes : List Class) (f g : Func) (b : Body) (tree : Tree) → Some 
 of_body classes f g b tree e i h k = subst (λ (z : Tree). FitsFunction (typed_func classes f (Some b)) z) i
     (subst (λ (z : Func). FitsFunction (typed_func classes z (Some b)) b.tree) (same_Some g f e) (shown_law classes g b h k))
 
-with_body : (st : State) → BodiesFit st → (k : ℕ) (f : Func) → slice_get st.ctx.funcs k ≡ Some f → (o : Option Body) → body_of k st.bodies ≡ o
+with_body : (st : State) → BodiesFit st → (k : ℕ) (f : Func) → slice_get st.ctx.funcs k ≡ Some f → times_made k st.bodies ≤ 1 → (o : Option Body) → body_of k st.bodies ≡ o
     → (tree : Tree) → tree_in o ≡ Some tree → FitsFunction (typed_func st.ctx.classes f o) tree
-with_body st h k f e None i tree g = absurd cc
-with_body st h k f e (Some b) i tree g = let r = found k st.bodies b i in let x = h.each r.place b r.at in
+with_body st h k f e l None i tree g = absurd cc
+with_body st h k f e l (Some b) i tree g = let r = found k st.bodies b i in
+    let x = h.each r.place b r.at (let q = ap (λ (n : ℕ). times_made n st.bodies) r.func in omega arith) in
     of_body st.ctx.classes f x.func b tree (sym x.at ∙ ap (λ (n : ℕ). slice_get st.ctx.funcs n) r.func ∙ e) (same_Some b.tree tree g) x.signed x.fits
 
 pub units_law : UnitsFit
-units_law s decls st h k f tree e g = let x = shown_at st 0 st.ctx.funcs k f k (omega arith) e in
-    subst (λ (z : UnitFunc). z.body ≡ Some tree → FitsFunction z tree) x.is (with_body st h k x.func x.at (body_of k st.bodies) refl tree) g
+units_law s decls st h k f tree l e g = let x = shown_at st 0 st.ctx.funcs k f k (omega arith) e in
+    subst (λ (z : UnitFunc). z.body ≡ Some tree → FitsFunction z tree) x.is (with_body st h k x.func x.at l (body_of k st.bodies) refl tree) g

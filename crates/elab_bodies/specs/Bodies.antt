@@ -1,5 +1,5 @@
 -- Bodies that are what their functions ask for.
-use Rattle.std.specs.Prelude.{◌≡◌, ℕ, suc, Bool, true, false, List, ◌++◌, map, length, slice_get, Option, Some, None}
+use Rattle.std.specs.Prelude.{◌≡◌, ℕ, suc, ◌+◌, ◌≤◌, ◌==◌, Bool, true, false, List, [], ◌∷◌, ◌++◌, map, length, slice_get, Option, Some, None}
 use Rattle.elab_rules.specs.cpp_types.Typ.{Typ, Typs, none as no_typs, more as and_typ}
 use Rattle.elab_rules.specs.cpp_types.Class.{Class}
 use Rattle.elab_rules.specs.cpp_lex.Tokens.{Lexeme}
@@ -14,7 +14,7 @@ use Rattle.elab_rules.specs.elab_ctx.Ctx.{Func}
 use Rattle.elab_rules.specs.Initialising.{signature_parameters, signature_result}
 use Rattle.elab_rules.specs.Functions.{word_item, result_items, this_items}
 use Rattle.elab_rules.specs.Statements.{State, Body}
-use Rattle.elab_rules.specs.Programs.{typed_func, unit_shown}
+use Rattle.elab_rules.specs.Programs.{typed_func, unit_shown, one_if}
 
 -- A function as its callers see it
 
@@ -69,11 +69,28 @@ pub record BodyFits (funcs : List Func) (b : Body) : Type 0 where
   pub signed : WellSigned func
   pub fits : IsBodyOf func b
 
-pub record AllFit (funcs : List Func) (bodies : List Body) : Type 0 where
-  pub each : (i : ℕ) (b : Body) → slice_get bodies i ≡ Some b → BodyFits funcs b
+-- Functions that are defined twice. Behind the brace of a class a declarator may have another type than inside it, that of another member; then this one is
+-- defined twice, with parameters of its last definition alone. So something is said only of bodies whose functions have no other.
+
+-- how many of the bodies are ones of the function
+abbrev pub times_made : ℕ → List Body → ℕ
+times_made func [] = 0
+times_made func (b ∷ bs) = one_if (b.func == func) + times_made func bs
+
+-- one more is due to the function that gets its body now, if one does
+abbrev pub due_to : Option ℕ → ℕ → ℕ
+due_to None func = 0
+due_to (Some now) func = one_if (now == func)
+
+pub record AllFit (now : Option ℕ) (funcs : List Func) (bodies : List Body) : Type 0 where
+  pub each : (i : ℕ) (b : Body) → slice_get bodies i ≡ Some b → times_made b.func bodies + due_to now b.func ≤ 1 → BodyFits funcs b
 
 abbrev pub BodiesFit : State → Type 0
-BodiesFit st = AllFit st.ctx.funcs st.bodies
+BodiesFit st = AllFit None st.ctx.funcs st.bodies
+
+-- but for those of this function
+abbrev pub OthersFit : State → ℕ → Type 0
+OthersFit st func = AllFit (Some func) st.ctx.funcs st.bodies
 
 -- In the unit: the test of well-formed bodies asks this of a function and its body, beside its nodes, their places and the sizes of the items
 pub record FitsFunction (f : UnitFunc) (tree : Tree) : Type 0 where
@@ -85,7 +102,7 @@ pub record FitsFunction (f : UnitFunc) (tree : Tree) : Type 0 where
 abbrev pub ShownFit : Type 0
 ShownFit = (classes : List Class) (f : Func) (b : Body) → WellSigned f → IsBodyOf f b → FitsFunction (typed_func classes f (Some b)) b.tree
 
--- each function that a unit shows with a body, where the bodies of its state fit
+-- each function that a unit shows with its only body, where the bodies of its state fit
 abbrev pub UnitsFit : Type 0
-UnitsFit = (s : List Lexeme) (decls : syntax.Trees) (st : State) → BodiesFit st → (k : ℕ) (f : UnitFunc) (tree : Tree)
+UnitsFit = (s : List Lexeme) (decls : syntax.Trees) (st : State) → BodiesFit st → (k : ℕ) (f : UnitFunc) (tree : Tree) → times_made k st.bodies ≤ 1
     → slice_get (unit_shown s decls st).funcs k ≡ Some f → f.body ≡ Some tree → FitsFunction f tree

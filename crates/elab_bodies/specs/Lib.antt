@@ -1,4 +1,3 @@
 pub mod Bodies
-pub mod Defining
 pub mod Keeping
 pub mod Making

@@ -3,7 +3,6 @@
 ghost use Rattle.elab_bodies.specs.Bodies.{ShownFit, UnitsFit};
 ghost use Rattle.elab_bodies.specs.Making.{FunctionBodiesFit, ConstructorBodiesFit, DestructorBodiesFit, ImpliedBodiesFit, LambdasFit, StatementsFit};
 ghost use Rattle.elab_bodies.specs.Keeping.{FunctionsKeep, ConstructorsKeep, DestructorsKeep, DefaultsKeep, CompletedStand, ImpliedKeep};
-ghost use Rattle.elab_bodies.specs.Defining.{DeclarationsKeep, DefinitionsKeep};
 
 /// A body of a function is what the test of well-formed bodies asks of it in the unit.
 pub fn shown()
@@ -33,10 +32,4 @@ pub fn kept()
     ensures defaults { DefaultsKeep }
     ensures completed { CompletedStand }
     ensures implied { ImpliedKeep }
-{}
-
-/// All bodies fit still behind a declaration and a definition at file scope.
-pub fn defined()
-    ensures declarations { DeclarationsKeep }
-    ensures definitions { DefinitionsKeep }
 {}

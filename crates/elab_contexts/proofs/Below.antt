@@ -1,5 +1,5 @@
 -- Types whose classes are among some first ones name classes of a longer list.
-use Rattle.std.proofs.Common.{◌≡◌, refl, ℕ, ◌≤◌, true, nat_lt, arith, ltb-true, lt-ltb}
+use Rattle.std.proofs.Common.{◌≡◌, refl, ℕ, ◌≤◌, true, arith, ltb-true, lt-ltb}
 use Rattle.std.proofs.lemmas.Bool.{and_parts, and_from}
 use Rattle.elab_rules.specs.cpp_types.Typ.{Typ, typ, Form, void, int, enum, null, ptr, ref, array, func, class, closure, tx_ex, Signature, signature, Typs, none, more}
 use Rattle.elab_rules.specs.cpp_types.Class.{typ_below, form_below, signature_below, typs_below}

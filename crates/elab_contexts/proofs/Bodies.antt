@@ -24,6 +24,7 @@ use Rattle.elab_rules.specs.Lambdas.{explicit_captures, default_in, parameters_a
 use Rattle.elab_fits.specs.Standing.{On}
 use Rattle.elab_contexts.proofs.Walking.{Leaves, naming, stays, after, bind, skip, follow, of_state, of_done, Ends, one_step}
 use Rattle.elab_contexts.proofs.Items.{Lawful}
+use Rattle.elab_contexts.proofs.Owned.{overriders_added}
 use Rattle.elab_contexts.proofs.Statements.{statements_kept, parameters_kept}
 use Rattle.elab_contexts.specs.Steps.{view, ClosureAdded, closure_added, none_yet}
 use Rattle.elab_rules.specs.Lambdas.{call_record}
@@ -34,14 +35,14 @@ use Rattle.elab_contexts.proofs.Captures.{AllWhole, explicit_all, default_all, w
 -- behind a body the enumerators and the names of types are those of before
 pub made_kept : (st before y : State) (at : At) (place : ℕ) (tree : Tree) → naming before.ctx ≡ naming st.ctx → Leaves st y
     → On (Leaves st) (body_made before at place tree y)
-made_kept st before y at place tree e h = skip (Leaves st) (within_frame y.ctx at y.work.frame) _ (λ z. record { walk = h.walk; same = e })
+made_kept st before y at place tree e h = skip (Leaves st) (within_frame y.ctx at y.work.frame) _ (λ z. record { walk = h.walk; same = e; overrides = h.overrides })
 
 pub left_kept : (st e y : State) → Leaves st e → Leaves e y → Leaves st y
 left_kept st e y a b = after st e y a b
 
 -- into a function
 pub entered_kept : (st : State) (r : Typ) (this : Option Typ) (cls : Option ℕ) → Leaves st (entered st r this cls)
-entered_kept st r this cls = record { walk = none_yet; same = refl }
+entered_kept st r this cls = record { walk = none_yet; same = refl; overrides = λ h. h }
 
 -- parameters and statements in a function
 pub function_left : (st : State) (r : Typ) (this : Option Typ) (cls : Option ℕ) (x y : State) → Leaves (entered st r this cls) x → Leaves x y
@@ -95,7 +96,11 @@ closure_step st x sig w z = record {
 
 closure_kept : (st : State) (x : Written) (rs : Returns) (r : Typ) (sig : Signature) → AllWhole st.ctx x.captures → ClosureSized st x sig
     → Leaves st (lambda_inside st x rs r sig)
-closure_kept st x rs r sig w z = record { walk = one_step (closure_added (closure_step st x sig w z)); same = refl }
+closure_kept st x rs r sig w z = record {
+  walk = one_step (closure_added (closure_step st x sig w z));
+  same = refl;
+  overrides = λ h. overriders_added st.ctx.funcs _ h (λ n e. refl);
+}
 
 with_kept : (s : List Lexeme) (st : State) (x : Written) (r : Typ) (sig : Signature) → AllWhole st.ctx x.captures → On (Leaves st) (lambda_with s st x r sig)
 with_kept s st x r sig w =

@@ -1,5 +1,5 @@
 -- A class goes on by steps: it is named, its functions are declared, and at its brace it becomes complete.
-use Rattle.std.proofs.Common.{◌≡◌, ℕ, zero, suc, Bool, true, false, List, [], ◌∷◌, ◌++◌, length, refl, sym, ap, ◌∙◌, subst, Option, Some, None, Ok, Err}
+use Rattle.std.proofs.Common.{◌≡◌, ℕ, zero, suc, Bool, true, false, List, [], ◌∷◌, ◌++◌, length, refl, sym, ◌∙◌, subst, Option, Some, None, Ok, Err}
 use Rattle.std.specs.Prelude.{if◌then◌else◌, ◌&&◌, not, is_none, is_some, nat_le, ◌||◌}
 use Rattle.elab_rules.specs.cpp_types.Typ.{Typ, typ, Form, class, func}
 use Rattle.elab_rules.specs.cpp_types.Class.{Class, Member, completion_of, held}
@@ -34,7 +34,7 @@ use Rattle.elab_rules.specs.Sizes.{typ_sized}
 use Rattle.elab_rules.specs.cpp_tree.Notation.{plain}
 use Rattle.elab_rules.specs.Classes.{with_class, begun_by, with_function, class_named}
 use Rattle.elab_rules.specs.Classes.{as_defined, member_func}
-use Rattle.elab_rules.specs.Members.{declared_only, class_closed, class_with, class_defined, all_defaults, all_late}
+use Rattle.elab_rules.specs.Members.{declared_only, class_with, class_defined, all_defaults, all_late}
 use Rattle.std.specs.Prelude.{slice_get}
 use Rattle.elab_fits.specs.Standing.{On}
 use Rattle.elab_contexts.proofs.Items.{Lawful}
@@ -42,20 +42,20 @@ use Rattle.elab_contexts.proofs.Members.{each_holds, defaults_kept, all_late_kep
 use Rattle.elab_rules.specs.cpp_tree.Typing.{is_reference}
 use Rattle.elab_rules.specs.cpp_types.Typ.{void, int, enum, null, ptr, ref, array, closure, tx_ex}
 use Rattle.elab_rules.specs.Classes.{plain_method, special_method, method_started, special_header, special_name, is_special}
-use Rattle.elab_contexts.specs.Steps.{class_begun as begun_step, class_completed, SameFunction, IsOpen, IsWhole, IsBase, IsMember, has_name, is_written}
+use Rattle.elab_contexts.specs.Steps.{class_begun as begun_step, class_completed, function_added as added_step, SameFunction, IsOpen, IsWhole, IsBase, IsMember, has_name, is_written}
 use Rattle.elab_contexts.specs.Texts.{is_no_name}
 use Rattle.elab_contexts.specs.Holding.{HasTypeNames}
 use Rattle.elab_contexts.proofs.Found.{at_the_end}
 use Rattle.elab_contexts.proofs.Names.{Listed, ListedDeclared, named_listed, called_listed, specifiers_listed, declared_listed, expected}
-use Rattle.elab_contexts.proofs.Going.{From, begin, names_still, leaves_from, name_added, name_at_end}
-use Rattle.elab_contexts.proofs.Walking.{Leaves, naming, stays, after, bind, skip, behind, follow, of_state, one_step, weaken}
-use Rattle.elab_contexts.proofs.Outside.{added_further}
+use Rattle.elab_contexts.proofs.Going.{From, begin, since, from_on, from_from, names_still, leaves_from, name_added, name_at_end}
+use Rattle.elab_contexts.proofs.Walking.{Leaves, naming, bind, skip, follow, of_state, one_step, weaken}
+use Rattle.elab_contexts.proofs.Makers.{closing}
+use Rattle.elab_contexts.proofs.Owned.{overriders_closed}
 use Rattle.elab_contexts.proofs.Lists.{one_more}
 use Rattle.std.specs.Str.{bytes_eq}
-use Rattle.elab_rules.specs.Initialising.{makes, signature_parameters}
 use Rattle.elab_rules.specs.cpp_types.Class.{Function}
 use Rattle.std.proofs.lemmas.Option.{same_Some}
-use Rattle.elab_rules.specs.elab_ctx.Steps.{expect, spelling, token_place}
+use Rattle.elab_rules.specs.elab_ctx.Steps.{spelling, token_place}
 use Rattle.elab_rules.specs.Classes.{based_on, base_class, keeps, is_final_class}
 use Rattle.elab_rules.specs.cpp_tree.declared.faults.IllRule.TheVariants.{UnknownName}
 use Rattle.elab_rules.specs.cpp_tree.declared.faults.OverrideRule.TheVariants.{BaseFinal}
@@ -180,7 +180,7 @@ AreMembers cs ms = (i : ℕ) (m : Member) → slice_get ms i ≡ Some m → IsMe
 
 pub record ReadTo (n : ℕ) (st : State) (r : Members) : Type 0 where
   pub classes : r.state.ctx.classes ≡ st.ctx.classes
-  pub leaves : Leaves st r.state
+  pub leaves : From st r.state
   pub unclosed : IsOpen r.state.ctx.classes n
   pub are : AreMembers st.ctx.classes r.members
   pub types : HasTypeNames r.state.ctx.classes r.state.ctx.types
@@ -203,20 +203,29 @@ same_declared None f fs h = h
 
 function_added : (n : ℕ) (st : State) (h : Header) (m : Marks) (o : Option Function) (d : Option Definition) → Owned n h
     → IsOpen st.ctx.classes n → first_from (is_same_function h) 0 st.ctx.funcs ≡ None
-    → Leaves st (record st { ctx = record st.ctx { funcs = st.ctx.funcs ++ as_defined d (member_func h m o) ∷ [] } })
+    → From st (record st { ctx = record st.ctx { funcs = st.ctx.funcs ++ as_defined d (member_func h m o) ∷ [] } })
 function_added n st h m o d w z q =
     let f : Func = as_defined d (member_func h m o) in
     let s = defined_same d (member_func h m o) in
-    let x = added_further st.ctx f s.builtin s.implicit (λ e. no_function_here h.class n (f.kind ≡ Plain) w (sym s.class ∙ e))
-    (λ i e. subst (λ (j : ℕ). IsOpen st.ctx.classes j) (same_Some n i (sym w ∙ sym s.class ∙ e)) z)
-    (same_declared d (member_func h m o) st.ctx.funcs q) in
-    record { walk = x.walk; same = x.same }
+    record {
+      walk = one_step (added_step (record {
+        func = f;
+        is = refl;
+        unknown = s.builtin;
+        written = s.implicit;
+        free = λ e. no_function_here h.class n (f.kind ≡ Plain) w (sym s.class ∙ e);
+        unclosed = λ i e. subst (λ (j : ℕ). IsOpen st.ctx.classes j) (same_Some n i (sym w ∙ sym s.class ∙ e)) z;
+        fresh = same_declared d (member_func h m o) st.ctx.funcs q;
+      }));
+      enumerators = λ e. e;
+      types = λ e. e;
+    }
 
 with_read : (n : ℕ) (st : State) (r : Members) (h : Header) (m : Marks) (o : Option Function) (d : Option Definition) → Owned n h
     → first_from (is_same_function h) 0 r.state.ctx.funcs ≡ None → Read n st r → Read n st (with_function r (as_defined d (member_func h m o)))
 with_read n st r h m o d w q e = record {
   classes = e.classes;
-  leaves = after st r.state (with_function r (as_defined d (member_func h m o))).state e.leaves (function_added n r.state h m o d w e.unclosed q);
+  leaves = from_on st r.state (with_function r (as_defined d (member_func h m o))).state e.leaves (function_added n r.state h m o d w e.unclosed q);
   unclosed = e.unclosed;
   are = e.are;
   types = e.types;
@@ -380,6 +389,7 @@ completed_leaves st home at ms initialised e q b f o z = record {
     sized = z;
   }));
   same = completed_same st.ctx home at ms initialised;
+  overrides = overriders_closed st.ctx.funcs (completed st.ctx home at ms initialised).funcs home.number (closing st.ctx home at ms initialised).added;
 }
 
 closed_leaves : (st : State) (home : Home) (at : At) (ms : List Member) (initialised : List ℕ) → IsOpen st.ctx.classes home.number
@@ -438,14 +448,14 @@ base_whole s c (syntax.more t ts) l = base_whole s c ts l
 pub members_read : (s : List Lexeme) (st : State) (home : Home) (members : syntax.Trees) → IsOpen st.ctx.classes home.number
     → HasTypeNames st.ctx.classes st.ctx.types → On (Read home.number st) (members_of s home (record { state = st; members = []; initialised = [] }) members)
 members_read s st home members e l = each_holds (Read home.number st) (member_of s home) (record { state = st; members = []; initialised = [] }) members
-    (record { classes = refl; leaves = stays st; unclosed = e; are = λ i m h. absurd cc; types = l }) (λ r t i. member_read st s home r t i)
+    (record { classes = refl; leaves = begin st; unclosed = e; are = λ i m h. absurd cc; types = l }) (λ r t i. member_read st s home r t i)
 
 pub brace_leaves : (st : State) (home : Home) (at : At) (r : Members) → Read home.number st r → is_no_name home.name ≡ false
     → IsWhole st.ctx.classes home.base → IsBase st.ctx.classes home.base
-    → On (λ (d : Ctx). Leaves st (record r.state { ctx = d })) (closed_class at home.number (completed r.state.ctx home at r.members r.initialised))
-brace_leaves st home at r i q b f = weaken (λ (d : Ctx). Leaves r.state (record r.state { ctx = d })) (λ (d : Ctx). Leaves st (record r.state { ctx = d }))
+    → On (λ (d : Ctx). From st (record r.state { ctx = d })) (closed_class at home.number (completed r.state.ctx home at r.members r.initialised))
+brace_leaves st home at r i q b f = weaken (λ (d : Ctx). Leaves r.state (record r.state { ctx = d })) (λ (d : Ctx). From st (record r.state { ctx = d }))
     (closed_class at home.number (completed r.state.ctx home at r.members r.initialised))
-    (λ c j. after st r.state (record r.state { ctx = c }) i.leaves j)
+    (λ c j. since st r.state (record r.state { ctx = c }) i.leaves j)
     (closed_leaves r.state home at r.members r.initialised i.unclosed q
     (subst (λ (cs : List Class). IsWhole cs home.base) (sym i.classes) b)
     (subst (λ (cs : List Class). IsBase cs home.base) (sym i.classes) f) (subst (λ (cs : List Class). AreMembers cs r.members) (sym i.classes) i.are))
@@ -453,19 +463,19 @@ brace_leaves st home at r i q b f = weaken (λ (d : Ctx). Leaves r.state (record
 with_kept : (lams : Lambdas) → Lawful lams → (s : List Lexeme) (st : State) (at : At) (home : Home) (members : syntax.Trees)
     → is_no_name home.name ≡ false → IsWholeBase st.ctx.classes home.base → IsOpen st.ctx.classes home.number
     → HasTypeNames st.ctx.classes st.ctx.types
-    → On (Leaves st) (class_with lams s st at home members)
+    → On (From st) (class_with lams s st at home members)
 with_kept lams q s st at home members n b e l =
-    bind (Read home.number st) (Leaves st) (members_of s home (record { state = st; members = []; initialised = [] }) members) _
+    bind (Read home.number st) (From st) (members_of s home (record { state = st; members = []; initialised = [] }) members) _
     (members_read s st home members e l)
-    (λ r i. bind (λ (d : Ctx). Leaves st (record r.state { ctx = d })) (Leaves st)
+    (λ r i. bind (λ (d : Ctx). From st (record r.state { ctx = d })) (From st)
     (closed_class at home.number (completed r.state.ctx home at r.members r.initialised)) _ (brace_leaves st home at r i n b.0 b.1)
-    (λ c j. behind st (record r.state { ctx = c }) of_state _ j (late_leaves lams q s home (record r.state { ctx = c }) members)))
+    (λ c j. leaves_from st (record r.state { ctx = c }) _ j (late_leaves lams q s home (record r.state { ctx = c }) members)))
 
 pub class_from : (lams : Lambdas) → Lawful lams → (s : List Lexeme) (st : State) (at : At) (name : List ℕ) (kids : syntax.Trees)
     → is_no_name name ≡ false → HasTypeNames st.ctx.classes st.ctx.types → On (From st) (class_defined lams s st at name kids)
 class_from lams q s st at name kids n l = skip (From st) (text_sized at (class_text s kids)) _
     (λ z. bind (IsBegun st true) (From st) (begun st.ctx at name true) _ (begun_from st at name true n)
     (λ b i. bind (IsWholeBase b.ctx.classes) (From st) (base_named s b.ctx kids) _ (base_whole s b.ctx kids (i.from.types l))
-    (λ base w. leaves_from st (record st { ctx = b.ctx }) _ i.from
+    (λ base w. from_from st (record st { ctx = b.ctx }) _ i.from
     (with_kept lams q s (record st { ctx = b.ctx }) at
     (record { number = b.number; name = name; base = base; is_final = has_final kids }) (members_among kids) n w (i.unclosed l refl) (i.from.types l)))))

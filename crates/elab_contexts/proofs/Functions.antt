@@ -1,6 +1,6 @@
 -- Functions in their places, their indices in the records of classes, and functions that are the same.
-use Rattle.std.proofs.Common.{◌≡◌, refl, sym, ap, ◌∙◌, subst, ℕ, zero, suc, ◌+◌, Bool, true, false, List, [], ◌∷◌, ◌++◌, slice_get, Option, Some, None, eqb-true, eq-eqb, arith}
-use Rattle.std.specs.Prelude.{slice_set, if◌then◌else◌, ◌&&◌, map, filter, cond}
+use Rattle.std.proofs.Common.{◌≡◌, refl, sym, ap, ◌∙◌, subst, ℕ, zero, suc, ◌+◌, Bool, true, false, List, [], ◌∷◌, slice_get, Option, Some, None, eqb-true, eq-eqb, arith}
+use Rattle.std.specs.Prelude.{if◌then◌else◌, ◌&&◌, map, filter, cond}
 use Rattle.std.proofs.lemmas.Bool.{and_parts, and_from}
 use Rattle.std.proofs.lemmas.Option.{same_Some}
 use Rattle.std.specs.Str.{bytes_eq}

@@ -1,7 +1,7 @@
 -- What the laws of expressions ask of the context of a unit holds from its start on.
-use Rattle.std.proofs.Common.{◌≡◌, refl, sym, ap, ◌∙◌, subst, ℕ, zero, suc, Bool, true, false, List, [], ◌∷◌, length, Option, Some, None, Result, Ok, slice_get}
+use Rattle.std.proofs.Common.{◌≡◌, refl, sym, ap, ◌∙◌, subst, ℕ, zero, suc, Bool, true, false, List, [], ◌∷◌, length, Option, Some, None, Result, Ok, Err, slice_get}
 use Rattle.std.proofs.Common.{nat_le, is_some, cond, option_and_then, arith}
-use Rattle.std.specs.Prelude.{map}
+use Rattle.std.specs.Prelude.{map, if◌then◌else◌}
 use Rattle.std.proofs.lemmas.Option.{same_Some}
 use Rattle.elab_rules.specs.cpp_types.Typ.{class}
 use Rattle.elab_rules.specs.cpp_types.Class.{Class, Function, signature_below}
@@ -35,11 +35,13 @@ use Rattle.elab_contexts.specs.Steps.{View, is_same_declared}
 use Rattle.elab_contexts.specs.Slots.{slots_at, HasSlotsIn}
 use Rattle.elab_rules.specs.cpp_tree.Units.{SlotFunc}
 use Rattle.elab_rules.specs.cpp_types.Class.{completion_of}
+use Rattle.elab_contexts.specs.Overriders.{HasOverriders, Overrides, StartsOverride, LambdasOverride, OperandsOverride, StatementsOverride, VariablesOverride, FunctionsOverride}
+use Rattle.elab_contexts.specs.Overriders.{OutsideOverride, ClassesOverride, MemberDefaultsOverride, MethodsOverride, ImpliedOverride}
 use Rattle.elab_contexts.proofs.Walking.{Leaves, Ends, weaken, kept_by_steps}
 use Rattle.elab_contexts.proofs.Found.{At}
-use Rattle.elab_contexts.proofs.Makers.{IsDestructor, IsCopy, IsDefault, Proper, AllProper}
+use Rattle.elab_contexts.proofs.Makers.{IsDestructor, IsCopy, IsDefault, Proper, AllProper, closing}
 use Rattle.elab_contexts.proofs.Kept.{Makes, makes_nothing, traits_in, Holds, each_kept}
-use Rattle.elab_contexts.proofs.Owned.{AllOwned}
+use Rattle.elab_contexts.proofs.Owned.{AllOwned, overriders_closed}
 use Rattle.elab_contexts.proofs.Sized.{Sized}
 use Rattle.elab_contexts.proofs.Going.{From, leaves_are}
 use Rattle.elab_contexts.proofs.Statements.{statements_kept, full_kept}
@@ -337,9 +339,59 @@ classes_law s st at kids home b r d h n e f g i j =
     let o : IsOpen b.ctx.classes home.number = subst (λ (k : ℕ). IsOpen b.ctx.classes k) (sym g) (x.unclosed h.types refl) in
     let z = on_ok (Read home.number y) (members_of s home (record { state = y; members = []; initialised = [] }) (members_among kids)) r i
     (members_read s y home (members_among kids) o (x.from.types h.types)) in
-    let l = on_ok (λ (c : Ctx). Leaves y (record r.state { ctx = c })) (closed_class at home.number (completed r.state.ctx home at r.members r.initialised)) d j
+    let l = on_ok (λ (c : Ctx). From y (record r.state { ctx = c })) (closed_class at home.number (completed r.state.ctx home at r.members r.initialised)) d j
     (brace_leaves y home at r z n w.0 w.1) in
-    left y (record r.state { ctx = d }) (gone st y h x.from) l
+    gone y (record r.state { ctx = d }) (gone st y h x.from) l
 
 pub specials_law : SpecialsHold
 specials_law c h = record { destructors = h.destructors }
+
+-- Which functions override
+
+leaves_override : (st : State) (r : Result State ElabFault) → On (Leaves st) r → On (Overrides st) r
+leaves_override st r h = weaken (Leaves st) (Overrides st) r (λ y g. g.overrides) h
+
+pub starts_override : StartsOverride
+starts_override source k n f e c = let x = builtins_free [] k f e n c in let z : None ≡ Some x.class = x.at in absurd cc
+
+pub lambdas_override : LambdasOverride
+lambdas_override s st e = leaves_override st (lambdas_of s st e) (lambdas_lawful.each s st e)
+
+pub operands_override : OperandsOverride
+operands_override s st e = weaken (λ (f : Full). Leaves st f.state) (λ (f : Full). Overrides st f.state) (full_operand lambdas_of s st e) (λ f g. g.overrides)
+    (full_kept lambdas_of lambdas_lawful s st e)
+
+pub statements_override : StatementsOverride
+statements_override s st ts = weaken (Ends st) (λ (d : Done). Overrides st d.state) (statements_of lambdas_of s st ts) (λ d g. g.overrides)
+    (statements_kept lambdas_of lambdas_lawful s st ts)
+
+pub variables_override : VariablesOverride
+variables_override s st x at ts = leaves_override st (file_declaration s st x at ts) (declaration_kept s st x at ts)
+
+pub functions_override : FunctionsOverride
+functions_override s st x at first r body = leaves_override st (defined_with s st x at first r body (form_in r.typ))
+    (with_kept s st x at first r body (form_in r.typ))
+
+pub outside_override : OutsideOverride
+outside_override s st n kind first m body = leaves_override st (outside_body lambdas_of s st n kind first m body)
+    (body_kept lambdas_of lambdas_lawful s st n kind first m body)
+
+pub defaults_override : MemberDefaultsOverride
+defaults_override s st n i t e = leaves_override st (default_made lambdas_of s st n i t e) (default_kept lambdas_of lambdas_lawful s st n i t e)
+
+pub methods_override : MethodsOverride
+methods_override s st n kind m body = leaves_override st (late_method lambdas_of s st n kind m body)
+    (late_method_kept lambdas_of lambdas_lawful s st n kind m body)
+
+pub implied_override : ImpliedOverride
+implied_override st k = leaves_override st (implied st k) (implied_one st k)
+
+same_ctx : (b : Bool) (c d : Ctx) (e : ElabFault) → (if b then Ok c else Err e) ≡ Ok d → c ≡ d
+same_ctx true c d e h = cc
+same_ctx false c d e h = absurd cc
+
+pub classes_override : ClassesOverride
+classes_override at home r d e h = subst (λ (c : Ctx). HasOverriders c.funcs)
+    (same_ctx (nat_le (class_extent (completed r.state.ctx home at r.members r.initialised).classes home.number).size GREATEST_SIZE) _ d _ e)
+    (overriders_closed r.state.ctx.funcs (completed r.state.ctx home at r.members r.initialised).funcs home.number
+    (closing r.state.ctx home at r.members r.initialised).added h)

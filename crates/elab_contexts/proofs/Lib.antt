@@ -22,6 +22,7 @@ pub mod Owned
 pub mod Sized
 pub mod Slots
 pub mod Statements
+pub mod Unchanged
 pub mod Units
 pub mod Walking
 pub mod Works

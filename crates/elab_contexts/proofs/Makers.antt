@@ -1,6 +1,6 @@
 -- The special members of a class, as its brace is closed: functions of the unit.
 use Rattle.std.proofs.Common.{◌≡◌, refl, ap, ◌∙◌, subst, ℕ, zero, suc, Bool, true, false, List, [], ◌∷◌, ◌++◌, slice_get, Option, Some, None, eqb-true, eq-eqb}
-use Rattle.std.specs.Prelude.{slice_set, if◌then◌else◌, ◌&&◌, not}
+use Rattle.std.specs.Prelude.{slice_set, if◌then◌else◌, ◌&&◌, ◌||◌, not}
 use Rattle.std.proofs.lemmas.Bool.{and_parts}
 use Rattle.elab_rules.specs.cpp_types.Typ.{Typs, none as no_typs, more as and_typ, Typ, signature}
 use Rattle.elab_rules.specs.cpp_types.Class.{Member, Function}
@@ -31,6 +31,7 @@ use Rattle.elab_rules.specs.Classes.{overriding, base_slots, new_slots, slots_of
 use Rattle.std.proofs.lemmas.Option.{same_Some}
 use Rattle.elab_fits.proofs.Equal.{typ_same}
 use Rattle.elab_contexts.specs.Holding.{IsKnown}
+use Rattle.elab_contexts.specs.Overriders.{is_overrider}
 use Rattle.elab_contexts.proofs.Lists.{one_more, one_more_at}
 use Rattle.elab_contexts.proofs.Found.{At, Stay, stay, stay_on, stay_added, Respects, at_still, first_found, at_the_end}
 
@@ -142,7 +143,7 @@ AllProper fs = (k : ℕ) (f : Func) → slice_get fs k ≡ Some f → Proper f
 -- a function that was there, or a new one of the class, which is not a plain one
 pub data IsOldOr (old : List Func) (n k : ℕ) (f : Func) : Type 0 where
   is_old : slice_get old k ≡ Some f → IsOldOr old n k f
-  is_own : f.class ≡ Some n → same_kind f.kind Plain ≡ false → IsOldOr old n k f
+  is_own : f.class ≡ Some n → same_kind f.kind Plain ≡ false → is_overrider f ≡ true → IsOldOr old n k f
 
 pub record MadeOf (n : ℕ) (P : Func → Type 0) (c : Ctx) (x : Specials) : Type 0 where
   pub classes : x.ctx.classes ≡ c.classes
@@ -174,15 +175,15 @@ number_in trivial = 0
 found_made : (n : ℕ) (P : Func → Type 0) (c : Ctx) (i : ℕ) → At P c.funcs i → MadeOf n P c (kept_special c (function i))
 found_made n P c i x = kept_made n P c (function i) (λ k e. subst (λ (j : ℕ). At P c.funcs j) (ap number_in e) x)
 
-implicit_made : (n : ℕ) (P : Func → Type 0) (c : Ctx) (f : Func) → P f → f.class ≡ Some n → same_kind f.kind Plain ≡ false → Proper f
+implicit_made : (n : ℕ) (P : Func → Type 0) (c : Ctx) (f : Func) → P f → f.class ≡ Some n → same_kind f.kind Plain ≡ false → is_overrider f ≡ true → Proper f
     → MadeOf n P c (with_implicit c f)
-implicit_made n P c f p o z q = record {
+implicit_made n P c f p o z y q = record {
   classes = refl;
   traits = refl;
   slots = refl;
   stays = stay_added c.funcs f;
   proper = λ h. one_more Proper c.funcs f h q;
-  added = one_more_at (λ (k : ℕ) (g : Func). IsOldOr c.funcs n k g) c.funcs f (λ i y e. is_old e) (is_own o z);
+  added = one_more_at (λ (k : ℕ) (g : Func). IsOldOr c.funcs n k g) c.funcs f (λ i y e. is_old e) (is_own o z y);
   special = λ k e. subst (λ (j : ℕ). At P (c.funcs ++ f ∷ []) j) (ap number_in e)
       (record { func = f; at = at_the_end c.funcs f; is = p });
 }
@@ -194,13 +195,17 @@ passed : (P : Func → Type 0) (test : Func → Bool) → ((f : Func) → test f
     → At P fs k
 passed P test h fs k e = let x = first_found test fs k e in record { func = x.func; at = x.at; is = h x.func x.is }
 
+or_right : (b : Bool) → (b || true) ≡ true
+or_right true = refl
+or_right false = refl
+
 destructor_made : (c : Ctx) (home : Home) (at : Place) (ms : List Member) (o : Option ℕ) → first_from (is_destructor_of home.number) 0 c.funcs ≡ o
     → MadeOf home.number (IsDestructor home.number) c (with_destructor c home at ms o)
 destructor_made c home at ms (Some i) e = found_made home.number (IsDestructor home.number) c i
     (passed (IsDestructor home.number) (is_destructor_of home.number) (destructor_is home.number) c.funcs i e)
 destructor_made c home at ms None e = made_if home.number (IsDestructor home.number) c (all_held (λ n. is_trivial (traits_at c n).destructor) home.base ms) _ _
     (nothing_to_do home.number (IsDestructor home.number) c)
-    (implicit_made home.number (IsDestructor home.number) c _ (record { class = refl; kind = refl }) refl refl (implicit_proper home.number Destructor [] _))
+    (implicit_made home.number (IsDestructor home.number) c _ (record { class = refl; kind = refl }) refl refl (or_right _) (implicit_proper home.number Destructor [] _))
 
 either_found : (n : ℕ) (name : List ℕ) (fs : List Func) (a b : Option ℕ) → first_from (is_copy_from n true) 0 fs ≡ a
     → first_from (is_written_copy n name) 0 fs ≡ b → (k : ℕ) → either a b ≡ Some k → At (IsCopy n) fs k
@@ -214,7 +219,7 @@ copy_made c home at ms (Some i) e = found_made home.number (IsCopy home.number) 
 copy_made c home at ms None e = made_if home.number (IsCopy home.number) c (not (may_copy c home.base ms)) _ _ (not_there home.number (IsCopy home.number) c)
     (made_if home.number (IsCopy home.number) c (has_no_pointer c home && all_held (λ n. is_trivial (traits_at c n).copy) home.base ms) _ _
     (nothing_to_do home.number (IsCopy home.number) c)
-    (implicit_made home.number (IsCopy home.number) c _ (record { kind = refl; class = refl; takes = eq-eqb home.number home.number refl }) refl refl
+    (implicit_made home.number (IsCopy home.number) c _ (record { kind = refl; class = refl; takes = eq-eqb home.number home.number refl }) refl refl refl
     (implicit_proper home.number Constructor _ _)))
 
 written_made : (c : Ctx) (n : ℕ) (o : Option ℕ) → first_from (is_default_constructor n) 0 c.funcs ≡ o
@@ -228,7 +233,7 @@ default_made c home at ms initialised false = written_made c home.number (first_
 default_made c home at ms initialised true =
     made_if home.number (IsDefault home.number) c (not (base_default c home.base && members_default c initialised 0 ms)) _ _ (not_there home.number (IsDefault home.number) c)
     (made_if home.number (IsDefault home.number) c (is_trivial_default c home ms initialised) _ _ (nothing_to_do home.number (IsDefault home.number) c)
-    (implicit_made home.number (IsDefault home.number) c _ (record { kind = refl; class = refl; takes = refl }) refl refl (implicit_proper home.number Constructor [] _)))
+    (implicit_made home.number (IsDefault home.number) c _ (record { kind = refl; class = refl; takes = refl }) refl refl refl (implicit_proper home.number Constructor [] _)))
 
 -- All of them, at the brace
 
@@ -281,7 +286,7 @@ pub record Closing (c : Ctx) (n : ℕ) (name : List ℕ) (base : Option ℕ) (ms
 
 older : (a b : List Func) (n k : ℕ) (f : Func) → ((k : ℕ) (f : Func) → slice_get b k ≡ Some f → IsOldOr a n k f) → IsOldOr b n k f → IsOldOr a n k f
 older a b n k f h (is_old e) = h k f e
-older a b n k f h (is_own e z) = is_own e z
+older a b n k f h (is_own e z y) = is_own e z y
 
 pub closing : (c : Ctx) (home : Home) (at : Place) (ms : List Member) (initialised : List ℕ)
     → Closing c home.number home.name home.base ms (completed c home at ms initialised)

@@ -154,7 +154,7 @@ pub default_kept : (lams : Lambdas) → Lawful lams → (s : List Lexeme) (st : 
 default_kept lams q s st n i t e = bind (Ends (in_object st n)) (Leaves st)
     (default_value lams s (in_object st n) t e (is_char_array t) (string_token e)) _
     (value_kept lams q s (in_object st n) t e (is_char_array t) (string_token e))
-    (λ d h. record { walk = (object_left st n d.state h).walk; same = refl })
+    (λ d h. record { walk = (object_left st n d.state h).walk; same = refl; overrides = (object_left st n d.state h).overrides })
 
 pub for_kept : (lams : Lambdas) → Lawful lams → (s : List Lexeme) (st : State) (n : ℕ) (i : Option ℕ) (e : Option syntax.Tree)
     → On (Leaves st) (default_for lams s st n i e)

@@ -1,17 +1,21 @@
 -- Functions of classes, and the functions in the records of classes.
 use Rattle.std.proofs.Common.{◌≡◌, refl, sym, ap, ◌∙◌, subst, ℕ, zero, suc, ◌≤◌, true, false, Bool, List, [], ◌∷◌, ◌++◌, length, slice_get, Option, Some, None, is_some, arith}
-use Rattle.std.specs.Prelude.{slice_set}
+use Rattle.std.specs.Prelude.{slice_set, not, ◌&&◌, ◌||◌}
 use Rattle.std.proofs.lemmas.List.{length-append, length-set}
 use Rattle.std.proofs.lemmas.Option.{same_Some}
 use Rattle.elab_rules.specs.cpp_types.Class.{Class, Member, Function}
-use Rattle.elab_rules.specs.cpp_tree.declared.program.FuncKind.TheVariants.{ClosureCall}
+use Rattle.elab_rules.specs.cpp_tree.declared.program.FuncKind.{FuncKind}
+use Rattle.elab_rules.specs.cpp_tree.declared.program.FuncKind.TheVariants.{Plain, Destructor, ClosureCall}
+use Rattle.elab_rules.specs.cpp_types.Trivial.{is_destructor_name}
+use Rattle.elab_rules.specs.Functions.{same_kind}
 use Rattle.elab_rules.specs.elab_ctx.Ctx.{Func}
+use Rattle.elab_contexts.specs.Overriders.{is_overrider, HasOverriders}
 use Rattle.elab_contexts.specs.Texts.{is_no_name}
 use Rattle.elab_contexts.specs.Steps.{SameFunction, IsOpen, has_name, is_written}
 use Rattle.elab_contexts.proofs.Going.{KeepNames, name_added, name_set, written_still}
 use Rattle.elab_contexts.specs.Holding.{IsOfClass, IsRecorded, of_unit, of_another}
 use Rattle.elab_contexts.proofs.Lists.{one_more, one_set, one_more_at, one_set_at}
-use Rattle.elab_contexts.proofs.Found.{Stay, before_it, at_the_end, stay_added}
+use Rattle.elab_contexts.proofs.Found.{Stay, before_it}
 use Rattle.elab_contexts.proofs.Makers.{IsOldOr, is_old, is_own, IsMethodOf}
 use Rattle.elab_contexts.proofs.Below.{signature_more}
 
@@ -102,7 +106,7 @@ owned_set cs n x old new q o a h k f e m g = by (a k f e)
   where
     by : IsOldOr old n k f → IsOfClass (slice_set cs n x) m f
     by (is_old z) = owned_set_by cs n x f q m (h k f z m g)
-    by (is_own z y) = record {
+    by (is_own z y v) = record {
       class = x;
       at = subst (λ (i : ℕ). slice_get (slice_set cs n x) i ≡ Some x) (same_Some n m (sym z ∙ g)) (set_here cs n x o.class o.at);
       call = λ i. no_name_false (is_no_name x.name) (f.kind ≡ ClosureCall) q i;
@@ -135,3 +139,26 @@ pub recorded_set : (cs : List Class) (n : ℕ) (x : Class) (fs gs : List Func) �
 recorded_set cs n x fs gs s a h m k e = one_set_at (Recorded (slice_set cs n x) gs) cs n x
     (λ j y z i g q. recorded_still cs (slice_set cs n x) fs gs j g (let l = length-set cs n x in omega arith) s (h j y z i g q))
     (λ i g q. let y = a i g q in of_unit y.place y.func y.at y.class y.is) m k e
+
+-- Which functions override
+
+pub overrides_same : (f g : Func) → SameFunction f g → is_overrider f ≡ true → is_overrider g ≡ true
+overrides_same f g s h = ap (λ (x : Function). not x.is_virtual || (same_kind g.kind Plain && not (is_destructor_name x.name)
+    || same_kind g.kind Destructor && is_destructor_name x.name)) s.declared
+    ∙ ap (λ (k : FuncKind). not f.declared.is_virtual || (same_kind k Plain && not (is_destructor_name f.declared.name)
+    || same_kind k Destructor && is_destructor_name f.declared.name)) s.kind ∙ h
+
+pub overriders_added : (fs : List Func) (x : Func) → HasOverriders fs → ((n : ℕ) → x.class ≡ Some n → is_overrider x ≡ true) → HasOverriders (fs ++ x ∷ [])
+overriders_added fs x h o k n f e c = one_more (λ (y : Func). (m : ℕ) → y.class ≡ Some m → is_overrider y ≡ true) fs x (λ i y q m d. h i m y q d) o k f e n c
+
+pub overriders_defined : (fs : List Func) (p : ℕ) (x : Func) → ((f : Func) → slice_get fs p ≡ Some f → SameFunction f x) → HasOverriders fs
+    → HasOverriders (slice_set fs p x)
+overriders_defined fs p x s h k n f e c = one_set (λ (y : Func). (m : ℕ) → y.class ≡ Some m → is_overrider y ≡ true) fs p x (λ i y q m d. h i m y q d)
+    (λ y q m d. overrides_same y x (s y q) (h p m y q (sym (s y q).class ∙ d))) k f e n c
+
+pub overriders_closed : (old new : List Func) (n : ℕ) → ((k : ℕ) (f : Func) → slice_get new k ≡ Some f → IsOldOr old n k f) → HasOverriders old → HasOverriders new
+overriders_closed old new n a h k m f e c = by (a k f e)
+  where
+    by : IsOldOr old n k f → is_overrider f ≡ true
+    by (is_old z) = h k m f z c
+    by (is_own z y v) = v

@@ -16,10 +16,10 @@ use Rattle.elab_rules.specs.Classes.{functions_in, same_virtual, own_functions, 
 use Rattle.elab_contexts.specs.Steps.{View, view, SameFunction, IsOpen, is_same_declared}
 use Rattle.elab_contexts.specs.Slots.{slots_at, HasOwnSlot, IsAlone, HasSlotsIn}
 use Rattle.elab_contexts.proofs.Lists.{one_more_at}
-use Rattle.elab_contexts.proofs.Found.{At, Stay, stay, stay_added, same_function, before_it}
+use Rattle.elab_contexts.proofs.Found.{Stay, stay, stay_added, same_function, before_it}
 use Rattle.elab_contexts.proofs.Makers.{Closing, IsOldOr, is_old, is_own}
-use Rattle.elab_contexts.proofs.Functions.{index_stays, own_at, IsIndexed, indexed, Alike, alike_is, alike_says, turned, none_passes}
-use Rattle.elab_contexts.proofs.Overriding.{IsSlotOf, InList, IsFirst, first_slot, IsShown, Shows, AllSlots, all_appended, overriding_all, new_all, shows_own}
+use Rattle.elab_contexts.proofs.Functions.{index_stays, own_at, indexed, Alike, alike_is, alike_says, turned, none_passes}
+use Rattle.elab_contexts.proofs.Overriding.{first_slot, Shows, AllSlots, all_appended, overriding_all, new_all, shows_own}
 use Rattle.elab_contexts.proofs.Overriding.{IsOnly, own_slot}
 
 abbrev IsDone : List Class → ℕ → Type 0
@@ -289,7 +289,7 @@ slot_here cs ss l base n k f fs e c v a r t w =
 
 plain_old : (old : List Func) (n k : ℕ) (f : Func) → IsOldOr old n k f → f.kind ≡ Plain → slice_get old k ≡ Some f
 plain_old old n k f (is_old e) p = e
-plain_old old n k f (is_own c z) p = no_way (slice_get old k ≡ Some f) (same_kind f.kind Plain) z (ap (λ (x : FuncKind). same_kind x Plain) p)
+plain_old old n k f (is_own c z y) p = no_way (slice_get old k ≡ Some f) (same_kind f.kind Plain) z (ap (λ (x : FuncKind). same_kind x Plain) p)
 
 pub slots_closed : (c : Ctx) (n : ℕ) (name : List ℕ) (base : Option ℕ) (ms : List Member) (d : Ctx) → Closing c n name base ms d → IsOpen c.classes n
     → HasSlotsIn (view c) → HasSlotsIn (view d)

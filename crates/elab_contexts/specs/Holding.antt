@@ -18,13 +18,12 @@ use Rattle.elab_rules.specs.elab_ctx.Ctx.{Ctx, Func, Enumerator, function}
 use Rattle.elab_rules.specs.elab_ctx.Types.{Named}
 use Rattle.elab_rules.specs.Objects.{traits_at, no_traits}
 use Rattle.elab_rules.specs.Initialising.{signature_result}
-use Rattle.elab_rules.specs.Expressions.{type_of_specifiers, declared_by}
 use Rattle.elab_rules.specs.Types.{Declared}
 use Rattle.elab_rules.specs.Classes.{Home, Members, Begun, Method, is_completed, begun, members_of, completed, closed_class}
-use Rattle.elab_rules.specs.Functions.{Header, Storage, function_body}
+use Rattle.elab_rules.specs.Functions.{Storage}
 use Rattle.elab_rules.specs.Implicit.{implied}
 use Rattle.elab_rules.specs.Lambdas.{lambdas_of}
-use Rattle.elab_rules.specs.Members.{base_named, members_among, declared_only, default_made, late_method, method_body, outside_body}
+use Rattle.elab_rules.specs.Members.{base_named, members_among, declared_only, default_made, late_method, outside_body}
 use Rattle.elab_rules.specs.Programs.{Source, start_behind, with_unit}
 use Rattle.elab_rules.specs.Statements.{State, Done, Full, full_operand, statements_of}
 use Rattle.elab_rules.specs.Globals.{enum_declared}

@@ -1,4 +1,5 @@
 pub mod Holding
+pub mod Overriders
 pub mod Slots
 pub mod Steps
 pub mod Texts

@@ -1,13 +1,11 @@
 -- A virtual function of a complete class has its slot.
-use Rattle.std.specs.Prelude.{◌≡◌, ℕ, Bool, true, not, ◌&&◌, ◌||◌, List, [], length, Some, is_some, slice_get, unwrap_or}
+use Rattle.std.specs.Prelude.{◌≡◌, ℕ, true, List, [], length, Some, is_some, slice_get, unwrap_or}
 use Rattle.elab_rules.specs.cpp_types.Class.{Class, Function, completion_of}
-use Rattle.elab_rules.specs.cpp_types.Trivial.{is_destructor_name}
-use Rattle.elab_rules.specs.cpp_tree.declared.program.FuncKind.TheVariants.{Plain, Destructor}
+use Rattle.elab_rules.specs.cpp_tree.declared.program.FuncKind.TheVariants.{Plain}
 use Rattle.elab_rules.specs.cpp_tree.Units.{SlotFunc}
 use Rattle.elab_rules.specs.elab_ctx.Ctx.{Func}
 use Rattle.elab_rules.specs.Calls.{slot_from, index_in_class}
 use Rattle.elab_rules.specs.Classes.{functions_in, same_virtual}
-use Rattle.elab_rules.specs.Functions.{same_kind}
 use Rattle.elab_contexts.specs.Steps.{View, is_same_declared}
 
 abbrev pub slots_at : List (List SlotFunc) → ℕ → List SlotFunc
@@ -39,11 +37,3 @@ pub record HasSlotsIn (v : View) : Type 0 where
       → is_some (completion_of v.classes n) ≡ true → IsAlone v.funcs n k f → HasOwnSlot v.classes v.slots n (index_in_class n k v.funcs) f.declared
   -- no two plain functions are the same
   pub distinct : (j k : ℕ) (f g : Func) → slice_get v.funcs j ≡ Some f → slice_get v.funcs k ≡ Some g → f.kind ≡ Plain → is_same_declared f g ≡ true → j ≡ k
-
--- what overrides is a plain function whose name does not begin with `~`, or a destructor, whose name does
-abbrev pub is_overrider : Func → Bool
-is_overrider f = not f.declared.is_virtual || (same_kind f.kind Plain && not (is_destructor_name f.declared.name)
-    || same_kind f.kind Destructor && is_destructor_name f.declared.name)
-
-abbrev pub HasOverriders : List Func → Type 0
-HasOverriders funcs = (k : ℕ) (f : Func) → slice_get funcs k ≡ Some f → is_overrider f ≡ true

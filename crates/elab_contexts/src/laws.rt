@@ -4,6 +4,9 @@ ghost use Rattle.elab_contexts.specs.Holding.{StartsHold, LaterStartsHold, Decla
 ghost use Rattle.elab_contexts.specs.Holding.{LambdasHold, OperandsHold, StatementsHold};
 ghost use Rattle.elab_contexts.specs.Holding.{VariablesHold, AliasesHold, EnumsHold, NamesHold, FunctionsHold, OutsideHold};
 ghost use Rattle.elab_contexts.specs.Holding.{ClassesHold, MemberDefaultsHold, MethodsHold, ImpliedHold};
+ghost use Rattle.elab_contexts.specs.Overriders.{LambdasOverride, OperandsOverride, StatementsOverride, VariablesOverride, FunctionsOverride};
+ghost use Rattle.elab_contexts.specs.Overriders.{StartsOverride, AliasesOverride, EnumsOverride, NamesOverride};
+ghost use Rattle.elab_contexts.specs.Overriders.{OutsideOverride, ClassesOverride, MemberDefaultsOverride, MethodsOverride, ImpliedOverride};
 ghost use Rattle.elab_contexts.specs.Walks.{LambdasWalk, OperandsWalk, StatementsWalk, BodiesWalk, DeclarationsWalk, UnitsWalk};
 
 /// Whatever is elaborated, the classes and functions of the unit go on by steps.
@@ -44,4 +47,22 @@ pub fn parts()
     ensures defaults { MemberDefaultsHold }
     ensures methods { MethodsHold }
     ensures implied { ImpliedHold }
+{}
+
+/// No constructor becomes virtual, but as a member that a text declares.
+pub fn overriders()
+    ensures starts { StartsOverride }
+    ensures lambdas { LambdasOverride }
+    ensures operands { OperandsOverride }
+    ensures statements { StatementsOverride }
+    ensures variables { VariablesOverride }
+    ensures aliases { AliasesOverride }
+    ensures enums { EnumsOverride }
+    ensures names { NamesOverride }
+    ensures functions { FunctionsOverride }
+    ensures outside { OutsideOverride }
+    ensures classes { ClassesOverride }
+    ensures defaults { MemberDefaultsOverride }
+    ensures methods { MethodsOverride }
+    ensures implied { ImpliedOverride }
 {}

@@ -1,5 +1,6 @@
 pub mod Defaults
 pub mod Depth
+pub mod Found
 pub mod Moved
 pub mod MovedKinds
 pub mod PartRows

@@ -48,7 +48,7 @@ module _ (old new : Setting) (o : HeldEarlier old.classes) (g : UnitGrows old ne
     builds_still t e h = record { fits = λ p full. fits_law at_old at_new o grows p Initialiser e (h.fits p full); builds = h.builds }
 
     default_still : (t : Typ) → DefaultFits (record old { function = f }) t d → DefaultFits (record new { function = f }) t d
-    default_still t h = record { one = builds_still t d.init h.one; part = builds_still t _ h.part; movable = h.movable; pliable = h.pliable }
+    default_still t h = record { one = builds_still t d.init h.one; part = builds_still t _ h.part; movable = h.movable; pliable = h.pliable; outermost = h.outermost }
 
   is_still : (d : Default) → IsDefault old d → IsDefault new d
   is_still d h = let k = class_kept d.class h.complete in record {

@@ -1,5 +1,5 @@
 -- Initialisers of members that are made once, and stand in the functions that build the objects (C++14 9.2 p5, 12.6.2 p9).
-use Rattle.std.specs.Prelude.{◌≡◌, ℕ, zero, ◌<◌, Bool, true, false, ◌&&◌, List, ◌∷◌, Some, is_some, slice_get}
+use Rattle.std.specs.Prelude.{◌≡◌, ℕ, zero, ◌<◌, Bool, true, false, not, ◌&&◌, ◌||◌, List, ◌∷◌, Some, is_some, slice_get}
 use Rattle.elab_rules.specs.cpp_types.Typ.{Typ, ptr, class}
 use Rattle.elab_rules.specs.cpp_types.Class.{InOrder}
 use Rattle.elab_rules.specs.cpp_types.Equal.{typ_eq}
@@ -14,12 +14,14 @@ use Rattle.elab_rules.specs.cpp_tree.Trees.{Tree, node, Trees, none, more, kind_
 use Rattle.elab_rules.specs.cpp_tree.Notation.{plain}
 use Rattle.elab_rules.specs.cpp_tree.Typing.{is_class_typ, unqualified, qualified}
 use Rattle.elab_rules.specs.cpp_tree.Parts.{size_in}
+use Rattle.elab_rules.specs.cpp_tree.Roles.{is_full}
 use Rattle.elab_rules.specs.cpp_tree.Units.{Func}
 use Rattle.elab_rules.specs.cpp_tree.Rows.{Setting, result_of}
 use Rattle.elab_rules.specs.elab_ctx.Ctx.{Work, Default}
 use Rattle.elab_rules.specs.Names.{this_pointer}
 use Rattle.elab_rules.specs.Members.{own_this}
 use Rattle.elab_rules.specs.Braces.{ThisAt, this_of, moved_place, relocated, as_part, default_whole, default_made, requalified}
+use Rattle.elab_rules.specs.Statements.{holds_temporary}
 use Rattle.elab_fits.specs.Standing.{FitsAs, BuildsOne, Reaches}
 use Rattle.elab_fits.specs.Objects.{is_ready}
 use Rattle.elab_fits_braces.specs.Qualified.{is_pliable}
@@ -76,12 +78,17 @@ this_typ d = plain (ptr (plain (class d.class)))
 abbrev pub alone : Setting → Default → Setting
 alone s d = record s { function = record s.function { kind = Constructor; frame = this_typ d ∷ d.frame } }
 
+-- it may stand outside of a full-expression: it is one, or has no temporary with a destructor
+abbrev pub is_outermost : Tree → Bool
+is_outermost e = is_full (kind_of e) || not (holds_temporary e)
+
 -- it builds the member, as a whole and as a part of one, which can have the qualifiers of the object
 pub record DefaultFits (s : Setting) (t : Typ) (d : Default) : Type 0 where
   pub one : BuildsOne (alone s d) t d.init
   pub part : BuildsOne (alone s d) t (as_part d.init)
   pub movable : is_movable (this_typ d) d.init ≡ true
   pub pliable : is_pliable t (as_part d.init) ≡ true
+  pub outermost : is_outermost d.init ≡ true
 
 -- it does so in the function at hand, where its temporaries have their places
 abbrev pub DefaultsBuild : Type 0

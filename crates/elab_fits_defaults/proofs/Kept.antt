@@ -1,8 +1,8 @@
 -- Initialisers of members, as they are kept.
-use Rattle.std.proofs.Common.{◌≡◌, refl, sym, ap, ◌∙◌, subst, ℕ, zero, suc, ◌-◌, Bool, true, false, ◌&&◌, List, [], ◌∷◌, length, nat_lt, drop, Some}
+use Rattle.std.proofs.Common.{◌≡◌, refl, sym, ap, ◌∙◌, subst, ℕ, zero, suc, ◌-◌, Bool, true, false, not, ◌&&◌, ◌||◌, List, [], ◌∷◌, length, nat_lt, drop, Some}
 use Rattle.std.proofs.Common.{slice_get, Result, Ok, Err}
 use Rattle.std.proofs.lemmas.Bool.{and_parts}
-use Rattle.std.specs.Prelude.{if◌then◌else◌}
+use Rattle.std.specs.Prelude.{if◌then◌else◌, ◌==◌}
 use Rattle.elab_rules.specs.cpp_types.Typ.{Typ, typ, void, int, enum, null, ptr, ref, array, func, class, closure, tx_ex}
 use Rattle.elab_rules.specs.cpp_types.declared.classes.At.{At}
 use Rattle.elab_rules.specs.cpp_types.declared.ranks.Cat.TheVariants.{Prvalue}
@@ -14,6 +14,7 @@ use Rattle.elab_rules.specs.cpp_tree.declared.kinds.TKind.TheVariants.{Literal, 
 use Rattle.elab_rules.specs.cpp_tree.Notation.{plain}
 use Rattle.elab_rules.specs.cpp_tree.Trees.{Tree, node, Trees, none, more, kind_of, typ_in}
 use Rattle.elab_rules.specs.cpp_tree.Typing.{form_in, kind_in, unqualified, is_class_typ, goes_both_ways, same_shape}
+use Rattle.elab_rules.specs.cpp_tree.Roles.{is_full}
 use Rattle.elab_rules.specs.cpp_tree.Units.{Func}
 use Rattle.elab_rules.specs.cpp_tree.Rows.{Setting}
 use Rattle.elab_rules.specs.cpp_tree.WellFormed.{is_zero, are_zero}
@@ -26,9 +27,9 @@ use Rattle.elab_rules.specs.Braces.{as_part, string_object, byte_pieces, byte_wo
 use Rattle.elab_rules.specs.Expressions.{expression_of, chosen_operand}
 use Rattle.elab_rules.specs.Initialising.{class_from, scalar_from}
 use Rattle.elab_rules.specs.Members.{in_object}
-use Rattle.elab_rules.specs.Statements.{State, Full, Lambdas, full, whole_if, throws_object, holds_temporary, full_operand, copy_initialised, with_work}
+use Rattle.elab_rules.specs.Statements.{State, Full, Lambdas, full, whole_if, throws_object, holds_temporary, hold_temporary, full_operand, copy_initialised, with_work}
 use Rattle.elab_fits.specs.Standing.{BuildsOne, IsSetting, On}
-use Rattle.elab_fits.proofs.Nodes.{both}
+use Rattle.elab_fits.proofs.Nodes.{both, or_right}
 use Rattle.elab_fits.proofs.AreZeros.{are_zero_law}
 use Rattle.elab_fits.proofs.Steps.{bind, skip}
 use Rattle.elab_fits_statements.specs.Variables.{BuildsWhole}
@@ -37,7 +38,7 @@ use Rattle.elab_fits_expressions.specs.Growing.{Behind}
 use Rattle.elab_fits_expressions.proofs.Behind as growing
 use Rattle.elab_fits_expressions.proofs.Behind.{made, after, behind, either}
 use Rattle.elab_fits_expressions.proofs.Growing.{chosen, expression}
-use Rattle.elab_fits_braces.specs.Moving.{DefaultFits, is_movable, alone}
+use Rattle.elab_fits_braces.specs.Moving.{DefaultFits, is_movable, is_outermost, alone}
 use Rattle.elab_fits_braces.specs.Qualified.{is_made, are_made, is_pliable}
 use Rattle.elab_fits_braces.proofs.Strings.{strings_build}
 use Rattle.elab_movable.specs.Movable.{held, KeepsThis}
@@ -108,6 +109,13 @@ full_movable g at e n h = by (holds_temporary e)
     by true = ap (λ (x : Bool). is_movable g (if x then without_value (place_of e) e else e) && true) n ∙ both h refl
     by false = h
 
+full_outermost : (at : At) (e : Tree) → is_outermost (full at e) ≡ true
+full_outermost at e = by (holds_temporary e) refl
+  where
+    by : (b : Bool) → holds_temporary e ≡ b → is_outermost (whole_if b at e) ≡ true
+    by true k = refl
+    by false k = or_right (is_full (kind_of e)) (ap not k)
+
 pub copies_kept : CopiesKept
 copies_kept lams keeps lexemes s st n i t e f m h k mt b g =
     let z : held (this_of n) m.tree ≡ 0 = copies_move lams keeps lexemes st n t e f m h k in
@@ -127,6 +135,7 @@ copies_kept lams keeps lexemes s st n i t e f m h k mt b g =
       part = subst (λ (q : Tree). BuildsOne (alone r d) t q) (sym p) w.one;
       movable = full_movable (this_of n) f.operand.at m.tree w.no_throw (movable (this_of n) m.tree z);
       pliable = ap (is_pliable t) p ∙ l w.one z;
+      outermost = full_outermost f.operand.at m.tree;
     }
 
 -- Strings
@@ -167,11 +176,65 @@ all_made : (ts us : Trees) → are_made ts ≡ true → are_made us ≡ true →
 all_made none us h g = g
 all_made (more t ts) us h g = let a = and_parts (is_made t) (are_made ts) h in both a.0 (all_made ts us a.1 g)
 
+-- there are no temporaries in them
+
+pub or_parts : (a b : Bool) → (a || b) ≡ false → (a ≡ false) × (b ≡ false)
+or_parts true b h = absurd cc
+or_parts false b h = (refl, h)
+
+pub no_or : (a b : Bool) → a ≡ false → b ≡ false → (a || b) ≡ false
+no_or true b h g = absurd cc
+no_or false b h g = g
+
+mutual
+  zero_holds : (e : Tree) → is_zero e ≡ true → holds_temporary e ≡ false
+  zero_holds (node (Literal w) t cat at kids) h = zeros_hold kids (and_parts (w == 0) (are_zero kids) h).1
+  zero_holds (node (Store k v) t cat at kids) h = zeros_hold kids h
+  zero_holds (node Pieces t cat at kids) h = zeros_hold kids h
+  zero_holds (node (Piece offset) t cat at kids) h = zeros_hold kids h
+  zero_holds (node (Elements n stride) t cat at kids) h = zeros_hold kids h
+  zero_holds (node kind t cat at kids) h = absurd cc
+
+  zeros_hold : (ts : Trees) → are_zero ts ≡ true → hold_temporary ts ≡ false
+  zeros_hold none h = refl
+  zeros_hold (more e ts) h =
+      let a = and_parts (is_zero e) (are_zero ts) h in no_or (holds_temporary e) (hold_temporary ts) (zero_holds e a.0) (zeros_hold ts a.1)
+
+stored_holds : (at : At) (t : Typ) (e : Tree) → holds_temporary e ≡ false → holds_temporary (stored at t e) ≡ false
+stored_holds at (typ (int k) c v) e h = no_or (holds_temporary e) false h refl
+stored_holds at (typ (enum n x) c v) e h = no_or (holds_temporary e) false h refl
+stored_holds at (typ null c v) e h = no_or (holds_temporary e) false h refl
+stored_holds at (typ (ptr t) c v) e h = no_or (holds_temporary e) false h refl
+stored_holds at (typ (ref t) c v) e h = no_or (holds_temporary e) false h refl
+stored_holds at (typ f c v) e h = h
+
+bytes_hold : (t : Typ) (at : At) (i : ℕ) (bs : List ℕ) → hold_temporary (byte_pieces t at i bs) ≡ false
+bytes_hold t at i [] = refl
+bytes_hold t at i (b ∷ bs) =
+    let a = stored_holds at t (node (Literal (byte_word (kind_in (form_in t)) b)) (unqualified t) Prvalue at none) refl in
+    no_or (holds_temporary (stored at t (node (Literal (byte_word (kind_in (form_in t)) b)) (unqualified t) Prvalue at none)) || false)
+    (hold_temporary (byte_pieces t at (suc i) bs))
+    (no_or (holds_temporary (stored at t (node (Literal (byte_word (kind_in (form_in t)) b)) (unqualified t) Prvalue at none))) false a refl)
+    (bytes_hold t at (suc i) bs)
+
+rest_holds : (c : Ctx) (t : Typ) (at : At) (i n : ℕ) → hold_temporary (zero_rest c t at i n) ≡ false
+rest_holds c t at i zero = refl
+rest_holds c t at i (suc n) =
+    let a = zero_holds (zeros c.classes at (plain (array t (suc n)))) (are_zero_law c.classes at (plain (array t (suc n)))) in
+    no_or (holds_temporary (zeros c.classes at (plain (array t (suc n)))) || false) false
+    (no_or (holds_temporary (zeros c.classes at (plain (array t (suc n))))) false a refl) refl
+
+all_hold : (ts us : Trees) → hold_temporary ts ≡ false → hold_temporary us ≡ false → hold_temporary (followed ts us) ≡ false
+all_hold none us h g = g
+all_hold (more t ts) us h g = let a = or_parts (holds_temporary t) (hold_temporary ts) h in
+    no_or (holds_temporary t) (hold_temporary (followed ts us)) a.0 (all_hold ts us a.1 g)
+
 -- an object that pieces make, each by itself
 record IsMadeObject (e : Tree) : Type 0 where
   made : is_made e ≡ true
   kind : kind_of e ≡ Pieces
   part : as_part e ≡ e
+  bare : holds_temporary e ≡ false
 
 string_made : (c : Ctx) (t : Typ) (at : At) (bytes : List ℕ) → On IsMadeObject (string_object c t at bytes)
 string_made c (typ (array e n) d v) at bytes = skip IsMadeObject (check at BadInit (nat_lt (length bytes) n)) _ (λ y. record {
@@ -179,6 +242,8 @@ string_made c (typ (array e n) d v) at bytes = skip IsMadeObject (check at BadIn
       (rest_made c e at (length bytes) (n - length bytes));
   kind = refl;
   part = refl;
+  bare = all_hold (byte_pieces e at 0 bytes) (zero_rest c e at (length bytes) (n - length bytes)) (bytes_hold e at 0 bytes)
+      (rest_holds c e at (length bytes) (n - length bytes));
 })
 string_made c (typ void d v) at bytes = tt
 string_made c (typ (int k) d v) at bytes = tt
@@ -203,6 +268,7 @@ string_fits s c st n i t at bytes x h g b =
       part = subst (λ (q : Tree). BuildsOne r t q) (sym m.part) b;
       movable = movable (this_of n) x (strings_move (this_of n) c t at bytes x h);
       pliable = ap (is_pliable t) m.part ∙ ap (λ (y : Bool). if y then is_class_typ t && same_shape t (typ_in x) else is_made x) (ap goes_both_ways m.kind) ∙ m.made;
+      outermost = or_right (is_full (kind_of x)) (ap not m.bare);
     }
 
 pub strings_kept : StringsKept

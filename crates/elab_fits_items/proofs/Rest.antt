@@ -1,7 +1,6 @@
 -- Parts behind the last item.
-use Rattle.std.proofs.Common.{◌≡◌, refl, sym, ap, ◌∙◌, subst, ℕ, zero, suc, ◌+◌, ◌*◌, ◌-◌, ◌≤◌, ◌==◌, Bool, true, false, ◌&&◌, List, [], ◌∷◌, length, drop}
-use Rattle.std.proofs.Common.{slice_get, Option, Some, None, is_some, Result, Ok, arith, lt-ltb, eq-eqb, eqb-true}
-use Rattle.std.proofs.lemmas.Bool.{and_parts}
+use Rattle.std.proofs.Common.{◌≡◌, refl, sym, ap, ◌∙◌, subst, ℕ, zero, suc, ◌+◌, ◌*◌, ◌-◌, ◌≤◌, Bool, true, false, List, [], ◌∷◌, length, drop}
+use Rattle.std.proofs.Common.{slice_get, Option, Some, None, is_some, Result, Ok, arith, lt-ltb, eq-eqb}
 use Rattle.std.specs.Prelude.{if◌then◌else◌}
 use Rattle.elab_rules.specs.cpp_types.Typ.{Typ, typ, array, class, ptr}
 use Rattle.elab_rules.specs.cpp_types.Class.{Class, Member, InOrder}
@@ -36,6 +35,7 @@ use Rattle.elab_fits_expressions.proofs.Behind.{found_before, same, after}
 use Rattle.elab_fits_expressions.proofs.Holding.{reached}
 use Rattle.elab_fits_braces.specs.Moving.{IsThis, DefaultFits, this_typ}
 use Rattle.elab_fits_braces.specs.Defaults.{AllDefaultsFit}
+use Rattle.elab_fits_braces.proofs.Found.{DefaultAt, default_found}
 use Rattle.elab_fits_braces.proofs.Pliable.{defaults_qualified}
 use Rattle.elab_fits_braces.proofs.This.{object_is_this}
 use Rattle.elab_fits_items.specs.Items.{MembersSingle, PartBuilt}
@@ -59,33 +59,6 @@ drop_many : {A : Type 0} (i : ℕ) (xs : List A) → i ≤ length xs → i + len
 drop_many {A} zero xs l = omega arith
 drop_many {A} (suc i) [] l = absurd (omega arith)
 drop_many {A} (suc i) (y ∷ xs) l = let h = drop_many i xs (omega arith) in omega arith
-
--- the initialiser that is kept for a member
-record DefaultAt (n i : ℕ) (ds : List Default) (d : Default) : Type 0 where
-  index : ℕ
-  at : slice_get ds index ≡ Some d
-  class : d.class ≡ n
-  member : d.member ≡ i
-
-default_found : (n i : ℕ) (ds : List Default) (d : Default) → default_at n i ds ≡ Some d → DefaultAt n i ds d
-default_found n i [] d h = absurd cc
-default_found n i (x ∷ ds) d h = by (x.class == n && x.member == i) refl h (λ g. default_found n i ds d g)
-  where
-    later : DefaultAt n i ds d → DefaultAt n i (x ∷ ds) d
-    later y = record { index = suc y.index; at = y.at; class = y.class; member = y.member }
-
-    by : (b : Bool) → (x.class == n && x.member == i) ≡ b → (if b then Some x else default_at n i ds) ≡ Some d
-        → (default_at n i ds ≡ Some d → DefaultAt n i ds d) → DefaultAt n i (x ∷ ds) d
-    by true e g f =
-        let a = and_parts (x.class == n) (x.member == i) e in
-        let q : x ≡ d = cc in
-        record {
-          index = 0;
-          at = ap Some q;
-          class = ap (λ (y : Default). y.class) (sym q) ∙ eqb-true x.class n a.0;
-          member = ap (λ (y : Default). y.member) (sym q) ∙ eqb-true x.member i a.1;
-        }
-    by false e g f = later (f g)
 
 module _ (s : Setting) (c : Ctx) (w0 : Work) (h : Holds s c w0) (single : MembersSingle c) (defaults : AllDefaultsFit s c.defaults) where
   -- from nothing

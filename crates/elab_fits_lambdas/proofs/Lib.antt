@@ -1,7 +1,11 @@
-pub use Rattle.elab_rules.proofs as elab_rules
-pub mod Begun
 pub mod Bodies
 pub mod Captured
+pub mod Closures
+pub mod Entered
+pub mod Hand
 pub mod Lambdas
-pub mod Parts
-pub mod Sound
+pub mod Made
+pub mod Parameters
+pub mod Results
+pub mod Types
+pub mod Units

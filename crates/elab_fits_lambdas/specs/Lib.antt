@@ -1,1 +1,3 @@
+pub mod Captured
 pub mod Lambdas
+pub mod Made

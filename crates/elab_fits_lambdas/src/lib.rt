@@ -1,4 +1,4 @@
-//! The lambdas of an expression lead from good states to good ones, and their bodies fit.
+//! Lambdas lead from good states to good ones: they are at hand behind their full-expression, and their bodies fit.
 #![tactic(auto)]
 
 pub mod laws;

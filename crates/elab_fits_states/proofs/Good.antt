@@ -146,12 +146,12 @@ module _ (f : UnitFunc) (st : State) (h : IsGood f st) where
   good_other names variables breaks continues label labels closures v none l s known =
       let z : State = record { ctx = other st.ctx names variables breaks continues label labels closures; work = v; bodies = st.bodies } in record {
         good = carried f st z h l (unit_other st.ctx names variables breaks continues label labels closures h.unit)
-        h.overriders s (record {
-          variables = known;
-          this = λ t e. l.goes.grows.frame _ _ (h.locals.this t e);
-          inside = h.locals.inside;
-          lambda = h.locals.lambda;
-        }) (none_hold z.ctx closures none) refl refl refl (bodies_stay st z (earlier_of f st h) l.goes.grows.unit refl h.bodies);
+            h.overriders s (record {
+              variables = known;
+              this = λ t e. l.goes.grows.frame _ _ (h.locals.this t e);
+              inside = h.locals.inside;
+              lambda = h.locals.lambda;
+            }) (none_hold z.ctx closures none) refl refl refl (bodies_stay st z (earlier_of f st h) l.goes.grows.unit refl h.bodies);
         none = none;
       }
 

@@ -1,9 +1,9 @@
 -- Objects of complete classes are whole, and the offsets of their members are words.
-use Rattle.std.proofs.Common.{◌≡◌, refl, sym, ap, ◌∙◌, subst, ℕ, zero, suc, ◌+◌, ◌≤◌, max, Bool, true, false, not, nat_le, List, [], ◌∷◌, ◌++◌, take, Option, Some, None, is_some, slice_get}
+use Rattle.std.proofs.Common.{◌≡◌, refl, sym, ap, ◌∙◌, subst, ℕ, zero, suc, ◌+◌, ◌≤◌, max, Bool, true, false, List, [], ◌∷◌, take, Option, Some, None, is_some, slice_get}
 use Rattle.std.proofs.Common.{arith, le-leb, option_and_then}
 use Rattle.std.proofs.lemmas.Option.{same_Some}
 use Rattle.elab_rules.specs.tx_ints.declared.kinds.IntKind.TheVariants.{ULong}
-use Rattle.elab_rules.specs.cpp_types.Typ.{Typ, typ, Form, void, int, enum, null, ptr, ref, array, func, class, closure, tx_ex}
+use Rattle.elab_rules.specs.cpp_types.Typ.{typ, Form, void, int, enum, null, ptr, ref, array, func, class, closure, tx_ex}
 use Rattle.elab_rules.specs.cpp_types.Class.{Class, Member, InOrder, completion_of}
 use Rattle.elab_rules.specs.cpp_layout.Layout.{Extent, class_extent, head_items, items_of, member_extent, end_from, greatest_align, next_multiple}
 use Rattle.elab_rules.specs.cpp_layout.Measured.{member_extents, member_offset}
@@ -14,12 +14,11 @@ use Rattle.elab_rules.specs.cpp_tree.Parts.{size_in}
 use Rattle.elab_rules.specs.cpp_tree.Typing.{is_word_of}
 use Rattle.elab_rules.specs.elab_ctx.Ctx.{Ctx, Work}
 use Rattle.elab_rules.specs.Objects.{class_in}
-use Rattle.elab_rules.specs.Names.{offset_at, offset_of_member, members_in}
+use Rattle.elab_rules.specs.Names.{offset_of_member, members_in}
 use Rattle.elab_fits.proofs.Objects.{Laid, laid_from, sized_from}
 use Rattle.elab_fits.proofs.Sizes.{small_word}
 use Rattle.elab_sound_types.specs.Contexts.{HasSoundTypes}
 use Rattle.elab_fits_forms.specs.Types.{is_lambda, is_sound_form, IsWhole}
-use Rattle.elab_fits_forms.specs.Context.{IsComplete}
 use Rattle.elab_contexts.specs.Holding.{UnitHolds}
 use Rattle.elab_holds.specs.Contexts.{ClassesComplete}
 use Rattle.elab_holds.proofs.Sound.{named_is, complete_found, not_true}

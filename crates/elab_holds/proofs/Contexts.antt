@@ -1,35 +1,30 @@
 -- What the laws of expressions ask of a context holds of those that elaboration makes.
-use Rattle.std.proofs.Common.{◌≡◌, refl, sym, ap, ◌∙◌, subst, ℕ, Bool, true, false, not, ◌&&◌, ◌||◌, List, is_some, Option, Some, None, slice_get, option_and_then}
+use Rattle.std.proofs.Common.{◌≡◌, refl, sym, ap, ◌∙◌, subst, ℕ, Bool, true, false, not, ◌&&◌, ◌||◌, List, is_some, Option, Some, None, slice_get}
 use Rattle.std.proofs.lemmas.Bool.{and_parts}
 use Rattle.std.proofs.lemmas.Option.{same_Some}
 use Rattle.std.specs.List.{list_all}
 use Rattle.elab_rules.specs.tx_ints.declared.kinds.IntKind.TheVariants.{Int}
-use Rattle.elab_rules.specs.cpp_types.Typ.{Typ, typ, Form, void, int, enum, null, ptr, ref, array, func, class, closure, tx_ex}
-use Rattle.elab_rules.specs.cpp_types.Class.{Class, Member, completion_of}
-use Rattle.elab_rules.specs.cpp_tree.declared.program.FuncKind.TheVariants.{ClosureCall}
+use Rattle.elab_rules.specs.cpp_types.Typ.{Typ, typ, void, int, enum, null, ptr, ref, array, func, class, closure, tx_ex}
+use Rattle.elab_rules.specs.cpp_types.Class.{Class, completion_of}
 use Rattle.elab_rules.specs.cpp_tree.Typing.{passes, form_in, is_class_typ, is_reference, is_word_of}
-use Rattle.elab_rules.specs.elab_ctx.Ctx.{Ctx, Work, Func, Enumerator, Variable, This, Capture, Lambda, Traits}
-use Rattle.elab_rules.specs.elab_ctx.Types.{Named}
+use Rattle.elab_rules.specs.elab_ctx.Ctx.{Ctx, Work, Func, Enumerator, This, Capture, Lambda, Traits}
 use Rattle.elab_rules.specs.Types.{is_nothing}
 use Rattle.elab_rules.specs.Objects.{traits_at, no_traits}
-use Rattle.elab_fits_forms.specs.Types.{is_empty, is_lambda, is_sound, is_declared}
-use Rattle.elab_fits_forms.specs.Context.{IsEnumerator, IsFunction, IsField, IsThis, IsVariable}
+use Rattle.elab_fits_forms.specs.Types.{is_empty, is_sound, is_declared}
+use Rattle.elab_fits_forms.specs.Context.{IsEnumerator, IsFunction}
 use Rattle.elab_sound_types.specs.Types.{object, target, variable, denoted}
 use Rattle.elab_sound_types.specs.Types as sound
 use Rattle.elab_sound_types.specs.Contexts.{HasSoundTypes, member_use, is_object_of_class, is_sound_name, is_sound_function, is_sound_variable, is_sound_known, is_sound_this}
 use Rattle.elab_sound_types.specs.Contexts.{are_sound_captures, is_sound_capture, is_sound_global}
 use Rattle.elab_sound_types.proofs.Names.{at_place}
 use Rattle.elab_contexts.specs.Texts.{is_no_name}
-use Rattle.elab_contexts.specs.Holding.{UnitHolds, is_enumerator, is_enumerator_type, is_object_member}
-use Rattle.state_growth.specs.Settings.{setting_at}
+use Rattle.elab_contexts.specs.Holding.{UnitHolds, is_enumerator, is_enumerator_type}
 use Rattle.state_growth.proofs.Settings.{stand_law}
-use Rattle.elab_holds.specs.Locals.{LocalsHold, HoldIn}
 use Rattle.elab_holds.specs.Contexts.{HasSlots, SettingsHold, ContextsHold}
-use Rattle.elab_holds.proofs.Sound.{typ_sound, target_sound, declared_sound, signature_sound, lambda_same, name_same, class_is, listed}
+use Rattle.elab_holds.proofs.Sound.{typ_sound, target_sound, declared_sound, signature_sound, lambda_same, name_same, class_is}
 use Rattle.elab_holds.proofs.Order.{order_law, member_sound}
 use Rattle.elab_holds.proofs.Complete.{complete_law}
 use Rattle.elab_holds.proofs.Makers.{makers_law, lambda_complete}
-use Rattle.elab_holds.proofs.Slots.{slots_law}
 
 pub settings_are : SettingsHold
 settings_are f c w u h = stand_law f c w (order_law c w u h)
@@ -127,7 +122,7 @@ no_claim c u claim q n h = by (completion_of c.classes n) refl
     by None e = no_way (claim (traits_at c n)) _ (ap claim (u.bare n e) ∙ q) h
 
 pub contexts_law : ContextsHold
-contexts_law f c w u o h l = record {
+contexts_law f c w u s h l = record {
   setting = settings_are f c w u h;
   makers = makers_law c w u h;
   variables = λ i v t o e k. let x = l.variables i v t o e k in record {
@@ -147,7 +142,7 @@ contexts_law f c w u o h l = record {
   captures = λ x i y e q. declared_sound c.classes variable y.typ refl (captures_sound c.classes c.lambda x h.captures e i y q);
   globals = λ i g e. target_sound c.classes g.typ (at_place (is_sound_global c.classes) w.globals i g h.globals e);
   enumerators = λ i e q. enumerator_is e (u.enumerators i e q);
-  functions = function_is c w u (slots_law c w u h o) h;
+  functions = function_is c w u s h;
   fields = λ n i k m e q. record {
     declared = member_declared c.classes (is_nothing m.name) m.typ (member_sound c w h n i k m e q);
     object = λ z. field_object (is_no_name k.name) (is_no_name m.name) (is_reference m.typ) (u.objects n i k m e q) (name_same m.name ∙ z);

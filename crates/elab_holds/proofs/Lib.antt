@@ -6,3 +6,4 @@ pub mod Order
 pub mod Ready
 pub mod Slots
 pub mod Sound
+pub mod Texts

@@ -1,5 +1,5 @@
 -- What is asked of the function at hand holds from its parameters on.
-use Rattle.std.proofs.Common.{arith, lt-ltb, ◌<◌, ◌≡◌, refl, sym, ap, ◌∙◌, subst, ℕ, zero, suc, Bool, true, false, nat_lt, List, [], ◌∷◌, ◌++◌, length, Option, Some, None, is_some, slice_get}
+use Rattle.std.proofs.Common.{arith, lt-ltb, ◌<◌, ◌≡◌, refl, sym, ap, ◌∙◌, subst, ℕ, zero, suc, Bool, true, false, nat_lt, List, [], ◌∷◌, ◌++◌, length, Option, Some, None, is_some, slice_get, option_and_then}
 use Rattle.std.proofs.lemmas.Option.{same_Some}
 use Rattle.std.specs.Prelude.{if◌then◌else◌, ◌||◌, ◌&&◌, not, count_by}
 use Rattle.elab_rules.specs.cpp_types.Typ.{Typ, typ, Signature, void, ptr, class, closure}
@@ -9,7 +9,7 @@ use Rattle.elab_rules.specs.cpp_lex.Tokens.{Lexeme}
 use Rattle.elab_rules.specs.cpp_tree.Notation.{plain}
 use Rattle.elab_rules.specs.cpp_tree.Typing.{is_class_typ}
 use Rattle.elab_rules.specs.cpp_tree.declared.faults.IllRule.TheVariants.{Incomplete, Redeclared}
-use Rattle.elab_rules.specs.elab_ctx.Ctx.{Ctx, Variable, This, Lambda}
+use Rattle.elab_rules.specs.elab_ctx.Ctx.{Variable, This, Lambda}
 use Rattle.elab_rules.specs.elab_ctx.Steps.{check, spelling}
 use Rattle.elab_rules.specs.Names.{is_outer}
 use Rattle.elab_rules.specs.Operators.{is_complete}
@@ -17,15 +17,16 @@ use Rattle.elab_rules.specs.Types.{Parameter}
 use Rattle.elab_rules.specs.Statements.{State, is_fresh}
 use Rattle.elab_rules.specs.Classes.{class_named, is_completed}
 use Rattle.elab_rules.specs.Lambdas.{Written, capture_members, call_record}
-use Rattle.elab_rules.specs.Functions.{entered, result_items, this_items, this_at, word_item, with_parameters, parameter_named}
+use Rattle.elab_rules.specs.Functions.{result_items, this_items, this_at, word_item, parameter_named}
 use Rattle.elab_fits.specs.Standing.{On}
 use Rattle.elab_fits.proofs.Equal.{typ_refl}
 use Rattle.elab_fits_forms.specs.Context.{is_item_of}
+use Rattle.setting_growth.specs.Growth.{ClassesGrow}
 use Rattle.elab_contexts.proofs.Walking.{bind, skip}
 use Rattle.elab_contexts.proofs.Lists.{one_more_at}
 use Rattle.elab_contexts.proofs.Found.{before_it, at_the_end}
-use Rattle.elab_holds.specs.Locals.{Locals, locals, HoldIn, HasItemOf, LocalsHold, Stays, LocalsStay, FunctionsEntered, ObjectsEntered, ParametersPlaced}
-use Rattle.elab_holds.specs.Locals.{LambdasEntered, VariablesPlaced, VariablesDeclared}
+use Rattle.elab_holds.specs.Locals.{Locals, locals, HoldIn, HasItemOf, LocalsHold, LocalsStay, FunctionsEntered, ObjectsEntered, ParametersPlaced}
+use Rattle.elab_holds.specs.Locals.{LambdasEntered, LocalsGrow, VariablesPlaced, VariablesDeclared}
 
 -- What stays
 
@@ -37,6 +38,21 @@ stay_law old new before now s h = record {
   inside = λ n e. s.complete n (h.inside n (sym s.class ∙ e));
   lambda = λ x e. s.complete x.class (h.lambda x (sym s.lambda ∙ e));
 }
+
+done_still : (old new : List Class) → ClassesGrow old new → (n : ℕ) → is_some (completion_of old n) ≡ true → is_some (completion_of new n) ≡ true
+done_still old new g n h = by (slice_get old n) refl h
+  where
+    by : (o : Option Class) → slice_get old n ≡ o → is_some (option_and_then (λ (c : Class). c.complete) o) ≡ true → is_some (completion_of new n) ≡ true
+    by None e q = absurd cc
+    by (Some c) e q = at c e c.complete refl q
+      where
+        at : (c : Class) → slice_get old n ≡ Some c → (k : Option ℕ) → c.complete ≡ k → is_some c.complete ≡ true → is_some (completion_of new n) ≡ true
+        at c e None z q = absurd cc
+        at c e (Some k) z q = ap (λ (o : Option Class). is_some (option_and_then (λ (c : Class). c.complete) o)) (g.complete n k c e z) ∙ q
+
+pub grow_law : LocalsGrow
+grow_law a b g v t c l h = stay_law (locals a.ctx) (locals b.ctx) a.work.frame b.work.frame
+    (record { complete = done_still a.ctx.classes b.ctx.classes g.unit.classes; frame = g.frame; variables = v; this = t; class = c; lambda = l }) h
 
 -- A further variable
 

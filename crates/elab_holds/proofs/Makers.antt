@@ -1,5 +1,5 @@
 -- The special members of classes and the parameters of functions are as the laws of objects ask.
-use Rattle.std.proofs.Common.{◌≡◌, refl, ap, ◌∙◌, subst, ℕ, Bool, true, false, not, ◌||◌, List, is_some, Option, Some, None, slice_get, option_and_then}
+use Rattle.std.proofs.Common.{◌≡◌, refl, ap, ◌∙◌, subst, ℕ, Bool, true, false, not, List, is_some, Option, Some, None, slice_get, option_and_then}
 use Rattle.std.proofs.lemmas.Bool.{and_parts}
 use Rattle.elab_rules.specs.cpp_types.Typ.{Typ, typ, Form, void, int, enum, null, ptr, ref, array, func, class, closure, tx_ex, Typs, none as no_typs, more as and_typ}
 use Rattle.elab_rules.specs.cpp_types.Typ.{Signature, signature}

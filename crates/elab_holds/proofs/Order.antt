@@ -1,8 +1,8 @@
 -- Classes are in order.
-use Rattle.std.proofs.Common.{◌≡◌, refl, ap, subst, ◌<◌, ℕ, true, Option, Some, None, is_some, length, slice_get, ltb-true}
-use Rattle.elab_rules.specs.cpp_types.Class.{Class, Member, Function, InOrder, CompleteBelow, signature_below}
+use Rattle.std.proofs.Common.{◌≡◌, refl, ap, subst, ℕ, true, Option, Some, None, is_some, length, slice_get, ltb-true}
+use Rattle.elab_rules.specs.cpp_types.Class.{Class, Member, Function, signature_below}
 use Rattle.elab_rules.specs.Types.{is_nothing}
-use Rattle.elab_rules.specs.elab_ctx.Ctx.{Ctx, Work, Func}
+use Rattle.elab_rules.specs.elab_ctx.Ctx.{Ctx, Work}
 use Rattle.elab_sound_types.specs.Types.{is_sound}
 use Rattle.elab_sound_types.specs.Contexts.{HasSoundTypes, member_use, is_sound_member, has_sound_members, is_sound_function}
 use Rattle.elab_sound_types.proofs.Names.{at_place}

@@ -1,5 +1,5 @@
 -- Types of objects, and of what lambdas capture, are ready.
-use Rattle.std.proofs.Common.{arith, lt-ltb, ◌≡◌, refl, sym, ap, ◌∙◌, subst, ℕ, zero, suc, Bool, true, false, not, ◌&&◌, ◌||◌, nat_lt, List, [], ◌∷◌, ◌++◌, length, Option, Some, None, is_some, slice_get}
+use Rattle.std.proofs.Common.{arith, lt-ltb, ◌≡◌, refl, sym, ap, ◌∙◌, subst, ℕ, zero, suc, Bool, true, false, not, ◌&&◌, ◌||◌, nat_lt, List, [], ◌∷◌, ◌++◌, Option, Some, None, is_some, slice_get}
 use Rattle.std.specs.List.{list_all}
 use Rattle.std.proofs.lemmas.Bool.{and_parts, and_from}
 use Rattle.std.proofs.lemmas.Option.{same_Some}
@@ -9,7 +9,7 @@ use Rattle.elab_rules.specs.cpp_tree.Notation.{plain}
 use Rattle.elab_rules.specs.cpp_tree.Typing.{passes, is_reference, form_in, qualified}
 use Rattle.elab_rules.specs.Types.{is_nothing}
 use Rattle.elab_rules.specs.elab_ctx.Ctx.{Ctx, Work}
-use Rattle.elab_rules.specs.Objects.{Part, parts_of, parts_in, base_part, members_from, is_array, element_of}
+use Rattle.elab_rules.specs.Objects.{Part, parts_of, parts_in, base_part, members_from, element_of}
 use Rattle.elab_fits.specs.Objects.{is_single, is_ready, typ_ready, form_ready, part_ready, is_closure, has_lambdas}
 use Rattle.elab_fits.proofs.Ready.{ready_law}
 use Rattle.elab_sound_types.specs.Types.{Use, object, target, variable}
@@ -18,8 +18,8 @@ use Rattle.elab_sound_types.specs.Contexts.{HasSoundTypes, member_use}
 use Rattle.elab_fits_forms.specs.Types as forms
 use Rattle.elab_contexts.specs.Texts.{is_no_name}
 use Rattle.elab_contexts.specs.Steps.{has_name, is_written}
-use Rattle.elab_contexts.specs.Holding.{UnitHolds, is_object_member}
-use Rattle.elab_holds.proofs.Sound.{class_named, name_found, named_is, lambda_is, lambda_found, listed, complete_found, lambda_same, not_true, is_true}
+use Rattle.elab_contexts.specs.Holding.{UnitHolds}
+use Rattle.elab_holds.proofs.Sound.{class_named, name_found, named_is, lambda_is, lambda_found, complete_found, lambda_same, not_true, is_true}
 use Rattle.elab_holds.proofs.Order.{member_sound, base_complete}
 
 -- Types, by what is known of classes that have names

@@ -7,7 +7,7 @@ use Rattle.std.specs.Str.{bytes_eq}
 use Rattle.std.proofs.Math.Nat.{div-eq_of_lt}
 use Rattle.std.proofs.lemmas.Bool.{and_parts, and_from}
 use Rattle.std.proofs.lemmas.Option.{same_Some}
-use Rattle.elab_rules.specs.cpp_types.Typ.{typ, class, enum, func, Typs, Signature}
+use Rattle.elab_rules.specs.cpp_types.Typ.{class, func, Signature}
 use Rattle.elab_rules.specs.cpp_types.Class.{Class, Function, InOrder, base_of, completion_of}
 use Rattle.elab_rules.specs.cpp_types.Conversion.{bases, first_and}
 use Rattle.elab_rules.specs.cpp_types.Equal.{name_eq, form_eq, typs_eq, flag_eq}
@@ -15,7 +15,6 @@ use Rattle.elab_rules.specs.cpp_types.Trivial.{is_destructor_name}
 use Rattle.cpp_types.proofs.Bases.{bases_unroll}
 use Rattle.elab_rules.specs.cpp_layout.Layout.{Extent, next_multiple, end_from, base_items, class_extent, is_virtual_function, functions_of, has_virtual}
 use Rattle.elab_rules.specs.cpp_layout.Layout.{has_class_pointer}
-use Rattle.elab_rules.specs.cpp_tree.declared.program.FuncKind.{FuncKind}
 use Rattle.elab_rules.specs.cpp_tree.declared.program.FuncKind.TheVariants.{Plain, Destructor}
 use Rattle.elab_rules.specs.cpp_tree.Notation.{plain}
 use Rattle.elab_rules.specs.cpp_tree.Typing.{passes}
@@ -23,18 +22,18 @@ use Rattle.elab_rules.specs.cpp_tree.Units.{SlotFunc}
 use Rattle.elab_rules.specs.cpp_tree.Rows.{is_slot_of, has_slot}
 use Rattle.elab_rules.specs.cpp_tree.Parts.{size_in, sized_class, pointer_behind, adds_pointer_at, has_pointer_at}
 use Rattle.elab_rules.specs.elab_ctx.Ctx.{Ctx, Work, Func}
-use Rattle.elab_rules.specs.Calls.{slot_from, slot_of_function, index_in_class, base_of_class, own_pointer_offset, pointer_along, pointer_offset}
+use Rattle.elab_rules.specs.Calls.{slot_of_function, index_in_class, base_of_class, own_pointer_offset, pointer_along, pointer_offset}
 use Rattle.elab_rules.specs.Classes.{functions_in, same_virtual}
 use Rattle.elab_rules.specs.Initialising.{signature_parameters}
 use Rattle.elab_rules.specs.Functions.{same_kind}
 use Rattle.elab_fits.proofs.Equal.{form_refl, flag_same}
 use Rattle.elab_fits.proofs.Objects.{sized_from, size_is}
 use Rattle.elab_sound_types.specs.Contexts.{HasSoundTypes}
-use Rattle.elab_contexts.specs.Steps.{view}
 use Rattle.elab_contexts.specs.Holding.{UnitHolds}
-use Rattle.elab_contexts.specs.Slots.{slots_at, HasOwnSlot, IsAlone, is_overrider, HasOverriders}
-use Rattle.elab_contexts.proofs.Functions.{Alike, alike_says, bytes_same, typs_same, kind_same}
-use Rattle.elab_holds.specs.Contexts.{HasSlots, SlotsHold}
+use Rattle.elab_contexts.specs.Overriders.{is_overrider, HasOverriders}
+use Rattle.elab_contexts.specs.Slots.{HasOwnSlot, IsAlone}
+use Rattle.elab_contexts.proofs.Functions.{alike_says, bytes_same, bytes_itself, typs_same, kind_same}
+use Rattle.elab_holds.specs.Contexts.{IsApart, AloneByNames, SlotsWhereAlone, SlotsHold}
 use Rattle.elab_holds.proofs.Order.{order_law}
 use Rattle.elab_holds.proofs.Sound.{complete_found}
 use Rattle.elab_holds.proofs.Complete.{class_sized, class_at}
@@ -107,7 +106,30 @@ alone_by c u n j k f g o e q d x p m (plain_one s t) (named a b i) (named h l r)
 
 alone : (c : Ctx) → UnitHolds c → HasOverriders c.funcs → (n k : ℕ) (f : Func) → slice_get c.funcs k ≡ Some f → f.class ≡ Some n → f.kind ≡ Plain
     → f.declared.is_virtual ≡ true → IsAlone c.funcs n k f
-alone c u h n k f e d p v j g o q x w a b = alone_by c u n j k f g o e q d x p (plain_name f p (kinds_are f v (h k f e))) (kinds_are g w (h j g q))
+alone c u h n k f e d p v j g o q x w a b = alone_by c u n j k f g o e q d x p (plain_name f p (kinds_are f v (h k n f e d))) (kinds_are g w (h j n g q x))
+    (overrides_is f.declared o b) (overrides_is g.declared o a)
+
+-- and by names that are apart
+apart_by : (c : Ctx) → UnitHolds c → (n j k : ℕ) (f g : Func) (o : Function) → slice_get c.funcs k ≡ Some f → slice_get c.funcs j ≡ Some g
+    → f.class ≡ Some n → g.class ≡ Some n → f.kind ≡ Plain → IsApart c.funcs n f → (b : Bool) → same_kind g.kind Plain ≡ b
+    → Overrides f.declared o → Overrides g.declared o → j ≡ k
+apart_by c u n j k f g o e q d x p m y t (destroys a b) w = no_way (j ≡ k) (is_destructor_name f.declared.name) m.plain a
+apart_by c u n j k f g o e q d x p m y t (named a b i) (destroys s z) =
+    no_way (j ≡ k) (is_destructor_name f.declared.name) m.plain (ap is_destructor_name a ∙ z)
+apart_by c u n j k f g o e q d x p m false t (named a b i) (named h l r) =
+    no_way (j ≡ k) (bytes_eq g.declared.name f.declared.name) (m.apart j g q x t)
+    (subst (λ (y : List ℕ). bytes_eq g.declared.name y ≡ true) (h ∙ sym a) (bytes_itself g.declared.name))
+apart_by c u n j k f g o e q d x p m true t (named a b i) (named h l r) =
+    let s = kind_same g.kind Plain t in u.slotted.distinct j k g f q e s (alike_says g f (record {
+      name = a ∙ sym h;
+      class = d ∙ sym x;
+      params = b ∙ sym l;
+      const = i ∙ sym r;
+      kind = p ∙ sym s;
+    }))
+
+pub names_alone : AloneByNames
+names_alone c u h k n f e d p v j g o q x w a b = apart_by c u n j k f g o e q d x p (h k n f e d p v) (same_kind g.kind Plain) refl
     (overrides_is f.declared o b) (overrides_is g.declared o a)
 
 -- Its slot
@@ -276,9 +298,12 @@ pointer_is c w u h n i g d e v =
     virtual_by None q = absurd cc
     virtual_by (Some k) q = any_at is_virtual_function k.functions i g q v
 
-pub slots_law : SlotsHold
-slots_law c w u h o k n f e d p v z =
-    let s = u.slotted.own k n f e d p v z (alone c u o n k f e d p v) in record {
+pub alone_law : SlotsWhereAlone
+alone_law c w u h o k n f e d p v z =
+    let s = u.slotted.own k n f e d p v z (o k n f e d p v) in record {
       slot = slot_is c n k f s;
       pointer = pointer_is c w u h n (index_in_class n k c.funcs) f.declared z s.recorded v;
     }
+
+pub slots_law : SlotsHold
+slots_law c w u h o = alone_law c w u h (λ k n f e d p v. alone c u o n k f e d p v)

@@ -1,5 +1,5 @@
 -- Types that are sound pass the tests that the laws of expressions make.
-use Rattle.std.proofs.Common.{arith, ltb-true, lt-ltb, ◌<◌, ◌≡◌, refl, sym, ap, ◌∙◌, subst, ℕ, zero, suc, Bool, true, false, not, ◌&&◌, ◌||◌, nat_lt, List, [], ◌∷◌, length, Option, Some, None, is_some, slice_get, option_and_then}
+use Rattle.std.proofs.Common.{arith, ltb-true, lt-ltb, ◌<◌, ◌≡◌, refl, sym, ap, ◌∙◌, ℕ, zero, suc, Bool, true, false, not, ◌&&◌, ◌||◌, nat_lt, List, [], ◌∷◌, length, Option, Some, None, is_some, slice_get, option_and_then}
 use Rattle.std.proofs.lemmas.Bool.{and_parts, and_from}
 use Rattle.elab_rules.specs.cpp_types.Typ.{Typ, typ, Form, void, int, enum, null, ptr, ref, array, func, class, closure, tx_ex, Signature, signature, Typs, none, more}
 use Rattle.elab_rules.specs.cpp_types.Class.{Class, completion_of, typ_below, form_below, signature_below, typs_below}

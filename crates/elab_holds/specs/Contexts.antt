@@ -1,6 +1,11 @@
 -- What the laws of expressions ask of a context holds of those that elaboration makes.
-use Rattle.std.specs.Prelude.{◌≡◌, ℕ, true, is_some, Some, slice_get}
+use Rattle.std.specs.Prelude.{◌≡◌, ℕ, true, false, List, is_some, Some, slice_get}
+use Rattle.std.specs.Str.{bytes_eq}
 use Rattle.elab_rules.specs.cpp_types.Class.{InOrder, completion_of}
+use Rattle.elab_rules.specs.cpp_types.Trivial.{is_destructor_name}
+use Rattle.elab_rules.specs.Functions.{same_kind}
+use Rattle.elab_rules.specs.cpp_lex.Tokens.{Lexeme}
+use Rattle.elab_rules.specs.cpp_ast.Trees as syntax
 use Rattle.elab_rules.specs.cpp_tree.declared.program.FuncKind.TheVariants.{Plain}
 use Rattle.elab_rules.specs.cpp_tree.Units.{Func as UnitFunc}
 use Rattle.elab_rules.specs.elab_ctx.Ctx.{Ctx, Work, Func}
@@ -8,9 +13,12 @@ use Rattle.elab_fits.specs.Standing.{IsSetting}
 use Rattle.elab_fits_objects.specs.Contexts.{HasMakers}
 use Rattle.elab_fits_forms.specs.Context.{Holds, IsComplete, HasSlot}
 use Rattle.elab_fits_forms.specs.Types.{is_lambda}
+use Rattle.elab_fits_forms.specs.Expressions.{are_spelled}
 use Rattle.elab_sound_types.specs.Contexts.{HasSoundTypes}
 use Rattle.elab_contexts.specs.Holding.{UnitHolds, HasListedFunctions}
-use Rattle.elab_contexts.specs.Slots.{HasOverriders}
+use Rattle.elab_contexts.specs.Overriders.{HasOverriders}
+use Rattle.elab_contexts.specs.Slots.{IsAlone}
+use Rattle.elab_contexts.specs.Texts.{have_class_names}
 use Rattle.state_growth.specs.Settings.{setting_at}
 use Rattle.elab_holds.specs.Locals.{LocalsHold}
 
@@ -33,7 +41,26 @@ MakersHold = (c : Ctx) (w : Work) → UnitHolds c → HasSoundTypes c w → HasM
 abbrev pub ClassesComplete : Type 0
 ClassesComplete = (c : Ctx) (w : Work) (n : ℕ) → UnitHolds c → HasSoundTypes c w → is_some (completion_of c.classes n) ≡ true → IsComplete c.classes n
 
--- where what overrides is a plain function or a destructor, by its name
+-- where no other virtual function of the class overrides what a plain one overrides
+abbrev pub AreAlone : List Func → Type 0
+AreAlone funcs = (k n : ℕ) (f : Func) → slice_get funcs k ≡ Some f → f.class ≡ Some n → f.kind ≡ Plain → f.declared.is_virtual ≡ true → IsAlone funcs n k f
+
+abbrev pub SlotsWhereAlone : Type 0
+SlotsWhereAlone = (c : Ctx) (w : Work) → UnitHolds c → HasSoundTypes c w → AreAlone c.funcs → HasSlots c
+
+-- the name of a virtual function does not begin with `~`, and no special member of its class has it
+pub record IsApart (funcs : List Func) (n : ℕ) (f : Func) : Type 0 where
+  pub plain : is_destructor_name f.declared.name ≡ false
+  pub apart : (j : ℕ) (g : Func) → slice_get funcs j ≡ Some g → g.class ≡ Some n → same_kind g.kind Plain ≡ false
+      → bytes_eq g.declared.name f.declared.name ≡ false
+
+abbrev pub HasNamesApart : List Func → Type 0
+HasNamesApart funcs = (k n : ℕ) (f : Func) → slice_get funcs k ≡ Some f → f.class ≡ Some n → f.kind ≡ Plain → f.declared.is_virtual ≡ true → IsApart funcs n f
+
+abbrev pub AloneByNames : Type 0
+AloneByNames = (c : Ctx) → UnitHolds c → HasNamesApart c.funcs → AreAlone c.funcs
+
+-- so it is where what overrides is a plain function or a destructor, by its name
 abbrev pub SlotsHold : Type 0
 SlotsHold = (c : Ctx) (w : Work) → UnitHolds c → HasSoundTypes c w → HasOverriders c.funcs → HasSlots c
 
@@ -42,4 +69,8 @@ abbrev pub FunctionsListed : Type 0
 FunctionsListed = (c : Ctx) (w : Work) → HasSoundTypes c w → HasListedFunctions c
 
 abbrev pub ContextsHold : Type 0
-ContextsHold = (f : UnitFunc) (c : Ctx) (w : Work) → UnitHolds c → HasOverriders c.funcs → HasSoundTypes c w → LocalsHold c w → Holds (setting_at f c w) c w
+ContextsHold = (f : UnitFunc) (c : Ctx) (w : Work) → UnitHolds c → HasSlots c → HasSoundTypes c w → LocalsHold c w → Holds (setting_at f c w) c w
+
+-- in a text each token of which is spelled with something, classes have names
+abbrev pub TextsHaveNames : Type 0
+TextsHaveNames = (s : List Lexeme) (ts : syntax.Trees) → are_spelled s ts ≡ true → have_class_names s ts ≡ true

@@ -1,5 +1,5 @@
 -- What the laws of expressions ask of the function at hand, and where it holds.
-use Rattle.std.specs.Prelude.{◌≡◌, ℕ, Bool, true, ◌||◌, List, [], ◌∷◌, ◌++◌, Option, Some, None, is_some, slice_get}
+use Rattle.std.specs.Prelude.{◌≡◌, ℕ, true, List, Option, Some, None, is_some, slice_get}
 use Rattle.elab_rules.specs.cpp_types.Typ.{Typ, Signature, ptr}
 use Rattle.elab_rules.specs.cpp_types.Class.{Class, completion_of}
 use Rattle.elab_rules.specs.cpp_lex.Tokens.{Lexeme}
@@ -13,6 +13,7 @@ use Rattle.elab_rules.specs.Lambdas.{Written, lambda_entered, declared_closure, 
 use Rattle.elab_rules.specs.Members.{in_object}
 use Rattle.elab_fits.specs.Standing.{On}
 use Rattle.elab_fits_forms.specs.Context.{is_item_of}
+use Rattle.state_growth.specs.Settings.{StateGrows}
 
 -- the function at hand: its variables, its object, the class around it and the lambda around it
 pub record Locals : Type 0 where
@@ -58,6 +59,11 @@ pub record Stays (old new : Locals) (before now : List Typ) : Type 0 where
 
 abbrev pub LocalsStay : Type 0
 LocalsStay = (old new : Locals) (before now : List Typ) → Stays old new before now → HoldIn old before → HoldIn new now
+
+-- and where the state has grown
+abbrev pub LocalsGrow : Type 0
+LocalsGrow = (a b : State) → StateGrows a b → b.ctx.variables ≡ a.ctx.variables → b.ctx.this ≡ a.ctx.this → b.ctx.class ≡ a.ctx.class
+    → b.ctx.lambda ≡ a.ctx.lambda → LocalsHold a.ctx a.work → LocalsHold b.ctx b.work
 
 -- into a function whose class, if it has one, is complete
 abbrev pub FunctionsEntered : Type 0

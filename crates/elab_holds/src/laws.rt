@@ -1,11 +1,12 @@
 //! Laws of the contexts that elaboration makes. A function here does nothing: its clauses are the laws.
 
-ghost use Rattle.elab_holds.specs.Contexts.{ClassesInOrder, SettingsHold, MakersHold, ClassesComplete, SlotsHold, FunctionsListed, ContextsHold};
-ghost use Rattle.elab_holds.specs.Locals.{LocalsStay, FunctionsEntered, ObjectsEntered, ParametersPlaced, LambdasEntered, VariablesPlaced, VariablesDeclared};
+ghost use Rattle.elab_holds.specs.Contexts.{ClassesInOrder, SettingsHold, MakersHold, ClassesComplete, AloneByNames, SlotsWhereAlone, SlotsHold, FunctionsListed, ContextsHold, TextsHaveNames};
+ghost use Rattle.elab_holds.specs.Locals.{LocalsStay, LocalsGrow, FunctionsEntered, ObjectsEntered, ParametersPlaced, LambdasEntered, VariablesPlaced, VariablesDeclared};
 
 /// The function at hand, from its parameters on.
 pub fn locals()
     ensures stay { LocalsStay }
+    ensures grow { LocalsGrow }
     ensures functions { FunctionsEntered }
     ensures objects { ObjectsEntered }
     ensures parameters { ParametersPlaced }
@@ -20,7 +21,10 @@ pub fn contexts()
     ensures settings { SettingsHold }
     ensures makers { MakersHold }
     ensures complete { ClassesComplete }
+    ensures names { AloneByNames }
+    ensures alone { SlotsWhereAlone }
     ensures slots { SlotsHold }
     ensures listed { FunctionsListed }
     ensures contexts { ContextsHold }
+    ensures texts { TextsHaveNames }
 {}

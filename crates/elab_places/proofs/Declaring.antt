@@ -17,6 +17,7 @@ use Rattle.elab_rules.specs.Objects.{element_of}
 use Rattle.elab_rules.specs.Values
 use Rattle.elab_rules.specs.Initialising
 use Rattle.elab_rules.specs.Operators
+use Rattle.elab_rules.specs.Operators.{within_if_sized}
 use Rattle.elab_rules.specs.Sizes.{typ_sized}
 use Rattle.elab_rules.specs.Strings.{string_bytes}
 use Rattle.elab_rules.specs.Types.{Declared, has_auto, is_bounded}
@@ -253,7 +254,8 @@ module _ (p : ℕ) where
         → On (Ends st) (Statements.plain_variable lams s st name t at init)
     plain_variable st name t at init own = skip (Ends st) (Statements.declarable st.ctx at t) _
         (λ x. skip (Ends st) (check at BadDeclaration (is_bounded t)) _ (λ z. skip (Ends st) (typ_sized st.ctx.classes at t) _
-        (λ y. with_initialiser st (Statements.placed_variable st name t) t at init (placed st name t own))))
+        (λ y. skip (Ends st) (within_if_sized st.ctx at t) _
+        (λ w. with_initialiser st (Statements.placed_variable st name t) t at init (placed st name t own)))))
 
     variable_by : (st : State) (name : List ℕ) (t : Typ) (at : At) (before : Option Typ) (init : syntax.Trees) (b : Bool) → DefaultsOwn st.ctx.defaults
         → On (Deduces st) (Statements.variable_by lams s st name t at before init b)

@@ -22,7 +22,7 @@ use Rattle.elab_rules.specs.Objects.{followed_by}
 use Rattle.elab_rules.specs.Constants.{constant}
 use Rattle.elab_rules.specs.Casts.{within_exception}
 use Rattle.elab_rules.specs.Initialising.{initial, class_from}
-use Rattle.elab_rules.specs.Operators.{value, truth, is_complete}
+use Rattle.elab_rules.specs.Operators.{value, truth, is_complete, within_if_sized}
 use Rattle.elab_rules.specs.Sizes.{typ_sized}
 use Rattle.elab_rules.specs.Strings.{string_bytes}
 use Rattle.elab_rules.specs.Types.{Declared, Parameter, has_auto, is_bounded}
@@ -65,7 +65,7 @@ module _ (K : Round → Type 0) where
     all_lambdas st syntax.none h = h
     all_lambdas st (syntax.more e es) h = bind Kept Kept (lams s st e) _ (keeps s st e h) (λ x i. all_lambdas x es i)
 
-    full_operand : (st : State) (e : syntax.Tree) → Kept st → On FullKept (Statements.full_operand lams s st e)
+    pub full_operand : (st : State) (e : syntax.Tree) → Kept st → On FullKept (Statements.full_operand lams s st e)
     full_operand st e h = bind Kept FullKept (lams s st e) _ (keeps s st e h)
         (λ x i. skip FullKept (and_then (expression_of s x.ctx x.work e) (chosen_operand x.ctx)) _ (λ o. i))
 
@@ -121,7 +121,7 @@ module _ (K : Round → Type 0) where
         → On Ends (Statements.plain_variable lams s st name t at init)
     plain_variable st name t at init h = skip Ends (Statements.declarable st.ctx at t) _
         (λ x. skip Ends (check at BadDeclaration (is_bounded t)) _ (λ z. skip Ends (typ_sized st.ctx.classes at t) _
-        (λ y. with_initialiser st (Statements.placed_variable st name t) t at init h)))
+        (λ y. skip Ends (within_if_sized st.ctx at t) _ (λ w. with_initialiser st (Statements.placed_variable st name t) t at init h))))
 
     variable_by : (st : State) (name : List ℕ) (t : Typ) (at : At) (before : Option Typ) (init : syntax.Trees) (b : Bool) → Kept st
         → On Deduces (Statements.variable_by lams s st name t at before init b)

@@ -49,8 +49,8 @@ entered st w rs r c own = record { frame = length-append (result_items r) _; own
 lambda_with_made : (s : List Lexeme) (st : State) (w : Written) (r : Typ) (sig : Signature) → DefaultsOwn st.ctx.defaults
     → On (MakesBody (length (result_items r) + 1 + length w.params) (length st.ctx.funcs) st) (Lambdas.lambda_with s st w r sig)
 lambda_with_made s st w r sig own = skip P (check w.at Incomplete (is_complete st.ctx (held_class r))) _
-    (λ y. behind (with_parameters s into w.params)
-    (parameters s into (length (result_items r) + 1) w.params (entered st w (known r) r (declared_closure st w sig) own)))
+    (λ y. skip P (Lambdas.closure_sized st w sig) _ (λ z. behind (with_parameters s into w.params)
+    (parameters s into (length (result_items r) + 1) w.params (entered st w (known r) r (declared_closure st w sig) own))))
   where
     words : ℕ
     words = length (result_items r) + 1 + length w.params
@@ -103,9 +103,10 @@ left st w sig at func tree y = skip (FrameKept st) (Functions.within_frame y.ctx
 
 with_leaves : (s : List Lexeme) (st : State) (w : Written) (r : Typ) (sig : Signature) → On (FrameKept st) (Lambdas.lambda_with s st w r sig)
 with_leaves s st w r sig = skip (FrameKept st) (check w.at Incomplete (is_complete st.ctx (held_class r))) _
-    (λ y. skip (FrameKept st) (Lambdas.body_statements s (Lambdas.inside st (lambda_entered st w (known r) r) (declared_closure st w sig)) w) _
+    (λ y. skip (FrameKept st) (Lambdas.closure_sized st w sig) _
+    (λ z. skip (FrameKept st) (Lambdas.body_statements s (Lambdas.inside st (lambda_entered st w (known r) r) (declared_closure st w sig)) w) _
     (λ d. left st w sig w.at (length st.ctx.funcs)
-    (statement (forms.Block false) w.body_at (followed_by d.trees (Functions.end_of d.state.ctx r w.body_at))) d.state))
+    (statement (forms.Block false) w.body_at (followed_by d.trees (Functions.end_of d.state.ctx r w.body_at))) d.state)))
 
 made_leaves : (s : List Lexeme) (st : State) (w : Written) → On (FrameKept st) (Lambdas.lambda_made s st w)
 made_leaves s st w = skip (FrameKept st) (Lambdas.result_of s st w w.result) _

@@ -9,6 +9,7 @@ pub mod Counting
 pub mod Declarations
 pub mod Declaring
 pub mod Defaults
+pub mod DefaultsKept
 pub mod Expressions
 pub mod Implied
 pub mod Initials
@@ -26,4 +27,5 @@ pub mod Rounds
 pub mod Statements
 pub mod Steps
 pub mod Values
+pub mod Walks
 pub mod Words

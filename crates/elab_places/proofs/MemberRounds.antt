@@ -1,5 +1,5 @@
 -- Bodies of constructors, destructors and implicit members own the places behind the words that their functions are shown with, and those before them do.
-use Rattle.std.proofs.Common.{◌≡◌, ap, ℕ, suc, ◌+◌, Bool, List, [], ◌∷◌, length, Option, Some, None, is_none, not, slice_get, arith}
+use Rattle.std.proofs.Common.{◌≡◌, ap, ℕ, suc, ◌+◌, Bool, List, [], ◌∷◌, length, Option, Some, None, is_none, not, slice_get, arith, true, false, Ok}
 use Rattle.elab_rules.specs.cpp_types.Typ.{Typ, class, Typs, none as no_typs, more as and_typ}
 use Rattle.elab_rules.specs.cpp_types.Class.{Member}
 use Rattle.elab_rules.specs.cpp_types.declared.classes.At.{At}
@@ -9,15 +9,16 @@ use Rattle.elab_rules.specs.cpp_ast.Trees as syntax
 use Rattle.elab_rules.specs.cpp_tree.declared.program.FuncKind.{FuncKind}
 use Rattle.elab_rules.specs.cpp_tree.declared.program.FuncKind.TheVariants.{Destructor}
 use Rattle.elab_rules.specs.cpp_tree.declared.faults.IllRule.TheVariants.{Redeclared, NoMember, UnknownName, OutOfProfile}
-use Rattle.elab_rules.specs.cpp_tree.Trees.{Tree, none}
+use Rattle.elab_rules.specs.cpp_tree.Trees.{Tree, none, one}
 use Rattle.elab_rules.specs.cpp_tree.Notation.{plain}
 use Rattle.elab_rules.specs.cpp_tree.Typing.{unqualified}
-use Rattle.elab_rules.specs.elab_ctx.Steps.{expect, check, at_of, spelling, TypedAll}
+use Rattle.elab_rules.specs.elab_ctx.Steps.{and_then, expect, check, at_of, spelling, Made, TypedAll}
 use Rattle.elab_rules.specs.Initialising
 use Rattle.elab_rules.specs.Names.{members_in}
 use Rattle.elab_rules.specs.Calls.{base_of_class}
 use Rattle.elab_rules.specs.Types.{type_named}
-use Rattle.elab_rules.specs.Braces.{default_at}
+use Rattle.elab_rules.specs.Strings.{string_bytes}
+use Rattle.elab_rules.specs.Braces.{default_at, string_object, string_token, is_char_array, syntax_place}
 use Rattle.elab_rules.specs.Expressions.{operands_of}
 use Rattle.elab_rules.specs.Statements
 use Rattle.elab_rules.specs.Statements.{State, Done, Lambdas, statements_of, with_work}
@@ -28,9 +29,10 @@ use Rattle.elab_rules.specs.Members.{Given, Giving, in_object, as_base_of}
 use Rattle.elab_rules.specs.Implicit
 use Rattle.elab_rules.specs.Implicit.{own_operand, with_source}
 use Rattle.elab_places.specs.Functions.{copy_words, implied_words}
-use Rattle.elab_places.specs.Round.{Round, round_of, AllOwned, ConstructorsKeepBodies, DestructorsKeepBodies, ImpliedKeepBodies}
+use Rattle.elab_places.specs.Bodies.{DefaultsOwn}
+use Rattle.elab_places.specs.Round.{Round, round_of, BodiesOwn, AllOwned, ConstructorsKeepBodies, DestructorsKeepBodies, DefaultsKeepBodies, ImpliedKeepBodies}
 use Rattle.elab_places.proofs.Counting.{place, used, room}
-use Rattle.elab_places.proofs.Steps.{On, bind, skip, held_by}
+use Rattle.elab_places.proofs.Steps.{On, bind, skip, turn, held_by}
 use Rattle.elab_places.proofs.Declaring.{Ends}
 use Rattle.elab_places.proofs.Bodies.{on_all, Enters, parameters, in_body}
 use Rattle.elab_places.proofs.Constructors as constructors
@@ -38,7 +40,9 @@ use Rattle.elab_places.proofs.Constructors.{Gathers, PartsEnd, given_all, in_obj
 use Rattle.elab_places.proofs.Implied as copied
 use Rattle.elab_places.proofs.Keeping as keeping
 use Rattle.elab_places.proofs.Lambdas.{lambdas_law}
-use Rattle.elab_places.proofs.Rounds.{both, InBody, in_keep, made_keep}
+use Rattle.elab_places.proofs.Rounds.{both, InBody, in_keep, made_keep, lambdas_keep}
+use Rattle.elab_places.proofs.Defaults.{default_made}
+use Rattle.elab_places.proofs.AtFile.{each_keeps}
 
 module _ (K : Round → Type 0) where
   abbrev Kept : State → Type 0
@@ -222,3 +226,49 @@ implied_keeps st at func n kind ps o = constructor_implied st at func n ps o
 pub implied_bodies_law : ImpliedKeepBodies
 implied_bodies_law st at func n kind ps x all l w e =
     held_by Whole (Implicit.body_implied st at func n kind ps) x (implied_keeps st at func n kind ps (record { all = all; known = l; counted = w })) e
+
+-- Initialisers of members: they have no bodies, but the lambdas in them do
+
+whole_value : (s : List Lexeme) (st : State) (t : Typ) (e : syntax.Tree) → Whole st
+    → On (keeping.Ends AllOwned) (and_then (Statements.full_operand lambdas_of s st e)
+    (λ (f : Statements.Full). and_then (Statements.copy_initialised f.state.ctx f.state.work t f.operand)
+    (λ (m : Made). Ok (record { trees = one (Statements.full f.operand.at m.tree); state = with_work f.state m.work }))))
+whole_value s st t e h = bind (λ (f : Statements.Full). Whole f.state) (keeping.Ends AllOwned) (Statements.full_operand lambdas_of s st e) _
+    (keeping.full_operand AllOwned lambdas_of lambdas_keep s st e h)
+    (λ f i. skip (keeping.Ends AllOwned) (Statements.copy_initialised f.state.ctx f.state.work t f.operand) _ (λ m. i))
+
+value_keeps : (s : List Lexeme) (st : State) (t : Typ) (e : syntax.Tree) (b : Bool) (o : Option ℕ) → Whole st
+    → On (keeping.Ends AllOwned) (Members.default_value lambdas_of s st t e b o)
+value_keeps s st t e true (Some i) h = skip (keeping.Ends AllOwned) (string_object st.ctx t (syntax_place e) (string_bytes (spelling s i))) _ (λ x. h)
+value_keeps s st t e true None h = whole_value s st t e h
+value_keeps s st t e false o h = whole_value s st t e h
+
+abbrev Bodied : State → Type 0
+Bodied x = BodiesOwn x.ctx.funcs x.bodies
+
+one_default : (s : List Lexeme) (st : State) (n i : ℕ) (t : Typ) (e : syntax.Tree) → Whole st → On Whole (Members.default_made lambdas_of s st n i t e)
+one_default s st n i t e h = turn (λ (x : State). DefaultsOwn x.ctx.defaults × Bodied x) Whole (Members.default_made lambdas_of s st n i t e)
+    (λ x j. record { defaults = j.0; bodies = j.1 })
+    (both (λ (x : State). DefaultsOwn x.ctx.defaults) Bodied (Members.default_made lambdas_of s st n i t e)
+    (default_made lambdas_of lambdas_law s st n i t e h.defaults)
+    (bind (keeping.Ends AllOwned) Bodied (Members.default_value lambdas_of s (in_object st n) t e (is_char_array t) (string_token e)) _
+    (value_keeps s (in_object st n) t e (is_char_array t) (string_token e) (record { defaults = h.defaults; bodies = h.bodies }))
+    (λ d j. j.bodies)))
+
+default_for : (s : List Lexeme) (st : State) (n : ℕ) (i : Option ℕ) (e : Option syntax.Tree) → Whole st → On Whole (Members.default_for lambdas_of s st n i e)
+default_for s st n (Some i) (Some e) h = one_default s st n i (Members.member_type (slice_get (members_in (slice_get st.ctx.classes n)) i)) e h
+default_for s st n (Some i) None h = h
+default_for s st n None e h = h
+
+default_of : (s : List Lexeme) (n : ℕ) (st : State) (t : syntax.Tree) → Whole st → On Whole (Members.default_of lambdas_of s n st t)
+default_of s n st (syntax.node k.MemberDeclarator p (Some t) kids) h =
+    default_for s st n (Members.member_index 0 (spelling s t) (members_in (slice_get st.ctx.classes n))) (Members.initialiser_in kids) h
+default_of s n st t h = h
+
+defaults_of : (s : List Lexeme) (n : ℕ) (st : State) (t : syntax.Tree) → Whole st → On Whole (Members.defaults_of lambdas_of s n st t)
+defaults_of s n st (syntax.node k.MemberDeclaration p token kids) h = each_keeps Whole (Members.default_of lambdas_of s n) (λ x t i. default_of s n x t i) st kids h
+defaults_of s n st t h = h
+
+pub defaults_bodies_law : DefaultsKeepBodies
+defaults_bodies_law s n st ts x h e = held_by Whole (Members.all_defaults lambdas_of s n st ts) x
+    (each_keeps Whole (Members.defaults_of lambdas_of s n) (λ y t i. defaults_of s n y t i) st ts h) e

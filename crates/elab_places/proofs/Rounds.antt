@@ -49,7 +49,7 @@ both P Q (Err e) h i = tt
 
 -- Functions that are known
 
-front : (fs gs : List Func) (i : ℕ) → i < length fs → func_at (fs ++ gs) i ≡ func_at fs i
+pub front : (fs gs : List Func) (i : ℕ) → i < length fs → func_at (fs ++ gs) i ≡ func_at fs i
 front fs gs i l = unwrap_or-slice_get (fs ++ gs) i no_function ∙ get_or_append_left fs gs no_function i l ∙ sym (unwrap_or-slice_get fs i no_function)
 
 last : (fs : List Func) (f : Func) → func_at (fs ++ f ∷ []) (length fs) ≡ f
@@ -64,7 +64,7 @@ body_more fs f b h = record {
   owns = subst (λ (n : ℕ). Owned n (length b.frame) (places_of b.tree)) (ap words_of (sym (front fs (f ∷ []) b.func h.known))) h.owns;
 }
 
-bodies_more : (fs : List Func) (f : Func) (bs : List Body) → BodiesOwn fs bs → BodiesOwn (fs ++ f ∷ []) bs
+pub bodies_more : (fs : List Func) (f : Func) (bs : List Body) → BodiesOwn fs bs → BodiesOwn (fs ++ f ∷ []) bs
 bodies_more fs f [] h = tt
 bodies_more fs f (b ∷ bs) h = (body_more fs f b h.0, bodies_more fs f bs h.1)
 
@@ -112,9 +112,10 @@ record Left (st : State) (w : Written) (sig : Signature) (r : Round) : Type 0 wh
 lambda_adds : (s : List Lexeme) (st : State) (w : Written) (r : Typ) (sig : Signature) → DefaultsOwn st.ctx.defaults → signature_result sig ≡ r
     → On (Adds st) (Lambdas.lambda_with s st w r sig)
 lambda_adds s st w r sig own e = skip (Adds st) (check w.at Incomplete (is_complete st.ctx (held_class r))) _
-    (λ y. begun (with_parameters s into w.params) (both (Enters words) (λ (x : State). Left st w sig (round_of x)) (with_parameters s into w.params)
+    (λ y. skip (Adds st) (Lambdas.closure_sized st w sig) _
+    (λ v. begun (with_parameters s into w.params) (both (Enters words) (λ (x : State). Left st w sig (round_of x)) (with_parameters s into w.params)
     (parameters s into (length (result_items r) + 1) w.params (made.entered st w (known r) r (declared_closure st w sig) own))
-    (keeping.parameters (Left st w sig) s into w.params (record { funcs = same_call st w sig; bodies = refl }))))
+    (keeping.parameters (Left st w sig) s into w.params (record { funcs = same_call st w sig; bodies = refl })))))
   where
     words : ℕ
     words = length (result_items r) + 1 + length w.params
@@ -234,7 +235,7 @@ all_added st x h a = record {
       })));
 }
 
-lambdas_keep : (s : List Lexeme) (st : State) (t : syntax.Tree) → AllOwned (round_of st) → On (λ (x : State). AllOwned (round_of x)) (lambdas_of s st t)
+pub lambdas_keep : (s : List Lexeme) (st : State) (t : syntax.Tree) → AllOwned (round_of st) → On (λ (x : State). AllOwned (round_of x)) (lambdas_of s st t)
 lambdas_keep s st t h = each AllOwned (λ r i. i.defaults) all_added s st t h
 
 pub lambdas_bodies_law : LambdasKeepBodies

@@ -12,7 +12,7 @@ use Rattle.elab_rules.specs.Statements.{State, Done, Body, statement_of}
 use Rattle.elab_rules.specs.Functions.{Header, function_body}
 use Rattle.elab_rules.specs.Implicit.{body_implied}
 use Rattle.elab_rules.specs.Lambdas.{lambdas_of}
-use Rattle.elab_rules.specs.Members.{constructor_body, destructor_body}
+use Rattle.elab_rules.specs.Members.{constructor_body, destructor_body, all_defaults}
 use Rattle.elab_rules.specs.Programs.{words_of}
 use Rattle.elab_places.specs.Places.{Owned}
 use Rattle.elab_places.specs.Bodies.{DefaultsOwn}
@@ -65,4 +65,9 @@ DestructorsKeepBodies = (s : List Lexeme) (st : State) (h : Header) (n func : �
 abbrev pub ImpliedKeepBodies : Type 0
 ImpliedKeepBodies = (st : State) (at : At) (func n : ℕ) (kind : FuncKind) (ps : Typs) (x : State) → AllOwned (round_of st)
     → func < length st.ctx.funcs → words_of (func_at st.ctx.funcs func) ≡ implied_words kind ps → body_implied st at func n kind ps ≡ Ok x
+    → AllOwned (round_of x)
+
+-- initialisers of members
+abbrev pub DefaultsKeepBodies : Type 0
+DefaultsKeepBodies = (s : List Lexeme) (n : ℕ) (st : State) (ts : syntax.Trees) (x : State) → AllOwned (round_of st) → all_defaults lambdas_of s n st ts ≡ Ok x
     → AllOwned (round_of x)

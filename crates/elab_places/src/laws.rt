@@ -2,7 +2,7 @@
 
 ghost use Rattle.elab_places.specs.Bodies.{ItemsOwn, StatementsOwn, BlocksOwn, HandlersOwn};
 ghost use Rattle.elab_places.specs.Round.{LambdasKeepBodies, StatementsKeepBodies, FunctionsKeepBodies, ConstructorsKeepBodies};
-ghost use Rattle.elab_places.specs.Round.{DestructorsKeepBodies, ImpliedKeepBodies};
+ghost use Rattle.elab_places.specs.Round.{DestructorsKeepBodies, DefaultsKeepBodies, ImpliedKeepBodies};
 ghost use Rattle.elab_places.specs.Declared.{DeclarationsKeep, AllDeclarationsKeep, UnitsKeep, UnitsBegin, AllDefaultsOwn};
 ghost use Rattle.elab_places.specs.Functions.{FunctionBodiesOwn, ConstructorBodiesOwn, DestructorBodiesOwn, ImpliedBodiesOwn, DefaultsMadeOwn};
 ghost use Rattle.elab_places.specs.Functions.{LambdaBodiesOwn, LambdasLeave, NoLambdasLeave, WordsCounted, PlacesFree};
@@ -68,5 +68,6 @@ pub fn made()
     ensures functions { FunctionsKeepBodies }
     ensures constructors { ConstructorsKeepBodies }
     ensures destructors { DestructorsKeepBodies }
+    ensures defaults { DefaultsKeepBodies }
     ensures implied { ImpliedKeepBodies }
 {}

@@ -1,6 +1,6 @@
 -- Functions that are declared and defined, in their class or outside: what stood before stands behind them.
-use Rattle.std.proofs.Common.{◌≡◌, refl, ap, subst, ℕ, Bool, true, false, List, [], ◌∷◌, ◌++◌, Option, Some, None, unwrap_or}
-use Rattle.std.specs.Prelude.{slice_get, slice_set, not, ◌||◌, if◌then◌else◌}
+use Rattle.std.proofs.Common.{refl, ℕ, Bool, true, false, List, [], ◌∷◌, ◌++◌, Option, Some, None}
+use Rattle.std.specs.Prelude.{slice_get, not, ◌||◌, if◌then◌else◌}
 use Rattle.std.specs.List.{list_any}
 use Rattle.elab_rules.specs.cpp_types.declared.classes.At.{At}
 use Rattle.elab_rules.specs.cpp_lex.Tokens.{Lexeme}
@@ -11,11 +11,11 @@ use Rattle.elab_rules.specs.cpp_tree.declared.faults.IllRule.TheVariants.{BadDec
 use Rattle.elab_rules.specs.cpp_tree.declared.program.FuncKind.{FuncKind}
 use Rattle.elab_rules.specs.elab_ctx.Ctx.{Ctx, Func}
 use Rattle.elab_rules.specs.elab_ctx.Steps.{check, expect}
-use Rattle.elab_rules.specs.Initialising.{func_at, no_function}
+use Rattle.elab_rules.specs.Initialising.{func_at}
 use Rattle.elab_rules.specs.Statements.{State, Lambdas}
 use Rattle.elab_rules.specs.Functions.{Storage, Header, Placed, new_function, is_same_function, first_from, agrees, is_function_entity, function_named}
 use Rattle.elab_rules.specs.Functions.{name_declared, declared_in, main_fits, may_be_c, dynamic_fits, header_sized, text_sized, function_declared}
-use Rattle.elab_rules.specs.Functions.{defined_function, with_definition}
+use Rattle.elab_rules.specs.Functions.{with_definition}
 use Rattle.elab_rules.specs.Classes.{Method, Started, started_from, body_in, last_token, token_end}
 use Rattle.elab_rules.specs.Members.{outside_linkage, outside_text, linked_definition, outside_defined, outside_body, outside_words, is_member_named}
 use Rattle.elab_rules.specs.Members.{outside_agrees, outside_method, outside_with, member_defined, method_body}

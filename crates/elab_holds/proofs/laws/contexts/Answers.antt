@@ -1,7 +1,8 @@
 use Rattle.elab_holds.proofs.Order.{order_law, listed_law}
 use Rattle.elab_holds.proofs.Complete.{complete_law}
 use Rattle.elab_holds.proofs.Makers.{makers_law}
-use Rattle.elab_holds.proofs.Slots.{slots_law}
+use Rattle.elab_holds.proofs.Slots.{names_alone, alone_law, slots_law}
+use Rattle.elab_holds.proofs.Texts.{texts_law}
 use Rattle.elab_holds.proofs.Contexts.{settings_are, contexts_law}
 use Rattle.elab_holds.proofs.laws.contexts.Goals as goal
 
@@ -25,3 +26,12 @@ returns-clause-contexts c = contexts_law
 
 pub returns-clause-slots : goal.returns-clause-slots
 returns-clause-slots c = slots_law
+
+pub returns-clause-texts : goal.returns-clause-texts
+returns-clause-texts c = texts_law
+
+pub returns-clause-alone : goal.returns-clause-alone
+returns-clause-alone c = alone_law
+
+pub returns-clause-names : goal.returns-clause-names
+returns-clause-names c = names_alone

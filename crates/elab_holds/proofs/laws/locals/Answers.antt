@@ -1,4 +1,4 @@
-use Rattle.elab_holds.proofs.Locals.{stay_law, entered_law, objects_law, parameters_law, lambdas_law, placed_law, declared_law}
+use Rattle.elab_holds.proofs.Locals.{stay_law, grow_law, entered_law, objects_law, parameters_law, lambdas_law, placed_law, declared_law}
 use Rattle.elab_holds.proofs.laws.locals.Goals as goal
 
 pub returns-clause-stay : goal.returns-clause-stay
@@ -21,3 +21,6 @@ returns-clause-variables c = placed_law
 
 pub returns-clause-declared : goal.returns-clause-declared
 returns-clause-declared c = declared_law
+
+pub returns-clause-grow : goal.returns-clause-grow
+returns-clause-grow c = grow_law

@@ -1,4 +1,4 @@
-use Rattle.elab_places.proofs.Declarations.{declarations_law, all_declarations_law, units_law, begin_law, all_defaults_law}
+use Rattle.elab_places.proofs.DefaultsKept.{declarations_law, all_declarations_law, units_law, begin_law, all_defaults_law}
 use Rattle.elab_places.proofs.laws.declarations.Goals as goal
 
 pub returns-clause-each : goal.returns-clause-each

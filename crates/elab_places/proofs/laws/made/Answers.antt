@@ -1,4 +1,4 @@
-use Rattle.elab_places.proofs.MemberRounds.{constructors_bodies_law, destructors_bodies_law, implied_bodies_law}
+use Rattle.elab_places.proofs.MemberRounds.{constructors_bodies_law, destructors_bodies_law, defaults_bodies_law, implied_bodies_law}
 use Rattle.elab_places.proofs.Rounds.{lambdas_bodies_law, statements_bodies_law, functions_bodies_law}
 use Rattle.elab_places.proofs.laws.made.Goals as goal
 
@@ -16,6 +16,9 @@ returns-clause-constructors c = constructors_bodies_law
 
 pub returns-clause-destructors : goal.returns-clause-destructors
 returns-clause-destructors c = destructors_bodies_law
+
+pub returns-clause-defaults : goal.returns-clause-defaults
+returns-clause-defaults c = defaults_bodies_law
 
 pub returns-clause-implied : goal.returns-clause-implied
 returns-clause-implied c = implied_bodies_law
