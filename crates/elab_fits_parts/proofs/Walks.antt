@@ -135,7 +135,7 @@ classes_law s st at kids home b r d u n e f g i j h =
     let o : IsOpen b.ctx.classes home.number = subst (λ (k : ℕ). IsOpen b.ctx.classes k) (sym g) (x.unclosed u.types refl) in
     let z = on_ok (Read home.number y) (members_of s home (record { state = y; members = []; initialised = [] }) (members_among kids)) r i
     (members_read s y home (members_among kids) o (x.from.types u.types)) in
-    let l = on_ok (λ (c : Ctx). Leaves y (record r.state { ctx = c })) (closed_class at home.number (completed r.state.ctx home at r.members r.initialised)) d j
+    let l = on_ok (λ (c : Ctx). From y (record r.state { ctx = c })) (closed_class at home.number (completed r.state.ctx home at r.members r.initialised)) d j
     (brace_leaves y home at r z n w.0 w.1) in
     let v : Ctx = completed r.state.ctx home at r.members r.initialised in
     let q = closing r.state.ctx home at r.members r.initialised in record {
