@@ -1,5 +1,5 @@
 -- The body of a lambda fits, and so do those that were made before it.
-use Rattle.std.proofs.Common.{◌≡◌, refl, sym, ap, subst, true, List, [], ◌∷◌, ◌++◌, length, slice_get, Some}
+use Rattle.std.proofs.Common.{◌≡◌, sym, ap, subst, true, List, length}
 use Rattle.elab_rules.specs.cpp_types.Typ.{Typ}
 use Rattle.elab_rules.specs.cpp_types.Class.{Function, held}
 use Rattle.elab_rules.specs.cpp_lex.Tokens.{Lexeme}
@@ -18,18 +18,15 @@ use Rattle.state_growth.proofs.Steps.{Ends}
 use Rattle.elab_fits_states.specs.States.{AreTexts, setting, IsGood}
 use Rattle.elab_fits_states.specs.Made.{MadeFits, AllBodiesFit}
 use Rattle.elab_fits_states.proofs.Good.{holds_of}
+use Rattle.elab_fits_states.proofs.Lists.{last_item}
 use Rattle.elab_fits_lambdas.specs.Made.{lambda_inside, call_signature, lambda_block, lambda_left, IsLambda}
 use Rattle.elab_fits_lambdas.specs.Lambdas.{IsCall}
-use Rattle.elab_fits_lambdas.proofs.Captured.{one_more}
+use Rattle.elab_contexts.proofs.Lists.{one_more}
 use Rattle.elab_fits_lambdas.proofs.Closures.{body_kept}
 use Rattle.elab_fits_lambdas.proofs.Entered.{IsDone, result_same, statements_fit}
-use Rattle.elab_fits_lambdas.proofs.Made.{answered}
+use Rattle.elab_fits_states.proofs.Reading.{answered}
 use Rattle.elab_fits_lambdas.proofs.Results.{complete_kept, result_fits}
 use Rattle.elab_fits_lambdas.proofs.Types.{lambda_kept}
-
-pub last_func : (fs : List Func) (f : Func) → slice_get (fs ++ f ∷ []) (length fs) ≡ Some f
-last_func [] f = refl
-last_func (g ∷ fs) f = last_func fs f
 
 module _ (f : UnitFunc) (s : List Lexeme) (st : State) (ts : syntax.Trees) (y : State) (g : IsGood f st) (t : AreTexts s ts)
     (h : IsLambda s st ts y) where
@@ -46,7 +43,7 @@ module _ (f : UnitFunc) (s : List Lexeme) (st : State) (ts : syntax.Trees) (y : 
 
   abbrev found : HasDeclared end.state.ctx.funcs (length st.ctx.funcs) declared
   found = (answered (Ends e) (body_statements s e h.text) end (body_kept s e h.text) h.made.known.read).kept.funcs.kept (length st.ctx.funcs) declared
-      (last_func st.ctx.funcs declared)
+      (last_item st.ctx.funcs declared)
 
   abbrev call : UnitFunc
   call = shown end.state.ctx.classes found.func

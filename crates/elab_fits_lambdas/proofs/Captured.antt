@@ -1,5 +1,5 @@
 -- What a lambda captures is at hand.
-use Rattle.std.proofs.Common.{◌≡◌, refl, ℕ, zero, suc, Bool, true, false, ◌||◌, List, [], ◌∷◌, ◌++◌, slice_get, Option, Some, None, is_some, Ok}
+use Rattle.std.proofs.Common.{◌≡◌, refl, ℕ, Bool, true, false, ◌||◌, List, [], ◌∷◌, slice_get, Option, Some, None, is_some, Ok}
 use Rattle.std.specs.Prelude.{if◌then◌else◌, not, ◌&&◌}
 use Rattle.std.proofs.Common.{subst}
 use Rattle.std.proofs.lemmas.Option.{same_Some}
@@ -21,16 +21,9 @@ use Rattle.elab_rules.specs.Lambdas.{copies_elements, capture_this, explicit_var
 use Rattle.elab_rules.specs.Lambdas.{captured_uses, is_captured, adds}
 use Rattle.elab_fits.specs.Standing.{On}
 use Rattle.elab_fits.proofs.Steps.{bind, skip, expected, either}
+use Rattle.elab_contexts.proofs.Lists.{one_more}
 use Rattle.elab_fits_forms.specs.Expressions.{IsCapturedVariable, IsCapture}
 use Rattle.elab_fits_lambdas.specs.Captured.{AreCaptures, ExplicitAreCaptures, DefaultsAreCaptures}
-
--- what is said of all, and of one more, is said of all with it
-pub one_more : {A : Type 0} (P : A → Type 0) (xs : List A) (x : A) → ((i : ℕ) (y : A) → slice_get xs i ≡ Some y → P y) → P x → (i : ℕ) (y : A)
-    → slice_get (xs ++ x ∷ []) i ≡ Some y → P y
-one_more P [] x h p zero y e = subst P (same_Some x y e) p
-one_more P [] x h p (suc i) y e = absurd cc
-one_more P (z ∷ xs) x h p zero y e = h zero y e
-one_more P (z ∷ xs) x h p (suc i) y e = one_more P xs x (λ j u f. h (suc j) u f) p i y e
 
 -- a variable at hand whose type is known
 record IsTyped (c : Ctx) (i : ℕ) (t : Typ) : Type 0 where

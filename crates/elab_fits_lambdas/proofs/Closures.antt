@@ -22,10 +22,12 @@ use Rattle.setting_growth.proofs.Settings.{classes_go_on}
 use Rattle.state_growth.proofs.Bodies.{classes_added, no_lambda_lawful}
 use Rattle.state_growth.proofs.Statements.{statements_kept, parameters_kept}
 use Rattle.state_growth.proofs.Steps.{Ends, follow, of_state, of_done}
+use Rattle.elab_fits_states.proofs.Lists.{last_item}
 use Rattle.elab_fits_lambdas.specs.Captured.{AreCaptures}
 use Rattle.elab_fits_lambdas.specs.Made.{lambda_inside, call_signature, lambda_block, lambda_left, IsWritten, IsKnown, AreComplete, OneAtHand}
-use Rattle.elab_fits_lambdas.proofs.Captured.{one_more, explicit_all, default_all}
-use Rattle.elab_fits_lambdas.proofs.Made.{answered}
+use Rattle.elab_contexts.proofs.Lists.{one_more}
+use Rattle.elab_fits_lambdas.proofs.Captured.{explicit_all, default_all}
+use Rattle.elab_fits_states.proofs.Reading.{answered}
 
 -- The types of the parts of a class
 
@@ -83,10 +85,6 @@ stays_at old new g n k e h = by k.complete refl h
 abbrev is_lambda_at : Option Class → Bool
 is_lambda_at o = passes (λ (k : Class). is_empty k.name) o
 
-last_class : (classes : List Class) (k : Class) → slice_get (classes ++ k ∷ []) (length classes) ≡ Some k
-last_class [] k = refl
-last_class (c ∷ cs) k = last_class cs k
-
 -- What is captured is captured still
 
 capture_still : (c d : Ctx) (x : Capture) → d.variables ≡ c.variables → d.this ≡ c.this → IsCapture c x → IsCapture d x
@@ -134,7 +132,7 @@ left_at_hand st x sig tree y g complete outside captured h = record {
   closures = one_more (IsClosure z.ctx) st.ctx.closures (record { at = x.at; class = length st.ctx.classes; captures = x.captures })
       (λ i c e. closure_still st.ctx z.ctx c (classes_go_on st.ctx.classes n y.ctx.classes (classes_added st.ctx.classes _) g) complete refl refl outside
       (h.closures i c e))
-      (closure_new st.ctx z.ctx _ _ (stays_at n y.ctx.classes g (length st.ctx.classes) _ (last_class st.ctx.classes _) refl) refl refl refl refl refl outside
+      (closure_new st.ctx z.ctx _ _ (stays_at n y.ctx.classes g (length st.ctx.classes) _ (last_item st.ctx.classes _) refl) refl refl refl refl refl outside
       captured);
 }
   where

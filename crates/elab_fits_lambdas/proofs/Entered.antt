@@ -1,5 +1,5 @@
 -- The body of a lambda begins in a good state of its call, and its statements lead to one.
-use Rattle.std.proofs.Common.{◌≡◌, refl, sym, ap, ◌∙◌, subst, Bool, true, false, List, [], ◌∷◌, ◌++◌, Ok}
+use Rattle.std.proofs.Common.{◌≡◌, refl, sym, ap, ◌∙◌, subst, ℕ, Bool, true, false, List, [], ◌∷◌, ◌++◌, Some, Ok}
 use Rattle.std.specs.Prelude.{if◌then◌else◌}
 use Rattle.elab_rules.specs.cpp_types.Typ.{Typ, ptr}
 use Rattle.elab_rules.specs.cpp_lex.Tokens.{Lexeme}
@@ -18,7 +18,7 @@ use Rattle.elab_rules.specs.Statements.{State, Done, statements_of, is_direct_la
 use Rattle.elab_fits.specs.Standing.{On}
 use Rattle.elab_fits.proofs.Equal.{typ_refl}
 use Rattle.elab_contexts.specs.Holding.{UnitHolds}
-use Rattle.elab_contexts.specs.Slots.{is_overrider, HasOverriders}
+use Rattle.elab_contexts.specs.Overriders.{is_overrider, HasOverriders}
 use Rattle.elab_contexts.proofs.Statements.{parameters_kept}
 use Rattle.elab_contexts.proofs.Walking as units
 use Rattle.elab_fits_braces.proofs.Staying.{defaults_stay}
@@ -49,8 +49,9 @@ use Rattle.elab_fits_states.proofs.Texts.{kids, first, rest}
 use Rattle.elab_fits_states.proofs.Spelled.{all_spelled}
 use Rattle.elab_fits_lambdas.specs.Made.{lambda_inside, call_signature, HasParts, three, two, IsLambda}
 use Rattle.elab_fits_lambdas.specs.Lambdas.{IsCall, BodiesBegin}
-use Rattle.elab_fits_lambdas.proofs.Captured.{one_more}
-use Rattle.elab_fits_lambdas.proofs.Made.{told, mapped, answered}
+use Rattle.elab_contexts.proofs.Lists.{one_more}
+use Rattle.elab_fits_statements.proofs.States.{told, mapped}
+use Rattle.elab_fits_states.proofs.Reading.{answered}
 use Rattle.elab_fits_lambdas.proofs.Parameters.{OnlyNames, only_names}
 use Rattle.elab_fits_lambdas.proofs.Types.{IsSoundEntry, entry_sound}
 use Rattle.elab_fits_lambdas.proofs.Units.{unit_left, unit_inside}
@@ -95,7 +96,8 @@ module _ (f : UnitFunc) (s : List Lexeme) (st : State) (ts : syntax.Trees) (y : 
   unit_at = unit_inside s st ts y h g.unit
 
   overriders_at : HasOverriders e.ctx.funcs
-  overriders_at = one_more (λ (z : Func). is_overrider z ≡ true) st.ctx.funcs _ g.overriders refl
+  overriders_at = λ k n w p o. one_more (λ (z : Func). (m : ℕ) → z.class ≡ Some m → is_overrider z ≡ true) st.ctx.funcs _ (λ i z q m v. g.overriders i m z q v)
+      (λ m v. refl) k w p n o
 
   pub unit_grown : UnitGrows st e
   unit_grown = record {

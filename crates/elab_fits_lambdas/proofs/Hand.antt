@@ -17,7 +17,9 @@ use Rattle.elab_fits_forms.specs.Expressions.{ClosuresHold}
 use Rattle.elab_sound_types.proofs.States.{on_all}
 use Rattle.elab_fits_lambdas.specs.Made.{IsLambda, AreComplete, AllAtHand}
 use Rattle.elab_fits_lambdas.proofs.Closures.{one_at_hand}
-use Rattle.elab_fits_lambdas.proofs.Made.{mapped, answered, lambdas_are_made}
+use Rattle.elab_fits_statements.proofs.States.{mapped}
+use Rattle.elab_fits_states.proofs.Reading.{answered}
+use Rattle.elab_fits_lambdas.proofs.Made.{lambdas_are_made}
 
 empty_is : (name : List ℕ) → is_empty name ≡ true → is_no_name name ≡ true
 empty_is [] h = refl

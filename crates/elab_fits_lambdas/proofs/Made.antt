@@ -1,16 +1,15 @@
 -- One lambda, taken apart.
-use Rattle.std.proofs.Common.{◌≡◌, refl, sym, subst, not, List, Result, Ok, Err}
+use Rattle.std.proofs.Common.{◌≡◌, refl, sym, subst, not, List, Ok}
 use Rattle.elab_rules.specs.cpp_types.Typ.{Typ, func}
 use Rattle.elab_rules.specs.cpp_types.Class.{held}
 use Rattle.elab_rules.specs.cpp_types.declared.classes.At.{At}
 use Rattle.elab_rules.specs.cpp_lex.Tokens.{Lexeme}
 use Rattle.elab_rules.specs.cpp_ast.Trees as syntax
-use Rattle.elab_rules.specs.cpp_tree.declared.faults.ElabFault.{ElabFault}
 use Rattle.elab_rules.specs.cpp_tree.declared.faults.IllRule.TheVariants.{Incomplete, BadDeclaration, OutOfProfile, AbstractObject}
 use Rattle.elab_rules.specs.cpp_tree.Notation.{plain}
 use Rattle.elab_rules.specs.cpp_tree.Typing.{form_in}
 use Rattle.elab_rules.specs.elab_ctx.Ctx.{Ctx, known}
-use Rattle.elab_rules.specs.elab_ctx.Steps.{and_then, check}
+use Rattle.elab_rules.specs.elab_ctx.Steps.{check}
 use Rattle.elab_rules.specs.Operators.{is_complete}
 use Rattle.elab_rules.specs.Sizes.{typ_sized}
 use Rattle.elab_rules.specs.Types.{qualifiers_from, no_qualifiers, function_of, is_declared_safe, is_result, has_auto, is_abstract_type, within_parameters}
@@ -21,20 +20,9 @@ use Rattle.elab_rules.specs.Lambdas.{result_of, body_statements, kids_of, explic
 use Rattle.elab_rules.specs.Lambdas.{not_dynamic, result_among, has_mutable, place_of_tree, closing}
 use Rattle.elab_fits.specs.Standing.{On}
 use Rattle.elab_fits.proofs.Steps.{bind, checked, skip}
+use Rattle.elab_fits_statements.proofs.States.{told, mapped}
+use Rattle.elab_fits_states.proofs.Reading.{answered}
 use Rattle.elab_fits_lambdas.specs.Made.{lambda_inside, call_signature, IsKnown, IsMade, HasParts, three, two, IsLambda, LambdasAreMade}
-
--- a step whose answer is told
-pub told : {A B : Type 0} (Q : B → Type 0) (x : Result A ElabFault) (f : A → Result B ElabFault) → ((a : A) → x ≡ Ok a → On Q (f a)) → On Q (and_then x f)
-told Q (Ok a) f g = g a refl
-told Q (Err e) f g = tt
-
-pub mapped : {A : Type 0} (P Q : A → Type 0) (x : Result A ElabFault) → On P x → ((a : A) → P a → Q a) → On Q x
-mapped P Q (Ok a) h f = f a h
-mapped P Q (Err e) h f = tt
-
--- what is said of an answer, of the answer that is given
-pub answered : {A : Type 0} (P : A → Type 0) (r : Result A ElabFault) (x : A) → On P r → r ≡ Ok x → P x
-answered P r x h e = subst (λ (z : Result _ ElabFault). On P z) e h
 
 -- the type of its call
 abbrev IsType : Written → Typ → Typ → Type 0

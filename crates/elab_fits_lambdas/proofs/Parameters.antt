@@ -12,7 +12,7 @@ use Rattle.elab_rules.specs.Statements.{State, is_fresh}
 use Rattle.elab_rules.specs.Functions.{with_parameters, parameter_named}
 use Rattle.elab_fits.specs.Standing.{On}
 use Rattle.elab_fits.proofs.Steps.{bind, skip}
-use Rattle.elab_fits_lambdas.proofs.Made.{mapped}
+use Rattle.elab_fits_statements.proofs.States.{mapped}
 
 -- with other names and variables
 abbrev pub renamed : Ctx → List Names → List Variable → Ctx

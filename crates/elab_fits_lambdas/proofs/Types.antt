@@ -32,7 +32,7 @@ use Rattle.elab_sound_types.proofs.Lambdas.{AreCaptures, explicit_captures, defa
 use Rattle.elab_sound_types.proofs.Closures.{one_kept, last_kept, one_nameless, with_closure, captured_more, parameters_more}
 use Rattle.elab_sound_types.proofs.Bodies.{none_keeps, with_parameters}
 use Rattle.elab_fits_lambdas.specs.Made.{lambda_inside, call_signature, IsWritten, HasParts, three, two, IsLambda}
-use Rattle.elab_fits_lambdas.proofs.Made.{answered}
+use Rattle.elab_fits_states.proofs.Reading.{answered}
 
 -- a lambda whose parts have sound types
 record IsSoundLambda (s : List Lexeme) (cs : List Class) (x : Written) : Type 0 where

@@ -14,17 +14,19 @@ use Rattle.elab_rules.specs.Statements.{State}
 use Rattle.elab_contexts.specs.Holding.{UnitHolds}
 use Rattle.elab_contexts.specs.Steps.{view, ClosureAdded, closure_added}
 use Rattle.elab_contexts.proofs.Captures.{AllWhole, explicit_all, default_all}
-use Rattle.elab_contexts.proofs.Going.{leaves_are}
+use Rattle.elab_contexts.proofs.Going.{From, leaves_are, names_still, steps_names}
 use Rattle.elab_contexts.proofs.Holding.{shown, taken}
 use Rattle.elab_contexts.proofs.Kept.{Holds, each_kept}
 use Rattle.elab_contexts.proofs.Walking.{Leaves, kept_by_steps, one_step}
 use Rattle.elab_fits_lambdas.specs.Made.{lambda_inside, call_signature, IsWritten, IsLambda}
-use Rattle.elab_fits_lambdas.proofs.Made.{answered}
+use Rattle.elab_fits_states.proofs.Reading.{answered}
 
 -- a unit that goes on by steps
+unit_gone : (st y : State) → UnitHolds st.ctx → From st y → UnitHolds y.ctx
+unit_gone st y h g = shown y.ctx (kept_by_steps Holds each_kept g.walk (taken st.ctx h)) (g.enumerators h.enumerators) (g.types h.types)
+
 pub unit_left : (st y : State) → UnitHolds st.ctx → Leaves st y → UnitHolds y.ctx
-unit_left st y h g = let i = leaves_are st y g in
-    shown y.ctx (kept_by_steps Holds each_kept g.walk (taken st.ctx h)) (i.enumerators h.enumerators) (i.types h.types)
+unit_left st y h g = unit_gone st y h (leaves_are st y g)
 
 -- the lambda's class has a size
 is_sized : (at : At) (n : ℕ) (b : Bool) → sized at n ≡ Ok b → nat_le n GREATEST_SIZE ≡ true
@@ -53,6 +55,12 @@ module _ (s : List Lexeme) (st : State) (kids : syntax.Trees) (y : State) (h : I
     sized = is_sized h.text.at _ h.made.known.size h.made.known.sized;
   }
 
-  pub unit_inside : UnitHolds st.ctx → UnitHolds (lambda_inside st h.text (known h.made.result) h.made.result (call_signature h.text h.made.result)).ctx
-  unit_inside g = unit_left st (lambda_inside st h.text (known h.made.result) h.made.result (call_signature h.text h.made.result)) g
-      (record { walk = one_step (closure_added step); same = refl })
+  abbrev e : State
+  e = lambda_inside st h.text (known h.made.result) h.made.result (call_signature h.text h.made.result)
+
+  pub unit_inside : UnitHolds st.ctx → UnitHolds e.ctx
+  unit_inside g = unit_gone st e g (record {
+    walk = one_step (closure_added step);
+    enumerators = λ i. i;
+    types = λ i. names_still st.ctx.classes e.ctx.classes st.ctx.types (steps_names (view st.ctx) (view e.ctx) (one_step (closure_added step))) i;
+  })

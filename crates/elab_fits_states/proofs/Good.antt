@@ -32,8 +32,9 @@ use Rattle.state_growth.proofs.Lists.{behind, added}
 use Rattle.state_growth.proofs.Settings.{states_law}
 use Rattle.state_growth.proofs.Works.{one_item}
 use Rattle.state_growth.proofs.Steps.{seen, Steps, kept_refl, goes, stays}
-use Rattle.elab_contexts.specs.Slots.{HasOverriders}
+use Rattle.elab_contexts.specs.Overriders.{HasOverriders}
 use Rattle.elab_holds.proofs.Contexts.{contexts_law}
+use Rattle.elab_holds.proofs.Slots.{slots_law}
 use Rattle.elab_holds.specs.Locals.{HasItemOf, LocalsHold}
 use Rattle.elab_fits_states.specs.Made.{AllBodiesFit}
 use Rattle.elab_fits_states.specs.States.{setting, Comes, IsGood, IsSettled}
@@ -110,7 +111,7 @@ module _ (c : Ctx) (names : List Names) (variables : List Variable) (breaks cont
 
 -- what the laws of expressions ask
 pub holds_of : (f : UnitFunc) (st : State) → IsGood f st → Holds (setting f st) st.ctx st.work
-holds_of f st g = contexts_law f st.ctx st.work g.unit g.overriders g.sound.context g.locals
+holds_of f st g = contexts_law f st.ctx st.work g.unit (slots_law st.ctx st.work g.unit g.sound.context g.overriders) g.sound.context g.locals
 
 pub earlier_of : (f : UnitFunc) (st : State) → IsGood f st → HeldEarlier st.ctx.classes
 earlier_of f st g = order_law st.ctx.classes (holds_of f st g).setting.ordered

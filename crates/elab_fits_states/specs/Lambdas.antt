@@ -5,7 +5,7 @@ use Rattle.elab_rules.specs.cpp_ast.Trees as syntax
 use Rattle.elab_rules.specs.cpp_tree.Units.{Func as UnitFunc}
 use Rattle.elab_rules.specs.Lambdas.{lambdas_of, no_lambda}
 use Rattle.elab_rules.specs.Statements.{State}
-use Rattle.elab_contexts.specs.Slots.{HasOverriders}
+use Rattle.elab_contexts.specs.Overriders.{HasOverriders}
 use Rattle.elab_fits_forms.specs.Expressions.{ClosuresHold}
 use Rattle.elab_fits_states.specs.Made.{AllBodiesFit}
 use Rattle.elab_fits_states.specs.Premises.{KeepsGood}

@@ -25,7 +25,7 @@ use Rattle.elab_fits_statements.specs.Discipline.{Words}
 use Rattle.elab_fits_braces.specs.Defaults.{AllDefaultsFit}
 use Rattle.state_growth.specs.Settings.{setting_at}
 use Rattle.state_growth.specs.States.{Goes}
-use Rattle.elab_contexts.specs.Slots.{HasOverriders}
+use Rattle.elab_contexts.specs.Overriders.{HasOverriders}
 use Rattle.elab_holds.specs.Locals.{LocalsHold}
 use Rattle.elab_fits_states.specs.Made.{AllBodiesFit}
 
