@@ -27,7 +27,7 @@ use Rattle.elab_holds.proofs.Sound.{class_named, no_lambda, lambda_same, listed,
 use Rattle.elab_holds.proofs.Order.{order_law, member_sound, base_complete}
 use Rattle.elab_holds.proofs.Ready.{listed_ready, variable_is_ready, single_member}
 use Rattle.elab_holds.proofs.Complete.{class_sized, complete_law}
-use Rattle.elab_fits_parts.specs.Parts.{IsHome, PartsHold}
+use Rattle.elab_fits_parts.specs.Parts.{IsHome, PointersAreWords, PartsHold}
 use Rattle.elab_fits_parts.proofs.Objects.{made}
 use Rattle.elab_fits_parts.proofs.Pointers.{pointer_word}
 
@@ -144,9 +144,12 @@ module _ (c : Ctx) (w : Work) (u : UnitHolds c) (h : HasSoundTypes c w) where
           object = λ q. made c (λ j k. complete_law c w j u h k) m.typ t (λ k. z);
         }
 
+pub pointers_law : PointersAreWords
+pointers_law c w n u h k o e = pointer_word c.classes (order_law c w u h) (laid c w u h) n o k e
+
 pub parts_law : PartsHold
 parts_law c w n u h k = record {
-  pointer = λ o e. pointer_word c.classes (order_law c w u h) (laid c w u h) n o k.complete e;
+  pointer = λ o e. pointers_law c w n u h k.complete o e;
   base = λ b e. base_part c w u h n k b (base_is c w u h n k b e);
   based = λ b e. base_sound c w u h n k b (base_is c w u h n k b e);
   members = λ i m e. member_copied c w u h n k i m (member_is c w u h n k i m e);

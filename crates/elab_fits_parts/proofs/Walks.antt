@@ -16,7 +16,7 @@ use Rattle.elab_rules.specs.Members.{base_named, members_among, declared_only, d
 use Rattle.elab_rules.specs.Statements.{State, Done, Full, full_operand, statements_of}
 use Rattle.elab_rules.specs.Units.{builtins, file_declaration, alias_of, defined_with, declarations_of, unit_from}
 use Rattle.elab_fits.specs.Standing.{On}
-use Rattle.elab_contexts.specs.Steps.{IsOpen}
+use Rattle.elab_contexts.specs.Steps.{view, Steps, IsOpen}
 use Rattle.elab_contexts.specs.Texts.{is_no_name}
 use Rattle.elab_contexts.specs.Walks.{Walks}
 use Rattle.elab_contexts.proofs.Walking.{Leaves, Ends, weaken, joined}
@@ -138,8 +138,10 @@ classes_law s st at kids home b r d u n e f g i j h =
     let l = on_ok (λ (c : Ctx). From y (record r.state { ctx = c })) (closed_class at home.number (completed r.state.ctx home at r.members r.initialised)) d j
     (brace_leaves y home at r z n w.0 w.1) in
     let v : Ctx = completed r.state.ctx home at r.members r.initialised in
-    let q = closing r.state.ctx home at r.members r.initialised in record {
-      implicits = steps_law st.ctx d (joined x.from.walk l.walk) h;
+    let q = closing r.state.ctx home at r.members r.initialised in
+    let walk : Steps (view st.ctx) (view d) = joined x.from.walk l.walk in record {
+      walk = walk;
+      implicits = steps_law st.ctx d walk h;
       home = home_is d.classes home.number (subst (λ (k : Ctx). IsNamed k.classes home.number) (closed_is at home.number v d j)
           (subst (λ (cs : List Class). IsNamed cs home.number) (sym q.classes)
           (named_here r.state.ctx.classes home.number q.class z.unclosed.class (ap is_some q.closed.complete) (ap is_no_name q.closed.name ∙ n) z.unclosed.at)));

@@ -105,8 +105,9 @@ abbrev pub OutsideImplicit : Type 0
 OutsideImplicit = (s : List Lexeme) (st : State) (n : ℕ) (kind : FuncKind) (first : ℕ) (m : Method) (body : syntax.Tree) → Implicits st
     → On Implicits (outside_body lambdas_of s st n kind first m body)
 
--- a class up to its brace, where its implicit members are made, and from there on it has a name and its brace
-pub record IsClosed (c : Ctx) (n : ℕ) : Type 0 where
+-- a class up to its brace: the unit goes on by steps, the implicit members are made there, and from there on it has a name and its brace
+pub record HasBrace (before c : Ctx) (n : ℕ) : Type 0 where
+  pub walk : Steps (view before) (view c)
   pub implicits : HasImplicits c
   pub home : IsHome c.classes n
 
@@ -114,7 +115,7 @@ abbrev pub ClassesImplicit : Type 0
 ClassesImplicit = (s : List Lexeme) (st : State) (at : At) (kids : syntax.Trees) (home : Home) (b : Begun) (r : Members) (d : Ctx) → UnitHolds st.ctx
     → is_no_name home.name ≡ false → begun st.ctx at home.name true ≡ Ok b → base_named s b.ctx kids ≡ Ok home.base → home.number ≡ b.number
     → members_of s home (record { state = record st { ctx = b.ctx }; members = []; initialised = [] }) (members_among kids) ≡ Ok r
-    → closed_class at home.number (completed r.state.ctx home at r.members r.initialised) ≡ Ok d → Implicits st → IsClosed d home.number
+    → closed_class at home.number (completed r.state.ctx home at r.members r.initialised) ≡ Ok d → Implicits st → HasBrace st.ctx d home.number
 
 abbrev pub MemberDefaultsImplicit : Type 0
 MemberDefaultsImplicit = (s : List Lexeme) (st : State) (n i : ℕ) (t : Typ) (e : syntax.Tree) → Implicits st → On Implicits (default_made lambdas_of s st n i t e)

@@ -37,6 +37,11 @@ pub record ArePartsOf (c : Ctx) (n : ℕ) : Type 0 where
 abbrev pub PartsHold : Type 0
 PartsHold = (c : Ctx) (w : Work) (n : ℕ) → UnitHolds c → HasSoundTypes c w → IsHome c.classes n → ArePartsOf c n
 
+-- the class pointer of any complete class stands at a word
+abbrev pub PointersAreWords : Type 0
+PointersAreWords = (c : Ctx) (w : Work) (n : ℕ) → UnitHolds c → HasSoundTypes c w → is_some (completion_of c.classes n) ≡ true → (o : ℕ)
+    → pointer_offset c.classes n ≡ Some o → is_word_of ULong o ≡ true
+
 -- of the type of an object that has a name or is an element objects can be made, where it has a size; an array may be too large for one
 abbrev pub ObjectsAreMade : Type 0
 ObjectsAreMade = (s : Setting) (c : Ctx) (w : Work) (t : Typ) → Holds s c w → is_sound c.classes object t ≡ true

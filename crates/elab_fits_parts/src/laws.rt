@@ -1,6 +1,6 @@
 //! Laws of classes that have a name and their brace. A function here does nothing: its clauses are the laws.
 
-ghost use Rattle.elab_fits_parts.specs.Parts.{PartsHold, ObjectsAreMade, TypesAreSound};
+ghost use Rattle.elab_fits_parts.specs.Parts.{PointersAreWords, PartsHold, ObjectsAreMade, TypesAreSound};
 ghost use Rattle.elab_fits_parts.specs.Bases.{BasesBuild};
 ghost use Rattle.elab_fits_parts.specs.Implicit.{StartsImplicit, LaterStartsImplicit, StepsImplicit, HomesStay, DeclarationsImplicit, UnitsImplicit};
 ghost use Rattle.elab_fits_parts.specs.Implicit.{LambdasImplicit, OperandsImplicit, StatementsImplicit};
@@ -9,6 +9,7 @@ ghost use Rattle.elab_fits_parts.specs.Implicit.{ClassesImplicit, MemberDefaults
 
 /// Their parts, and the types of objects.
 pub fn parts()
+    ensures pointers { PointersAreWords }
     ensures parts { PartsHold }
     ensures objects { ObjectsAreMade }
     ensures sound { TypesAreSound }
