@@ -32,7 +32,7 @@ use Rattle.elab_fits_states.proofs.Texts.{kids, first, rest}
 use Rattle.elab_fits_lambdas.specs.Made.{lambda_inside, call_signature, HasParts, three, two, IsLambda}
 use Rattle.elab_fits_lambdas.specs.Lambdas.{IsCall}
 use Rattle.elab_fits_lambdas.proofs.Bodies.{behind, behind_is}
-use Rattle.elab_fits_lambdas.proofs.Captured.{one_more}
+use Rattle.elab_contexts.proofs.Lists.{one_more}
 use Rattle.elab_fits_lambdas.proofs.Entered.{settled_with}
 use Rattle.elab_fits_lambdas.proofs.Lambdas.{lambdas_are_good}
 use Rattle.elab_fits_lambdas.proofs.Made.{lambdas_are_made}

@@ -29,7 +29,7 @@ KeepsWhole f lams s = (a x : State) (e : syntax.Tree) → IsGood f a → IsText 
 
 module _ (f : UnitFunc) (lams : Lambdas) (s : List Lexeme) (p : KeepsGood f lams s) (k : KeepsWhole f lams s) where
   -- behind several of them
-  all_left : (a : State) (es : syntax.Trees) → IsGood f a → AreTexts s es → IsWholeState a → On IsWholeState (all_lambdas lams s a es)
+  pub all_left : (a : State) (es : syntax.Trees) → IsGood f a → AreTexts s es → IsWholeState a → On IsWholeState (all_lambdas lams s a es)
   all_left a syntax.none g t h = h
   all_left a (syntax.more e es) g t h = told IsWholeState (lams s a e) _ (λ x q. all_left x es (p a x e g (Texts.first s e es t) q).good
       (Texts.rest s e es t) (k a x e g (Texts.first s e es t) q h))

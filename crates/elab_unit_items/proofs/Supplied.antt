@@ -114,7 +114,7 @@ callee_means s c w at e g (Means.getter p t q v object o i) = (record { object =
 callee_means s c w at e g (Means.aborting p) = (record { object = λ z. absurd cc }, λ sig d v q. absurd cc)
 
 -- what a lambda captures: lvalues, and `this`
-lvalue_whole : (classes : List Class) (e : Tree) → cat_of e ≡ Lvalue → IsWhole classes e
+pub lvalue_whole : (classes : List Class) (e : Tree) → cat_of e ≡ Lvalue → IsWhole classes e
 lvalue_whole classes e h = record { object = λ z. no (cat_of e) h z }
   where
     no : (k : Cat) → k ≡ Lvalue → is_class_prvalue (typ_in e) k ≡ true → is_item classes (typ_in e) ≡ true
