@@ -7,12 +7,13 @@ use Rattle.elab_fits_units.specs.Laws.{Laws, Left}
 use Rattle.elab_fits_units.specs.Programs.{ProgramsFit}
 use Rattle.elab_fits_units.proofs.Beginning.{start_good, later_good}
 use Rattle.elab_fits_units.proofs.Given.{below_is}
+use Rattle.elab_fits_units.proofs.Implicits.{implicits_stay}
 use Rattle.elab_fits_units.proofs.Leading as leading
 use Rattle.elab_fits_units.proofs.Programs.{program_fits}
 
 laws_are : (s : List Lexeme) → Left s → Laws s
 laws_are s l = record {
-  implicits = l.implicits;
+  implicits = implicits_stay;
   headers = leading.headers s;
   read = leading.read s;
   read_outside = leading.read_outside s;
