@@ -90,6 +90,17 @@ has_name : (xs : List ℕ) → is_no_name xs ≡ false → is_nothing xs ≡ fal
 has_name [] h = absurd cc
 has_name (x ∷ xs) h = refl
 
+-- a class behind its brace
+pub home_braced : (c : Ctx) (home : Home) (at : At) (ms : List Member) (initialised : List ℕ) → IsOpen c.classes home.number → is_no_name home.name ≡ false
+    → IsHome (completed c home at ms initialised).classes home.number
+home_braced c home at ms initialised o q = let x = closing c home at ms initialised in
+    subst (λ (cs : List Class). IsHome cs home.number) (sym x.classes) (home_is (slice_set c.classes home.number x.class) home.number (record {
+      class = x.class;
+      at = set_here c.classes home.number o.class x.class o.at;
+      complete = ap is_some x.closed.complete;
+      named = has_name x.class.name (ap is_no_name x.closed.name ∙ q);
+    }))
+
 -- What the brace of a class adds
 
 data OldOr (old : List Func) (n k : ℕ) (f : Func) : Type 0 where
@@ -187,10 +198,7 @@ closed a b s h = subst Implicits (sym s.is) (λ k f e i. by k f i (completed_add
         subst (λ (cs : List Class). (n : ℕ) → IsHome s.ctx.classes n → IsHome cs n) (sym x.classes) (home_set s.ctx.classes s.home.number x.class whole named)
 
     here : IsHome (braced a b s).classes s.home.number
-    here = let x = closing s.ctx s.home s.at s.members s.initialised in
-        let o : IsOpen s.ctx.classes s.home.number = subst (λ (v : View). IsOpen v.classes s.home.number) (sym s.before) s.unclosed in
-        subst (λ (cs : List Class). IsHome cs s.home.number) (sym x.classes) (home_is (slice_set s.ctx.classes s.home.number x.class) s.home.number
-        (record { class = x.class; at = set_here s.ctx.classes s.home.number o.class x.class o.at; complete = whole; named = named }))
+    here = home_braced s.ctx s.home s.at s.members s.initialised (subst (λ (v : View). IsOpen v.classes s.home.number) (sym s.before) s.unclosed) s.named
 
     by : (k : ℕ) (f : Func) → f.implicit ≡ true → OldOr s.ctx.funcs s.home.number k f → IsImplicit (braced a b s).classes f
     by k f i (is_old e) = over s.ctx.classes (braced a b s).classes kept f (subst Implicits (sym s.before) h k f e i)

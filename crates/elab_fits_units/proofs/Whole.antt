@@ -6,6 +6,7 @@ use Rattle.elab_fits_units.specs.Below.{PointersAreWords}
 use Rattle.elab_fits_units.specs.Laws.{Laws, Left}
 use Rattle.elab_fits_units.specs.Programs.{ProgramsFit}
 use Rattle.elab_fits_units.proofs.Beginning.{start_good, later_good}
+use Rattle.elab_fits_units.proofs.Closing.{class_leads}
 use Rattle.elab_fits_units.proofs.Given.{below_is}
 use Rattle.elab_fits_units.proofs.Implicits.{implicits_stay}
 use Rattle.elab_fits_units.proofs.Leading as leading
@@ -21,7 +22,7 @@ laws_are s l = record {
   aliases = leading.aliases s;
   enums = leading.enums s;
   names = leading.names s;
-  classes = l.classes;
+  classes = λ st at name kids home r c g n t k. class_leads s st at name kids home r c g n t k (l.members st at name kids home r c g t k);
   declared = leading.declared;
   again = leading.again;
   elsewhere = leading.elsewhere s;
