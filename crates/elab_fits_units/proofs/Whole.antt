@@ -2,7 +2,7 @@
 use Rattle.std.proofs.Common.{List}
 use Rattle.elab_rules.specs.cpp_lex.Tokens.{Lexeme}
 use Rattle.elab_fits_lambdas.proofs.Lambdas.{lambdas_are_good}
-use Rattle.elab_fits_units.specs.Below.{PointersAreWords}
+use Rattle.elab_fits_parts.proofs.Parts.{pointers_law}
 use Rattle.elab_fits_units.specs.Laws.{Laws, Left}
 use Rattle.elab_fits_units.specs.Programs.{ProgramsFit}
 use Rattle.elab_fits_units.proofs.Beginning.{start_good, later_good}
@@ -33,5 +33,5 @@ laws_are s l = record {
   members = leading.members s;
 }
 
-pub programs_fit : PointersAreWords → ((s : List Lexeme) → Left s) → ProgramsFit
-programs_fit pointers left xs p t e = program_fits (below_is lambdas_are_good pointers) (λ s. laws_are s (left s)) later_good (start_good 0) xs p t e
+pub programs_fit : ((s : List Lexeme) → Left s) → ProgramsFit
+programs_fit left xs p t e = program_fits (below_is lambdas_are_good pointers_law) (λ s. laws_are s (left s)) later_good (start_good 0) xs p t e
