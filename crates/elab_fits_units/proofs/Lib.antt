@@ -2,6 +2,7 @@ pub use Rattle.elab_rules.proofs as elab_rules
 pub mod Bases
 pub mod Beginning
 pub mod Bodies
+pub mod Closing
 pub mod Constructing
 pub mod Constructors
 pub mod Copying
@@ -10,6 +11,7 @@ pub mod Entering
 pub mod Given
 pub mod Growing
 pub mod Headers
+pub mod Implicits
 pub mod Implied
 pub mod Leading
 pub mod Leaves

@@ -40,7 +40,7 @@ use Rattle.elab_fits_units.proofs.Texts.{kids_texts}
 use Rattle.elab_fits_units.proofs.Walk.{bind}
 
 -- a class has its name where the unit has grown
-within : {A : Type 0} (xs : List A) (n : ℕ) (x : A) → slice_get xs n ≡ Some x → nat_lt n (length xs) ≡ true
+pub within : {A : Type 0} (xs : List A) (n : ℕ) (x : A) → slice_get xs n ≡ Some x → nat_lt n (length xs) ≡ true
 within [] n x h = absurd cc
 within (y ∷ ys) zero x h = lt-ltb 0 (suc (length ys)) (omega arith)
 within (y ∷ ys) (suc n) x h = let lt = ltb-true n (length ys) (within ys n x h) in lt-ltb (suc n) (suc (length ys)) (omega arith)

@@ -2,17 +2,19 @@
 use Rattle.std.proofs.Common.{List}
 use Rattle.elab_rules.specs.cpp_lex.Tokens.{Lexeme}
 use Rattle.elab_fits_lambdas.proofs.Lambdas.{lambdas_are_good}
-use Rattle.elab_fits_units.specs.Below.{PointersAreWords}
+use Rattle.elab_fits_parts.proofs.Parts.{pointers_law}
 use Rattle.elab_fits_units.specs.Laws.{Laws, Left}
 use Rattle.elab_fits_units.specs.Programs.{ProgramsFit}
 use Rattle.elab_fits_units.proofs.Beginning.{start_good, later_good}
+use Rattle.elab_fits_units.proofs.Closing.{class_leads}
 use Rattle.elab_fits_units.proofs.Given.{below_is}
+use Rattle.elab_fits_units.proofs.Implicits.{implicits_stay}
 use Rattle.elab_fits_units.proofs.Leading as leading
 use Rattle.elab_fits_units.proofs.Programs.{program_fits}
 
 laws_are : (s : List Lexeme) → Left s → Laws s
 laws_are s l = record {
-  implicits = l.implicits;
+  implicits = implicits_stay;
   headers = leading.headers s;
   read = leading.read s;
   read_outside = leading.read_outside s;
@@ -20,7 +22,7 @@ laws_are s l = record {
   aliases = leading.aliases s;
   enums = leading.enums s;
   names = leading.names s;
-  classes = l.classes;
+  classes = λ st at name kids home r c g n t k. class_leads s st at name kids home r c g n t k (l.members st at name kids home r c g t k);
   declared = leading.declared;
   again = leading.again;
   elsewhere = leading.elsewhere s;
@@ -31,5 +33,5 @@ laws_are s l = record {
   members = leading.members s;
 }
 
-pub programs_fit : PointersAreWords → ((s : List Lexeme) → Left s) → ProgramsFit
-programs_fit pointers left xs p t e = program_fits (below_is lambdas_are_good pointers) (λ s. laws_are s (left s)) later_good (start_good 0) xs p t e
+pub programs_fit : ((s : List Lexeme) → Left s) → ProgramsFit
+programs_fit left xs p t e = program_fits (below_is lambdas_are_good pointers_law) (λ s. laws_are s (left s)) later_good (start_good 0) xs p t e

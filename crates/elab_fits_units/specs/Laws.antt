@@ -76,8 +76,6 @@ pub record Laws (s : List Lexeme) : Type 0 where
 
 -- What is left of them
 pub record Left (s : List Lexeme) : Type 0 where
-  -- behind steps implicit members are what they were
-  pub implicits : (a b : Ctx) → Goes (view a) (view b) → UnitHolds a → HasImplicits a → HasImplicits b
-  -- a class up to its brace
-  pub classes : (st : State) (at : At) (name : List ℕ) (kids : syntax.Trees) (home : Home) (r : Members) (c : Ctx) → UnitGood st → is_nothing name ≡ false
-      → AreTexts s kids → IsClosed s st at name kids home r c → Leads st (record r.state { ctx = c }) × IsHome c.classes home.number
+  -- of the members that a class declares, what overrides is a plain function or a destructor, by its name
+  pub members : (st : State) (at : At) (name : List ℕ) (kids : syntax.Trees) (home : Home) (r : Members) (c : Ctx) → UnitGood st → AreTexts s kids
+      → IsClosed s st at name kids home r c → HasOverriders st.ctx.funcs → HasOverriders r.state.ctx.funcs
