@@ -1,9 +1,9 @@
 -- The bodies of constructors and destructors have whole items.
-use Rattle.std.proofs.Common.{◌≡◌, refl, sym, ap, ◌∙◌, subst, ℕ, true, false, not, List, [], ◌∷◌, slice_get, Option, Some, None, is_some, is_none, Ok}
+use Rattle.std.proofs.Common.{◌≡◌, refl, sym, ap, ◌∙◌, subst, ℕ, true, not, List, [], slice_get, Option, Some, None, is_some, is_none, Ok}
 use Rattle.std.specs.List.{list_all}
 use Rattle.std.proofs.lemmas.Option.{same_Some}
 use Rattle.elab_rules.specs.cpp_types.Typ.{Typ, class, ptr, void}
-use Rattle.elab_rules.specs.cpp_types.Class.{Class, completion_of}
+use Rattle.elab_rules.specs.cpp_types.Class.{completion_of}
 use Rattle.elab_rules.specs.cpp_types.declared.classes.At.{At}
 use Rattle.elab_rules.specs.cpp_lex.Tokens.{Lexeme}
 use Rattle.elab_rules.specs.cpp_ast.declared.kinds.NodeKind.TheVariants as k
@@ -15,7 +15,7 @@ use Rattle.elab_rules.specs.cpp_tree.Typing.{unqualified}
 use Rattle.elab_rules.specs.cpp_tree.Units.{Func as UnitFunc}
 use Rattle.elab_rules.specs.cpp_tree.Rows.{is_special, at_place}
 use Rattle.elab_rules.specs.elab_ctx.Ctx.{Ctx, Work}
-use Rattle.elab_rules.specs.elab_ctx.Steps.{and_then, check, expect, at_of, spelling, Operand, Made, TypedAll}
+use Rattle.elab_rules.specs.elab_ctx.Steps.{and_then, check, expect, at_of, spelling, Operand, TypedAll}
 use Rattle.elab_rules.specs.Calls.{base_of_class}
 use Rattle.elab_rules.specs.Names.{members_in}
 use Rattle.elab_rules.specs.Types.{type_named}
@@ -23,7 +23,7 @@ use Rattle.elab_rules.specs.Expressions.{operands_of}
 use Rattle.elab_rules.specs.Statements.{State, Done, all_lambdas, directly_initialised, is_direct_label}
 use Rattle.elab_rules.specs.Functions.{Header, with_parameters, body_made}
 use Rattle.elab_rules.specs.Lambdas.{lambdas_of}
-use Rattle.elab_rules.specs.Members.{Giving, given_for, for_base, for_part, given_part, given_base, given_by, all_given, is_named_class, is_base_type, member_index, member_type}
+use Rattle.elab_rules.specs.Members.{Giving, given_for, for_base, for_part, given_part, given_by, all_given, is_named_class, is_base_type, member_index, member_type}
 use Rattle.elab_rules.specs.Members.{in_object, parts_built, constructor_tree, constructor_block, constructor_body, destructor_tree, destructor_body}
 use Rattle.elab_places.proofs.Steps.{On, bind, skip, held_by}
 use Rattle.elab_fits_statements.proofs.States.{told, goes_still}
@@ -33,7 +33,6 @@ use Rattle.state_growth.specs.Settings.{shown}
 use Rattle.state_growth.proofs.Statements.{parameters_kept}
 use Rattle.state_growth.proofs.Steps.{Leaves}
 use Rattle.elab_fits_states.specs.States.{IsText, AreTexts, IsSettled, words}
-use Rattle.elab_fits_states.specs.Bodies.{StandsAlone}
 use Rattle.elab_fits_states.specs.Premises.{GoesWell}
 use Rattle.elab_fits_states.proofs.Discipline.{all_well}
 use Rattle.elab_fits_states.proofs.Texts.{kids, first, rest}
@@ -43,10 +42,10 @@ use Rattle.elab_fits_units.specs.Definitions.{IsDefinition}
 use Rattle.elab_fits_units.specs.Good.{UnitGood}
 use Rattle.elab_fits_units.specs.Steps.{NoCall}
 use Rattle.elab_fits_units.proofs.Bodies.{came}
-use Rattle.elab_fits_units.proofs.Constructing.{Gives, GivenFits, by_given}
+use Rattle.elab_fits_units.proofs.Constructing.{Gives, by_given}
 use Rattle.elab_fits_units.proofs.Constructors.{PartsStand, parts_stand, first_kept, constructed}
 use Rattle.elab_fits_units.proofs.Entering.{Begins, begins}
-use Rattle.elab_fits_units.proofs.Growing.{Over, over_then}
+use Rattle.elab_fits_units.proofs.Growing.{over_then}
 use Rattle.elab_fits_units.proofs.Results.{no_result}
 use Rattle.elab_fits_units.proofs.Specials.{home_over}
 use Rattle.elab_fits_units.proofs.Texts.{kids_texts}
@@ -118,8 +117,11 @@ module _ (s : List Lexeme) (f : UnitFunc) (free : NoCall f.kind) (n : ℕ) where
 
     pub all_given_whole : (a : State) (g : Giving) (ts : syntax.Trees) → Gave a g → AreTexts s ts → On (Gave a) (all_given lambdas_of s n g ts)
     all_given_whole a g ts h q = each_holds (Gave a) (AreTexts s) (given_by lambdas_of s n) g ts h q
-        (λ x t us i l. (both (Gives s b f free n a) Given (given_by lambdas_of s n x t) (by_given s b f free n a x t i.0 (first s t us l))
-        (given_whole x t i.0.goes.good i.1 (first s t us l)), rest s t us l))
+        (λ x t us i l. (
+          both (Gives s b f free n a) Given (given_by lambdas_of s n x t) (by_given s b f free n a x t i.0 (first s t us l))
+              (given_whole x t i.0.goes.good i.1 (first s t us l)),
+          rest s t us l,
+        ))
 
 -- Constructors
 
@@ -178,11 +180,14 @@ module _ (s : List Lexeme) (b : Below s) (st : State) (h : Header) (n place : �
     constructor_whole inits body t u = told IsWholeUnit (with_parameters s start h.params) _ (λ e q.
         let i : Begins f st e = constructor_begins e q in
         bind (Gave s f no_call n b e) IsWholeUnit (all_given lambdas_of s n (record { state = e; given = [] }) inits) _
-        (all_given_whole s f no_call n b e (record { state = e; given = [] }) inits (record {
-          goes = goes_still (words f s) lambdas_of s (b.discipline f no_call) e i.settled;
-          home = home_over st e n i.over home;
-          given = record { base = λ c y a z. absurd cc; member = λ j m y a z. absurd cc };
-        }, parameters_left s start h.params e (entered_in st (plain void) (Some (plain (class n))) (Some n) w) q) t)
+        (all_given_whole s f no_call n b e (record { state = e; given = [] }) inits (
+          record {
+            goes = goes_still (words f s) lambdas_of s (b.discipline f no_call) e i.settled;
+            home = home_over st e n i.over home;
+            given = record { base = λ c y a z. absurd cc; member = λ j m y a z. absurd cc };
+          },
+          parameters_left s start h.params e (entered_in st (plain void) (Some (plain (class n))) (Some n) w) q,
+        ) t)
         (λ x y. parts_whole e x inits body q y u))
 
   -- Destructors

@@ -1,11 +1,10 @@
 -- Initialisers that are kept for members have whole items.
-use Rattle.std.proofs.Common.{◌≡◌, refl, sym, subst, ℕ, suc, Bool, true, false, List, [], ◌∷◌, ◌++◌, drop, Option, Some, None, is_some, Ok}
+use Rattle.std.proofs.Common.{◌≡◌, refl, subst, ℕ, Bool, true, false, List, [], ◌∷◌, ◌++◌, drop, Option, Some, None, is_some, Ok}
 use Rattle.std.specs.List.{list_all}
 use Rattle.std.proofs.lemmas.Bool.{and_parts}
 use Rattle.std.proofs.lemmas.Option.{same_Some}
 use Rattle.elab_rules.specs.cpp_types.Typ.{Typ, class, void}
 use Rattle.elab_rules.specs.cpp_types.Class.{Class, completion_of}
-use Rattle.elab_rules.specs.cpp_types.declared.classes.At.{At}
 use Rattle.elab_rules.specs.cpp_lex.Tokens.{Lexeme}
 use Rattle.elab_rules.specs.cpp_ast.Trees as syntax
 use Rattle.elab_rules.specs.cpp_tree.declared.program.FuncKind.TheVariants.{Constructor}
@@ -13,13 +12,13 @@ use Rattle.elab_rules.specs.cpp_tree.Notation.{plain}
 use Rattle.elab_rules.specs.cpp_tree.Trees.{one}
 use Rattle.elab_rules.specs.cpp_tree.Units.{Func as UnitFunc}
 use Rattle.elab_rules.specs.cpp_tree.WellFormed.{is_item}
-use Rattle.elab_rules.specs.elab_ctx.Ctx.{Work, Default}
+use Rattle.elab_rules.specs.elab_ctx.Ctx.{Default}
 use Rattle.elab_rules.specs.elab_ctx.Steps.{and_then, Made, spelling}
 use Rattle.elab_rules.specs.Braces.{is_char_array, string_object, string_token, syntax_place}
 use Rattle.elab_rules.specs.Initialising.{no_function}
 use Rattle.elab_rules.specs.Strings.{string_bytes}
 use Rattle.elab_rules.specs.Statements.{State, Done, Full, full, with_work, full_operand, copy_initialised}
-use Rattle.elab_rules.specs.Members.{in_object, default_value, default_made, first_tree, with_default_member}
+use Rattle.elab_rules.specs.Members.{in_object, default_value, default_made}
 use Rattle.elab_rules.specs.Lambdas.{lambdas_of}
 use Rattle.elab_places.proofs.Steps.{On, bind, skip, held_by}
 use Rattle.elab_fits_statements.proofs.States.{told}
@@ -80,9 +79,10 @@ module _ (s : List Lexeme) (b : Below s) (st : State) (n : ℕ) (g : UnitGood st
   expression_whole t e q = told (Valued st) (full_operand lambdas_of s x e) _ (λ o p.
       let r = (b.discipline any_constructor constructed).reads x e o begun.settled q p in
       let whole : IsWholeState o.state = held_by (λ (z : Full). IsWholeState z.state) (full_operand lambdas_of s x e) o
-      (full_whole (IsRead any_constructor) (IsText s) (AreTexts s) s lambdas_of x e (λ y z.
-      (reads any_constructor s y (lambdas_are_good any_constructor s constructed x y e begun.settled.good q z).good,
-      all_keep any_constructor s constructed x y e begun.settled.good q z begun_whole)) q) p in
+      (full_whole (IsRead any_constructor) (IsText s) (AreTexts s) s lambdas_of x e (λ y z. (
+        reads any_constructor s y (lambdas_are_good any_constructor s constructed x y e begun.settled.good q z).good,
+        all_keep any_constructor s constructed x y e begun.settled.good q z begun_whole,
+      )) q) p in
       bind (Mades o.state.ctx.classes o.state.work) (Valued st) (copy_initialised o.state.ctx o.state.work t o.operand) _
       (variables.copy_initialised o.state.ctx o.state.work t o.operand
       (proper_whole (setting any_constructor o.state) o.state.ctx o.operand.tree r.operand.proper.proper))

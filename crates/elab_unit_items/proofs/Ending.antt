@@ -1,8 +1,7 @@
 -- Bodies that begin with whole items end so, and are made with those.
-use Rattle.std.proofs.Common.{◌≡◌, sym, subst, ℕ, true, List, [], ◌∷◌, ◌++◌, Option, Result}
+use Rattle.std.proofs.Common.{◌≡◌, sym, subst, ℕ, true, List, Option, Result}
 use Rattle.std.specs.List.{list_all}
 use Rattle.elab_rules.specs.cpp_types.Typ.{Typ}
-use Rattle.elab_rules.specs.cpp_types.Class.{Class}
 use Rattle.elab_rules.specs.cpp_types.declared.classes.At.{At}
 use Rattle.elab_rules.specs.cpp_lex.Tokens.{Lexeme}
 use Rattle.elab_rules.specs.cpp_ast.Trees as syntax
@@ -21,7 +20,6 @@ use Rattle.elab_fits_states.specs.States.{AreTexts}
 use Rattle.elab_fits_states.specs.Bodies.{BodyFits}
 use Rattle.elab_contexts.proofs.Lists.{one_more}
 use Rattle.elab_fits_units.specs.Below.{Below}
-use Rattle.elab_fits_units.specs.Laws.{Leads}
 use Rattle.elab_fits_units.specs.Steps.{NoCall}
 use Rattle.elab_fits_units.proofs.Bodies.{came}
 use Rattle.elab_fits_units.proofs.Entering.{Begins}

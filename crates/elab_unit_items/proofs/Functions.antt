@@ -27,7 +27,7 @@ use Rattle.elab_fits_units.specs.Below.{Below}
 use Rattle.elab_fits_units.specs.Definitions.{IsDefinition}
 use Rattle.elab_fits_units.specs.Good.{UnitGood}
 use Rattle.elab_fits_units.specs.Steps.{NoCall}
-use Rattle.elab_fits_units.proofs.Entering.{Begins, begins}
+use Rattle.elab_fits_units.proofs.Entering.{begins}
 use Rattle.elab_fits_units.proofs.Results.{result_kept, sound_result}
 use Rattle.elab_fits_units.proofs.Texts.{kids_texts}
 use Rattle.elab_unit_items.specs.Units.{IsWholeUnit}

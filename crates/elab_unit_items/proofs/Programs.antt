@@ -1,9 +1,9 @@
 -- Each function of each unit of a program has whole items.
-use Rattle.std.proofs.Common.{◌≡◌, refl, ℕ, suc, List, [], ◌∷◌, ◌++◌, slice_get, Some, Ok}
+use Rattle.std.proofs.Common.{◌≡◌, refl, ℕ, suc, List, [], ◌∷◌, slice_get, Some, Ok}
 use Rattle.elab_rules.specs.cpp_lex.Tokens.{Lexeme}
 use Rattle.elab_rules.specs.cpp_tree.Units.{Unit as UnitTree, TypedProgram}
 use Rattle.elab_rules.specs.elab_ctx.Ctx.{Traits}
-use Rattle.elab_rules.specs.Programs.{Source, start_behind, with_unit, unit_shown, program_from, program_of}
+use Rattle.elab_rules.specs.Programs.{Source, start_behind, with_unit, unit_shown, program_from}
 use Rattle.elab_rules.specs.Statements.{State}
 use Rattle.elab_rules.specs.Units.{unit_from}
 use Rattle.elab_places.proofs.Steps.{held_by}
