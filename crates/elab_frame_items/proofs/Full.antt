@@ -16,7 +16,6 @@ use Rattle.elab_frame_items.specs.Frames.{IsWholeState}
 use Rattle.elab_frame_items.specs.Items.{AreWhole, IsWhole}
 use Rattle.elab_frame_items.specs.Supplies.{Reads}
 use Rattle.elab_frame_items.proofs.Growing.{lambdas_law}
-use Rattle.elab_frame_items.proofs.Objects.{both}
 use Rattle.elab_frame_items.proofs.Expressions.{Types, AllTypes, expression, operands, chosen_adds, dropped}
 use Rattle.elab_frame_items.proofs.Parameters.{StateWhole}
 

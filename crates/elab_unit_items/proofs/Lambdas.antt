@@ -1,5 +1,5 @@
 -- Lambdas leave all items whole, those of the frames of their bodies too.
-use Rattle.std.proofs.Common.{◌≡◌, refl, sym, ap, ◌∙◌, subst, ℕ, Bool, true, false, List, [], ◌∷◌, ◌++◌, length, Option, Some, None, Ok}
+use Rattle.std.proofs.Common.{◌≡◌, refl, sym, ap, subst, ℕ, Bool, true, false, List, [], ◌∷◌, length, Option, Some, None, Ok}
 use Rattle.std.specs.Prelude.{if◌then◌else◌}
 use Rattle.std.specs.List.{list_all}
 use Rattle.elab_rules.specs.cpp_types.Typ.{Typ, ptr}
@@ -20,7 +20,7 @@ use Rattle.elab_rules.specs.Functions.{result_items, with_parameters}
 use Rattle.elab_rules.specs.Lambdas.{lambdas_of, lambdas_among, lambda_of, no_lambda, refused_at, first_lambda, kids_of}
 use Rattle.elab_rules.specs.Lambdas.{body_statements, call_func, call_record}
 use Rattle.elab_rules.specs.Statements.{State, Done, Body, is_direct_label}
-use Rattle.elab_places.proofs.Steps.{On, bind, held_by}
+use Rattle.elab_places.proofs.Steps.{On, held_by}
 use Rattle.elab_places.proofs.Declaring.{on}
 use Rattle.elab_fits_statements.proofs.States.{told}
 use Rattle.state_growth.specs.Settings.{shown}

@@ -1,7 +1,7 @@
 -- In a good state expressions are read with whole operands.
-use Rattle.std.proofs.Common.{◌≡◌, refl, sym, ap, ◌∙◌, subst, ℕ, Bool, true, false, not, ◌&&◌, List, [], ◌∷◌, slice_get, Option, Some, None, is_some, Result, Ok, Err}
+use Rattle.std.proofs.Common.{◌≡◌, refl, subst, ℕ, Bool, true, false, not, ◌&&◌, List, [], ◌∷◌, slice_get, Option, Some, None, is_some}
 use Rattle.std.proofs.lemmas.Bool.{and_parts}
-use Rattle.elab_rules.specs.cpp_types.Typ.{Typ, typ, Form, void, int, enum, ptr, ref, func, class, closure, tx_ex, Signature, signature, Typs}
+use Rattle.elab_rules.specs.cpp_types.Typ.{Typ, typ, Form, int, enum, ptr, ref, func, class, closure, tx_ex, Signature, signature, Typs}
 use Rattle.elab_rules.specs.cpp_types.Typ.{none as no_typs, more as and_typ}
 use Rattle.elab_rules.specs.cpp_types.Class.{Class, completion_of}
 use Rattle.elab_rules.specs.cpp_types.declared.classes.At.{At}
@@ -16,7 +16,7 @@ use Rattle.elab_rules.specs.cpp_tree.Typing.{form_in, is_class_typ, is_class_prv
 use Rattle.elab_rules.specs.cpp_tree.Rows.{Setting}
 use Rattle.elab_rules.specs.cpp_tree.Units.{Func as UnitFunc}
 use Rattle.elab_rules.specs.cpp_tree.WellFormed.{is_item}
-use Rattle.elab_rules.specs.elab_ctx.Ctx.{Ctx, Work, Func, Variable, This, Capture, Lambda}
+use Rattle.elab_rules.specs.elab_ctx.Ctx.{Ctx, Work, This, Capture, Lambda}
 use Rattle.elab_rules.specs.elab_ctx.Steps.{and_then, expect, Operand, Made, Typed, TypedAll}
 use Rattle.elab_rules.specs.Values
 use Rattle.elab_rules.specs.Initialising.{signature_parameters}
@@ -29,26 +29,23 @@ use Rattle.elab_growth.proofs.Growth.{Behind, expression as expression_grows}
 use Rattle.elab_places.proofs.Steps.{On, skip, choose, held_by}
 use Rattle.elab_places.proofs.Declaring.{on}
 use Rattle.elab_sound_types.specs.Contexts.{HasSoundTypes, is_sound_global}
-use Rattle.elab_sound_types.specs.Laws.{IsSoundTyped}
 use Rattle.elab_sound_types.proofs.Braces.{item_kept}
 use Rattle.elab_sound_types.proofs.Expressions.{Chosen, operand_sound, expressions_law, operands_law, moved}
 use Rattle.elab_sound_types.proofs.Globals as globals
 use Rattle.elab_sound_types.proofs.Names.{at_place}
 use Rattle.elab_holds.proofs.Sound.{target_sound}
 use Rattle.elab_fits_forms.specs.Types.{is_sound, is_sound_form, is_sound_signature, is_result, is_parameter, are_parameters, is_exception_value, is_lambda}
-use Rattle.elab_fits_forms.specs.Meaning.{Proper, Means, ProperOperand, MeansOperand}
+use Rattle.elab_fits_forms.specs.Meaning.{Proper, Means}
 use Rattle.elab_fits_forms.specs.Context.{Holds}
 use Rattle.elab_fits_forms.specs.Names.{TypedMeans}
 use Rattle.elab_fits_forms.specs.Forms.{ProperOperands}
-use Rattle.elab_fits_forms.specs.Expressions.{ClosuresHold}
 use Rattle.elab_fits_forms.proofs.Proper.{proper_valued}
 use Rattle.elab_fits_expressions.specs.Expressions.{TypedStands}
 use Rattle.elab_fits_expressions.proofs.Expressions.{of_expression, of_operands, chosen_law}
 use Rattle.elab_frame_items.specs.Items.{IsWhole, AllWhole, AreParameters, FunctionsWhole, is_unnamed}
-use Rattle.elab_frame_items.specs.Supplies.{IsCallee, Supplies, SuppliesItems, Reads}
+use Rattle.elab_frame_items.specs.Supplies.{IsCallee, Reads}
 use Rattle.elab_frame_items.proofs.Expressions.{valued_whole}
 use Rattle.elab_whole_states.specs.States.{ReadsItems}
-use Rattle.setting_growth.proofs.Trees.{order_law}
 use Rattle.state_growth.specs.Settings.{setting_at}
 use Rattle.state_growth.proofs.Settings.{reached_law}
 use Rattle.state_growth.proofs.Lists.{behind}
@@ -106,8 +103,11 @@ CalledWith c at e = (sig : Signature) (d v : Bool) → form_in (typ_in (Values.v
     → AreParameters c.classes (signature_parameters sig)
 
 callee_means : (s : Setting) (c : Ctx) (w : Work) (at : At) (e : Tree) → Holds s c w → Means s c e → IsWhole c.classes e × CalledWith c at e
-callee_means s c w at e g (Means.standing p) = (proper_whole s c e p, λ sig d v q. signature_whole s c w g sig
-    (subst (λ (f : Form). is_sound_form c.classes f ≡ true) q (sound_form c.classes (typ_in (Values.valued at e)) (proper_valued s c at e p).sound)))
+callee_means s c w at e g (Means.standing p) = (
+  proper_whole s c e p,
+  λ sig d v q. signature_whole s c w g sig
+      (subst (λ (f : Form). is_sound_form c.classes f ≡ true) q (sound_form c.classes (typ_in (Values.valued at e)) (proper_valued s c at e p).sound)),
+)
 callee_means s c w at e g (Means.free_functions k p) = (record { object = λ z. absurd cc }, λ sig d v q. absurd cc)
 callee_means s c w at e g (Means.methods k p object m o) = (record { object = λ z. absurd cc }, λ sig d v q. absurd cc)
 callee_means s c w at e g (Means.getter p t q v object o i) = (record { object = λ z. absurd cc }, λ sig d v q. absurd cc)
@@ -195,20 +195,24 @@ module _ (f : UnitFunc) (s : List Lexeme) (x : State) (g : IsGood f x) where
       (and_then (Expressions.expression_with s c c.closures w e) (Expressions.chosen_operand c))
   operand w e p t = let r = and_then (Expressions.expression_with s c c.closures w e) (Expressions.chosen_operand c) in
       on (λ (y : Typed). IsWhole c.classes y.operand.tree × IsRead f x y.work) r
-      (λ y h. (proper_whole (setting_at f c y.work) c y.operand.tree (held_by (TypedStands (setting_at f c y.work) c) r y
-      (chosen_law s (setting_at f c y.work) c c.closures w e (later f c w y.work p.0) g.closures t.spelled) h (reached_law f c y.work)).proper,
-      goes_on w y.work (held_by (λ (z : Typed). Behind w z.work) r y (operand_grows s c w e) h)
-      (held_by (Chosen c) r y (operand_sound s c c.closures w e p.1 g.sound.closures (spelled s e t.spelled)) h).1 p))
+      (λ y h. (
+        proper_whole (setting_at f c y.work) c y.operand.tree (held_by (TypedStands (setting_at f c y.work) c) r y
+            (chosen_law s (setting_at f c y.work) c c.closures w e (later f c w y.work p.0) g.closures t.spelled) h (reached_law f c y.work)).proper,
+        goes_on w y.work (held_by (λ (z : Typed). Behind w z.work) r y (operand_grows s c w e) h)
+            (held_by (Chosen c) r y (operand_sound s c c.closures w e p.1 g.sound.closures (spelled s e t.spelled)) h).1 p,
+      ))
 
   operands : (w : Work) (es : syntax.Trees) → IsRead f x w → AreTexts s es
       → On (λ (y : TypedAll). AllWhole c.classes y.operands × IsRead f x y.work) (Expressions.operands_with s c c.closures w es)
   operands w es p t = let r = Expressions.operands_with s c c.closures w es in
       on (λ (y : TypedAll). AllWhole c.classes y.operands × IsRead f x y.work) r
-      (λ y h. (operands_whole (setting_at f c y.work) c y.operands (held_by (λ (z : TypedAll). Reaches (setting_at f c y.work) z.work
-      → ProperOperands (setting_at f c y.work) c z.operands) r y
-      (of_operands s (setting_at f c y.work) c c.closures w es (later f c w y.work p.0) g.closures t.spelled) h (reached_law f c y.work)),
-      goes_on w y.work (held_by (λ (z : TypedAll). Behind w z.work) r y (operands_grow s c w es) h)
-      (operands_law s c c.closures w es y p.1 g.sound.closures (all_spelled s es t.spelled) h).work p))
+      (λ y h. (
+        operands_whole (setting_at f c y.work) c y.operands (held_by (λ (z : TypedAll). Reaches (setting_at f c y.work) z.work
+            → ProperOperands (setting_at f c y.work) c z.operands) r y
+            (of_operands s (setting_at f c y.work) c c.closures w es (later f c w y.work p.0) g.closures t.spelled) h (reached_law f c y.work)),
+        goes_on w y.work (held_by (λ (z : TypedAll). Behind w z.work) r y (operands_grow s c w es) h)
+            (operands_law s c c.closures w es y p.1 g.sound.closures (all_spelled s es t.spelled) h).work p,
+      ))
 
   item : (w : Work) (object : Tree) (t : Typ) (e : syntax.Tree) → IsRead f x w → IsText s e
       → On (λ (m : Made). IsRead f x m.work) (Braces.item_of s c w object t e)
