@@ -17,23 +17,9 @@ use Rattle.state_growth.specs.States.{IsTidy}
 use Rattle.elab_fits_braces.specs.Defaults.{AllDefaultsFit}
 use Rattle.elab_fits_states.specs.States.{setting, IsText, AreTexts}
 use Rattle.elab_fits_states.specs.Made.{AllBodiesFit}
-use Rattle.elab_fits_units.specs.Below.{IsHome}
+use Rattle.elab_fits_parts.specs.Parts.{IsHome}
+use Rattle.elab_fits_parts.specs.Implicit.{HasImplicits}
 use Rattle.elab_fits_units.specs.Steps.{Words}
-
--- Implicit members: a constructor without parameters, a copy of another object of the class, or a destructor, of a class that has its brace
-pub data IsImplied (n : ℕ) : FuncKind → Signature → Type 0 where
-  default : (safe : Bool) → IsImplied n Constructor (signature no_typs (plain void) safe)
-  copy : (const safe : Bool) → IsImplied n Constructor (signature (and_typ (own_reference n const) no_typs) (plain void) safe)
-  destructor : (safe : Bool) → IsImplied n Destructor (signature no_typs (plain void) safe)
-
-pub record IsImplicit (classes : List Class) (f : Func) : Type 0 where
-  pub class : ℕ
-  pub of : f.class ≡ Some class
-  pub home : IsHome classes class
-  pub implied : IsImplied class f.kind f.declared.signature
-
-abbrev pub HasImplicits : Ctx → Type 0
-HasImplicits c = (k : ℕ) (f : Func) → slice_get c.funcs k ≡ Some f → f.implicit ≡ true → IsImplicit c.classes f
 
 pub record UnitGood (st : State) : Type 0 where
   -- the classes and functions of the unit are as elaboration makes them
