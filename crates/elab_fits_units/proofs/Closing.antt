@@ -1,5 +1,5 @@
 -- Behind a class up to its brace the unit has gone on, and its types are sound, where what its functions override is right.
-use Rattle.std.proofs.Common.{◌≡◌, refl, sym, ap, ◌∙◌, subst, ℕ, Bool, true, false, List, [], ◌∷◌, Option, None, Result, Ok, Err}
+use Rattle.std.proofs.Common.{◌≡◌, refl, sym, ap, ◌∙◌, subst, ℕ, true, false, List, [], ◌∷◌, None, Ok}
 use Rattle.elab_rules.specs.cpp_types.Class.{Class, completion_of}
 use Rattle.elab_rules.specs.cpp_types.declared.classes.At.{At}
 use Rattle.elab_rules.specs.cpp_lex.Tokens.{Lexeme}
@@ -7,16 +7,13 @@ use Rattle.elab_rules.specs.cpp_ast.Trees as syntax
 use Rattle.elab_rules.specs.elab_ctx.Ctx.{Ctx}
 use Rattle.elab_rules.specs.Types.{is_nothing, type_named}
 use Rattle.elab_rules.specs.Statements.{State}
-use Rattle.elab_rules.specs.Classes.{Begun, Home, Members, begun, member_of, members_of, completed, closed_class}
-use Rattle.elab_rules.specs.Members.{base_named, members_among}
-use Rattle.elab_fits.specs.Standing.{On}
-use Rattle.elab_contexts.specs.Holding.{UnitHolds}
+use Rattle.elab_rules.specs.Classes.{Home, Members, begun, member_of, members_of, completed, closed_class}
+use Rattle.elab_rules.specs.Members.{members_among}
 use Rattle.elab_contexts.specs.Overriders.{HasOverriders}
 use Rattle.elab_contexts.specs.Texts.{is_no_name}
 use Rattle.elab_contexts.proofs.Holding as holding
 use Rattle.elab_sound_units.specs.Steps.{IsSoundBehind}
 use Rattle.elab_sound_units.proofs.Steps as sound
-use Rattle.state_growth.specs.States.{Gone}
 use Rattle.state_growth.proofs.Changing as changing
 use Rattle.state_growth.proofs.Classes as growth
 use Rattle.state_growth.proofs.Members.{each_holds}

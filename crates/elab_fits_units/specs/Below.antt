@@ -32,7 +32,7 @@ use Rattle.elab_fits.specs.Standing.{On}
 use Rattle.elab_contexts.specs.Holding.{UnitHolds}
 use Rattle.elab_contexts.specs.Overriders.{HasOverriders}
 use Rattle.elab_holds.specs.Locals.{FunctionsEntered, ParametersPlaced, LocalsStay, LocalsHold}
-use Rattle.elab_sound_types.specs.Types.{Use, is_sound, is_class, object}
+use Rattle.elab_sound_types.specs.Types.{Use, is_sound, object}
 use Rattle.elab_fits_forms.specs.Types as forms
 use Rattle.elab_fits_braces.specs.Defaults.{DefaultsStay}
 use Rattle.elab_fits_braces.specs.Strings.{StringsBuild}

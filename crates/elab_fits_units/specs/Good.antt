@@ -1,14 +1,7 @@
 -- What holds of a state at file scope.
-use Rattle.std.specs.Prelude.{◌≡◌, ℕ, Bool, true, List, [], Some, slice_get}
-use Rattle.elab_rules.specs.cpp_types.Class.{Class}
-use Rattle.elab_rules.specs.cpp_types.Typ.{void, Signature, signature, none as no_typs, more as and_typ}
+use Rattle.std.specs.Prelude.{◌≡◌, List, []}
 use Rattle.elab_rules.specs.cpp_lex.Tokens.{Lexeme}
-use Rattle.elab_rules.specs.cpp_tree.declared.program.FuncKind.{FuncKind}
-use Rattle.elab_rules.specs.cpp_tree.declared.program.FuncKind.TheVariants.{Constructor, Destructor}
-use Rattle.elab_rules.specs.cpp_tree.Notation.{plain}
 use Rattle.elab_rules.specs.cpp_tree.Units.{Func as UnitFunc}
-use Rattle.elab_rules.specs.elab_ctx.Ctx.{Ctx, Func}
-use Rattle.elab_rules.specs.Classes.{own_reference}
 use Rattle.elab_rules.specs.Statements.{State}
 use Rattle.elab_contexts.specs.Holding.{UnitHolds}
 use Rattle.elab_contexts.specs.Overriders.{HasOverriders}
