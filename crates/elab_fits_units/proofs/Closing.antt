@@ -1,67 +1,50 @@
 -- Behind a class up to its brace the unit has gone on, and its types are sound, where what its functions override is right.
-use Rattle.std.proofs.Common.{◌≡◌, refl, sym, ap, ◌∙◌, subst, ℕ, Bool, true, false, List, [], ◌∷◌, Option, None, Result, Ok, Err}
-use Rattle.std.specs.Prelude.{if◌then◌else◌, nat_le}
+use Rattle.std.proofs.Common.{◌≡◌, refl, sym, ap, ◌∙◌, subst, ℕ, true, false, List, [], ◌∷◌, None, Ok}
 use Rattle.elab_rules.specs.cpp_types.Class.{Class, completion_of}
 use Rattle.elab_rules.specs.cpp_types.declared.classes.At.{At}
-use Rattle.elab_rules.specs.cpp_layout.declared.extents.TheConstants.{GREATEST_SIZE}
 use Rattle.elab_rules.specs.cpp_lex.Tokens.{Lexeme}
 use Rattle.elab_rules.specs.cpp_ast.Trees as syntax
-use Rattle.elab_rules.specs.cpp_tree.declared.faults.ElabFault.{ElabFault}
 use Rattle.elab_rules.specs.elab_ctx.Ctx.{Ctx}
-use Rattle.elab_rules.specs.cpp_layout.Layout.{class_extent}
 use Rattle.elab_rules.specs.Types.{is_nothing, type_named}
 use Rattle.elab_rules.specs.Statements.{State}
-use Rattle.elab_rules.specs.Classes.{Begun, Home, Members, begun, member_of, members_of, completed, closed_class}
-use Rattle.elab_rules.specs.Members.{base_named, members_among}
-use Rattle.elab_fits.specs.Standing.{On}
-use Rattle.elab_contexts.specs.Holding.{UnitHolds}
+use Rattle.elab_rules.specs.Classes.{Home, Members, begun, member_of, members_of, completed, closed_class}
+use Rattle.elab_rules.specs.Members.{members_among}
 use Rattle.elab_contexts.specs.Overriders.{HasOverriders}
-use Rattle.elab_contexts.specs.Steps.{IsOpen}
 use Rattle.elab_contexts.specs.Texts.{is_no_name}
-use Rattle.elab_contexts.proofs.Classes as walks
-use Rattle.elab_contexts.proofs.Going as going
 use Rattle.elab_contexts.proofs.Holding as holding
-use Rattle.elab_contexts.proofs.Walking.{joined}
 use Rattle.elab_sound_units.specs.Steps.{IsSoundBehind}
 use Rattle.elab_sound_units.proofs.Steps as sound
-use Rattle.state_growth.specs.States.{Gone}
 use Rattle.state_growth.proofs.Changing as changing
 use Rattle.state_growth.proofs.Classes as growth
 use Rattle.state_growth.proofs.Members.{each_holds}
 use Rattle.state_growth.proofs.Steps.{stays, state_grows, is_tidy, to_tidy}
 use Rattle.elab_fits_states.specs.States.{AreTexts}
 use Rattle.elab_fits_states.proofs.Spelled.{all_spelled}
-use Rattle.elab_fits_units.specs.Below.{IsHome}
+use Rattle.elab_fits_parts.specs.Parts.{IsHome}
+use Rattle.elab_fits_parts.specs.Implicit.{HasBrace}
+use Rattle.elab_fits_parts.proofs.Walks.{classes_law}
 use Rattle.elab_fits_units.specs.Good.{UnitGood}
 use Rattle.elab_fits_units.specs.Laws.{Leads}
 use Rattle.elab_fits_units.specs.Steps.{IsClosed}
 use Rattle.elab_fits_units.proofs.Headers.{answered}
-use Rattle.elab_fits_units.proofs.Implicits.{home_braced}
 
 no_name : (xs : List ℕ) → is_nothing xs ≡ false → is_no_name xs ≡ false
 no_name [] h = absurd cc
 no_name (x ∷ xs) h = refl
-
-on_if : (P : Ctx → Type 0) (b : Bool) (c : Ctx) (f : ElabFault) → P c → On P (if b then Ok c else Err f)
-on_if P true c f h = h
-on_if P false c f h = tt
 
 pub class_leads : (s : List Lexeme) (st : State) (at : At) (name : List ℕ) (kids : syntax.Trees) (home : Home) (r : Members) (c : Ctx) → UnitGood st
     → is_nothing name ≡ false → AreTexts s kids → IsClosed s st at name kids home r c → (HasOverriders st.ctx.funcs → HasOverriders r.state.ctx.funcs)
     → Leads st (record r.state { ctx = c }) × IsHome c.classes home.number
 class_leads s st at name kids home r c g n t k o = (
   record {
-    walk = joined begins.from.walk brace.walk;
+    walk = braced.walk;
     unit = holding.classes_law s st at kids home k.start r c g.unit title start k.based k.number k.read k.closed;
     sound = behind.after.sound;
     kept = behind.after.grown.kept;
     overriders = λ h. holding.classes_override at home r c k.closed (o h);
     gone = record { grows = state_grows st (record r.state { ctx = c }) went.kept; numbers = went.kept.numbers; tidy = is_tidy (record r.state { ctx = c }) went.tidy };
   },
-  answered (λ (d : Ctx). IsHome d.classes home.number) (closed_class at home.number (completed r.state.ctx home at r.members r.initialised)) c
-      (on_if (λ (d : Ctx). IsHome d.classes home.number) (nat_le (class_extent (completed r.state.ctx home at r.members r.initialised).classes home.number).size GREATEST_SIZE)
-      (completed r.state.ctx home at r.members r.initialised) _
-      (home_braced r.state.ctx home at r.members r.initialised read.unclosed title)) k.closed,
+  braced.home,
 )
   where
     title : is_no_name home.name ≡ false
@@ -74,22 +57,8 @@ class_leads s st at name kids home r c g n t k o = (
     behind = sound.classes_law s st at name k.start home (members_among kids) r c g.sound n (sound.spelled_law s kids (all_spelled s kids t.spelled)) k.begins k.number k.named
         k.read k.closed
 
-    begins : walks.IsBegun st true k.start
-    begins = answered (walks.IsBegun st true) (begun st.ctx at home.name true) k.start (walks.begun_from st at home.name true title) start
-
-    based : walks.IsWholeBase k.start.ctx.classes home.base
-    based = answered (walks.IsWholeBase k.start.ctx.classes) (base_named s k.start.ctx kids) home.base (walks.base_whole s k.start.ctx kids (begins.from.types g.unit.types)) k.based
-
-    read : walks.Read home.number (record st { ctx = k.start.ctx }) r
-    read = answered (walks.Read home.number (record st { ctx = k.start.ctx }))
-        (members_of s home (record { state = record st { ctx = k.start.ctx }; members = []; initialised = [] }) (members_among kids)) r
-        (walks.members_read s (record st { ctx = k.start.ctx }) home (members_among kids)
-        (subst (λ (i : ℕ). IsOpen k.start.ctx.classes i) (sym k.number) (begins.unclosed g.unit.types refl)) (begins.from.types g.unit.types)) k.read
-
-    brace : going.From (record st { ctx = k.start.ctx }) (record r.state { ctx = c })
-    brace = answered (λ (d : Ctx). going.From (record st { ctx = k.start.ctx }) (record r.state { ctx = d }))
-        (closed_class at home.number (completed r.state.ctx home at r.members r.initialised)) c
-        (walks.brace_leaves (record st { ctx = k.start.ctx }) home at r read title based.0 based.1) k.closed
+    braced : HasBrace st.ctx c home.number
+    braced = classes_law s st at kids home k.start r c g.unit title start k.based k.number k.read k.closed g.implicits
 
     named : growth.IsBegun st true k.start
     named = answered (growth.IsBegun st true) (begun st.ctx at home.name true) k.start (growth.begun_name st at home.name true (type_named home.name st.ctx.types)) start

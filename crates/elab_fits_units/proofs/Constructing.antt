@@ -41,7 +41,8 @@ use Rattle.state_growth.proofs.Statements.{all_lambdas_kept}
 use Rattle.state_growth.proofs.Bodies.{lambdas_lawful}
 use Rattle.elab_fits_bodies.specs.Built.{IsMember}
 use Rattle.elab_fits_states.specs.States.{setting, IsText, AreTexts, IsSettled, IsVariableType, Comes, words}
-use Rattle.elab_fits_units.specs.Below.{Below, IsHome, ArePartsOf}
+use Rattle.elab_fits_parts.specs.Parts.{IsHome}
+use Rattle.elab_fits_units.specs.Below.{Below, ArePartsOf}
 use Rattle.elab_fits_units.proofs.Bodies.{came}
 use Rattle.elab_fits_units.proofs.Headers.{answered, skip, checked, expected}
 use Rattle.elab_fits_units.proofs.Results.{any_holds}

@@ -44,7 +44,8 @@ use Rattle.state_growth.proofs.Steps.{Leaves, goes}
 use Rattle.state_growth.proofs.Members.{parts_kept}
 use Rattle.elab_fits_states.specs.States.{setting, IsText, AreTexts, IsSettled, Comes, words}
 use Rattle.elab_fits_states.specs.Bodies.{BodyFits, StandsAlone}
-use Rattle.elab_fits_units.specs.Below.{Below, IsHome, ArePartsOf}
+use Rattle.elab_fits_parts.specs.Parts.{IsHome}
+use Rattle.elab_fits_units.specs.Below.{Below, ArePartsOf}
 use Rattle.elab_fits_units.specs.Definitions.{IsDefinition}
 use Rattle.elab_fits_units.specs.Good.{UnitGood}
 use Rattle.elab_fits_units.proofs.Bodies.{Left, made_left, came}

@@ -34,7 +34,8 @@ use Rattle.state_growth.proofs.Steps.{Leaves, goes, stays, after, bind, either, 
 use Rattle.state_growth.proofs.Works.{Mades, class_grows}
 use Rattle.elab_growth.proofs.Growth.{same}
 use Rattle.elab_fits_states.specs.States.{setting, IsSettled}
-use Rattle.elab_fits_units.specs.Below.{Below, IsHome, ArePartsOf}
+use Rattle.elab_fits_parts.specs.Parts.{IsHome}
+use Rattle.elab_fits_units.specs.Below.{Below, ArePartsOf}
 use Rattle.elab_fits_units.proofs.Constructors.{Same, Works, PartsStand, settled_with, settled_same, first_kept}
 use Rattle.elab_fits_units.proofs.Headers.{answered, skip}
 use Rattle.elab_fits_units.proofs.Results.{any_holds, holds}

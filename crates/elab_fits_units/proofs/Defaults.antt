@@ -33,7 +33,8 @@ use Rattle.state_growth.proofs.Judgements.{built_law}
 use Rattle.state_growth.proofs.Settings.{funcs_grow}
 use Rattle.elab_fits_states.specs.States.{setting, IsText, IsSettled, Comes}
 use Rattle.elab_fits_states.specs.Made.{AllBodiesFit}
-use Rattle.elab_fits_units.specs.Below.{Below, IsHome, ArePartsOf}
+use Rattle.elab_fits_parts.specs.Parts.{IsHome}
+use Rattle.elab_fits_units.specs.Below.{Below, ArePartsOf}
 use Rattle.elab_fits_units.specs.Good.{UnitGood, unit_words}
 use Rattle.elab_fits_units.specs.Laws.{Leads, Laws}
 use Rattle.elab_fits_units.specs.Steps.{Follows}

@@ -31,8 +31,10 @@ use Rattle.state_growth.proofs.Items.{work_kept}
 use Rattle.state_growth.proofs.Steps.{Leaves}
 use Rattle.state_growth.proofs.Works.{one_item}
 use Rattle.elab_fits_states.specs.States.{setting, IsSettled}
-use Rattle.elab_fits_units.specs.Below.{Below, IsHome}
-use Rattle.elab_fits_units.specs.Good.{IsImplied, default, copy, destructor, IsImplicit, UnitGood}
+use Rattle.elab_fits_parts.specs.Parts.{IsHome}
+use Rattle.elab_fits_units.specs.Below.{Below}
+use Rattle.elab_fits_parts.specs.Implicit.{IsImplied, default, copy, destructor, IsImplicit}
+use Rattle.elab_fits_units.specs.Good.{UnitGood}
 use Rattle.elab_fits_units.specs.Laws.{Leads, Laws}
 use Rattle.elab_fits_units.proofs.Bodies.{Left, made_left, came}
 use Rattle.elab_fits_units.proofs.Constructors.{PartsStand, constructed, parts_stand, settled_with}

@@ -64,7 +64,7 @@ use Rattle.state_growth.proofs.Steps.{Leaves, state_grows, is_tidy, to_tidy}
 use Rattle.state_growth.proofs.Units as growth_units
 use Rattle.elab_fits_states.specs.States.{IsText, AreTexts}
 use Rattle.elab_fits_states.proofs.Spelled.{spelled as one_spelled, all_spelled}
-use Rattle.elab_fits_units.specs.Below.{IsHome}
+use Rattle.elab_fits_parts.specs.Parts.{IsHome}
 use Rattle.elab_fits_units.specs.Good.{UnitGood}
 use Rattle.elab_fits_units.specs.Laws.{Leads}
 use Rattle.elab_fits_units.proofs.Headers.{answered, skip}

@@ -11,7 +11,6 @@ pub mod Entering
 pub mod Given
 pub mod Growing
 pub mod Headers
-pub mod Implicits
 pub mod Implied
 pub mod Leading
 pub mod Leaves

@@ -36,7 +36,8 @@ use Rattle.elab_holds.proofs.Sound.{lambda_same, no_lambda, listed, name_found, 
 use Rattle.elab_fits_bodies.specs.Built.{IsMember}
 use Rattle.elab_fits_bodies.specs.Copied.{IsCopied}
 use Rattle.elab_fits_states.proofs.Variables.{declares, single_typ}
-use Rattle.elab_fits_units.specs.Below.{IsHome, ArePartsOf}
+use Rattle.elab_fits_parts.specs.Parts.{IsHome}
+use Rattle.elab_fits_units.specs.Below.{ArePartsOf}
 use Rattle.elab_fits_units.proofs.Types.{object_variable}
 
 -- a class that has a name is one

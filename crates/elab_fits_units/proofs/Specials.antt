@@ -29,7 +29,8 @@ use Rattle.elab_sound_types.specs.Types.{is_class, is_lambda}
 use Rattle.state_growth.specs.Settings.{shown}
 use Rattle.elab_fits_states.specs.States.{setting, IsText, IsGood}
 use Rattle.elab_fits_states.specs.Bodies.{BodyFits}
-use Rattle.elab_fits_units.specs.Below.{Below, IsHome, ArePartsOf}
+use Rattle.elab_fits_parts.specs.Parts.{IsHome}
+use Rattle.elab_fits_units.specs.Below.{Below, ArePartsOf}
 use Rattle.elab_fits_units.specs.Definitions.{IsDefinition}
 use Rattle.elab_fits_units.specs.Good.{UnitGood}
 use Rattle.elab_fits_units.proofs.Bodies.{Left, made_left, came}

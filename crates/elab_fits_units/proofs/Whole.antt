@@ -2,19 +2,19 @@
 use Rattle.std.proofs.Common.{List}
 use Rattle.elab_rules.specs.cpp_lex.Tokens.{Lexeme}
 use Rattle.elab_fits_lambdas.proofs.Lambdas.{lambdas_are_good}
+use Rattle.elab_fits_parts.proofs.Implicit.{steps_law}
 use Rattle.elab_fits_parts.proofs.Parts.{pointers_law}
 use Rattle.elab_fits_units.specs.Laws.{Laws, Left}
 use Rattle.elab_fits_units.specs.Programs.{ProgramsFit}
 use Rattle.elab_fits_units.proofs.Beginning.{start_good, later_good}
 use Rattle.elab_fits_units.proofs.Closing.{class_leads}
 use Rattle.elab_fits_units.proofs.Given.{below_is}
-use Rattle.elab_fits_units.proofs.Implicits.{implicits_stay}
 use Rattle.elab_fits_units.proofs.Leading as leading
 use Rattle.elab_fits_units.proofs.Programs.{program_fits}
 
 laws_are : (s : List Lexeme) → Left s → Laws s
 laws_are s l = record {
-  implicits = implicits_stay;
+  implicits = λ a b g u h. steps_law a b g h;
   headers = leading.headers s;
   read = leading.read s;
   read_outside = leading.read_outside s;

@@ -32,7 +32,7 @@ use Rattle.elab_fits.specs.Standing.{On}
 use Rattle.elab_contexts.specs.Holding.{UnitHolds}
 use Rattle.elab_contexts.specs.Overriders.{HasOverriders}
 use Rattle.elab_holds.specs.Locals.{FunctionsEntered, ParametersPlaced, LocalsStay, LocalsHold}
-use Rattle.elab_sound_types.specs.Types.{Use, is_sound, is_class, object}
+use Rattle.elab_sound_types.specs.Types.{Use, is_sound, object}
 use Rattle.elab_fits_forms.specs.Types as forms
 use Rattle.elab_fits_braces.specs.Defaults.{DefaultsStay}
 use Rattle.elab_fits_braces.specs.Strings.{StringsBuild}
@@ -45,6 +45,7 @@ use Rattle.elab_fits_statements.specs.Discipline.{Discipline, BuildsAll}
 use Rattle.elab_fits_states.specs.States.{AreTexts, IsSettled, IsVariableType, words}
 use Rattle.state_growth.specs.Settings.{setting_at}
 use Rattle.elab_fits_states.specs.Bodies.{BodyFits, StandsAlone}
+use Rattle.elab_fits_parts.specs.Parts.{IsHome}
 use Rattle.elab_fits_units.specs.Steps.{NoCall}
 
 -- the parts of a class lie at words, and each has a type of which objects can be made, copied and destroyed
@@ -54,11 +55,6 @@ pub record ArePartsOf (c : Ctx) (n : ℕ) : Type 0 where
   pub based : (b : ℕ) → base_of_class (slice_get c.classes n) ≡ Some b → is_sound c.classes object (plain (class b)) ≡ true
   pub members : (i : ℕ) (m : Member) → IsMember c n i m → IsCopied c (is_lambda c.classes) m.typ
   pub typed : (i : ℕ) (m : Member) → IsMember c n i m → is_sound c.classes object m.typ ≡ true
-
--- a class that has a name and its brace
-pub record IsHome (classes : List Class) (n : ℕ) : Type 0 where
-  pub complete : is_some (completion_of classes n) ≡ true
-  pub named : is_class classes n ≡ true
 
 -- the pointer of a class stands at a word
 abbrev pub PointersAreWords : Type 0

@@ -1,14 +1,7 @@
 -- What holds of a state at file scope.
-use Rattle.std.specs.Prelude.{◌≡◌, ℕ, Bool, true, List, [], Some, slice_get}
-use Rattle.elab_rules.specs.cpp_types.Class.{Class}
-use Rattle.elab_rules.specs.cpp_types.Typ.{void, Signature, signature, none as no_typs, more as and_typ}
+use Rattle.std.specs.Prelude.{◌≡◌, List, []}
 use Rattle.elab_rules.specs.cpp_lex.Tokens.{Lexeme}
-use Rattle.elab_rules.specs.cpp_tree.declared.program.FuncKind.{FuncKind}
-use Rattle.elab_rules.specs.cpp_tree.declared.program.FuncKind.TheVariants.{Constructor, Destructor}
-use Rattle.elab_rules.specs.cpp_tree.Notation.{plain}
 use Rattle.elab_rules.specs.cpp_tree.Units.{Func as UnitFunc}
-use Rattle.elab_rules.specs.elab_ctx.Ctx.{Ctx, Func}
-use Rattle.elab_rules.specs.Classes.{own_reference}
 use Rattle.elab_rules.specs.Statements.{State}
 use Rattle.elab_contexts.specs.Holding.{UnitHolds}
 use Rattle.elab_contexts.specs.Overriders.{HasOverriders}
@@ -17,23 +10,9 @@ use Rattle.state_growth.specs.States.{IsTidy}
 use Rattle.elab_fits_braces.specs.Defaults.{AllDefaultsFit}
 use Rattle.elab_fits_states.specs.States.{setting, IsText, AreTexts}
 use Rattle.elab_fits_states.specs.Made.{AllBodiesFit}
-use Rattle.elab_fits_units.specs.Below.{IsHome}
+use Rattle.elab_fits_parts.specs.Parts.{IsHome}
+use Rattle.elab_fits_parts.specs.Implicit.{HasImplicits}
 use Rattle.elab_fits_units.specs.Steps.{Words}
-
--- Implicit members: a constructor without parameters, a copy of another object of the class, or a destructor, of a class that has its brace
-pub data IsImplied (n : ℕ) : FuncKind → Signature → Type 0 where
-  default : (safe : Bool) → IsImplied n Constructor (signature no_typs (plain void) safe)
-  copy : (const safe : Bool) → IsImplied n Constructor (signature (and_typ (own_reference n const) no_typs) (plain void) safe)
-  destructor : (safe : Bool) → IsImplied n Destructor (signature no_typs (plain void) safe)
-
-pub record IsImplicit (classes : List Class) (f : Func) : Type 0 where
-  pub class : ℕ
-  pub of : f.class ≡ Some class
-  pub home : IsHome classes class
-  pub implied : IsImplied class f.kind f.declared.signature
-
-abbrev pub HasImplicits : Ctx → Type 0
-HasImplicits c = (k : ℕ) (f : Func) → slice_get c.funcs k ≡ Some f → f.implicit ≡ true → IsImplicit c.classes f
 
 pub record UnitGood (st : State) : Type 0 where
   -- the classes and functions of the unit are as elaboration makes them

@@ -26,8 +26,9 @@ use Rattle.elab_sound_types.specs.States.{IsSoundState, Kept}
 use Rattle.elab_sound_units.specs.Headers.{IsSoundHeader, IsRead, IsOutside}
 use Rattle.state_growth.specs.States.{Gone}
 use Rattle.elab_fits_states.specs.States.{IsText, AreTexts}
-use Rattle.elab_fits_units.specs.Below.{IsHome}
-use Rattle.elab_fits_units.specs.Good.{UnitGood, HasImplicits}
+use Rattle.elab_fits_parts.specs.Parts.{IsHome}
+use Rattle.elab_fits_parts.specs.Implicit.{HasImplicits}
+use Rattle.elab_fits_units.specs.Good.{UnitGood}
 use Rattle.elab_fits_units.specs.Steps.{IsClosed}
 
 pub record Leads (a b : State) : Type 0 where
