@@ -12,7 +12,7 @@ use Rattle.elab_fits_units.proofs.Given.{below_is}
 use Rattle.elab_fits_units.proofs.Leading as leading
 use Rattle.elab_fits_units.proofs.Programs.{program_fits}
 
-laws_are : (s : List Lexeme) → Left s → Laws s
+pub laws_are : (s : List Lexeme) → Left s → Laws s
 laws_are s l = record {
   implicits = λ a b g u h. steps_law a b g h;
   headers = leading.headers s;

@@ -37,7 +37,8 @@ use Rattle.elab_fits_states.specs.Premises.{GoesWell}
 use Rattle.elab_fits_states.proofs.Discipline.{all_well}
 use Rattle.elab_fits_states.proofs.Texts.{kids, first, rest}
 use Rattle.elab_fits_lambdas.proofs.Lambdas.{lambdas_are_good}
-use Rattle.elab_fits_units.specs.Below.{Below, IsHome}
+use Rattle.elab_fits_parts.specs.Parts.{IsHome}
+use Rattle.elab_fits_units.specs.Below.{Below}
 use Rattle.elab_fits_units.specs.Definitions.{IsDefinition}
 use Rattle.elab_fits_units.specs.Good.{UnitGood}
 use Rattle.elab_fits_units.specs.Steps.{NoCall}

@@ -27,7 +27,8 @@ use Rattle.state_growth.specs.Settings.{shown}
 use Rattle.state_growth.proofs.Steps.{seen, kept_refl}
 use Rattle.elab_fits_states.specs.States.{IsText, AreTexts, setting}
 use Rattle.elab_fits_lambdas.proofs.Lambdas.{lambdas_are_good}
-use Rattle.elab_fits_units.specs.Below.{Below, IsHome}
+use Rattle.elab_fits_parts.specs.Parts.{IsHome}
+use Rattle.elab_fits_units.specs.Below.{Below}
 use Rattle.elab_fits_units.specs.Good.{UnitGood}
 use Rattle.elab_fits_units.proofs.Constructors.{constructed}
 use Rattle.elab_fits_units.proofs.Entering.{Begins, begins}

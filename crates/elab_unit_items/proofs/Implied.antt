@@ -20,7 +20,8 @@ use Rattle.elab_places.proofs.Steps.{On, bind, choose}
 use Rattle.elab_fits.proofs.Nodes.{clash}
 use Rattle.setting_growth.specs.Growth.{ClassesGrow}
 use Rattle.state_growth.proofs.Steps.{seen, kept_refl}
-use Rattle.elab_fits_units.specs.Good.{IsImplied, default, copy, destructor, IsImplicit, UnitGood}
+use Rattle.elab_fits_parts.specs.Implicit.{IsImplied, default, copy, destructor, IsImplicit}
+use Rattle.elab_fits_units.specs.Good.{UnitGood}
 use Rattle.elab_fits_units.proofs.Headers.{at_func}
 use Rattle.elab_frame_items.specs.Frames.{IsWholeState}
 use Rattle.elab_frame_items.specs.Items.{IsWhole}

@@ -11,3 +11,4 @@ pub mod Programs
 pub mod Statements
 pub mod Steps
 pub mod Supplied
+pub mod Whole

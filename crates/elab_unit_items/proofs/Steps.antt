@@ -31,7 +31,8 @@ use Rattle.elab_fits_statements.proofs.States.{told}
 use Rattle.elab_sound_types.specs.Types.{is_class}
 use Rattle.elab_sound_units.specs.Headers.{IsRead, IsOutside}
 use Rattle.elab_fits_states.specs.States.{IsText, AreTexts}
-use Rattle.elab_fits_units.specs.Below.{Below, IsHome}
+use Rattle.elab_fits_parts.specs.Parts.{IsHome}
+use Rattle.elab_fits_units.specs.Below.{Below}
 use Rattle.elab_fits_units.specs.Definitions.{IsDefinition}
 use Rattle.elab_fits_units.specs.Good.{UnitGood, unit_words}
 use Rattle.elab_fits_units.specs.Laws.{Leads, Laws}

@@ -13,7 +13,7 @@ use Rattle.elab_frame_items.specs.Frames.{FramesWhole}
 use Rattle.elab_fits_units.specs.Good.{UnitGood}
 use Rattle.elab_fits_units.specs.Programs.{AreSources}
 use Rattle.elab_fits_units.specs.Steps.{Words}
-use Rattle.elab_fits_units.specs.Below.{IsHome}
+use Rattle.elab_fits_parts.specs.Parts.{IsHome}
 use Rattle.elab_fits_states.specs.States.{IsText, AreTexts}
 
 -- items of the bodies that were made are whole, and those of initialisers that are kept for members
