@@ -39,7 +39,7 @@ linked_further : (c : Ctx) (i : ℕ) (x : Storage) → Further c (linked_definit
 linked_further c i x = set_further c i (outside_linkage x (func_at c.funcs i)) (linkage_same x.is_inline (func_at c.funcs i) _
     (record { declared = refl; kind = refl; class = refl; builtin = refl; implicit = refl }) (record { declared = refl; kind = refl; class = refl; builtin = refl; implicit = refl }))
 
-outside_further : (s : List Lexeme) (c : Ctx) (i : ℕ) (h : Header) (first last : ℕ) → Further c (outside_defined s c i h first last)
+pub outside_further : (s : List Lexeme) (c : Ctx) (i : ℕ) (h : Header) (first last : ℕ) → Further c (outside_defined s c i h first last)
 outside_further s c i h first last =
     let text : List ℕ = outside_text s h.storage first last in
     let closed : ℕ = token_end (slice_get s last) in

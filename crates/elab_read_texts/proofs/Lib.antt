@@ -1,0 +1,17 @@
+pub mod Lexemes
+pub mod Rules
+pub mod Tables
+pub mod Names
+pub mod Counts
+pub mod Reading
+pub mod Texts
+pub mod Terminals
+pub mod Tokens
+pub mod Words
+pub mod CalmRules
+pub mod CalmTables
+pub mod Calm
+pub mod Plain
+pub mod Virtual
+pub mod Named
+pub mod Members
