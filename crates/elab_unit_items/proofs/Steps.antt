@@ -36,7 +36,7 @@ use Rattle.elab_fits_units.specs.Below.{Below}
 use Rattle.elab_fits_units.specs.Definitions.{IsDefinition}
 use Rattle.elab_fits_units.specs.Good.{UnitGood, unit_words}
 use Rattle.elab_fits_units.specs.Laws.{Leads, Laws}
-use Rattle.elab_fits_units.specs.Steps.{NoCall, Follows, Steps}
+use Rattle.elab_fits_units.specs.Steps.{NoCall, Words, Follows, Steps}
 use Rattle.elab_fits_units.proofs.Headers.{declared_law, methods_law, outside_law}
 use Rattle.elab_fits_units.proofs.Leaves.{both_on, gone_over, params_over, read_over, class_complete, late_quiet, quiet_good}
 use Rattle.elab_fits_units.proofs.Methods.{IsMethod, method_is, outside_is}
@@ -46,7 +46,7 @@ use Rattle.elab_fits_units.proofs.Specials.{home_over}
 use Rattle.elab_fits_units.proofs.Texts.{rest_texts}
 use Rattle.elab_fits_units.proofs.Units.{steps}
 use Rattle.elab_fits_units.proofs.Walk.{unit_good}
-use Rattle.elab_unit_items.specs.Units.{IsWholeUnit, IsGoodUnit, whole_words}
+use Rattle.elab_unit_items.specs.Units.{IsWholeUnit, with_whole, GivesUnit, IsGoodUnit}
 use Rattle.elab_unit_items.proofs.Constructors.{constructor_whole, destructor_whole}
 use Rattle.elab_unit_items.proofs.Defaults.{default_whole}
 use Rattle.elab_unit_items.proofs.Ending.{quiet_whole}
@@ -55,12 +55,11 @@ use Rattle.elab_unit_items.proofs.Implied.{implicit_whole}
 
 -- Answers
 
-pair : (r : Result State ElabFault) → On UnitGood r → On IsWholeUnit r → On IsGoodUnit r
-pair r g h = both_on UnitGood IsWholeUnit IsGoodUnit r g h (λ z a b. (a, b))
+pair : (w : Words) (r : Result State ElabFault) → On w.Good r → On IsWholeUnit r → On (with_whole w).Good r
+pair w r g h = both_on w.Good IsWholeUnit (with_whole w).Good r g h (λ z a b. (a, b))
 
-followed : (s : List Lexeme) (a : State) (r : Result State ElabFault) → On (Follows (unit_words s) a) r → On IsWholeUnit r → On (Follows (whole_words s) a) r
-followed s a r g h = both_on (Follows (unit_words s) a) IsWholeUnit (Follows (whole_words s) a) r g h
-    (λ z x w. record { good = (x.good, w); homes = x.homes })
+followed : (w : Words) (a : State) (r : Result State ElabFault) → On (Follows w a) r → On IsWholeUnit r → On (Follows (with_whole w) a) r
+followed w a r g h = both_on (Follows w a) IsWholeUnit (Follows (with_whole w) a) r g h (λ z x i. record { good = (x.good, i); homes = x.homes })
 
 quiet_on : (a : State) (r : Result State ElabFault) → IsWholeUnit a → On (Leads a) r → On (Quiet a) r → On IsWholeUnit r
 quiet_on a r w d q = both_on (Leads a) (Quiet a) IsWholeUnit r d q (λ z x y. quiet_whole a z x.gone.grows.unit.classes y w)
@@ -146,39 +145,49 @@ module _ (s : List Lexeme) (b : Below s) (l : Laws s) where
       (quiet_whole st z leads.gone.grows.unit.classes quiet w) (outside_law s st.ctx m.header TypeDiffers place first last p a q) i.kind_is free
       (home_over st z n (gone_over st z leads.gone) home) (read_over b.types s st z n m leads r) i.behind u))))))
 
-  -- All steps
+  -- All steps, in words of which good states follow
+  module _ (w : Words) (q : Steps w s) (u : GivesUnit w s) where
+    pub whole_steps : Steps (with_whole w) s
+    whole_steps = record {
+      kids = q.kids;
+      first = q.first;
+      rest = q.rest;
+      spelled = q.spelled;
+      variables = λ st x at ts g t. pair w (file_declaration s st x at ts) (q.variables st x at ts g.0 t)
+          (quiet_on st (file_declaration s st x at ts) g.1 (l.variables st x at ts (u.good st g.0) (u.texts ts t)) (declaration_quiet s st x at ts));
+      aliases = λ st at name ts g t. pair w (alias_of s st at name ts) (q.aliases st at name ts g.0 t)
+          (quiet_on st (alias_of s st at name ts) g.1 (l.aliases st at name ts (u.good st g.0) (u.texts ts t)) (aliases_quiet s st at name ts));
+      enums = λ st at name ts g t. pair w (enum_declared s st at name ts) (q.enums st at name ts g.0 t)
+          (quiet_on st (enum_declared s st at name ts) g.1 (l.enums st at name ts (u.good st g.0) (u.texts ts t)) (enum_quiet s st at name ts));
+      names = λ st at name g n. pair w (declared_only st at name) (q.names st at name g.0 n)
+          (quiet_on st (declared_only st at name) g.1 (l.names st at name (u.good st g.0) n) (only_quiet st at name));
+      functions = λ st x at first base d body t r g h i j e k. pair w (defined_with s st x at first r body (form_in r.typ))
+          (q.functions st x at first base d body t r g.0 h i j e k)
+          (file_whole st x at first base d body t r (form_in r.typ) (u.good st g.0) g.1 (u.text base h) (u.text d i) (u.text body j) e k refl);
+      outside = λ st x at kind first n ts m body g free t v e k. pair w (outside_body lambdas_of s st n kind first m body)
+          (q.outside st x at kind first n ts m body g.0 free t v e k)
+          (outside_whole st x at kind first n ts m body (u.good st g.0) g.1 free (u.texts ts t) (u.text body v) e k);
+      classes = λ st at name kids home r c g n t k. let y = q.classes st at name kids home r c g.0 n t k in
+          ((y.0, quiet_whole st (record r.state { ctx = c }) (u.grown st at name kids home r c g.0 n t k) (class_quiet s st at name kids home r c k) g.1), y.1);
+      defaults = λ st n i name e g h t k. let typ : Typ = member_type (slice_get (members_in (slice_get st.ctx.classes n)) i) in
+          followed w st (default_made lambdas_of s st n i typ e) (q.defaults st n i name e g.0 h t k)
+          (default_whole s b st n (u.good st g.0) (u.home st n h) g.1 i typ e (u.text e t));
+      methods = λ st n name at kind ts m body g free home t v e. followed w st (late_method lambdas_of s st n kind m (Some body))
+          (q.methods st n name at kind ts m body g.0 free home t v e)
+          (late_whole st n name at kind ts m body (u.good st g.0) g.1 free (u.home st n home) (u.texts ts t) (u.text body v) e);
+      implicits = λ st k g. pair w (implied st k) (q.implicits st k g.0) (implicit_whole st k (u.good st g.0) g.1);
+    }
 
-  good : Steps (unit_words s) s
-  good = steps s b l
-
-  whole_steps : Steps (whole_words s) s
-  whole_steps = record {
-    kids = good.kids;
-    first = good.first;
-    rest = good.rest;
-    spelled = good.spelled;
-    variables = λ st x at ts g t. pair (file_declaration s st x at ts) (good.variables st x at ts g.0 t)
-        (quiet_on st (file_declaration s st x at ts) g.1 (l.variables st x at ts g.0 t) (declaration_quiet s st x at ts));
-    aliases = λ st at name ts g t. pair (alias_of s st at name ts) (good.aliases st at name ts g.0 t)
-        (quiet_on st (alias_of s st at name ts) g.1 (l.aliases st at name ts g.0 t) (aliases_quiet s st at name ts));
-    enums = λ st at name ts g t. pair (enum_declared s st at name ts) (good.enums st at name ts g.0 t)
-        (quiet_on st (enum_declared s st at name ts) g.1 (l.enums st at name ts g.0 t) (enum_quiet s st at name ts));
-    names = λ st at name g n. pair (declared_only st at name) (good.names st at name g.0 n)
-        (quiet_on st (declared_only st at name) g.1 (l.names st at name g.0 n) (only_quiet st at name));
-    functions = λ st x at first base d body t r g h i j e k. pair (defined_with s st x at first r body (form_in r.typ))
-        (good.functions st x at first base d body t r g.0 h i j e k) (file_whole st x at first base d body t r (form_in r.typ) g.0 g.1 h i j e k refl);
-    outside = λ st x at kind first n ts m body g free t u e k. pair (outside_body lambdas_of s st n kind first m body)
-        (good.outside st x at kind first n ts m body g.0 free t u e k) (outside_whole st x at kind first n ts m body g.0 g.1 free t u e k);
-    classes = λ st at name kids home r c g n t q. let y = good.classes st at name kids home r c g.0 n t q in
-        let d = (l.classes st at name kids home r c g.0 n t q).0 in
-        ((y.0, quiet_whole st (record r.state { ctx = c }) d.gone.grows.unit.classes (class_quiet s st at name kids home r c q) g.1), y.1);
-    defaults = λ st n i name e g h t q. followed s st (default_made lambdas_of s st n i (member_type (slice_get (members_in (slice_get st.ctx.classes n)) i)) e)
-        (good.defaults st n i name e g.0 h t q) (default_whole s b st n g.0 h g.1 i (member_type (slice_get (members_in (slice_get st.ctx.classes n)) i)) e t);
-    methods = λ st n name at kind ts m body g free home t u e. followed s st (late_method lambdas_of s st n kind m (Some body))
-        (good.methods st n name at kind ts m body g.0 free home t u e) (late_whole st n name at kind ts m body g.0 g.1 free home t u e);
-    implicits = λ st k g. pair (implied st k) (good.implicits st k g.0) (implicit_whole st k g.0 g.1);
+  -- the words of elab_fits_units
+  units : GivesUnit (unit_words s) s
+  units = record {
+    good = λ st g. g;
+    home = λ st n h. h;
+    text = λ t h. h;
+    texts = λ ts h. h;
+    grown = λ st at name kids home r c g n t k. (l.classes st at name kids home r c g n t k).0.gone.grows.unit.classes;
   }
 
   -- a whole unit
   pub unit_whole : (st : State) (decls : syntax.Trees) → IsGoodUnit st → AreTexts s decls → On IsGoodUnit (unit_from s st decls)
-  unit_whole st decls g t = unit_good (whole_words s) s whole_steps st decls g t
+  unit_whole st decls g t = unit_good (with_whole (unit_words s)) s (whole_steps (unit_words s) (steps s b l) units) st decls g t
