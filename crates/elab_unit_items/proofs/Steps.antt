@@ -179,7 +179,7 @@ module _ (s : List Lexeme) (b : Below s) (l : Laws s) where
     }
 
   -- the words of elab_fits_units
-  units : GivesUnit (unit_words s) s
+  pub units : GivesUnit (unit_words s) s
   units = record {
     good = λ st g. g;
     home = λ st n h. h;
