@@ -15,3 +15,7 @@ pub mod Plain
 pub mod Virtual
 pub mod Named
 pub mod Members
+pub mod Declared
+pub mod Overriding
+pub mod Methods
+pub mod ReadMembers

@@ -15,4 +15,4 @@ read_named number text tokens decls x =
       stays = calm number tokens;
       plain = λ a. plain number tokens a words;
     } in
-    named tokens true (record { known = known; others = not_virtual number tokens; typed = typed number tokens }) x.derives refl (λ z. refl) refl
+    named tokens true (record { known = known; others = not_virtual number tokens; typed = λ a. typed number tokens a words }) x.derives refl (λ z. refl) refl

@@ -16,7 +16,7 @@ use Rattle.cpp_syntax.specs.Derivations.{is_where, is_before, is_if, is_unless, 
 use Rattle.cpp_syntax.specs.Classes.{is_introduced, is_introducer}
 use Rattle.cpp_syntax.proofs.TerminalTables.{implied}
 use Rattle.elab_rules.specs.elab_ctx.Steps.{spelling}
-use Rattle.elab_read_texts.specs.Names.{is_type_name, is_node_named, is_named, are_named}
+use Rattle.elab_read_texts.specs.Names.{is_class_name, is_node_named, is_named, are_named}
 use Rattle.elab_read_texts.proofs.CalmRules.{follows, calms, is_read, reads_plainly, is_without_virtual, introduces_first, names_first, introduces_name}
 use Rattle.elab_read_texts.proofs.CalmRules.{node_named, is_free_node, reads_named}
 use Rattle.elab_read_texts.proofs.CalmTables.{named_holds}
@@ -29,7 +29,7 @@ pub record AreAllKnown (ls : List Lexeme) (source : Source) : Type 0 where
   pub known : AreKnown ls source
   pub others : AreOtherWords ls source
   -- a name behind a word that introduces a type is the name of one
-  pub typed : (a : ℕ) → is_introducer (terminal_at source a) ≡ true → is_name (terminal_at source (a + 1)) ≡ true → is_type_name ls (spelling ls (a + 1)) ≡ true
+  pub typed : (a : ℕ) → is_introducer (terminal_at source a) ≡ true → is_name (terminal_at source (a + 1)) ≡ true → is_class_name ls (spelling ls (a + 1)) ≡ true
 
 joined_named : (ls : List Lexeme) (ts us : Trees) → are_named ls ts ≡ true → are_named ls us ≡ true → are_named ls (join ts us) ≡ true
 joined_named ls none us h i = i
@@ -53,7 +53,7 @@ free_named ls kind token ts h = refl
 -- a class
 
 abbrev is_type_token : List Lexeme → Option ℕ → Bool
-is_type_token ls (Some t) = is_type_name ls (spelling ls t)
+is_type_token ls (Some t) = is_class_name ls (spelling ls t)
 is_type_token ls None = true
 
 -- the word that introduces it is one token

@@ -20,7 +20,8 @@ use Rattle.cpp_syntax.specs.Classes.{each_below, class_at, class_by, terminals_o
 use Rattle.cpp_syntax.specs.Classes.{type_index}
 use Rattle.cpp_syntax.proofs.WithinTokens.{token_inside}
 use Rattle.elab_rules.specs.elab_ctx.Steps.{spelling}
-use Rattle.elab_read_texts.specs.Names.{is_type_name, is_plain_name}
+use Rattle.elab_fits_forms.specs.Types.{is_empty}
+use Rattle.elab_read_texts.specs.Names.{is_type_name, is_plain_name, is_class_name}
 use Rattle.elab_read_texts.proofs.Lexemes.{IsFilled}
 use Rattle.elab_read_texts.proofs.Terminals.{is_other_word, calm_by, introduced_by, other_word, name_kind, no_index}
 
@@ -120,23 +121,28 @@ index_found tokens word (suc n) k l h = elim (cases_lt k n) [
 same_bytes : (bytes : List ℕ) → bytes_eq bytes bytes ≡ true
 same_bytes bytes = (bytes_eq-Decides bytes bytes).1 refl
 
+-- what a text gives of its tokens: they are spelled, and a name does not begin with `~`
+pub record AreWords (tokens : List Lexeme) : Type 0 where
+  pub filled : (k : ℕ) → k < length tokens → not (is_empty (spelling tokens k)) ≡ true
+  pub word : (k : ℕ) (t : Lexeme) → slice_get tokens k ≡ Some t → t.kind ≡ token.Name → is_destructor_name t.bytes ≡ false
+
 -- a name behind a token that introduces a type is the name of one
-pub typed : (number : ℕ) (tokens : List Lexeme) (k : ℕ) → is_introducer (terminal_at (source_of number tokens) k) ≡ true
-    → is_name (terminal_at (source_of number tokens) (k + 1)) ≡ true → is_type_name tokens (spelling tokens (k + 1)) ≡ true
-typed number tokens k h i =
+pub typed : (number : ℕ) (tokens : List Lexeme) (k : ℕ) → AreWords tokens → is_introducer (terminal_at (source_of number tokens) k) ≡ true
+    → is_name (terminal_at (source_of number tokens) (k + 1)) ≡ true → is_class_name tokens (spelling tokens (k + 1)) ≡ true
+typed number tokens k w h i =
     let x = token_of number tokens k is_introducer refl h in
     let y = token_of number tokens (k + 1) is_name refl i in
     let kind = name_kind tokens (k + 1) y.token.kind y.token.bytes (ap is_name (back y.is) ∙ i) in
     let introduced = introduced_by tokens k x.token.kind x.token.bytes (ap is_introducer (back x.is) ∙ h) in
     let next : suc k ≡ k + 1 = omega arith in
     let before : is_introduced tokens (k + 1) ≡ true = subst (λ (z : ℕ). is_introduced tokens z ≡ true) next (rw x.at introduced) in
-    rw y.spelled (index_found tokens y.token.bytes (length tokens) (k + 1) y.inside
-      (and_from (is_introduced tokens (k + 1)) _ before (rw y.at (rw kind (same_bytes y.token.bytes)))))
+    let filled : not (is_empty y.token.bytes) ≡ true = ap (λ (z : List ℕ). not (is_empty z)) (back y.spelled) ∙ w.filled (k + 1) y.inside in
+    rw y.spelled (and_from (not (is_empty y.token.bytes)) (not (is_destructor_name y.token.bytes) && is_type_name tokens y.token.bytes) filled
+      (and_from (not (is_destructor_name y.token.bytes)) (is_type_name tokens y.token.bytes) (ap not (w.word (k + 1) y.token y.at kind))
+      (index_found tokens y.token.bytes (length tokens) (k + 1) y.inside
+      (and_from (is_introduced tokens (k + 1)) _ before (rw y.at (rw kind (same_bytes y.token.bytes)))))))
 
 -- a name that is not introduced where it stands is that of no type
-pub record AreWords (tokens : List Lexeme) : Type 0 where
-  pub word : (k : ℕ) (t : Lexeme) → slice_get tokens k ≡ Some t → t.kind ≡ token.Name → is_destructor_name t.bytes ≡ false
-
 not_typed : (tokens : List Lexeme) (k : ℕ) (kind : TokKind) (word : List ℕ) → kind ≡ token.Name → is_name (class_by tokens k kind word) ≡ true
     → is_introduced tokens k ≡ false → is_type_name tokens word ≡ false
 not_typed tokens k token.Name word e h i = no_index (is_introduced tokens k) (type_index tokens word (length tokens)) k _ h i

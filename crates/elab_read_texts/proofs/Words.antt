@@ -16,6 +16,7 @@ use Rattle.cpp_lex.specs.Pieces.{PieceAt, Piece, Pieces, done, next}
 use Rattle.cpp_lex.specs.Tokens.{Lexeme, token_kind, piece_value, token_of, token_at, kept, is_str, as_one, joined_to, joined, IsTokens, word_kind}
 use Rattle.cpp_lex.proofs.Ends.{spelled_within}
 use Rattle.cpp_lex.proofs.Values.{range_length, range_at}
+use Rattle.elab_read_texts.proofs.Lexemes.{tokens_filled, spelled_at}
 use Rattle.elab_read_texts.proofs.Tokens.{AreWords}
 
 record IsWordly (t : Lexeme) : Type 0 where
@@ -83,5 +84,6 @@ word_at (u ∷ ts) (suc k) t h e n = word_at ts k t (All-tail IsWordly u ts h) e
 
 pub words_of : (text : List ℕ) (ts : List Lexeme) → IsTokens text ts → AreWords ts
 words_of text ts a = record {
+  filled = λ k l. spelled_at ts k (tokens_filled text ts a) l;
   word = λ k t. word_at ts k t (subst (λ (us : List Lexeme). All IsWordly us) (sym a.are_kept) (joined_wordly (kept text a.pieces) (kept_wordly text a.whole)));
 }

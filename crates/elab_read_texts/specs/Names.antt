@@ -8,6 +8,7 @@ use Rattle.cpp_ast.specs.declared.kinds.NodeKind.TheVariants as k
 use Rattle.cpp_ast.specs.Trees as syntax
 use Rattle.cpp_syntax.specs.Classes.{type_index}
 use Rattle.elab_rules.specs.elab_ctx.Steps.{spelling}
+use Rattle.elab_fits_forms.specs.Types.{is_empty}
 use Rattle.elab_read_texts.specs.Texts.{IsRead}
 
 -- somewhere among the tokens the word stands directly behind `class`, `struct`, `enum` or `using`
@@ -17,6 +18,10 @@ is_type_name s word = is_some (type_index s word (length s))
 -- a name of no type, which does not begin with `~`
 abbrev pub is_plain_name : List Lexeme → List ℕ → Bool
 is_plain_name s word = not (is_destructor_name word) && not (is_type_name s word)
+
+-- the name of a class: that of a type, which does not begin with `~`
+abbrev pub is_class_name : List Lexeme → List ℕ → Bool
+is_class_name s word = not (is_empty word) && (not (is_destructor_name word) && is_type_name s word)
 
 abbrev pub is_declarator : NodeKind → Bool
 is_declarator k.DeclaratorId = true
@@ -53,7 +58,7 @@ are_not_virtual s (syntax.more t ts) = is_not_virtual s t && are_not_virtual s t
 
 -- a class has the name of a type; members and functions have names of no type; constructors are not virtual
 abbrev pub is_node_named : List Lexeme → NodeKind → Option ℕ → syntax.Trees → Bool
-is_node_named s k.ClassSpecifier (Some t) kids = is_type_name s (spelling s t)
+is_node_named s k.ClassSpecifier (Some t) kids = is_class_name s (spelling s t)
 is_node_named s k.MemberDeclaration token kids = declare_plainly s kids
 is_node_named s k.FunctionDefinition token kids = declare_plainly s kids
 is_node_named s k.ConstructorDeclaration token kids = are_not_virtual s kids

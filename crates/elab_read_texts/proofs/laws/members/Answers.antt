@@ -1,0 +1,9 @@
+use Rattle.elab_read_texts.proofs.Declared.{declarators_named}
+use Rattle.elab_read_texts.proofs.ReadMembers.{members_named}
+use Rattle.elab_read_texts.proofs.laws.members.Goals as goal
+
+pub returns-clause-declarators : goal.returns-clause-declarators
+returns-clause-declarators c = declarators_named
+
+pub returns-clause-members : goal.returns-clause-members
+returns-clause-members c = members_named
