@@ -68,7 +68,7 @@ is_false false h = refl
 no_same : (s : List Lexeme) (g f : Function) → IsClassName s g.name → is_virtual_name s f.name ≡ true → same_virtual g f ≡ false
 no_same s g f x h =
     let other = is_false (bytes_eq g.name f.name) (λ e. true≢false (sym h ∙ ap (is_virtual_name s) (sym ((bytes_eq-Decides g.name f.name).0 e))
-        ∙ no_virtual_name s g.name x)) in by x.plain other
+    ∙ no_virtual_name s g.name x)) in by x.plain other
   where
     by : is_destructor_name g.name ≡ false → bytes_eq g.name f.name ≡ false → same_virtual g f ≡ false
     by e i = rw e (rw i refl)
@@ -152,7 +152,7 @@ pub function_added : (s : List Lexeme) (home : Home) (r : Members) (h : Header) 
 function_added s home r h m d n x g =
     let f = as_defined d (member_func h m (overridden r.state.ctx home.base (new_function h).declared)) in
     let y : IsNamedFunc s f = defined s d (member_func h m (overridden r.state.ctx home.base (new_function h).declared))
-        (added s home r.state.ctx h m n g.slots x) in
+    (added s home r.state.ctx h m n g.slots x) in
     record {
       overriders = overriders_added r.state.ctx.funcs f g.overriders (λ i e. y.overrider);
       names = names_added s r.state.ctx.funcs f y g.names;

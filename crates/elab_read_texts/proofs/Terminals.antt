@@ -23,10 +23,10 @@ no_row test (row ∷ rows) word otherwise h e =
     let p = and_parts (not (test row.terminal)) (list_all (λ (r : Spelled). not (test r.terminal)) rows) h in
     by_row (bytes_eq row.word word) (not-true (test row.terminal) p.0) (no_row test rows word otherwise p.1 e)
   where
-  by_row : (b : Bool) → test row.terminal ≡ false → test (terminal_by rows word otherwise) ≡ false
-      → test (if b then row.terminal else terminal_by rows word otherwise) ≡ false
-  by_row true f g = f
-  by_row false f g = g
+    by_row : (b : Bool) → test row.terminal ≡ false → test (terminal_by rows word otherwise) ≡ false
+        → test (if b then row.terminal else terminal_by rows word otherwise) ≡ false
+    by_row true f g = f
+    by_row false f g = g
 
 choice : (test : Terminal → Bool) (b : Bool) (s t : Terminal) → test s ≡ false → test t ≡ false → test (if b then s else t) ≡ false
 choice test true s t e f = e

@@ -16,7 +16,7 @@ read_texts number text tokens decls x =
     let filled = tokens_filled text tokens x.lexed in
     let long = terminals_long tokens in
     let made = read tokens (λ k (h : k < length (terminals_of tokens)). spelled_at tokens k filled (omega (arith, h, long))) x.derives refl refl
-        (omega arith) (record { spelled = refl; handled = refl }) in made.texts
+    (omega arith) (record { spelled = refl; handled = refl }) in made.texts
 
 pub read_names : ReadUnitsHaveClassNames
 read_names number text tokens decls x = texts_law tokens decls (read_texts number text tokens decls x).spelled

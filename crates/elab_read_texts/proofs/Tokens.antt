@@ -138,9 +138,9 @@ typed number tokens k w h i =
     let before : is_introduced tokens (k + 1) ≡ true = subst (λ (z : ℕ). is_introduced tokens z ≡ true) next (rw x.at introduced) in
     let filled : not (is_empty y.token.bytes) ≡ true = ap (λ (z : List ℕ). not (is_empty z)) (back y.spelled) ∙ w.filled (k + 1) y.inside in
     rw y.spelled (and_from (not (is_empty y.token.bytes)) (not (is_destructor_name y.token.bytes) && is_type_name tokens y.token.bytes) filled
-      (and_from (not (is_destructor_name y.token.bytes)) (is_type_name tokens y.token.bytes) (ap not (w.word (k + 1) y.token y.at kind))
-      (index_found tokens y.token.bytes (length tokens) (k + 1) y.inside
-      (and_from (is_introduced tokens (k + 1)) _ before (rw y.at (rw kind (same_bytes y.token.bytes)))))))
+    (and_from (not (is_destructor_name y.token.bytes)) (is_type_name tokens y.token.bytes) (ap not (w.word (k + 1) y.token y.at kind))
+    (index_found tokens y.token.bytes (length tokens) (k + 1) y.inside
+    (and_from (is_introduced tokens (k + 1)) _ before (rw y.at (rw kind (same_bytes y.token.bytes)))))))
 
 -- a name that is not introduced where it stands is that of no type
 not_typed : (tokens : List Lexeme) (k : ℕ) (kind : TokKind) (word : List ℕ) → kind ≡ token.Name → is_name (class_by tokens k kind word) ≡ true
@@ -159,7 +159,7 @@ plain number tokens k w h i =
     let is = ap is_name (back x.is) ∙ h in
     let kind = name_kind tokens k x.token.kind x.token.bytes is in
     rw x.spelled (and_from (not (is_destructor_name x.token.bytes)) (not (is_type_name tokens x.token.bytes)) (ap not (w.word k x.token x.at kind))
-      (ap not (not_typed tokens k x.token.kind x.token.bytes kind is i)))
+    (ap not (not_typed tokens k x.token.kind x.token.bytes kind is i)))
 
 -- neither `explicit` nor `inline` is spelled `virtual`
 either_bool : (b : Bool) → (b ≡ true → ⊥) → not b ≡ true
@@ -171,4 +171,4 @@ pub not_virtual : (number : ℕ) (tokens : List Lexeme) (k : ℕ) → is_other_w
 not_virtual number tokens k h =
     let x = token_of number tokens k is_other_word refl h in
     rw x.spelled (either_bool (bytes_eq x.token.bytes (codes "virtual"))
-      (other_word tokens k x.token.kind x.token.bytes (ap is_other_word (back x.is) ∙ h)))
+    (other_word tokens k x.token.kind x.token.bytes (ap is_other_word (back x.is) ∙ h)))
