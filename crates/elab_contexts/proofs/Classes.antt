@@ -212,6 +212,7 @@ function_added n st h m o d w z q =
         func = f;
         is = refl;
         unknown = s.builtin;
+        written = s.implicit;
         free = λ e. no_function_here h.class n (f.kind ≡ Plain) w (sym s.class ∙ e);
         unclosed = λ i e. subst (λ (j : ℕ). IsOpen st.ctx.classes j) (same_Some n i (sym w ∙ sym s.class ∙ e)) z;
         fresh = same_declared d (member_func h m o) st.ctx.funcs q;

@@ -271,7 +271,7 @@ behind a b s h e t = shown b (kept_by_steps Holds each_kept s (taken a h)) e t
 gone : (st y : State) → UnitHolds st.ctx → From st y → UnitHolds y.ctx
 gone st y h g = behind st.ctx y.ctx g.walk h (g.enumerators h.enumerators) (g.types h.types)
 
-left : (st y : State) → UnitHolds st.ctx → Leaves st y → UnitHolds y.ctx
+pub left : (st y : State) → UnitHolds st.ctx → Leaves st y → UnitHolds y.ctx
 left st y h g = gone st y h (leaves_are st y g)
 
 from_holds : (st : State) (r : Result State ElabFault) → UnitHolds st.ctx → On (From st) r → On StateHolds r

@@ -39,7 +39,7 @@ linked_further : (c : Ctx) (i : ℕ) (x : Storage) → Further c (linked_definit
 linked_further c i x = set_further c i (outside_linkage x (func_at c.funcs i)) (linkage_same x.is_inline (func_at c.funcs i) _
     (record { declared = refl; kind = refl; class = refl; builtin = refl; implicit = refl }) (record { declared = refl; kind = refl; class = refl; builtin = refl; implicit = refl }))
 
-outside_further : (s : List Lexeme) (c : Ctx) (i : ℕ) (h : Header) (first last : ℕ) → Further c (outside_defined s c i h first last)
+pub outside_further : (s : List Lexeme) (c : Ctx) (i : ℕ) (h : Header) (first last : ℕ) → Further c (outside_defined s c i h first last)
 outside_further s c i h first last =
     let text : List ℕ = outside_text s h.storage first last in
     let closed : ℕ = token_end (slice_get s last) in
@@ -51,12 +51,12 @@ outside_further s c i h first last =
 abbrev pub Placing : Ctx → Placed → Type 0
 Placing c p = Further c p.ctx
 
-pub added_further : (c : Ctx) (f : Func) → f.builtin ≡ None → (f.class ≡ None → f.kind ≡ Plain)
+pub added_further : (c : Ctx) (f : Func) → f.builtin ≡ None → f.implicit ≡ false → (f.class ≡ None → f.kind ≡ Plain)
     → ((n : ℕ) → f.class ≡ Some n → IsOpen c.classes n) → ((n : ℕ) → f.class ≡ Some n → is_overrider f ≡ true)
     → first_from (is_same_declared f) 0 c.funcs ≡ None
     → Further c (record c { funcs = c.funcs ++ f ∷ [] })
-added_further c f b k o v n = record {
-  walk = one_step (function_added (record { func = f; is = refl; unknown = b; free = k; unclosed = o; fresh = n }));
+added_further c f b i k o v n = record {
+  walk = one_step (function_added (record { func = f; is = refl; unknown = b; written = i; free = k; unclosed = o; fresh = n }));
   same = refl;
   overrides = λ h. overriders_added c.funcs f h v;
 }
@@ -87,7 +87,7 @@ in_further : (c : Ctx) (h : Header) (defines : Bool) (o : Option ℕ) → first_
 in_further c h defines (Some i) q k = skip (Placing c) (agrees h (func_at c.funcs i) defines) _ (λ y. no_further c)
 in_further c h defines None q k = bind (Named c) (Placing c) (name_declared c h h.class) _ (name_only c h h.class)
     (λ d x. further_on c d (record d { funcs = d.funcs ++ new_function h ∷ [] }) x.walk
-    (added_further d (new_function h) refl (λ e. k.1) (λ n e. of_no_class h.class n _ k.0 e) (λ n e. of_no_class h.class n _ k.0 e)
+    (added_further d (new_function h) refl refl (λ e. k.1) (λ n e. of_no_class h.class n _ k.0 e) (λ n e. of_no_class h.class n _ k.0 e)
     (ap (λ (fs : List Func). first_from (is_same_declared (new_function h)) 0 fs) x.funcs ∙ q)))
 
 pub function_further : (c : Ctx) (h : Header) (defines : Bool) → IsFree h → On (Placing c) (function_declared c h defines)

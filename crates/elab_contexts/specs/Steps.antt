@@ -47,11 +47,12 @@ pub record IsOpen (classes : List Class) (n : ℕ) : Type 0 where
   pub at : slice_get classes n ≡ Some class
   pub incomplete : class.complete ≡ None
 
--- a function is declared, at file scope or in a class: at file scope it is a plain one
+-- a text declares a function, at file scope or in a class: at file scope it is a plain one
 pub record FunctionAdded (a b : View) : Type 0 where
   pub func : Func
   pub is : b ≡ record a { funcs = a.funcs ++ func ∷ [] }
   pub unknown : func.builtin ≡ None
+  pub written : func.implicit ≡ false
   pub free : func.class ≡ None → func.kind ≡ Plain
   -- its class is still open, and no other function is the same
   pub unclosed : (n : ℕ) → func.class ≡ Some n → IsOpen a.classes n

@@ -7,6 +7,7 @@ use Rattle.elab_rules.specs.cpp_types.Typ.{Typ, Form, array, class}
 use Rattle.elab_rules.specs.cpp_types.Class.{Class, Member}
 use Rattle.elab_rules.specs.cpp_types.declared.classes.At.{At}
 use Rattle.elab_rules.specs.cpp_lex.Tokens.{Lexeme}
+use Rattle.elab_rules.specs.cpp_ast.declared.arena.At.{At as SyntaxAt}
 use Rattle.elab_rules.specs.cpp_ast.declared.kinds.NodeKind.TheVariants as k
 use Rattle.elab_rules.specs.cpp_ast.Trees as syntax
 use Rattle.elab_rules.specs.cpp_tree.declared.faults.ElabFault.{ElabFault}
@@ -98,8 +99,8 @@ item_in c w t (array e n) o h = tt
 item_in c w t (class n) o h = either (Mades c.classes w) (Braces.is_aggregate_class c n && not (Braces.is_object_of c n o)) _ _ tt (class_from c w t o.at o h)
 item_in c w t f o h = plain_item c w t o h
 
-module _ (P : Work → Type 0) (s : List Lexeme) (c : Ctx) (supplies : Supplies P s c) (leaves : SuppliesItems P s c) (functions : FunctionsWhole c.classes c.funcs)
-    (defaults : DefaultsWhole c.classes c.defaults) where
+module _ (P : Work → Type 0) (T : syntax.Tree → Type 0) (Ts : syntax.Trees → Type 0) (s : List Lexeme) (c : Ctx) (supplies : Supplies P T Ts s c)
+    (leaves : SuppliesItems P T s c) (functions : FunctionsWhole c.classes c.funcs) (defaults : DefaultsWhole c.classes c.defaults) where
   abbrev Given : Work → Typed → Type 0
   Given w x = Types c.classes w x × (IsWhole c.classes x.operand.tree × P x.work)
 
@@ -114,22 +115,29 @@ module _ (P : Work → Type 0) (s : List Lexeme) (c : Ctx) (supplies : Supplies 
       (skip (Mades c.classes w) (Braces.string_object c t at (string_bytes (spelling s n))) _ (λ x. same c.classes w)) (given_item w t r h)
   item_expression w t None at r h = given_item w t r h
 
-  read : (w : Work) (e : syntax.Tree) → P w → On (Given w) (and_then (expression_of s c w e) (chosen_operand c))
-  read w e z = both (Types c.classes w) (λ (x : Typed). IsWhole c.classes x.operand.tree × P x.work) (and_then (expression_of s c w e) (chosen_operand c))
-      (chosen_adds P s c supplies functions w (expression_of s c w e) (expression P s c supplies functions c.closures w e z)) (supplies.operand c.closures w e z)
+  read : (w : Work) (e : syntax.Tree) → P w → T e → On (Given w) (and_then (expression_of s c w e) (chosen_operand c))
+  read w e z y = both (Types c.classes w) (λ (x : Typed). IsWhole c.classes x.operand.tree × P x.work) (and_then (expression_of s c w e) (chosen_operand c))
+      (chosen_adds P T Ts s c supplies functions w (expression_of s c w e) (expression P T Ts s c supplies functions w e z y)) (supplies.operand w e z y)
 
   mutual
-    pub item : (w : Work) (object : Tree) (t : Typ) (x : syntax.Tree) → P w → On (Mades c.classes w) (Braces.item_of s c w object t x)
-    item w object t (syntax.node k.BracedInitList p token xs) z = skip (Mades c.classes w) (Braces.braceable c (at_of p) (form_in t)) _
-        (λ y. bind (AllMades c.classes w) (Mades c.classes w) (Braces.items_of s c w object t 0 (at_of p) xs) _ (items w object t 0 (at_of p) xs z) (λ r g. g))
-    item w object t (syntax.node kind p token kids) z = item_expression w t (string_token (syntax.node kind p token kids)) (at_of p)
-        (and_then (expression_of s c w (syntax.node kind p token kids)) (chosen_operand c)) (read w (syntax.node kind p token kids) z)
+    pub item : (w : Work) (object : Tree) (t : Typ) (x : syntax.Tree) → P w → T x → On (Mades c.classes w) (Braces.item_of s c w object t x)
+    item w object t (syntax.node k.BracedInitList p token xs) z u = skip (Mades c.classes w) (Braces.braceable c (at_of p) (form_in t)) _
+        (λ y. bind (AllMades c.classes w) (Mades c.classes w) (Braces.items_of s c w object t 0 (at_of p) xs) _ (items w object t 0 (at_of p) xs z (supplies.kids k.BracedInitList p token xs u)) (λ r g. g))
+    item w object t (syntax.node kind p token kids) z u = item_expression w t (string_token (syntax.node kind p token kids)) (at_of p)
+        (and_then (expression_of s c w (syntax.node kind p token kids)) (chosen_operand c)) (read w (syntax.node kind p token kids) z u)
 
-    pub items : (w : Work) (object : Tree) (t : Typ) (i : ℕ) (at : At) (xs : syntax.Trees) → P w → On (AllMades c.classes w) (Braces.items_of s c w object t i at xs)
-    items w object t i at syntax.none z = rest_in c w at object t (form_in t) i defaults
-    items w object t i at (syntax.more x ts) z = skip (AllMades c.classes w) (expect (syntax_place x) BadInit (Braces.part_in c t (form_in t) i)) _
+    pub items : (w : Work) (object : Tree) (t : Typ) (i : ℕ) (at : At) (xs : syntax.Trees) → P w → Ts xs → On (AllMades c.classes w) (Braces.items_of s c w object t i at xs)
+    items w object t i at syntax.none z u = rest_in c w at object t (form_in t) i defaults
+    items w object t i at (syntax.more x ts) z u = skip (AllMades c.classes w) (expect (syntax_place x) BadInit (Braces.part_in c t (form_in t) i)) _
         (λ (p : Part). bind (λ (m : Made). Mades c.classes w m × P m.work) (AllMades c.classes w) (Braces.item_of s c w (part_at p.offset p.typ at object) p.typ x) _
         (both (Mades c.classes w) (λ (m : Made). P m.work) (Braces.item_of s c w (part_at p.offset p.typ at object) p.typ x)
-        (item w (part_at p.offset p.typ at object) p.typ x z) (leaves.item w (part_at p.offset p.typ at object) p.typ x z))
+        (item w (part_at p.offset p.typ at object) p.typ x z (supplies.first x ts u))
+        (leaves.item w (part_at p.offset p.typ at object) p.typ x z (supplies.first x ts u)))
         (λ m g. with_piece c w p.offset p.typ (tree_place m.tree) m (Braces.items_of s c m.work object t (suc i) at ts) g.0
-        (items m.work object t (suc i) at ts g.1)))
+        (items m.work object t (suc i) at ts g.1 (supplies.rest x ts u))))
+
+  -- a list in braces, whose items are such texts
+  pub braced : (w : Work) (object : Tree) (t : Typ) (p : SyntaxAt) (token : Option ℕ) (xs : syntax.Trees) → P w → Ts xs
+      → On (Mades c.classes w) (Braces.item_of s c w object t (syntax.node k.BracedInitList p token xs))
+  braced w object t p token xs z u = skip (Mades c.classes w) (Braces.braceable c (at_of p) (form_in t)) _
+      (λ y. bind (AllMades c.classes w) (Mades c.classes w) (Braces.items_of s c w object t 0 (at_of p) xs) _ (items w object t 0 (at_of p) xs z u) (λ r g. g))

@@ -1,5 +1,5 @@
 -- Each form of an expression adds whole items alone, where its operands are whole.
-use Rattle.std.proofs.Common.{◌≡◌, refl, ℕ, Bool, true, false, ◌&&◌, ◌||◌, not, List, [], ◌∷◌, ◌++◌, Some, None, is_some, Result, Ok, Err}
+use Rattle.std.proofs.Common.{◌≡◌, refl, ℕ, Bool, true, false, ◌&&◌, ◌||◌, not, List, [], ◌∷◌, ◌++◌, Option, Some, None, is_some, Result, Ok, Err}
 use Rattle.std.specs.Prelude.{if◌then◌else◌, codes}
 use Rattle.std.specs.Str.{bytes_eq}
 use Rattle.elab_rules.specs.tx_ints.declared.kinds.BinOp.{BinOp}
@@ -10,6 +10,7 @@ use Rattle.elab_rules.specs.cpp_types.declared.classes.At.{At}
 use Rattle.elab_rules.specs.cpp_types.declared.ranks.Cat.TheVariants.{Lvalue, Prvalue}
 use Rattle.elab_rules.specs.cpp_lex.Tokens.{Lexeme}
 use Rattle.elab_rules.specs.cpp_lex.Ints.{int_type_of}
+use Rattle.elab_rules.specs.cpp_ast.declared.arena.At.{At as SyntaxAt}
 use Rattle.elab_rules.specs.cpp_ast.declared.kinds.NodeKind.{NodeKind}
 use Rattle.elab_rules.specs.cpp_ast.declared.kinds.NodeKind.TheVariants as k
 use Rattle.elab_rules.specs.cpp_ast.Trees as syntax
@@ -319,7 +320,8 @@ captured_value c w x (typ (ref u) d v) o h = same c.classes w
 captured_value c w x (typ (array u n) d v) o h = same c.classes w
 captured_value c w x (typ (func g) d v) o h = same c.classes w
 
-module _ (P : Work → Type 0) (s : List Lexeme) (c : Ctx) (supplies : Supplies P s c) (functions : FunctionsWhole c.classes c.funcs) where
+module _ (P : Work → Type 0) (T : syntax.Tree → Type 0) (Ts : syntax.Trees → Type 0) (s : List Lexeme) (c : Ctx) (supplies : Supplies P T Ts s c)
+    (functions : FunctionsWhole c.classes c.funcs) where
   captured : (w : Work) (x : Capture) → On (Mades c.classes w) (Expressions.captured c w x)
   captured w x = bind (IsWhole c.classes) (Mades c.classes w) (Expressions.capture_source c w x x.variable) _ (supplies.captured w x)
       (λ e h. captured_value c w x x.typ (record { tree = e; at = x.at; zero = false }) h)
@@ -408,64 +410,75 @@ module _ (P : Work → Type 0) (s : List Lexeme) (c : Ctx) (supplies : Supplies 
   pub chosen_adds : (w : Work) (r : Result Typed ElabFault) → On (Types c.classes w) r → On (Types c.classes w) (and_then r (Expressions.chosen_operand c))
   chosen_adds w r h = bind (Types c.classes w) (Types c.classes w) r _ h (λ x g. skip (Types c.classes w) (Names.resolved c x.operand.tree) _ (λ t. g))
 
+  -- texts of kids
+  others : (kind : NodeKind) (p : SyntaxAt) (token : Option ℕ) (t : syntax.Tree) (ts : syntax.Trees) → T (syntax.node kind p token (syntax.more t ts)) → Ts ts
+  others kind p token t ts y = supplies.rest t ts (supplies.kids kind p token (syntax.more t ts) y)
+
+  inner : (kind : NodeKind) (p : SyntaxAt) (token : Option ℕ) (t : syntax.Tree) (ts : syntax.Trees) → T (syntax.node kind p token (syntax.more t ts)) → T t
+  inner kind p token t ts y = supplies.first t ts (supplies.kids kind p token (syntax.more t ts) y)
+
+  second : (kind : NodeKind) (p : SyntaxAt) (token : Option ℕ) (t u : syntax.Tree)
+      → T (syntax.node kind p token (syntax.more t (syntax.more u syntax.none))) → T u
+  second kind p token t u y = supplies.first u syntax.none (others kind p token t (syntax.more u syntax.none) y)
+
   mutual
-    pub expression : (l : List Closure) (w : Work) (e : syntax.Tree) → P w → On (Types c.classes w) (Expressions.expression_with s c l w e)
-    expression l w (syntax.node k.ParenthesizedExpression p token (syntax.more e syntax.none)) z =
-        bind (Types c.classes w) (Types c.classes w) (Expressions.expression_with s c l w e) _ (expression l w e z) (λ x g. g)
-    expression l w (syntax.node k.FunctionCall p token (syntax.more f es)) z =
-        bind (λ (x : Typed). Types c.classes w x × (IsCallee c.classes x.operand × P x.work)) (Types c.classes w) (Expressions.expression_with s c l w f) _
-        (both (Types c.classes w) (λ (x : Typed). IsCallee c.classes x.operand × P x.work) (Expressions.expression_with s c l w f) (expression l w f z) (supplies.callee l w f z))
+    pub expression : (w : Work) (e : syntax.Tree) → P w → T e → On (Types c.classes w) (Expressions.expression_with s c c.closures w e)
+    expression w (syntax.node k.ParenthesizedExpression p token (syntax.more e syntax.none)) z y =
+        bind (Types c.classes w) (Types c.classes w) (Expressions.expression_with s c c.closures w e) _ (expression w e z (inner k.ParenthesizedExpression p token e syntax.none y)) (λ x g. g)
+    expression w (syntax.node k.FunctionCall p token (syntax.more f es)) z y =
+        bind (λ (x : Typed). Types c.classes w x × (IsCallee c.classes x.operand × P x.work)) (Types c.classes w) (Expressions.expression_with s c c.closures w f) _
+        (both (Types c.classes w) (λ (x : Typed). IsCallee c.classes x.operand × P x.work) (Expressions.expression_with s c c.closures w f) (expression w f z (inner k.FunctionCall p token f es y)) (supplies.callee w f z (inner k.FunctionCall p token f es y)))
         (λ x g. bind (λ (xs : TypedAll). AllTypes c.classes x.work xs × (AllWhole c.classes xs.operands × P xs.work)) (Types c.classes w)
-        (Expressions.operands_with s c l x.work es) _
-        (both (AllTypes c.classes x.work) (λ (xs : TypedAll). AllWhole c.classes xs.operands × P xs.work) (Expressions.operands_with s c l x.work es)
-        (operands l x.work es g.1.1) (supplies.operands l x.work es g.1.1))
+        (Expressions.operands_with s c c.closures x.work es) _
+        (both (AllTypes c.classes x.work) (λ (xs : TypedAll). AllWhole c.classes xs.operands × P xs.work) (Expressions.operands_with s c c.closures x.work es)
+        (operands x.work es g.1.1 (others k.FunctionCall p token f es y)) (supplies.operands x.work es g.1.1 (others k.FunctionCall p token f es y)))
         (λ xs h. operand_later (at_of p) w xs.work (Calls.call c xs.work (at_of p) x.operand xs.operands) (after c.classes w x.work xs.work g.0 h.0)
         (call_form c xs.work (at_of p) x.operand x.operand.tree xs.operands functions g.1.0 h.1.0)))
-    expression l w (syntax.node k.FunctionalCast p token (syntax.more base es)) z =
-        skip (Types c.classes w) (Expressions.specified_with s c l w no_specifiers base) _ (λ d.
+    expression w (syntax.node k.FunctionalCast p token (syntax.more base es)) z y =
+        skip (Types c.classes w) (Expressions.specified_with s c c.closures w no_specifiers base) _ (λ d.
         skip (Types c.classes w) (and_then (specified_type (at_of p) d) (Expressions.written_type (at_of p))) _ (λ t.
-        bind (λ (xs : TypedAll). AllTypes c.classes w xs × (AllWhole c.classes xs.operands × P xs.work)) (Types c.classes w) (Expressions.operands_with s c l w es) _
-        (both (AllTypes c.classes w) (λ (xs : TypedAll). AllWhole c.classes xs.operands × P xs.work) (Expressions.operands_with s c l w es)
-        (operands l w es z) (supplies.operands l w es z))
+        bind (λ (xs : TypedAll). AllTypes c.classes w xs × (AllWhole c.classes xs.operands × P xs.work)) (Types c.classes w) (Expressions.operands_with s c c.closures w es) _
+        (both (AllTypes c.classes w) (λ (xs : TypedAll). AllWhole c.classes xs.operands × P xs.work) (Expressions.operands_with s c c.closures w es)
+        (operands w es z (others k.FunctionalCast p token base es y)) (supplies.operands w es z (others k.FunctionalCast p token base es y)))
         (λ xs h. operand_later (at_of p) w xs.work (Casts.functional c xs.work (at_of p) t xs.operands) h.0
         (functional c xs.work (at_of p) t xs.operands functions h.1.0))))
-    expression l w (syntax.node k.StaticCast p token (syntax.more t (syntax.more e syntax.none))) z =
-        skip (Types c.classes w) (and_then (Expressions.type_id_with s c l w t) (Expressions.written_type (at_of p))) _ (λ u.
+    expression w (syntax.node k.StaticCast p token (syntax.more t (syntax.more e syntax.none))) z y =
+        skip (Types c.classes w) (and_then (Expressions.type_id_with s c c.closures w t) (Expressions.written_type (at_of p))) _ (λ u.
         bind (λ (x : Typed). Types c.classes w x × (IsWhole c.classes x.operand.tree × P x.work)) (Types c.classes w)
-        (and_then (Expressions.expression_with s c l w e) (Expressions.chosen_operand c)) _
-        (both (Types c.classes w) (λ (x : Typed). IsWhole c.classes x.operand.tree × P x.work) (and_then (Expressions.expression_with s c l w e) (Expressions.chosen_operand c))
-        (chosen_adds w (Expressions.expression_with s c l w e) (expression l w e z)) (supplies.operand l w e z))
+        (and_then (Expressions.expression_with s c c.closures w e) (Expressions.chosen_operand c)) _
+        (both (Types c.classes w) (λ (x : Typed). IsWhole c.classes x.operand.tree × P x.work) (and_then (Expressions.expression_with s c c.closures w e) (Expressions.chosen_operand c))
+        (chosen_adds w (Expressions.expression_with s c c.closures w e) (expression w e z (second k.StaticCast p token t e y))) (supplies.operand w e z (second k.StaticCast p token t e y)))
         (λ x h. cast_later w x.work (at_of p) u x.operand h.1.0 h.0))
-    expression l w (syntax.node k.CastExpression p token (syntax.more t (syntax.more e syntax.none))) z =
-        skip (Types c.classes w) (and_then (Expressions.type_id_with s c l w t) (Expressions.written_type (at_of p))) _ (λ u.
+    expression w (syntax.node k.CastExpression p token (syntax.more t (syntax.more e syntax.none))) z y =
+        skip (Types c.classes w) (and_then (Expressions.type_id_with s c c.closures w t) (Expressions.written_type (at_of p))) _ (λ u.
         bind (λ (x : Typed). Types c.classes w x × (IsWhole c.classes x.operand.tree × P x.work)) (Types c.classes w)
-        (and_then (Expressions.expression_with s c l w e) (Expressions.chosen_operand c)) _
-        (both (Types c.classes w) (λ (x : Typed). IsWhole c.classes x.operand.tree × P x.work) (and_then (Expressions.expression_with s c l w e) (Expressions.chosen_operand c))
-        (chosen_adds w (Expressions.expression_with s c l w e) (expression l w e z)) (supplies.operand l w e z))
+        (and_then (Expressions.expression_with s c c.closures w e) (Expressions.chosen_operand c)) _
+        (both (Types c.classes w) (λ (x : Typed). IsWhole c.classes x.operand.tree × P x.work) (and_then (Expressions.expression_with s c c.closures w e) (Expressions.chosen_operand c))
+        (chosen_adds w (Expressions.expression_with s c c.closures w e) (expression w e z (second k.CastExpression p token t e y))) (supplies.operand w e z (second k.CastExpression p token t e y)))
         (λ x h. cast_later w x.work (at_of p) u x.operand h.1.0 h.0))
-    expression l w (syntax.node k.SizeofExpression p token (syntax.more e syntax.none)) z =
+    expression w (syntax.node k.SizeofExpression p token (syntax.more e syntax.none)) z y =
         skip (Types c.classes w) (and_then (Expressions.expression_with s c [] w e) (Expressions.chosen_operand c)) _
         (λ x. a_tree (at_of p) w (Casts.size_literal c (at_of p) x.operand.at (typ_in x.operand.tree)))
-    expression l w (syntax.node k.SizeofType p token (syntax.more t syntax.none)) z =
+    expression w (syntax.node k.SizeofType p token (syntax.more t syntax.none)) z y =
         skip (Types c.classes w) (and_then (Expressions.type_id_with s c [] w t) (Expressions.written_type (at_of p))) _
         (λ u. a_tree (at_of p) w (Casts.size_literal c (at_of p) (at_of p) u))
-    expression l w (syntax.node k.Lambda p token kids) z =
-        an_operand (at_of p) w (Expressions.closure_object c l w (at_of p)) (closure_object l w (at_of p))
-    expression l w (syntax.node k.QualifiedId p (Some n) (syntax.more (syntax.node kind q (Some t) kids) syntax.none)) z =
+    expression w (syntax.node k.Lambda p token kids) z y =
+        an_operand (at_of p) w (Expressions.closure_object c c.closures w (at_of p)) (closure_object c.closures w (at_of p))
+    expression w (syntax.node k.QualifiedId p (Some n) (syntax.more (syntax.node kind q (Some t) kids) syntax.none)) z y =
         a_tree (at_of p) w (Expressions.qualified_name c w (at_of p) (spelling s t) (spelling s n))
-    expression l w (syntax.node kind p (Some t) syntax.none) z = leaf_or_row w kind (at_of p) t
-    expression l w (syntax.node kind p (Some t) kids) z =
-        bind (λ (xs : TypedAll). AllTypes c.classes w xs × (AllWhole c.classes xs.operands × P xs.work)) (Types c.classes w) (Expressions.operands_with s c l w kids) _
-        (both (AllTypes c.classes w) (λ (xs : TypedAll). AllWhole c.classes xs.operands × P xs.work) (Expressions.operands_with s c l w kids)
-        (operands l w kids z) (supplies.operands l w kids z))
+    expression w (syntax.node kind p (Some t) syntax.none) z y = leaf_or_row w kind (at_of p) t
+    expression w (syntax.node kind p (Some t) kids) z y =
+        bind (λ (xs : TypedAll). AllTypes c.classes w xs × (AllWhole c.classes xs.operands × P xs.work)) (Types c.classes w) (Expressions.operands_with s c c.closures w kids) _
+        (both (AllTypes c.classes w) (λ (xs : TypedAll). AllWhole c.classes xs.operands × P xs.work) (Expressions.operands_with s c c.closures w kids)
+        (operands w kids z (supplies.kids kind p (Some t) kids y)) (supplies.operands w kids z (supplies.kids kind p (Some t) kids y)))
         (λ xs h. row_later w xs.work kind (at_of p) t xs.operands h.1.0 h.0)
-    expression l w (syntax.node kind p None kids) z = tt
+    expression w (syntax.node kind p None kids) z y = tt
 
-    pub operands : (l : List Closure) (w : Work) (es : syntax.Trees) → P w → On (AllTypes c.classes w) (Expressions.operands_with s c l w es)
-    operands l w syntax.none z = same c.classes w
-    operands l w (syntax.more t ts) z = bind (λ (x : Typed). Types c.classes w x × (IsWhole c.classes x.operand.tree × P x.work)) (AllTypes c.classes w)
-        (and_then (Expressions.expression_with s c l w t) (Expressions.chosen_operand c)) _
-        (both (Types c.classes w) (λ (x : Typed). IsWhole c.classes x.operand.tree × P x.work) (and_then (Expressions.expression_with s c l w t) (Expressions.chosen_operand c))
-        (chosen_adds w (Expressions.expression_with s c l w t) (expression l w t z)) (supplies.operand l w t z))
-        (λ x g. bind (AllTypes c.classes x.work) (AllTypes c.classes w) (Expressions.operands_with s c l x.work ts) _ (operands l x.work ts g.1.1)
+    pub operands : (w : Work) (es : syntax.Trees) → P w → Ts es → On (AllTypes c.classes w) (Expressions.operands_with s c c.closures w es)
+    operands w syntax.none z y = same c.classes w
+    operands w (syntax.more t ts) z y = bind (λ (x : Typed). Types c.classes w x × (IsWhole c.classes x.operand.tree × P x.work)) (AllTypes c.classes w)
+        (and_then (Expressions.expression_with s c c.closures w t) (Expressions.chosen_operand c)) _
+        (both (Types c.classes w) (λ (x : Typed). IsWhole c.classes x.operand.tree × P x.work) (and_then (Expressions.expression_with s c c.closures w t) (Expressions.chosen_operand c))
+        (chosen_adds w (Expressions.expression_with s c c.closures w t) (expression w t z (supplies.first t ts y))) (supplies.operand w t z (supplies.first t ts y)))
+        (λ x g. bind (AllTypes c.classes x.work) (AllTypes c.classes w) (Expressions.operands_with s c c.closures x.work ts) _ (operands x.work ts g.1.1 (supplies.rest t ts y))
         (λ xs h. after c.classes w x.work xs.work g.0 h))

@@ -6,10 +6,12 @@ use Rattle.std.proofs.lemmas.Bool.{and_parts, and_from}
 use Rattle.std.proofs.lemmas.Option.{same_Some}
 use Rattle.elab_rules.specs.cpp_types.Typ.{Typ}
 use Rattle.elab_rules.specs.cpp_types.Class.{Class}
+use Rattle.elab_rules.specs.cpp_lex.Tokens.{Lexeme}
+use Rattle.elab_rules.specs.cpp_ast.Trees as syntax
 use Rattle.elab_rules.specs.cpp_tree.Units.{Func as UnitFunc}
 use Rattle.elab_rules.specs.cpp_tree.WellFormed.{is_item}
 use Rattle.elab_rules.specs.cpp_tree.declared.faults.ElabFault.{ElabFault}
-use Rattle.elab_rules.specs.elab_ctx.Ctx.{Func}
+use Rattle.elab_rules.specs.elab_ctx.Ctx.{Func, Default}
 use Rattle.elab_rules.specs.Statements.{State, Body}
 use Rattle.elab_rules.specs.Lambdas.{lambdas_of}
 use Rattle.elab_rules.specs.Programs.{typed_func, typed_funcs, body_of, is_body_of, frame_in}
@@ -19,12 +21,17 @@ use Rattle.setting_growth.proofs.Trees.{items_law}
 use Rattle.state_growth.proofs.Steps.{Leaves}
 use Rattle.state_growth.proofs.Bodies.{lambdas_lawful}
 use Rattle.elab_places.proofs.Lambdas as places
-use Rattle.elab_frame_items.specs.Frames.{LambdasWhole, FramesWhole, FramesGrow, FramesShown}
+use Rattle.elab_frame_items.specs.Frames.{LambdasWhole, DefaultsGrow, FramesWhole, FramesGrow, FramesShown}
+use Rattle.elab_frame_items.specs.Items.{DefaultsWhole}
 
 pub all_stay : (old new : List Class) → ClassesGrow old new → (ts : List Typ) → list_all (is_item old) ts ≡ true → list_all (is_item new) ts ≡ true
 all_stay old new g [] h = refl
 all_stay old new g (t ∷ ts) h = let p = and_parts (is_item old t) (list_all (is_item old) ts) h in
     and_from (is_item new t) (list_all (is_item new) ts) (items_law old new g t p.0) (all_stay old new g ts p.1)
+
+pub defaults_grow : DefaultsGrow
+defaults_grow old new [] g h = tt
+defaults_grow old new (d ∷ ds) g h = (all_stay old new g d.frame h.0, defaults_grow old new ds g h.1)
 
 -- Lambdas
 
@@ -34,6 +41,13 @@ held {A} P r x h e = subst (λ (z : Result A ElabFault). On P z) e h
 pub lambdas_law : LambdasWhole
 lambdas_law s st t x h e = all_stay st.ctx.classes x.ctx.classes (held (Leaves st) (lambdas_of s st t) x (lambdas_lawful.each s st t) e).kept.classes x.work.frame
     (subst (λ (ts : List Typ). list_all (is_item st.ctx.classes) ts ≡ true) (sym (places.lambdas_law.each s st t x e).frame) h)
+
+-- the initialisers that are kept are the same
+pub lambdas_defaults : (s : List Lexeme) (st : State) (t : syntax.Tree) (x : State) → DefaultsWhole st.ctx.classes st.ctx.defaults → lambdas_of s st t ≡ Ok x
+    → DefaultsWhole x.ctx.classes x.ctx.defaults
+lambdas_defaults s st t x h e = defaults_grow st.ctx.classes x.ctx.classes x.ctx.defaults
+    (held (Leaves st) (lambdas_of s st t) x (lambdas_lawful.each s st t) e).kept.classes
+    (subst (λ (ds : List Default). DefaultsWhole st.ctx.classes ds) (sym (places.lambdas_law.each s st t x e).defaults) h)
 
 -- Bodies
 

@@ -14,36 +14,49 @@ use Rattle.elab_rules.specs.Names.{members_in}
 use Rattle.elab_rules.specs.Calls.{base_of_class}
 use Rattle.elab_rules.specs.Braces.{default_at}
 use Rattle.elab_rules.specs.Statements
-use Rattle.elab_rules.specs.Statements.{State, Done, with_work}
+use Rattle.elab_rules.specs.Statements.{State, Done, Body, with_work}
 use Rattle.elab_rules.specs.Members
 use Rattle.elab_rules.specs.Members.{Given, given_for, as_base_of}
 use Rattle.elab_rules.specs.Implicit
 use Rattle.elab_rules.specs.Implicit.{own_operand}
 use Rattle.elab_places.proofs.Steps.{On, bind, skip, either}
-use Rattle.elab_frame_items.specs.Items.{IsWhole, DefaultsWhole}
+use Rattle.elab_frame_items.specs.Frames.{FramesWhole, IsWholeState}
+use Rattle.elab_frame_items.specs.Items.{AreWhole, IsWhole, DefaultsWhole}
 use Rattle.elab_frame_items.proofs.Objects.{Adds, same, after, Mades, class_from}
 use Rattle.elab_frame_items.proofs.Braces.{Fine, default_fine, default_adds}
 
--- what is left of a state: its classes and the initialisers that are kept, and whole items more
+-- what is left of a state: its classes, the bodies that were made and the initialisers that are kept, and whole items more
 pub record Leaves (a b : State) : Type 0 where
   pub adds : Adds a.ctx.classes a.work b.work
   pub classes : b.ctx.classes ≡ a.ctx.classes
   pub defaults : b.ctx.defaults ≡ a.ctx.defaults
+  pub bodies : b.bodies ≡ a.bodies
 
 abbrev pub Ends : State → Done → Type 0
 Ends st d = Leaves st d.state
 
 stays : (st : State) → Leaves st st
-stays st = record { adds = same st.ctx.classes st.work; classes = refl; defaults = refl }
+stays st = record { adds = same st.ctx.classes st.work; classes = refl; defaults = refl; bodies = refl }
 
 worked : (st : State) (w : Work) → Adds st.ctx.classes st.work w → Leaves st (with_work st w)
-worked st w h = record { adds = h; classes = refl; defaults = refl }
+worked st w h = record { adds = h; classes = refl; defaults = refl; bodies = refl }
 
 follow : (a b d : State) → Leaves a b → Leaves b d → Leaves a d
 follow a b d g h = record {
   adds = after a.ctx.classes a.work b.work d.work g.adds (subst (λ (cs : List Class). Adds cs b.work d.work) g.classes h.adds);
   classes = h.classes ∙ g.classes;
   defaults = h.defaults ∙ g.defaults;
+  bodies = h.bodies ∙ g.bodies;
+}
+
+-- all items are whole still
+pub leaves_whole : (a b : State) → Leaves a b → IsWholeState a → IsWholeState b
+leaves_whole a b g h = record {
+  items = subst (λ (cs : List Class). AreWhole cs b.work) (sym g.classes) (g.adds.whole h.items);
+  defaults = subst (λ (cs : List Class). DefaultsWhole cs b.ctx.defaults) (sym g.classes)
+      (subst (λ (ds : List Default). DefaultsWhole a.ctx.classes ds) (sym g.defaults) h.defaults);
+  bodies = subst (λ (cs : List Class). FramesWhole cs b.bodies) (sym g.classes)
+      (subst (λ (bs : List Body). FramesWhole a.ctx.classes bs) (sym g.bodies) h.bodies);
 }
 
 abbrev Kept : State → Type 0

@@ -1,6 +1,6 @@
 //! Laws of the items of frames. A function here does nothing: its clauses are the laws.
 
-ghost use Rattle.elab_frame_items.specs.Frames.{LambdasWhole, FramesGrow, FramesShown};
+ghost use Rattle.elab_frame_items.specs.Frames.{LambdasWhole, DefaultsGrow, FramesGrow, FramesShown};
 ghost use Rattle.elab_frame_items.specs.Items.{InitialsWhole, ClassObjectsWhole, ValuesWhole, WordsWhole};
 
 /// What is made of operands adds whole items alone.
@@ -15,5 +15,6 @@ pub fn objects()
 pub fn frames()
     ensures lambdas { LambdasWhole }
     ensures grow { FramesGrow }
+    ensures defaults { DefaultsGrow }
     ensures shown { FramesShown }
 {}

@@ -169,7 +169,7 @@ linked_after st i x h = let f = function_at st.ctx.classes st.ctx.funcs i h.cont
     functions_state st (slice_set st.ctx.funcs i (outside_linkage x (func_at st.ctx.funcs i))) h
     (all_but (is_sound_function st.ctx.classes) st.ctx.funcs i _ (linked_if st.ctx.classes x.is_inline _ _ f f) h.context.functions)
 
-defined_after : (s : List Lexeme) (st : State) (i : ℕ) (h : Header) (first last : ℕ) → IsSoundState st
+pub defined_after : (s : List Lexeme) (st : State) (i : ℕ) (h : Header) (first last : ℕ) → IsSoundState st
     → After st (record st { ctx = outside_defined s st.ctx i h first last })
 defined_after s st i h first last g =
     let text : List ℕ = outside_text s h.storage first last in

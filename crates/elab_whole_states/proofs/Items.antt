@@ -1,8 +1,9 @@
 -- A discipline of statements is one with whole items, where its operands and objects are whole.
-use Rattle.std.proofs.Common.{◌≡◌, List, Ok}
+use Rattle.std.proofs.Common.{◌≡◌, ℕ, List, Option, Ok}
 use Rattle.elab_rules.specs.cpp_types.Typ.{Typ}
 use Rattle.elab_rules.specs.cpp_types.declared.classes.At.{At}
 use Rattle.elab_rules.specs.cpp_lex.Tokens.{Lexeme}
+use Rattle.elab_rules.specs.cpp_ast.declared.arena.At.{At as SyntaxAt}
 use Rattle.elab_rules.specs.cpp_ast.declared.kinds.NodeKind.TheVariants as k
 use Rattle.elab_rules.specs.cpp_ast.Trees as syntax
 use Rattle.elab_rules.specs.cpp_tree.Trees.{Tree}
@@ -13,61 +14,72 @@ use Rattle.elab_rules.specs.Initialising
 use Rattle.elab_rules.specs.Braces.{item_of}
 use Rattle.elab_rules.specs.Expressions.{operands_of}
 use Rattle.elab_rules.specs.Statements
-use Rattle.elab_rules.specs.Statements.{State, Full, full_operand, all_lambdas, with_work}
-use Rattle.elab_rules.specs.Lambdas.{lambdas_of}
+use Rattle.elab_rules.specs.Statements.{State, Lambdas, Full, full_operand, all_lambdas, with_work}
 use Rattle.elab_places.proofs.Steps.{held_by}
 use Rattle.elab_fits_statements.specs.Discipline.{Words, Goes, Gains, Discipline}
+use Rattle.elab_frame_items.specs.Frames.{IsWholeState}
 use Rattle.elab_frame_items.specs.Items.{AreWhole, AllWhole}
 use Rattle.elab_frame_items.proofs.Objects.{Mades, initial, class_from, one_item}
 use Rattle.elab_frame_items.proofs.Expressions.{dropped}
-use Rattle.elab_frame_items.proofs.Braces.{item}
+use Rattle.elab_frame_items.proofs.Braces.{braced}
 use Rattle.elab_frame_items.proofs.Variables.{copy_initialised, directly_initialised, placed}
-use Rattle.elab_frame_items.proofs.Parameters.{StateWhole}
-use Rattle.elab_frame_items.proofs.Full.{full_whole, all_whole, operands_whole}
+use Rattle.elab_frame_items.proofs.Full.{full_whole, operands_whole}
 use Rattle.elab_whole_states.specs.States.{with_items, ReadsItems, GivesItems, StaysWhole}
 
-goes_with : (w : Words) (a b : State) → Goes w a b → StateWhole b → Goes (with_items w) a b
+goes_with : (w : Words) (a b : State) → Goes w a b → IsWholeState b → Goes (with_items w) a b
 goes_with w a b g h = record { good = (g.good, h); leads = g.leads; stands = g.stands }
 
-gains_with : (w : Words) (a b : State) (Q : Setting → Type 0) → Gains w a b Q → StateWhole b → Gains (with_items w) a b Q
+gains_with : (w : Words) (a b : State) (Q : Setting → Type 0) → Gains w a b Q → IsWholeState b → Gains (with_items w) a b Q
 gains_with w a b Q g h = record { goes = goes_with w a b g.goes h; fits = g.fits }
 
-module _ (w : Words) (P : State → Work → Type 0) (s : List Lexeme) (d : Discipline w lambdas_of s) (i : GivesItems w P s) where
-  abbrev Good : State → Type 0
-  Good a = w.Good a × StateWhole a
+-- where more is made in the same context
+made_whole : (a : State) (v : Work) → IsWholeState a → AreWhole a.ctx.classes v → IsWholeState (with_work a v)
+made_whole a v h i = record { items = i; defaults = h.defaults; bodies = h.bodies }
 
-  read_whole : (a : State) (e : syntax.Tree) (f : Full) → Good a → w.Text e → full_operand lambdas_of s a e ≡ Ok f → StateWhole f.state
-  read_whole a e f g t q = held_by (λ (z : Full). StateWhole z.state) (full_operand lambdas_of s a e) f (full_whole P s a e (λ x y. i.behind a x e g.0 t y) g.1) q
+module _ (w : Words) (lams : Lambdas) (P : State → Work → Type 0) (s : List Lexeme) (d : Discipline w lams s) (i : GivesItems w lams P s) where
+  abbrev Good : State → Type 0
+  Good a = w.Good a × IsWholeState a
+
+  read_whole : (a : State) (e : syntax.Tree) (f : Full) → Good a → w.Text e → full_operand lams s a e ≡ Ok f → IsWholeState f.state
+  read_whole a e f g t q = held_by (λ (z : Full). IsWholeState z.state) (full_operand lams s a e) f
+      (full_whole P w.Text w.Texts s lams a e (λ x y. (i.behind a x e g.0 t y, i.left a x e g.0 t y g.1)) t) q
 
   values_whole : (a x : State) (t : Typ) (p : At) (es : syntax.Trees) (xs : TypedAll) (m : Made) → Good a → w.Texts es
-      → all_lambdas lambdas_of s a es ≡ Ok x → operands_of s x.ctx x.work es ≡ Ok xs
-      → Statements.directly_initialised x.ctx xs.work t p xs.operands ≡ Ok m → AreWhole x.ctx.classes m.work
-  values_whole a x t p es xs m g ts y z v = (held_by (Mades x.ctx.classes xs.work) (Statements.directly_initialised x.ctx xs.work t p xs.operands) m
-      (directly_initialised x.ctx xs.work t p xs.operands r.reads.functions whole) v).whole there
+      → all_lambdas lams s a es ≡ Ok x → operands_of s x.ctx x.work es ≡ Ok xs
+      → Statements.directly_initialised x.ctx xs.work t p xs.operands ≡ Ok m → IsWholeState (with_work x m.work)
+  values_whole a x t p es xs m g ts y z v = made_whole x m.work before
+      ((held_by (Mades x.ctx.classes xs.work) (Statements.directly_initialised x.ctx xs.work t p xs.operands) m
+      (directly_initialised x.ctx xs.work t p xs.operands r.reads.functions whole) v).whole there)
     where
-      r : ReadsItems P s x
+      r : ReadsItems P w.Text w.Texts s x
       r = i.behind_all a x es g.0 ts y
 
-      before : StateWhole x
-      before = held_by StateWhole (all_lambdas lambdas_of s a es) x (all_whole s a es g.1) y
+      before : IsWholeState x
+      before = i.left_all a x es g.0 ts y g.1
 
       there : AreWhole x.ctx.classes xs.work
-      there = held_by (λ (z : TypedAll). AreWhole x.ctx.classes z.work) (operands_of s x.ctx x.work es) xs (operands_whole P s x es r.reads before) z
+      there = held_by (λ (z : TypedAll). AreWhole x.ctx.classes z.work) (operands_of s x.ctx x.work es) xs
+          (operands_whole P w.Text w.Texts s x es r.reads ts before.items) z
 
       whole : AllWhole x.ctx.classes xs.operands
       whole = (held_by (λ (z : TypedAll). AllWhole x.ctx.classes z.operands × P x z.work) (operands_of s x.ctx x.work es) xs
-          (r.reads.supplies.operands x.ctx.closures x.work es r.reads.here) z).0
+          (r.reads.supplies.operands x.work es r.reads.here ts) z).0
 
-  braces_whole : (a x : State) (t : Typ) (variable : Tree) (e : syntax.Tree) (es : syntax.Trees) (m : Made) → Good a → w.Texts es
-      → all_lambdas lambdas_of s a es ≡ Ok x → item_of s x.ctx x.work variable t e ≡ Ok m → AreWhole x.ctx.classes m.work
-  braces_whole a x t variable e es m g ts y z = (held_by (Mades x.ctx.classes x.work) (item_of s x.ctx x.work variable t e) m
-      (item (P x) s x.ctx r.reads.supplies r.items r.reads.functions r.defaults x.work variable t e r.reads.here) z).whole
-      (held_by StateWhole (all_lambdas lambdas_of s a es) x (all_whole s a es g.1) y)
+  braces_whole : (a x : State) (t : Typ) (variable : Tree) (p : SyntaxAt) (token : Option ℕ) (es : syntax.Trees) (m : Made) → Good a → w.Texts es
+      → all_lambdas lams s a es ≡ Ok x → item_of s x.ctx x.work variable t (syntax.node k.BracedInitList p token es) ≡ Ok m
+      → IsWholeState (with_work x m.work)
+  braces_whole a x t variable p token es m g ts y z = made_whole x m.work before
+      ((held_by (Mades x.ctx.classes x.work) (item_of s x.ctx x.work variable t (syntax.node k.BracedInitList p token es)) m
+      (braced (P x) w.Text w.Texts s x.ctx r.reads.supplies r.items r.reads.functions before.defaults x.work variable t p token es r.reads.here ts) z).whole
+      before.items)
     where
-      r : ReadsItems P s x
+      r : ReadsItems P w.Text w.Texts s x
       r = i.behind_all a x es g.0 ts y
 
-  pub items_discipline : Discipline (with_items w) lambdas_of s
+      before : IsWholeState x
+      before = i.left_all a x es g.0 ts y g.1
+
+  pub items_discipline : Discipline (with_items w) lams s
   items_discipline = record {
     kids = d.kids;
     first = d.first;
@@ -94,16 +106,17 @@ module _ (w : Words) (P : State → Work → Type 0) (s : List Lexeme) (d : Disc
         record { goes = goes_with w a f.state r.goes (read_whole a e f g t q); operand = r.operand };
     operand = d.operand;
     constant = λ a e o g t q. d.constant a e o g.0 t q;
-    drops = λ a o g r. gains_with w a _ _ (d.drops a o g.0 r) ((dropped a.ctx a.work o (i.whole a o g.0 r)).whole g.1);
-    gives = λ a t o m g r x y e. gains_with w a (with_work a m.work) _ (d.gives a t o m g.0 r x y e)
-        ((held_by (Mades a.ctx.classes a.work) (Initialising.initial a.ctx a.work t o) m (initial a.ctx a.work t o (i.whole a o g.0 r)) e).whole g.1);
+    drops = λ a o g r. gains_with w a _ _ (d.drops a o g.0 r)
+        (made_whole a _ g.1 ((dropped a.ctx a.work o (i.whole a o g.0 r)).whole g.1.items));
+    gives = λ a t o m g r x y e. gains_with w a (with_work a m.work) _ (d.gives a t o m g.0 r x y e) (made_whole a m.work g.1
+        ((held_by (Mades a.ctx.classes a.work) (Initialising.initial a.ctx a.work t o) m (initial a.ctx a.work t o (i.whole a o g.0 r)) e).whole g.1.items));
     builds = λ a t o m g r x y e. gains_with w a (with_work a m.work) _ (d.builds a t o m g.0 r x y e)
-        ((held_by (Mades a.ctx.classes a.work) (Initialising.class_from a.ctx a.work t o.at o) m
-        (class_from a.ctx a.work t o.at o (i.whole a o g.0 r)) e).whole g.1);
+        (made_whole a m.work g.1 ((held_by (Mades a.ctx.classes a.work) (Initialising.class_from a.ctx a.work t o.at o) m
+        (class_from a.ctx a.work t o.at o (i.whole a o g.0 r)) e).whole g.1.items));
     leaves = λ a b t p g o h l. d.leaves a b t p g.0 o h.0 l;
     copies = λ a t o m g x r e. gains_with w a (with_work a m.work) _ (d.copies a t o m g.0 x r e)
-        ((held_by (Mades a.ctx.classes a.work) (Statements.copy_initialised a.ctx a.work t o) m
-        (copy_initialised a.ctx a.work t o (i.whole a o g.0 r)) e).whole g.1);
+        (made_whole a m.work g.1 ((held_by (Mades a.ctx.classes a.work) (Statements.copy_initialised a.ctx a.work t o) m
+        (copy_initialised a.ctx a.work t o (i.whole a o g.0 r)) e).whole g.1.items));
     defaults = λ a t p e g o q. d.defaults a t p e g.0 o q;
     strings = λ a t p bytes e g o c q. d.strings a t p bytes e g.0 o c q;
     values = λ a x t p q es xs m g o ts y z v. let r = d.values a x t p q es xs m g.0 o ts y z v in record {
@@ -112,7 +125,7 @@ module _ (w : Words) (P : State → Work → Type 0) (s : List Lexeme) (d : Disc
       destroys = r.destroys;
     };
     braces = λ a x t q variable p token es m g o ts f h j y z. let r = d.braces a x t q variable p token es m g.0 o ts f h j y z in record {
-      goes = goes_with w a (with_work x m.work) r.goes (braces_whole a x t variable (syntax.node k.BracedInitList p token es) es m g ts y z);
+      goes = goes_with w a (with_work x m.work) r.goes (braces_whole a x t variable p token es m g ts y z);
       builds = r.builds;
       destroys = r.destroys;
     };
@@ -121,14 +134,14 @@ module _ (w : Words) (P : State → Work → Type 0) (s : List Lexeme) (d : Disc
     objects = λ a p t init x y z g wr n e b u v. d.objects a p t init x y z g.0 wr n e b u v;
     deduces = λ a p t u o m g wr au r q e. d.deduces a p t u o m g.0 wr au r q e;
     places = λ a name t g o. let x = d.places a name t g.0 o in record {
-      good = (x.good, (placed a name t (i.object a t g.0 o)).whole g.1);
+      good = (x.good, record { items = (placed a name t (i.object a t g.0 o)).whole g.1.items; defaults = g.1.defaults; bodies = g.1.bodies });
       leads = x.leads;
       item = x.item;
     };
     names = λ a name g. (d.names a name g.0, g.1);
     names_leads = d.names_leads;
     autos = λ a n t g o. let x = d.autos a n t g.0 o in record {
-      good = (x.good, (one_item a.ctx.classes a.work t (i.object a t g.0 o)).whole g.1);
+      good = (x.good, record { items = (one_item a.ctx.classes a.work t (i.object a t g.0 o)).whole g.1.items; defaults = g.1.defaults; bodies = g.1.bodies });
       leads = x.leads;
       item = x.item;
     };

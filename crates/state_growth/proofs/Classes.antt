@@ -78,9 +78,9 @@ class_begun st name = record {
       (no_number st);
 }
 
-record IsBegun (st : State) (defines : Bool) (b : Begun) : Type 0 where
-  leaves : Leaves st (record st { ctx = b.ctx })
-  incomplete : defines ≡ true → completion_of b.ctx.classes b.number ≡ None
+pub record IsBegun (st : State) (defines : Bool) (b : Begun) : Type 0 where
+  pub leaves : Leaves st (record st { ctx = b.ctx })
+  pub incomplete : defines ≡ true → completion_of b.ctx.classes b.number ≡ None
 
 defined_once : (b : Bool) (o : Option ℕ) → (not b || is_none o) ≡ true → b ≡ true → o ≡ None
 defined_once true o h e = is_nothing o h
@@ -91,7 +91,7 @@ begun_typ st at defines (typ (class n) false false) = checked (IsBegun st define
     (λ h. record { leaves = stays st; incomplete = defined_once defines (completion_of st.ctx.classes n) h })
 begun_typ st at defines t = tt
 
-begun_name : (st : State) (at : At) (name : List ℕ) (defines : Bool) (o : Option Typ) → On (IsBegun st defines) (begun_in st.ctx at name defines o)
+pub begun_name : (st : State) (at : At) (name : List ℕ) (defines : Bool) (o : Option Typ) → On (IsBegun st defines) (begun_in st.ctx at name defines o)
 begun_name st at name defines (Some t) = begun_typ st at defines t
 begun_name st at name defines None =
     record { leaves = class_begun st name; incomplete = λ e. at_end st.ctx.classes (class_named name None false [] [] None) }
@@ -102,11 +102,11 @@ declared_kept st at name = bind (IsBegun st false) (Leaves st) (begun st.ctx at 
 
 -- Members
 
-record ReadTo (st y : State) : Type 0 where
-  classes : y.ctx.classes ≡ st.ctx.classes
-  leaves : Leaves st y
+pub record ReadTo (st y : State) : Type 0 where
+  pub classes : y.ctx.classes ≡ st.ctx.classes
+  pub leaves : Leaves st y
 
-abbrev Read : State → Members → Type 0
+abbrev pub Read : State → Members → Type 0
 Read st r = ReadTo st r.state
 
 function_added : (st : State) (f : Func) → Leaves st (record st { ctx = record st.ctx { funcs = st.ctx.funcs ++ f ∷ [] } })
@@ -173,7 +173,7 @@ declarators_read st s home r at x (syntax.more base ds) e =
     (λ t. each_holds (Read st) (member_declarator s home x.storage t) r ds e (λ y d i. declarator_read st s home x.storage t y d i))
 declarators_read st s home r at x syntax.none e = tt
 
-member_read : (st : State) (s : List Lexeme) (home : Home) (r : Members) (t : syntax.Tree) → Read st r → On (Read st) (member_of s home r t)
+pub member_read : (st : State) (s : List Lexeme) (home : Home) (r : Members) (t : syntax.Tree) → Read st r → On (Read st) (member_of s home r t)
 member_read st s home r (syntax.node k.AccessLabel p token kids) e = e
 member_read st s home r (syntax.node k.MemberDeclaration p token kids) e =
     declarators_read st s home r (at_of p) (started_from s no_storage kids) (started_from s no_storage kids).rest e
@@ -222,7 +222,7 @@ record_since a st d home ms s f e = completed_since (seen a) (seen st) d.classes
     (class_named home.name home.base home.is_final ms (own_functions home.number d.funcs) (Some (count_by is_completed d.classes)))
     (slots_of d home (own_functions home.number d.funcs)) refl (ap (count_by is_completed) f.classes) s f.classes f.slots f.funcs e
 
-completed_from : (a st : State) (home : Home) (at : At) (ms : List Member) (initialised : List ℕ) → From a st
+pub completed_from : (a st : State) (home : Home) (at : At) (ms : List Member) (initialised : List ℕ) → From a st
     → completion_of st.ctx.classes home.number ≡ None → From a (record st { ctx = completed st.ctx home at ms initialised })
 completed_from a st home at ms initialised s e =
     let c : Ctx = st.ctx in
@@ -234,7 +234,7 @@ completed_from a st home at ms initialised s e =
     (copy_further d.ctx home at ms (written_copy d.ctx home)))
     (default_further k.ctx home at ms initialised (is_no_place (places_from (is_constructor home.number) 0 c.funcs)))) e
 
-closed_from : (a st : State) (at : At) (n : ℕ) (c : Ctx) → From a (record st { ctx = c }) → On (λ (d : Ctx). From a (record st { ctx = d })) (closed_class at n c)
+pub closed_from : (a st : State) (at : At) (n : ℕ) (c : Ctx) → From a (record st { ctx = c }) → On (λ (d : Ctx). From a (record st { ctx = d })) (closed_class at n c)
 closed_from a st at n c h = either (λ (d : Ctx). From a (record st { ctx = d })) (nat_le (class_extent c.classes n).size 1048576) (Ok c) _ h tt
 
 -- behind the brace

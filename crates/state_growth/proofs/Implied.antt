@@ -76,7 +76,7 @@ of_kept : (st : State) (k : ℕ) (f : Func) (o : Option ℕ) → On (Leaves st) 
 of_kept st k f (Some n) = body_kept st f.declared.at k n f.kind (signature_parameters f.declared.signature)
 of_kept st k f None = stays st
 
-one_kept : (st : State) (k : ℕ) → On (Leaves st) (implied st k)
+pub one_kept : (st : State) (k : ℕ) → On (Leaves st) (implied st k)
 one_kept st k = either (Leaves st) ((func_at st.ctx.funcs k).implicit && is_referred st k) _ _
     (of_kept st k (func_at st.ctx.funcs k) (func_at st.ctx.funcs k).class) (stays st)
 

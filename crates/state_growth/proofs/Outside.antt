@@ -37,7 +37,7 @@ linked_further : (c : Ctx) (i : ℕ) (x : Storage) → Further c (linked_definit
 linked_further c i x = set_further c i (outside_linkage x (func_at c.funcs i)) (linkage_same x.is_inline (func_at c.funcs i) _
     (record { declared = refl; kind = refl; class = refl }) (record { declared = refl; kind = refl; class = refl }))
 
-outside_further : (s : List Lexeme) (c : Ctx) (i : ℕ) (h : Header) (first last : ℕ) → Further c (outside_defined s c i h first last)
+pub outside_further : (s : List Lexeme) (c : Ctx) (i : ℕ) (h : Header) (first last : ℕ) → Further c (outside_defined s c i h first last)
 outside_further s c i h first last =
     let text : List ℕ = outside_text s h.storage first last in
     let closed : ℕ = token_end (slice_get s last) in
@@ -73,7 +73,7 @@ function_further c h defines = skip (Placing c) (main_fits h) _
 
 -- Members that are defined outside their class
 
-body_kept : (lams : Lambdas) → Lawful lams → (s : List Lexeme) (st : State) (n : ℕ) (kind : FuncKind) (first : ℕ) (m : Method) (body : syntax.Tree)
+pub body_kept : (lams : Lambdas) → Lawful lams → (s : List Lexeme) (st : State) (n : ℕ) (kind : FuncKind) (first : ℕ) (m : Method) (body : syntax.Tree)
     → On (Leaves st) (outside_body lams s st n kind first m body)
 body_kept lams q s st n kind first m body = skip (Leaves st) (text_sized m.header.at (outside_text s m.header.storage first (last_token (Some body)))) _
     (λ v. skip (Leaves st) (outside_words m.header) _ (λ w. skip (Leaves st)

@@ -34,7 +34,7 @@ use Rattle.state_growth.proofs.Outside.{Placing, function_further, outside_kept}
 
 -- Functions
 
-with_kept : (s : List Lexeme) (st : State) (x : Storage) (at : At) (first : ℕ) (d : Declared) (body : syntax.Tree) (f : Form)
+pub with_kept : (s : List Lexeme) (st : State) (x : Storage) (at : At) (first : ℕ) (d : Declared) (body : syntax.Tree) (f : Form)
     → On (Leaves st) (defined_with s st x at first d body f)
 with_kept s st x at first d body (func sig) =
     let h : Header = header_of s at x d sig in

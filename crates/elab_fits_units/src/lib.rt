@@ -1,0 +1,2 @@
+//! Each program that elaboration answers fits: the nodes of each body of each unit.
+#![tactic(auto)]
