@@ -9,10 +9,12 @@ use Rattle.cpp_syntax.specs.Classes.{is_introducer}
 use Rattle.cpp_syntax.specs.Rules.{Reading, whole, by_shape, Nonterminal, type_specifier, type_specifier_seq, type_id, declarator, direct_declarator}
 use Rattle.cpp_syntax.specs.Rules.{parameter_declaration, parameter_declaration_clause, balanced, shaped_choice, shaped_init_declarator}
 use Rattle.cpp_syntax.specs.Rules.{shaped_declaration, constructor_declarator, destructor_declarator, simple_declaration, member_declaration, declaration, translation_unit}
+use Rattle.cpp_syntax.specs.Rules.{member_initializer, compound_statement}
 use Rattle.cpp_syntax.specs.Rules.{Rule, nothing, word, mark, mark_next, mark_name, ◌·◌, ◌∣◌, many, form, node_at, wrap, with_body, where_}
 use Rattle.cpp_syntax.specs.Rules.{before_no, if_, unless}
 use Rattle.cpp_syntax.proofs.TerminalTables.{passes, implies}
 use Rattle.elab_read_texts.specs.Names.{is_declarator}
+use Rattle.elab_read_texts.proofs.Terminals.{is_other_word}
 
 -- one test follows from another
 abbrev pub follows : (Terminal → Bool) → (Terminal → Bool) → Bool
@@ -99,6 +101,35 @@ reads_plainly (before_no test p) c = reads_plainly p c
 reads_plainly (if_ look p) c = reads_plainly p c
 reads_plainly (unless look p) c = reads_plainly p c
 
+-- no tree that a rule adds is the word `virtual`
+abbrev pub is_specifier_node : NodeKind → Bool
+is_specifier_node k.DeclSpecifier = true
+is_specifier_node _ = false
+
+abbrev pub marks_other : Rule → Bool
+marks_other (mark test) = follows test is_other_word
+marks_other _ = false
+
+abbrev pub adds_no_specifier : Nonterminal → Bool
+adds_no_specifier (constructor_declarator qualifying) = true
+adds_no_specifier member_initializer = true
+adds_no_specifier compound_statement = true
+adds_no_specifier _ = false
+
+abbrev pub is_without_virtual : Rule → Bool
+is_without_virtual (p · q) = is_without_virtual p && is_without_virtual q
+is_without_virtual (p ∣ q) = is_without_virtual p && is_without_virtual q
+is_without_virtual (many p) = is_without_virtual p
+is_without_virtual (form f) = adds_no_specifier f
+is_without_virtual (node_at positioning kind p) = if is_specifier_node kind then marks_other p else true
+is_without_virtual (wrap kind p) = not (is_specifier_node kind)
+is_without_virtual (with_body kind p) = not (is_specifier_node kind)
+is_without_virtual (where_ test p) = is_without_virtual p
+is_without_virtual (before_no test p) = is_without_virtual p
+is_without_virtual (if_ look p) = is_without_virtual p
+is_without_virtual (unless look p) = is_without_virtual p
+is_without_virtual _ = true
+
 -- a class: the word that introduces it, then its name
 abbrev pub introduces_first : Rule → Bool
 introduces_first (node_at positioning kind (mark test)) = follows test is_introducer
@@ -117,6 +148,8 @@ abbrev pub node_named : NodeKind → Rule → Bool → Bool
 node_named k.ClassSpecifier p c = introduces_name p
 node_named k.MemberDeclaration p c = reads_plainly p c
 node_named k.FunctionDefinition p c = reads_plainly p c
+node_named k.ConstructorDeclaration p c = is_without_virtual p
+node_named k.ConstructorDefinition p c = is_without_virtual p
 node_named kind p c = true
 
 -- kinds of which nothing is asked
@@ -124,6 +157,8 @@ abbrev pub is_free_node : NodeKind → Bool
 is_free_node k.ClassSpecifier = false
 is_free_node k.MemberDeclaration = false
 is_free_node k.FunctionDefinition = false
+is_free_node k.ConstructorDeclaration = false
+is_free_node k.ConstructorDefinition = false
 is_free_node _ = true
 
 abbrev pub reads_named : Rule → Bool → Bool

@@ -12,6 +12,7 @@ pub mod CalmRules
 pub mod CalmTables
 pub mod Calm
 pub mod Plain
+pub mod Virtual
 pub mod Named
 pub mod Members
 pub mod Declared

@@ -2,7 +2,7 @@
 use Rattle.std.proofs.Common.{true, refl}
 use Rattle.cpp_syntax.specs.Classes.{source_of}
 use Rattle.elab_read_texts.specs.Names.{ReadUnitsAreNamed}
-use Rattle.elab_read_texts.proofs.Tokens.{calm, typed, plain}
+use Rattle.elab_read_texts.proofs.Tokens.{calm, typed, plain, not_virtual}
 use Rattle.elab_read_texts.proofs.Words.{words_of}
 use Rattle.elab_read_texts.proofs.Plain.{AreKnown}
 use Rattle.elab_read_texts.proofs.Named.{named}
@@ -14,4 +14,4 @@ read_named number text tokens decls x =
       stays = calm number tokens;
       plain = λ a. plain number tokens a words;
     } in
-    named tokens true (record { known = known; typed = λ a. typed number tokens a words }) x.derives refl (λ z. refl) refl
+    named tokens true (record { known = known; others = not_virtual number tokens; typed = λ a. typed number tokens a words }) x.derives refl (λ z. refl) refl

@@ -22,10 +22,12 @@ use Rattle.elab_read_texts.proofs.CalmRules.{node_named, is_free_node, reads_nam
 use Rattle.elab_read_texts.proofs.CalmTables.{named_holds}
 use Rattle.elab_read_texts.proofs.Calm.{calmed}
 use Rattle.elab_read_texts.proofs.Plain.{AreKnown, followed, plainly}
+use Rattle.elab_read_texts.proofs.Virtual.{AreOtherWords, without}
 
 -- what is known of the tokens
 pub record AreAllKnown (ls : List Lexeme) (source : Source) : Type 0 where
   pub known : AreKnown ls source
+  pub others : AreOtherWords ls source
   -- a name behind a word that introduces a type is the name of one
   pub typed : (a : ℕ) → is_introducer (terminal_at source a) ≡ true → is_name (terminal_at source (a + 1)) ≡ true → is_class_name ls (spelling ls (a + 1)) ≡ true
 
@@ -44,6 +46,8 @@ free_named : (ls : List Lexeme) (kind : NodeKind) (token : Option ℕ) (ts : Tre
 free_named ls k.ClassSpecifier token ts h = absurd (true≢false (back h))
 free_named ls k.MemberDeclaration token ts h = absurd (true≢false (back h))
 free_named ls k.FunctionDefinition token ts h = absurd (true≢false (back h))
+free_named ls k.ConstructorDeclaration token ts h = absurd (true≢false (back h))
+free_named ls k.ConstructorDefinition token ts h = absurd (true≢false (back h))
 free_named ls kind token ts h = refl
 
 -- a class
@@ -94,6 +98,8 @@ node_is_named : {lookahead : Lookahead → ℕ → Type 0} {source : Source} {p 
 node_is_named {p = p} {s = s} {l = l} ls c k.ClassSpecifier all x h i = class_is_named ls l s.trees (class_named ls p all h x)
 node_is_named ls c k.MemberDeclaration all x h i = plainly ls c all.known x h i refl
 node_is_named ls c k.FunctionDefinition all x h i = plainly ls c all.known x h i refl
+node_is_named ls c k.ConstructorDeclaration all x h i = without ls all.others x h refl
+node_is_named ls c k.ConstructorDefinition all x h i = without ls all.others x h refl
 node_is_named ls c kind all x h i = refl
 
 pub named : {lookahead : Lookahead → ℕ → Type 0} {source : Source} {p : Rule} {r s : Read} {a b : ℕ} {k : Option ℕ} (ls : List Lexeme) (c : Bool)

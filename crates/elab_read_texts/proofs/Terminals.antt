@@ -1,15 +1,16 @@
 -- Which tokens are names and keywords to the grammar.
-use Rattle.std.proofs.Common.{◌≡◌, ℕ, Bool, true, false, not, ◌&&◌, nat_lt, refl, sym as back, ◌∙◌, List, [], ◌∷◌, codes}
+use Rattle.std.proofs.Common.{◌≡◌, ℕ, Bool, true, false, not, ◌&&◌, ◌||◌, nat_lt, refl, sym as back, ◌∙◌, ap, List, [], ◌∷◌, codes}
 use Rattle.std.proofs.Common.{Option, Some, None, is_some, if◌then◌else◌, true≢false}
 use Rattle.std.specs.List.{list_all}
 use Rattle.std.specs.Str.{bytes_eq}
 use Rattle.std.proofs.lemmas.Bool.{and_parts, not-true}
+use Rattle.std.proofs.lemmas.Slice.Eq.{bytes_eq-Decides}
 use Rattle.cpp_lex.specs.Tokens.{Lexeme}
 use Rattle.cpp_lex.specs.declared.TokKind.{TokKind}
 use Rattle.cpp_lex.specs.declared.TokKind.TheVariants as token
 use Rattle.cpp_syntax.specs.declared.terminal.Terminal.{Terminal}
 use Rattle.cpp_syntax.specs.declared.terminal.Terminal.TheVariants as terminal
-use Rattle.cpp_syntax.specs.Terminals.{is_name, as_type_name, before_type_name}
+use Rattle.cpp_syntax.specs.Terminals.{is_name, as_type_name, before_type_name, explicit_word, inline_word}
 use Rattle.cpp_syntax.specs.Classes.{Spelled, keys, puncts, special_names, terminal_by, key_terminal, punct_terminal, integer_terminal, name_terminal}
 use Rattle.cpp_syntax.specs.Classes.{is_introducer, is_key, name_class, class_by}
 use Rattle.cpp_syntax.proofs.TerminalTables.{passes, at_each}
@@ -86,6 +87,21 @@ introducers_of_keys = record {
   string = refl;
 }
 
+abbrev pub is_other_word : Terminal → Bool
+is_other_word s = explicit_word s || inline_word s
+
+others_of_keys : IsOfKeys is_other_word
+unfolding puncts special_names
+others_of_keys = record {
+  punct = no_punct is_other_word refl refl;
+  name = no_named is_other_word refl refl refl;
+  integer = no_integer is_other_word refl refl;
+  later = refl;
+  before = refl;
+  character = refl;
+  string = refl;
+}
+
 -- behind a token that is none of those words, nothing is introduced
 pub calm_by : (tokens : List Lexeme) (k : ℕ) (kind : TokKind) (word : List ℕ) → is_introducer (class_by tokens k kind word) ≡ false
     → (is_key kind && is_introducer (key_terminal word)) ≡ false
@@ -104,6 +120,23 @@ introduced_by tokens k token.Punct word h = absurd (let e = of_keys is_introduce
 introduced_by tokens k token.Int word h = absurd (let e = of_keys is_introducer introducers_of_keys tokens k token.Int word h in cc)
 introduced_by tokens k token.Char word h = absurd (let e = of_keys is_introducer introducers_of_keys tokens k token.Char word h in cc)
 introduced_by tokens k token.Str word h = absurd (let e = of_keys is_introducer introducers_of_keys tokens k token.Str word h in cc)
+
+no_virtual : (word : List ℕ) → is_other_word (key_terminal word) ≡ true → bytes_eq word (codes "virtual") ≡ true → ⊥
+unfolding keys key_terminal
+no_virtual word h e =
+    let f : word ≡ codes "virtual" = (bytes_eq-Decides word (codes "virtual")).0 e in
+    let g : is_other_word (key_terminal word) ≡ false = ap (λ (w : List ℕ). is_other_word (key_terminal w)) f in
+    true≢false (back h ∙ g)
+
+-- neither `explicit` nor `inline` is spelled `virtual`
+pub other_word : (tokens : List Lexeme) (k : ℕ) (kind : TokKind) (word : List ℕ) → is_other_word (class_by tokens k kind word) ≡ true
+    → bytes_eq word (codes "virtual") ≡ true → ⊥
+other_word tokens k token.Key word h e = no_virtual word h e
+other_word tokens k token.Name word h e = let f = of_keys is_other_word others_of_keys tokens k token.Name word h in cc
+other_word tokens k token.Punct word h e = let f = of_keys is_other_word others_of_keys tokens k token.Punct word h in cc
+other_word tokens k token.Int word h e = let f = of_keys is_other_word others_of_keys tokens k token.Int word h in cc
+other_word tokens k token.Char word h e = let f = of_keys is_other_word others_of_keys tokens k token.Char word h in cc
+other_word tokens k token.Str word h e = let f = of_keys is_other_word others_of_keys tokens k token.Str word h in cc
 
 -- Names
 

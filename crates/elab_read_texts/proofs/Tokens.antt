@@ -1,6 +1,6 @@
 -- What the tokens of a source are to the grammar, by their places.
 use Rattle.std.proofs.Common.{◌≡◌, ℕ, zero, suc, ◌+◌, ◌<◌, ◌≤◌, inl, inr, Bool, true, false, not, ◌&&◌, refl, sym as back, ◌∙◌, ap, subst, arith}
-use Rattle.std.proofs.Common.{List, [], ◌∷◌, ◌++◌, length, get_or, slice_get, Option, Some, None, is_some, true≢false}
+use Rattle.std.proofs.Common.{List, [], ◌∷◌, ◌++◌, length, get_or, slice_get, codes, Option, Some, None, is_some, true≢false}
 use Rattle.std.proofs.Common.{length-append}
 use Rattle.std.specs.Str.{bytes_eq}
 use Rattle.std.proofs.lemmas.Bool.{cases_lt, and_from}
@@ -19,7 +19,7 @@ use Rattle.cpp_syntax.proofs.WithinTokens.{token_inside}
 use Rattle.elab_rules.specs.elab_ctx.Steps.{spelling}
 use Rattle.elab_fits_forms.specs.Types.{is_empty}
 use Rattle.elab_read_texts.specs.Names.{is_type_name, is_plain_name, is_class_name}
-use Rattle.elab_read_texts.proofs.Terminals.{calm_by, introduced_by, name_kind, no_index}
+use Rattle.elab_read_texts.proofs.Terminals.{is_other_word, calm_by, introduced_by, other_word, name_kind, no_index}
 
 pub each_long : {A : Type 0} (f : ℕ → A) (n : ℕ) → length (each_below f n) ≡ n
 each_long f zero = refl
@@ -156,3 +156,15 @@ plain number tokens k w h i =
     let kind = name_kind tokens k x.token.kind x.token.bytes is in
     rw x.spelled (and_from (not (is_destructor_name x.token.bytes)) (not (is_type_name tokens x.token.bytes)) (ap not (w.word k x.token x.at kind))
     (ap not (not_typed tokens k x.token.kind x.token.bytes kind is i)))
+
+-- neither `explicit` nor `inline` is spelled `virtual`
+either_bool : (b : Bool) → (b ≡ true → ⊥) → not b ≡ true
+either_bool true h = absurd (h refl)
+either_bool false h = refl
+
+pub not_virtual : (number : ℕ) (tokens : List Lexeme) (k : ℕ) → is_other_word (terminal_at (source_of number tokens) k) ≡ true
+    → not (bytes_eq (spelling tokens k) (codes "virtual")) ≡ true
+not_virtual number tokens k h =
+    let x = token_of number tokens k is_other_word refl h in
+    rw x.spelled (either_bool (bytes_eq x.token.bytes (codes "virtual"))
+    (other_word tokens k x.token.kind x.token.bytes (ap is_other_word (back x.is) ∙ h)))

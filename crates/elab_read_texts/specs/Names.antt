@@ -1,5 +1,6 @@
 -- The names that a text declares: which are names of types, and which are not.
-use Rattle.std.specs.Prelude.{◌≡◌, ℕ, Bool, true, false, not, ◌&&◌, List, length, Option, Some, None, is_some}
+use Rattle.std.specs.Prelude.{◌≡◌, ℕ, Bool, true, false, not, ◌&&◌, List, length, codes, Option, Some, None, is_some}
+use Rattle.std.specs.Str.{bytes_eq}
 use Rattle.cpp_types.specs.Trivial.{is_destructor_name}
 use Rattle.cpp_lex.specs.Tokens.{Lexeme}
 use Rattle.cpp_ast.specs.declared.kinds.NodeKind.{NodeKind}
@@ -46,11 +47,22 @@ abbrev mutual
   declare_plainly s syntax.none = true
   declare_plainly s (syntax.more t ts) = declares_plainly s t && declare_plainly s ts
 
--- a class has the name of a type, members and functions have names of no type
+-- no word `virtual` stands before a declarator
+abbrev pub is_not_virtual : List Lexeme → syntax.Tree → Bool
+is_not_virtual s (syntax.node k.DeclSpecifier p (Some t) kids) = not (bytes_eq (spelling s t) (codes "virtual"))
+is_not_virtual s t = true
+
+abbrev pub are_not_virtual : List Lexeme → syntax.Trees → Bool
+are_not_virtual s syntax.none = true
+are_not_virtual s (syntax.more t ts) = is_not_virtual s t && are_not_virtual s ts
+
+-- a class has the name of a type; members and functions have names of no type; constructors are not virtual
 abbrev pub is_node_named : List Lexeme → NodeKind → Option ℕ → syntax.Trees → Bool
 is_node_named s k.ClassSpecifier (Some t) kids = is_class_name s (spelling s t)
 is_node_named s k.MemberDeclaration token kids = declare_plainly s kids
 is_node_named s k.FunctionDefinition token kids = declare_plainly s kids
+is_node_named s k.ConstructorDeclaration token kids = are_not_virtual s kids
+is_node_named s k.ConstructorDefinition token kids = are_not_virtual s kids
 is_node_named s kind token kids = true
 
 abbrev mutual
