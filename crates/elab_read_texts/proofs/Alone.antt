@@ -14,7 +14,8 @@ use Rattle.elab_rules.specs.Initialising.{signature_parameters}
 use Rattle.elab_fits.proofs.Equal.{flag_same}
 use Rattle.elab_contexts.specs.Holding.{UnitHolds}
 use Rattle.elab_contexts.proofs.Functions.{alike_says, bytes_same, typs_same, kind_same}
-use Rattle.elab_read_texts.specs.Overriding.{is_overrider_by, AloneByKinds}
+use Rattle.elab_holds.proofs.Slots.{alone_law}
+use Rattle.elab_read_texts.specs.Overriding.{is_overrider_by, AloneByKinds, SlotsByKinds}
 
 -- by its kind, or by its name alone
 data Kinds (classes : List ℕ → Bool) (f : Func) : Type 0 where
@@ -118,3 +119,6 @@ alone classes c u h k n f e d p v j g o q x w a b =
     let other : is_destructor_name o.name ≡ false = sym (ap is_destructor_name first.name) ∙ m.plain in
     alone_by classes c u n j k f g o e q d x p m (kinds_are classes g w (h j n g q x)) first
     (same_named g.declared o (second_false (is_destructor_name g.declared.name) (is_destructor_name o.name) other) a)
+
+pub slots : SlotsByKinds
+slots classes c w u h o = alone_law c w u h (alone classes c u o)

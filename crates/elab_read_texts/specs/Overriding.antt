@@ -16,7 +16,8 @@ use Rattle.elab_rules.specs.Classes.{Home, Members, members_of}
 use Rattle.elab_rules.specs.Members.{members_among}
 use Rattle.elab_fits.specs.Standing.{On}
 use Rattle.elab_contexts.specs.Holding.{UnitHolds}
-use Rattle.elab_holds.specs.Contexts.{AreAlone}
+use Rattle.elab_sound_types.specs.Contexts.{HasSoundTypes}
+use Rattle.elab_holds.specs.Contexts.{AreAlone, HasSlots}
 use Rattle.elab_read_texts.specs.Names.{is_class_name, is_plain_token, declares_plainly, are_named}
 
 -- where these are the names of classes
@@ -50,3 +51,7 @@ ClassMembersOverride = (s : List Lexeme) (home : Home) (st : State) (kids : synt
 -- no two functions of a class override the same one then
 abbrev pub AloneByKinds : Type 0
 AloneByKinds = (classes : List ℕ → Bool) (c : Ctx) → UnitHolds c → HasOverridersBy classes c.funcs → AreAlone c.funcs
+
+-- and each virtual function of a complete class has its slot
+abbrev pub SlotsByKinds : Type 0
+SlotsByKinds = (classes : List ℕ → Bool) (c : Ctx) (w : Work) → UnitHolds c → HasSoundTypes c w → HasOverridersBy classes c.funcs → HasSlots c

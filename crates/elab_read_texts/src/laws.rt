@@ -2,7 +2,7 @@
 
 ghost use Rattle.elab_read_texts.specs.Texts.{ReadUnitsAreTexts, ReadUnitsHaveClassNames};
 ghost use Rattle.elab_read_texts.specs.Names.{ReadUnitsAreNamed};
-ghost use Rattle.elab_read_texts.specs.Overriding.{DeclaratorsNamed, MembersOverride, ClassMembersOverride, AloneByKinds};
+ghost use Rattle.elab_read_texts.specs.Overriding.{DeclaratorsNamed, MembersOverride, ClassMembersOverride, AloneByKinds, SlotsByKinds};
 
 /// Each token of a unit is spelled, each `try` has a handler, and each class has a name.
 pub fn texts()
@@ -21,4 +21,5 @@ pub fn members()
     ensures members { MembersOverride }
     ensures classes { ClassMembersOverride }
     ensures alone { AloneByKinds }
+    ensures slots { SlotsByKinds }
 {}

@@ -1,6 +1,6 @@
 use Rattle.elab_read_texts.proofs.Declared.{declarators_named}
 use Rattle.elab_read_texts.proofs.ReadMembers.{members_override}
-use Rattle.elab_read_texts.proofs.Alone.{alone}
+use Rattle.elab_read_texts.proofs.Alone.{alone, slots}
 use Rattle.elab_read_texts.proofs.Parts.{class_members}
 use Rattle.elab_read_texts.proofs.laws.members.Goals as goal
 
@@ -15,3 +15,6 @@ returns-clause-alone c = alone
 
 pub returns-clause-classes : goal.returns-clause-classes
 returns-clause-classes c = class_members
+
+pub returns-clause-slots : goal.returns-clause-slots
+returns-clause-slots c = slots
