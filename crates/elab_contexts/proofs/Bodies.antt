@@ -42,7 +42,7 @@ left_kept st e y a b = after st e y a b
 
 -- into a function
 pub entered_kept : (st : State) (r : Typ) (this : Option Typ) (cls : Option ℕ) → Leaves st (entered st r this cls)
-entered_kept st r this cls = record { walk = none_yet; same = refl; overrides = λ h. h }
+entered_kept st r this cls = record { walk = none_yet; same = refl; overrides = λ w h. h }
 
 -- parameters and statements in a function
 pub function_left : (st : State) (r : Typ) (this : Option Typ) (cls : Option ℕ) (x y : State) → Leaves (entered st r this cls) x → Leaves x y
@@ -99,7 +99,7 @@ closure_kept : (st : State) (x : Written) (rs : Returns) (r : Typ) (sig : Signat
 closure_kept st x rs r sig w z = record {
   walk = one_step (closure_added (closure_step st x sig w z));
   same = refl;
-  overrides = λ h. overriders_added st.ctx.funcs _ h (λ n e. refl);
+  overrides = λ w h. overriders_added w st.ctx.funcs _ h (λ n e. refl);
 }
 
 with_kept : (s : List Lexeme) (st : State) (x : Written) (r : Typ) (sig : Signature) → AllWhole st.ctx x.captures → On (Leaves st) (lambda_with s st x r sig)

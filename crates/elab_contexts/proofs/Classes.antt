@@ -389,7 +389,7 @@ completed_leaves st home at ms initialised e q b f o z = record {
     sized = z;
   }));
   same = completed_same st.ctx home at ms initialised;
-  overrides = overriders_closed st.ctx.funcs (completed st.ctx home at ms initialised).funcs home.number (closing st.ctx home at ms initialised).added;
+  overrides = λ w. overriders_closed w st.ctx.funcs (completed st.ctx home at ms initialised).funcs home.number (closing st.ctx home at ms initialised).added;
 }
 
 closed_leaves : (st : State) (home : Home) (at : At) (ms : List Member) (initialised : List ℕ) → IsOpen st.ctx.classes home.number

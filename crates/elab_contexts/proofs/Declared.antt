@@ -68,13 +68,13 @@ use Rattle.elab_contexts.proofs.Captures.{checked}
 
 -- of globals nothing is asked
 globals_only : (st : State) (vs : List Global) → Leaves st (record st { work = record st.work { globals = vs } })
-globals_only st vs = record { walk = none_yet; same = refl; overrides = λ h. h }
+globals_only st vs = record { walk = none_yet; same = refl; overrides = λ w h. h }
 
 abbrev PlacedAt : State → PlacedGlobal → Type 0
 PlacedAt st p = Leaves st p.state
 
 global_added : (st : State) (name : List ℕ) (x : Storage) (t : Typ) → Leaves st (added_global st name x t).state
-global_added st name x t = record { walk = none_yet; same = refl; overrides = λ h. h }
+global_added st name x t = record { walk = none_yet; same = refl; overrides = λ w h. h }
 
 from_grows : (s : List Lexeme) (st : State) (t : Typ) (e : syntax.Tree) (b : Bool) (n : Option ℕ) → On (Mades st.work) (from_expression s st t e b n)
 from_grows s st t e true (Some n) = skip (Mades st.work) (string_object st.ctx t (syntax_place e) (string_bytes (spelling s n))) _ (λ x. same st.work)
@@ -95,7 +95,7 @@ global_grows s st t at g (syntax.more (syntax.node k.EqualInitializer p token (s
 global_grows s st t at g kids = tt
 
 global_made : (st : State) (g : ℕ) (t : Typ) (w : Work) (cells : List Cell) → Grows st.work w → Leaves st (defined_global st g t w cells)
-global_made st g t w cells h = record { walk = none_yet; same = refl; overrides = λ h. h }
+global_made st g t w cells h = record { walk = none_yet; same = refl; overrides = λ w h. h }
 
 again_kept : (st : State) (at : At) (x : Storage) (t : Typ) (defines : Bool) (kind : EntityKind) (g : ℕ)
     → On (PlacedAt st) (global_again st at x t defines kind g)

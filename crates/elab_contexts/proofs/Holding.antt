@@ -35,7 +35,7 @@ use Rattle.elab_contexts.specs.Steps.{View, is_same_declared}
 use Rattle.elab_contexts.specs.Slots.{slots_at, HasSlotsIn}
 use Rattle.elab_rules.specs.cpp_tree.Units.{SlotFunc}
 use Rattle.elab_rules.specs.cpp_types.Class.{completion_of}
-use Rattle.elab_contexts.specs.Overriders.{HasOverriders, Overrides, StartsOverride, LambdasOverride, OperandsOverride, StatementsOverride, VariablesOverride, FunctionsOverride}
+use Rattle.elab_contexts.specs.Overriders.{HasOverridersBy, Overrides, StartsOverride, LambdasOverride, OperandsOverride, StatementsOverride, VariablesOverride, FunctionsOverride}
 use Rattle.elab_contexts.specs.Overriders.{OutsideOverride, ClassesOverride, MemberDefaultsOverride, MethodsOverride, ImpliedOverride}
 use Rattle.elab_contexts.proofs.Walking.{Leaves, Ends, weaken, kept_by_steps}
 use Rattle.elab_contexts.proofs.Found.{At}
@@ -352,7 +352,7 @@ leaves_override : (st : State) (r : Result State ElabFault) → On (Leaves st) r
 leaves_override st r h = weaken (Leaves st) (Overrides st) r (λ y g. g.overrides) h
 
 pub starts_override : StartsOverride
-starts_override source k n f e c = let x = builtins_free [] k f e n c in let z : None ≡ Some x.class = x.at in absurd cc
+starts_override w source k n f e c = let x = builtins_free [] k f e n c in let z : None ≡ Some x.class = x.at in absurd cc
 
 pub lambdas_override : LambdasOverride
 lambdas_override s st e = leaves_override st (lambdas_of s st e) (lambdas_lawful.each s st e)
@@ -391,7 +391,7 @@ same_ctx true c d e h = cc
 same_ctx false c d e h = absurd cc
 
 pub classes_override : ClassesOverride
-classes_override at home r d e h = subst (λ (c : Ctx). HasOverriders c.funcs)
+classes_override w at home r d e h = subst (λ (c : Ctx). HasOverridersBy w c.funcs)
     (same_ctx (nat_le (class_extent (completed r.state.ctx home at r.members r.initialised).classes home.number).size GREATEST_SIZE) _ d _ e)
-    (overriders_closed r.state.ctx.funcs (completed r.state.ctx home at r.members r.initialised).funcs home.number
+    (overriders_closed w r.state.ctx.funcs (completed r.state.ctx home at r.members r.initialised).funcs home.number
     (closing r.state.ctx home at r.members r.initialised).added h)

@@ -15,13 +15,13 @@ pub record Lawful (lams : Lambdas) : Type 0 where
   pub each : (s : List Lexeme) (st : State) (t : syntax.Tree) → On (Leaves st) (lams s st t)
 
 pub work_kept : (st : State) (w : Work) → Grows st.work w → Leaves st (with_work st w)
-work_kept st w g = record { walk = none_yet; same = refl; overrides = λ h. h }
+work_kept st w g = record { walk = none_yet; same = refl; overrides = λ w h. h }
 
 pub item_kept : (st : State) (t : Typ) → Leaves st (record st { work = with_item st.work t })
 item_kept st t = work_kept st (with_item st.work t) tt
 
 pub placed_kept : (st : State) (name : List ℕ) (t : Typ) → Leaves st (placed_variable st name t)
-placed_kept st name t = record { walk = none_yet; same = refl; overrides = λ h. h }
+placed_kept st name t = record { walk = none_yet; same = refl; overrides = λ w h. h }
 
 -- behind a statement with a scope of its own
 pub out : (st b x : State) → Leaves (inner st) x → Leaves st (outer b x)

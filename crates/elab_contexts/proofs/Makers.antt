@@ -31,7 +31,7 @@ use Rattle.elab_rules.specs.Classes.{overriding, base_slots, new_slots, slots_of
 use Rattle.std.proofs.lemmas.Option.{same_Some}
 use Rattle.elab_fits.proofs.Equal.{typ_same}
 use Rattle.elab_contexts.specs.Holding.{IsKnown}
-use Rattle.elab_contexts.specs.Overriders.{is_overrider}
+use Rattle.elab_contexts.specs.Overriders.{is_overrider_by}
 use Rattle.elab_contexts.proofs.Lists.{one_more, one_more_at}
 use Rattle.elab_contexts.proofs.Found.{At, Stay, stay, stay_on, stay_added, Respects, at_still, first_found, at_the_end}
 
@@ -143,7 +143,7 @@ AllProper fs = (k : ℕ) (f : Func) → slice_get fs k ≡ Some f → Proper f
 -- a function that was there, or a new one of the class, which is not a plain one
 pub data IsOldOr (old : List Func) (n k : ℕ) (f : Func) : Type 0 where
   is_old : slice_get old k ≡ Some f → IsOldOr old n k f
-  is_own : f.class ≡ Some n → same_kind f.kind Plain ≡ false → is_overrider f ≡ true → IsOldOr old n k f
+  is_own : f.class ≡ Some n → same_kind f.kind Plain ≡ false → ((w : List ℕ → Bool) → is_overrider_by w f ≡ true) → IsOldOr old n k f
 
 pub record MadeOf (n : ℕ) (P : Func → Type 0) (c : Ctx) (x : Specials) : Type 0 where
   pub classes : x.ctx.classes ≡ c.classes
@@ -175,7 +175,7 @@ number_in trivial = 0
 found_made : (n : ℕ) (P : Func → Type 0) (c : Ctx) (i : ℕ) → At P c.funcs i → MadeOf n P c (kept_special c (function i))
 found_made n P c i x = kept_made n P c (function i) (λ k e. subst (λ (j : ℕ). At P c.funcs j) (ap number_in e) x)
 
-implicit_made : (n : ℕ) (P : Func → Type 0) (c : Ctx) (f : Func) → P f → f.class ≡ Some n → same_kind f.kind Plain ≡ false → is_overrider f ≡ true → Proper f
+implicit_made : (n : ℕ) (P : Func → Type 0) (c : Ctx) (f : Func) → P f → f.class ≡ Some n → same_kind f.kind Plain ≡ false → ((w : List ℕ → Bool) → is_overrider_by w f ≡ true) → Proper f
     → MadeOf n P c (with_implicit c f)
 implicit_made n P c f p o z y q = record {
   classes = refl;
@@ -205,7 +205,7 @@ destructor_made c home at ms (Some i) e = found_made home.number (IsDestructor h
     (passed (IsDestructor home.number) (is_destructor_of home.number) (destructor_is home.number) c.funcs i e)
 destructor_made c home at ms None e = made_if home.number (IsDestructor home.number) c (all_held (λ n. is_trivial (traits_at c n).destructor) home.base ms) _ _
     (nothing_to_do home.number (IsDestructor home.number) c)
-    (implicit_made home.number (IsDestructor home.number) c _ (record { class = refl; kind = refl }) refl refl (or_right _) (implicit_proper home.number Destructor [] _))
+    (implicit_made home.number (IsDestructor home.number) c _ (record { class = refl; kind = refl }) refl refl (λ w. or_right _) (implicit_proper home.number Destructor [] _))
 
 either_found : (n : ℕ) (name : List ℕ) (fs : List Func) (a b : Option ℕ) → first_from (is_copy_from n true) 0 fs ≡ a
     → first_from (is_written_copy n name) 0 fs ≡ b → (k : ℕ) → either a b ≡ Some k → At (IsCopy n) fs k
@@ -219,7 +219,7 @@ copy_made c home at ms (Some i) e = found_made home.number (IsCopy home.number) 
 copy_made c home at ms None e = made_if home.number (IsCopy home.number) c (not (may_copy c home.base ms)) _ _ (not_there home.number (IsCopy home.number) c)
     (made_if home.number (IsCopy home.number) c (has_no_pointer c home && all_held (λ n. is_trivial (traits_at c n).copy) home.base ms) _ _
     (nothing_to_do home.number (IsCopy home.number) c)
-    (implicit_made home.number (IsCopy home.number) c _ (record { kind = refl; class = refl; takes = eq-eqb home.number home.number refl }) refl refl refl
+    (implicit_made home.number (IsCopy home.number) c _ (record { kind = refl; class = refl; takes = eq-eqb home.number home.number refl }) refl refl (λ w. refl)
     (implicit_proper home.number Constructor _ _)))
 
 written_made : (c : Ctx) (n : ℕ) (o : Option ℕ) → first_from (is_default_constructor n) 0 c.funcs ≡ o
@@ -233,7 +233,7 @@ default_made c home at ms initialised false = written_made c home.number (first_
 default_made c home at ms initialised true =
     made_if home.number (IsDefault home.number) c (not (base_default c home.base && members_default c initialised 0 ms)) _ _ (not_there home.number (IsDefault home.number) c)
     (made_if home.number (IsDefault home.number) c (is_trivial_default c home ms initialised) _ _ (nothing_to_do home.number (IsDefault home.number) c)
-    (implicit_made home.number (IsDefault home.number) c _ (record { kind = refl; class = refl; takes = refl }) refl refl refl (implicit_proper home.number Constructor [] _)))
+    (implicit_made home.number (IsDefault home.number) c _ (record { kind = refl; class = refl; takes = refl }) refl refl (λ w. refl) (implicit_proper home.number Constructor [] _)))
 
 -- All of them, at the brace
 

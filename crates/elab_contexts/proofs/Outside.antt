@@ -24,7 +24,7 @@ use Rattle.elab_contexts.proofs.Walking.{Leaves, bind, skip, behind, one_step}
 use Rattle.elab_contexts.proofs.Items.{Lawful}
 use Rattle.elab_contexts.proofs.Members.{method_kept}
 use Rattle.elab_rules.specs.cpp_tree.declared.program.FuncKind.TheVariants.{Plain}
-use Rattle.elab_contexts.specs.Overriders.{is_overrider}
+use Rattle.elab_contexts.specs.Overriders.{is_overrider_by}
 use Rattle.elab_contexts.proofs.Owned.{overriders_added}
 use Rattle.elab_contexts.specs.Steps.{none_yet, function_added, SameFunction, IsOpen, is_same_declared}
 use Rattle.elab_contexts.proofs.Defined.{Further, no_further, further_on, further_leaves, set_further, definition_further}
@@ -52,13 +52,13 @@ abbrev pub Placing : Ctx → Placed → Type 0
 Placing c p = Further c p.ctx
 
 pub added_further : (c : Ctx) (f : Func) → f.builtin ≡ None → f.implicit ≡ false → (f.class ≡ None → f.kind ≡ Plain)
-    → ((n : ℕ) → f.class ≡ Some n → IsOpen c.classes n) → ((n : ℕ) → f.class ≡ Some n → is_overrider f ≡ true)
+    → ((n : ℕ) → f.class ≡ Some n → IsOpen c.classes n) → ((w : List ℕ → Bool) (n : ℕ) → f.class ≡ Some n → is_overrider_by w f ≡ true)
     → first_from (is_same_declared f) 0 c.funcs ≡ None
     → Further c (record c { funcs = c.funcs ++ f ∷ [] })
 added_further c f b i k o v n = record {
   walk = one_step (function_added (record { func = f; is = refl; unknown = b; written = i; free = k; unclosed = o; fresh = n }));
   same = refl;
-  overrides = λ h. overriders_added c.funcs f h v;
+  overrides = λ w h. overriders_added w c.funcs f h (v w);
 }
 
 -- at file scope
@@ -75,7 +75,7 @@ record Named (c d : Ctx) : Type 0 where
   funcs : d.funcs ≡ c.funcs
 
 named_only : (c : Ctx) (at : At) (name : List ℕ) (o : Option Entity) → On (Named c) (function_named c at name o)
-named_only c at name None = record { walk = record { walk = none_yet; same = refl; overrides = λ h. h }; funcs = refl }
+named_only c at name None = record { walk = record { walk = none_yet; same = refl; overrides = λ w h. h }; funcs = refl }
 named_only c at name (Some x) = skip (Named c) (check at Redeclared (is_function_entity x.kind)) _ (λ y. record { walk = no_further c; funcs = refl })
 
 name_only : (c : Ctx) (h : Header) (o : Option ℕ) → On (Named c) (name_declared c h o)
@@ -87,7 +87,7 @@ in_further : (c : Ctx) (h : Header) (defines : Bool) (o : Option ℕ) → first_
 in_further c h defines (Some i) q k = skip (Placing c) (agrees h (func_at c.funcs i) defines) _ (λ y. no_further c)
 in_further c h defines None q k = bind (Named c) (Placing c) (name_declared c h h.class) _ (name_only c h h.class)
     (λ d x. further_on c d (record d { funcs = d.funcs ++ new_function h ∷ [] }) x.walk
-    (added_further d (new_function h) refl refl (λ e. k.1) (λ n e. of_no_class h.class n _ k.0 e) (λ n e. of_no_class h.class n _ k.0 e)
+    (added_further d (new_function h) refl refl (λ e. k.1) (λ n e. of_no_class h.class n _ k.0 e) (λ w n e. of_no_class h.class n _ k.0 e)
     (ap (λ (fs : List Func). first_from (is_same_declared (new_function h)) 0 fs) x.funcs ∙ q)))
 
 pub function_further : (c : Ctx) (h : Header) (defines : Bool) → IsFree h → On (Placing c) (function_declared c h defines)

@@ -9,7 +9,7 @@ use Rattle.elab_rules.specs.cpp_tree.declared.program.FuncKind.TheVariants.{Plai
 use Rattle.elab_rules.specs.cpp_types.Trivial.{is_destructor_name}
 use Rattle.elab_rules.specs.Functions.{same_kind}
 use Rattle.elab_rules.specs.elab_ctx.Ctx.{Func}
-use Rattle.elab_contexts.specs.Overriders.{is_overrider, HasOverriders}
+use Rattle.elab_contexts.specs.Overriders.{is_overrider_by, HasOverridersBy}
 use Rattle.elab_contexts.specs.Texts.{is_no_name}
 use Rattle.elab_contexts.specs.Steps.{SameFunction, IsOpen, has_name, is_written}
 use Rattle.elab_contexts.proofs.Going.{KeepNames, name_added, name_set, written_still}
@@ -142,23 +142,21 @@ recorded_set cs n x fs gs s a h m k e = one_set_at (Recorded (slice_set cs n x) 
 
 -- Which functions override
 
-pub overrides_same : (f g : Func) → SameFunction f g → is_overrider f ≡ true → is_overrider g ≡ true
-overrides_same f g s h = ap (λ (x : Function). not x.is_virtual || (same_kind g.kind Plain && not (is_destructor_name x.name)
-    || same_kind g.kind Destructor && is_destructor_name x.name)) s.declared
-    ∙ ap (λ (k : FuncKind). not f.declared.is_virtual || (same_kind k Plain && not (is_destructor_name f.declared.name)
-    || same_kind k Destructor && is_destructor_name f.declared.name)) s.kind ∙ h
+pub overrides_same : (w : List ℕ → Bool) (f g : Func) → SameFunction f g → is_overrider_by w f ≡ true → is_overrider_by w g ≡ true
+overrides_same w f g s h = ap (λ (x : Function). is_overrider_by w (record g { declared = x })) s.declared
+    ∙ ap (λ (k : FuncKind). is_overrider_by w (record f { kind = k })) s.kind ∙ h
 
-pub overriders_added : (fs : List Func) (x : Func) → HasOverriders fs → ((n : ℕ) → x.class ≡ Some n → is_overrider x ≡ true) → HasOverriders (fs ++ x ∷ [])
-overriders_added fs x h o k n f e c = one_more (λ (y : Func). (m : ℕ) → y.class ≡ Some m → is_overrider y ≡ true) fs x (λ i y q m d. h i m y q d) o k f e n c
+pub overriders_added : (w : List ℕ → Bool) (fs : List Func) (x : Func) → HasOverridersBy w fs → ((n : ℕ) → x.class ≡ Some n → is_overrider_by w x ≡ true) → HasOverridersBy w (fs ++ x ∷ [])
+overriders_added w fs x h o k n f e c = one_more (λ (y : Func). (m : ℕ) → y.class ≡ Some m → is_overrider_by w y ≡ true) fs x (λ i y q m d. h i m y q d) o k f e n c
 
-pub overriders_defined : (fs : List Func) (p : ℕ) (x : Func) → ((f : Func) → slice_get fs p ≡ Some f → SameFunction f x) → HasOverriders fs
-    → HasOverriders (slice_set fs p x)
-overriders_defined fs p x s h k n f e c = one_set (λ (y : Func). (m : ℕ) → y.class ≡ Some m → is_overrider y ≡ true) fs p x (λ i y q m d. h i m y q d)
-    (λ y q m d. overrides_same y x (s y q) (h p m y q (sym (s y q).class ∙ d))) k f e n c
+pub overriders_defined : (w : List ℕ → Bool) (fs : List Func) (p : ℕ) (x : Func) → ((f : Func) → slice_get fs p ≡ Some f → SameFunction f x) → HasOverridersBy w fs
+    → HasOverridersBy w (slice_set fs p x)
+overriders_defined w fs p x s h k n f e c = one_set (λ (y : Func). (m : ℕ) → y.class ≡ Some m → is_overrider_by w y ≡ true) fs p x (λ i y q m d. h i m y q d)
+    (λ y q m d. overrides_same w y x (s y q) (h p m y q (sym (s y q).class ∙ d))) k f e n c
 
-pub overriders_closed : (old new : List Func) (n : ℕ) → ((k : ℕ) (f : Func) → slice_get new k ≡ Some f → IsOldOr old n k f) → HasOverriders old → HasOverriders new
-overriders_closed old new n a h k m f e c = by (a k f e)
+pub overriders_closed : (w : List ℕ → Bool) (old new : List Func) (n : ℕ) → ((k : ℕ) (f : Func) → slice_get new k ≡ Some f → IsOldOr old n k f) → HasOverridersBy w old → HasOverridersBy w new
+overriders_closed w old new n a h k m f e c = by (a k f e)
   where
-    by : IsOldOr old n k f → is_overrider f ≡ true
+    by : IsOldOr old n k f → is_overrider_by w f ≡ true
     by (is_old z) = h k m f z c
-    by (is_own z y v) = v
+    by (is_own z y v) = v w

@@ -21,27 +21,27 @@ use Rattle.elab_rules.specs.Classes.{Begun, begun, begun_in, begun_by}
 use Rattle.elab_rules.specs.Globals.{Enumerating, type_agrees, with_type, named_enumerator, enumerator_made, enumerator_value, enumerator_declared}
 use Rattle.elab_rules.specs.Globals.{enumerators_declared, enum_with}
 use Rattle.elab_fits.specs.Standing.{On}
-use Rattle.elab_contexts.specs.Overriders.{HasOverriders, Overrides, AliasesOverride, EnumsOverride, NamesOverride}
+use Rattle.elab_contexts.specs.Overriders.{HasOverridersBy, Overrides, AliasesOverride, EnumsOverride, NamesOverride}
 use Rattle.elab_contexts.proofs.Walking.{bind, skip}
 
 pub aliases_override : AliasesOverride
 aliases_override s st at name syntax.none = tt
 aliases_override s st at name (syntax.more t ts) = skip (Overrides st) (type_id_of s st.ctx st.work t) _
     (λ u. skip (Overrides st) (check at OutOfProfile (not (has_auto u))) _
-    (λ x. skip (Overrides st) (typ_sized st.ctx.classes at u) _ (λ z. skip (Overrides st) (type_agrees at u (type_named name st.ctx.types)) _ (λ y h. h))))
+    (λ x. skip (Overrides st) (typ_sized st.ctx.classes at u) _ (λ z. skip (Overrides st) (type_agrees at u (type_named name st.ctx.types)) _ (λ y w h. h))))
 
 -- Classes
 
 abbrev Begins : State → Begun → Type 0
-Begins st b = HasOverriders st.ctx.funcs → HasOverriders b.ctx.funcs
+Begins st b = (w : List ℕ → Bool) → HasOverridersBy w st.ctx.funcs → HasOverridersBy w b.ctx.funcs
 
 begins_typ : (st : State) (at : At) (t : Typ) → On (Begins st) (begun_by st.ctx at false t)
-begins_typ st at (typ (class n) false false) = λ h. h
+begins_typ st at (typ (class n) false false) = λ w h. h
 begins_typ st at t = tt
 
 begins : (st : State) (at : At) (name : List ℕ) (o : Option Typ) → On (Begins st) (begun_in st.ctx at name false o)
 begins st at name (Some t) = begins_typ st at t
-begins st at name None = λ h. h
+begins st at name None = λ w h. h
 
 pub names_override : NamesOverride
 names_override st at name = bind (Begins st) (Overrides st) (begun st.ctx at name false) _ (begins st at name (type_named name st.ctx.types)) (λ b h. h)
@@ -49,7 +49,7 @@ names_override st at name = bind (Begins st) (Overrides st) (begun st.ctx at nam
 -- Enums
 
 abbrev Keeps : State → Enumerating → Type 0
-Keeps st x = HasOverriders st.ctx.funcs → HasOverriders x.state.ctx.funcs
+Keeps st x = (w : List ℕ → Bool) → HasOverridersBy w st.ctx.funcs → HasOverridersBy w x.state.ctx.funcs
 
 name_keeps : (a : State) (b : Bool) (st : State) (x name : List ℕ) (w : ℕ) → Overrides a st → Overrides a (named_enumerator b st x name w)
 name_keeps a true st x name w h = h
@@ -80,7 +80,7 @@ with_override : (s : List Lexeme) (st : State) (at : At) (name : List ℕ) (scop
 with_override s st at name scoped ts = skip (Overrides st) (check at Redeclared (is_none (type_named name st.ctx.types))) _
     (λ y. bind (Keeps st) (Overrides st) (enumerators_declared s scoped name
     (record { state = record st { ctx = with_type st.ctx name (plain (enum name scoped)) }; next = pos 0 }) ts) _
-    (all_keep st s scoped name (record { state = record st { ctx = with_type st.ctx name (plain (enum name scoped)) }; next = pos 0 }) ts (λ h. h))
+    (all_keep st s scoped name (record { state = record st { ctx = with_type st.ctx name (plain (enum name scoped)) }; next = pos 0 }) ts (λ w h. h))
     (λ x h. h))
 
 pub enums_override : EnumsOverride

@@ -1,5 +1,5 @@
 -- The steps of a unit, one behind the other.
-use Rattle.std.proofs.Common.{◌≡◌, refl, ◌∙◌, Bool, true, false, List, Result, Ok, Err}
+use Rattle.std.proofs.Common.{◌≡◌, refl, ◌∙◌, Bool, true, false, List, Result, Ok, Err, ℕ}
 use Rattle.std.specs.Prelude.{if◌then◌else◌}
 use Rattle.elab_rules.specs.cpp_tree.declared.faults.ElabFault.{ElabFault}
 use Rattle.elab_rules.specs.elab_ctx.Ctx.{Ctx, Enumerator}
@@ -7,7 +7,7 @@ use Rattle.elab_rules.specs.elab_ctx.Types.{Named}
 use Rattle.elab_rules.specs.elab_ctx.Steps.{and_then}
 use Rattle.elab_rules.specs.Statements.{State, Done, Full}
 use Rattle.elab_fits.specs.Standing.{On}
-use Rattle.elab_contexts.specs.Overriders.{HasOverriders}
+use Rattle.elab_contexts.specs.Overriders.{HasOverridersBy}
 use Rattle.elab_contexts.specs.Steps.{View, view, Step, Steps, none_yet, and_one}
 
 pub joined : {a b c : View} → Steps a b → Steps b c → Steps a c
@@ -42,16 +42,16 @@ seen st = record { view = view st.ctx; naming = naming st.ctx }
 pub record Leading (a b : Seen) : Type 0 where
   pub walk : Steps a.view b.view
   pub same : b.naming ≡ a.naming
-  pub overrides : HasOverriders a.view.funcs → HasOverriders b.view.funcs
+  pub overrides : (w : List ℕ → Bool) → HasOverridersBy w a.view.funcs → HasOverridersBy w b.view.funcs
 
 abbrev pub Leaves : State → State → Type 0
 Leaves old new = Leading (seen old) (seen new)
 
 pub stays : (st : State) → Leaves st st
-stays st = record { walk = none_yet; same = refl; overrides = λ h. h }
+stays st = record { walk = none_yet; same = refl; overrides = λ w h. h }
 
 pub after : (a b c : State) → Leaves a b → Leaves b c → Leaves a c
-after a b c g h = record { walk = joined g.walk h.walk; same = h.same ∙ g.same; overrides = λ o. h.overrides (g.overrides o) }
+after a b c g h = record { walk = joined g.walk h.walk; same = h.same ∙ g.same; overrides = λ w o. h.overrides w (g.overrides w o) }
 
 -- Answers
 

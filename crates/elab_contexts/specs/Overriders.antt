@@ -7,7 +7,7 @@ use Rattle.elab_rules.specs.cpp_lex.Tokens.{Lexeme}
 use Rattle.elab_rules.specs.cpp_ast.Trees as syntax
 use Rattle.elab_rules.specs.cpp_tree.Typing.{form_in}
 use Rattle.elab_rules.specs.cpp_tree.declared.program.FuncKind.{FuncKind}
-use Rattle.elab_rules.specs.cpp_tree.declared.program.FuncKind.TheVariants.{Plain, Destructor}
+use Rattle.elab_rules.specs.cpp_tree.declared.program.FuncKind.TheVariants.{Plain, Constructor, Destructor}
 use Rattle.elab_rules.specs.elab_ctx.Ctx.{Ctx, Func}
 use Rattle.elab_rules.specs.Types.{Declared}
 use Rattle.elab_rules.specs.Functions.{Storage, same_kind}
@@ -20,22 +20,30 @@ use Rattle.elab_rules.specs.Statements.{State, Done, Full, full_operand, stateme
 use Rattle.elab_rules.specs.Units.{start, file_declaration, alias_of, defined_with}
 use Rattle.elab_fits.specs.Standing.{On}
 
--- what overrides is a plain function whose name does not begin with `~`, or a destructor, whose name does; no constructor is virtual
-abbrev pub is_overrider : Func → Bool
-is_overrider f = not f.declared.is_virtual || (same_kind f.kind Plain && not (is_destructor_name f.declared.name)
-    || same_kind f.kind Destructor && is_destructor_name f.declared.name)
+-- Of the virtual functions of classes: a plain one has a name that does not begin with `~` and is no class's, a constructor, which overrides where a function of
+-- the base has its name, that of a class, and a destructor one that begins with `~`; `classes` tells which are names of classes
+abbrev pub is_overrider_by : (classes : List ℕ → Bool) → Func → Bool
+is_overrider_by classes f = not f.declared.is_virtual
+    || (same_kind f.kind Plain && (not (is_destructor_name f.declared.name) && not (classes f.declared.name))
+    || (same_kind f.kind Constructor && (not (is_destructor_name f.declared.name) && classes f.declared.name)
+    || same_kind f.kind Destructor && is_destructor_name f.declared.name))
 
-abbrev pub HasOverriders : List Func → Type 0
-HasOverriders funcs = (k n : ℕ) (f : Func) → slice_get funcs k ≡ Some f → f.class ≡ Some n → is_overrider f ≡ true
+abbrev pub HasOverridersBy : (classes : List ℕ → Bool) → List Func → Type 0
+HasOverridersBy classes funcs = (k n : ℕ) (f : Func) → slice_get funcs k ≡ Some f → f.class ≡ Some n → is_overrider_by classes f ≡ true
+
+-- where some words are the names of classes
+pub record HasOverriders (funcs : List Func) : Type 0 where
+  pub classes : List ℕ → Bool
+  pub by : HasOverridersBy classes funcs
 
 -- Laws: only the members of a class that a text declares are asked
 
 abbrev pub Overrides : State → State → Type 0
-Overrides a b = HasOverriders a.ctx.funcs → HasOverriders b.ctx.funcs
+Overrides a b = (classes : List ℕ → Bool) → HasOverridersBy classes a.ctx.funcs → HasOverridersBy classes b.ctx.funcs
 
 -- in the state in which a unit begins, the first one or one behind others
 abbrev pub StartsOverride : Type 0
-StartsOverride = (source : ℕ) → HasOverriders (start source).ctx.funcs
+StartsOverride = (classes : List ℕ → Bool) (source : ℕ) → HasOverridersBy classes (start source).ctx.funcs
 
 abbrev pub LambdasOverride : Type 0
 LambdasOverride = (s : List Lexeme) (st : State) (e : syntax.Tree) → On (Overrides st) (lambdas_of s st e)
@@ -68,8 +76,9 @@ OutsideOverride = (s : List Lexeme) (st : State) (n : ℕ) (kind : FuncKind) (fi
 
 -- the members of a class, and those that no text declares
 abbrev pub ClassesOverride : Type 0
-ClassesOverride = (at : At) (home : Home) (r : Members) (d : Ctx)
-    → closed_class at home.number (completed r.state.ctx home at r.members r.initialised) ≡ Ok d → HasOverriders r.state.ctx.funcs → HasOverriders d.funcs
+ClassesOverride = (classes : List ℕ → Bool) (at : At) (home : Home) (r : Members) (d : Ctx)
+    → closed_class at home.number (completed r.state.ctx home at r.members r.initialised) ≡ Ok d → HasOverridersBy classes r.state.ctx.funcs
+    → HasOverridersBy classes d.funcs
 
 abbrev pub MemberDefaultsOverride : Type 0
 MemberDefaultsOverride = (s : List Lexeme) (st : State) (n i : ℕ) (t : Typ) (e : syntax.Tree) → On (Overrides st) (default_made lambdas_of s st n i t e)

@@ -18,7 +18,7 @@ use Rattle.elab_rules.specs.Statements.{State, Done, statements_of, is_direct_la
 use Rattle.elab_fits.specs.Standing.{On}
 use Rattle.elab_fits.proofs.Equal.{typ_refl}
 use Rattle.elab_contexts.specs.Holding.{UnitHolds}
-use Rattle.elab_contexts.specs.Overriders.{is_overrider, HasOverriders}
+use Rattle.elab_contexts.specs.Overriders.{is_overrider_by, HasOverriders}
 use Rattle.elab_contexts.proofs.Statements.{parameters_kept}
 use Rattle.elab_contexts.proofs.Walking as units
 use Rattle.elab_fits_braces.proofs.Staying.{defaults_stay}
@@ -96,8 +96,11 @@ module _ (f : UnitFunc) (s : List Lexeme) (st : State) (ts : syntax.Trees) (y : 
   unit_at = unit_inside s st ts y h g.unit
 
   overriders_at : HasOverriders e.ctx.funcs
-  overriders_at = λ k n w p o. one_more (λ (z : Func). (m : ℕ) → z.class ≡ Some m → is_overrider z ≡ true) st.ctx.funcs _ (λ i z q m v. g.overriders i m z q v)
-      (λ m v. refl) k w p n o
+  overriders_at = record {
+    classes = g.overriders.classes;
+    by = λ k n w p o. one_more (λ (z : Func). (m : ℕ) → z.class ≡ Some m → is_overrider_by g.overriders.classes z ≡ true) st.ctx.funcs _
+        (λ i z q m v. g.overriders.by i m z q v) (λ m v. refl) k w p n o;
+  }
 
   pub unit_grown : UnitGrows st e
   unit_grown = record {

@@ -34,7 +34,7 @@ use Rattle.state_growth.proofs.Works.{one_item}
 use Rattle.state_growth.proofs.Steps.{seen, Steps, kept_refl, goes, stays}
 use Rattle.elab_contexts.specs.Overriders.{HasOverriders}
 use Rattle.elab_holds.proofs.Contexts.{contexts_law}
-use Rattle.elab_holds.proofs.Slots.{slots_law}
+use Rattle.elab_holds.proofs.Alone.{slots_law}
 use Rattle.elab_holds.specs.Locals.{HasItemOf, LocalsHold}
 use Rattle.elab_fits_states.specs.Made.{AllBodiesFit}
 use Rattle.elab_fits_states.specs.States.{setting, Comes, IsGood, IsSettled}

@@ -17,7 +17,7 @@ use Rattle.elab_fits_states.proofs.Bodies.{bodies_fit}
 use Rattle.elab_fits_states.proofs.Discipline.{a_discipline}
 use Rattle.elab_holds.proofs.Contexts.{contexts_law}
 use Rattle.elab_holds.proofs.Locals.{stay_law, parameters_law, entered_law}
-use Rattle.elab_holds.proofs.Slots.{slots_law}
+use Rattle.elab_holds.proofs.Alone.{slots_law}
 use Rattle.elab_holds.proofs.Sound.{typ_sound}
 use Rattle.elab_movable.proofs.Lambdas.{lambdas_keep}
 use Rattle.elab_sound_types.proofs.Growth.{sound_more}

@@ -30,10 +30,9 @@ use Rattle.elab_fits.proofs.Equal.{form_refl, flag_same}
 use Rattle.elab_fits.proofs.Objects.{sized_from, size_is}
 use Rattle.elab_sound_types.specs.Contexts.{HasSoundTypes}
 use Rattle.elab_contexts.specs.Holding.{UnitHolds}
-use Rattle.elab_contexts.specs.Overriders.{is_overrider, HasOverriders}
 use Rattle.elab_contexts.specs.Slots.{HasOwnSlot, IsAlone}
 use Rattle.elab_contexts.proofs.Functions.{alike_says, bytes_same, bytes_itself, typs_same, kind_same}
-use Rattle.elab_holds.specs.Contexts.{IsApart, AloneByNames, SlotsWhereAlone, SlotsHold}
+use Rattle.elab_holds.specs.Contexts.{IsApart, AloneByNames, SlotsWhereAlone}
 use Rattle.elab_holds.proofs.Order.{order_law}
 use Rattle.elab_holds.proofs.Sound.{complete_found}
 use Rattle.elab_holds.proofs.Complete.{class_sized, class_at}
@@ -64,52 +63,7 @@ overrides_by g o false e h =
 overrides_is : (g o : Function) → same_virtual g o ≡ true → Overrides g o
 overrides_is g o h = overrides_by g o (is_destructor_name g.name && is_destructor_name o.name) refl h
 
--- a virtual function is a plain one, or a destructor
-data Kinds (f : Func) : Type 0 where
-  plain_one : f.kind ≡ Plain → is_destructor_name f.declared.name ≡ false → Kinds f
-  destructor_one : f.kind ≡ Destructor → is_destructor_name f.declared.name ≡ true → Kinds f
-
-kinds_by : (f : Func) (b c d : Bool) → f.declared.is_virtual ≡ true → same_kind f.kind Plain ≡ b → same_kind f.kind Destructor ≡ c
-    → is_destructor_name f.declared.name ≡ d → (not f.declared.is_virtual || (b && not d || c && d)) ≡ true → Kinds f
-kinds_by f b c d v p q r h = by b c d p q r (sym (ap (λ (x : Bool). not x || (b && not d || c && d)) v) ∙ h)
-  where
-    by : (b c d : Bool) → same_kind f.kind Plain ≡ b → same_kind f.kind Destructor ≡ c → is_destructor_name f.declared.name ≡ d
-        → (b && not d || c && d) ≡ true → Kinds f
-    by true c false p q r h = plain_one (kind_same f.kind Plain p) r
-    by b true true p q r h = destructor_one (kind_same f.kind Destructor q) r
-    by false false d p q r h = absurd cc
-    by true false true p q r h = absurd cc
-    by false true false p q r h = absurd cc
-
-kinds_are : (f : Func) → f.declared.is_virtual ≡ true → is_overrider f ≡ true → Kinds f
-kinds_are f v h = kinds_by f (same_kind f.kind Plain) (same_kind f.kind Destructor) (is_destructor_name f.declared.name) v refl refl refl h
-
-plain_name : (f : Func) → f.kind ≡ Plain → Kinds f → is_destructor_name f.declared.name ≡ false
-plain_name f p (plain_one k n) = n
-plain_name f p (destructor_one k n) = let z : Plain ≡ Destructor = sym p ∙ k in absurd cc
-
-alone_by : (c : Ctx) → UnitHolds c → (n j k : ℕ) (f g : Func) (o : Function) → slice_get c.funcs k ≡ Some f → slice_get c.funcs j ≡ Some g
-    → f.class ≡ Some n → g.class ≡ Some n → f.kind ≡ Plain → is_destructor_name f.declared.name ≡ false → Kinds g
-    → Overrides f.declared o → Overrides g.declared o → j ≡ k
-alone_by c u n j k f g o e q d x p m y (destroys a b) w = no_way (j ≡ k) (is_destructor_name f.declared.name) m a
-alone_by c u n j k f g o e q d x p m y (named a b i) (destroys s t) =
-    no_way (j ≡ k) (is_destructor_name f.declared.name) m (ap is_destructor_name a ∙ t)
-alone_by c u n j k f g o e q d x p m (destructor_one s t) (named a b i) (named h l r) =
-    no_way (j ≡ k) (is_destructor_name f.declared.name) m (ap is_destructor_name (a ∙ sym h) ∙ t)
-alone_by c u n j k f g o e q d x p m (plain_one s t) (named a b i) (named h l r) = u.slotted.distinct j k g f q e s (alike_says g f (record {
-  name = a ∙ sym h;
-  class = d ∙ sym x;
-  params = b ∙ sym l;
-  const = i ∙ sym r;
-  kind = p ∙ sym s;
-}))
-
-alone : (c : Ctx) → UnitHolds c → HasOverriders c.funcs → (n k : ℕ) (f : Func) → slice_get c.funcs k ≡ Some f → f.class ≡ Some n → f.kind ≡ Plain
-    → f.declared.is_virtual ≡ true → IsAlone c.funcs n k f
-alone c u h n k f e d p v j g o q x w a b = alone_by c u n j k f g o e q d x p (plain_name f p (kinds_are f v (h k n f e d))) (kinds_are g w (h j n g q x))
-    (overrides_is f.declared o b) (overrides_is g.declared o a)
-
--- and by names that are apart
+-- by names that are apart
 apart_by : (c : Ctx) → UnitHolds c → (n j k : ℕ) (f g : Func) (o : Function) → slice_get c.funcs k ≡ Some f → slice_get c.funcs j ≡ Some g
     → f.class ≡ Some n → g.class ≡ Some n → f.kind ≡ Plain → IsApart c.funcs n f → (b : Bool) → same_kind g.kind Plain ≡ b
     → Overrides f.declared o → Overrides g.declared o → j ≡ k
@@ -304,6 +258,3 @@ alone_law c w u h o k n f e d p v z =
       slot = slot_is c n k f s;
       pointer = pointer_is c w u h n (index_in_class n k c.funcs) f.declared z s.recorded v;
     }
-
-pub slots_law : SlotsHold
-slots_law c w u h o = alone_law c w u h (λ k n f e d p v. alone c u o n k f e d p v)

@@ -1,5 +1,5 @@
 -- What the laws of expressions ask of a context holds of those that elaboration makes.
-use Rattle.std.specs.Prelude.{◌≡◌, ℕ, true, false, List, is_some, Some, slice_get}
+use Rattle.std.specs.Prelude.{◌≡◌, ℕ, Bool, List, true, false, is_some, Some, slice_get}
 use Rattle.std.specs.Str.{bytes_eq}
 use Rattle.elab_rules.specs.cpp_types.Class.{InOrder, completion_of}
 use Rattle.elab_rules.specs.cpp_types.Trivial.{is_destructor_name}
@@ -16,7 +16,7 @@ use Rattle.elab_fits_forms.specs.Types.{is_lambda}
 use Rattle.elab_fits_forms.specs.Expressions.{are_spelled}
 use Rattle.elab_sound_types.specs.Contexts.{HasSoundTypes}
 use Rattle.elab_contexts.specs.Holding.{UnitHolds, HasListedFunctions}
-use Rattle.elab_contexts.specs.Overriders.{HasOverriders}
+use Rattle.elab_contexts.specs.Overriders.{HasOverridersBy, HasOverriders}
 use Rattle.elab_contexts.specs.Slots.{IsAlone}
 use Rattle.elab_contexts.specs.Texts.{have_class_names}
 use Rattle.state_growth.specs.Settings.{setting_at}
@@ -60,7 +60,10 @@ HasNamesApart funcs = (k n : ℕ) (f : Func) → slice_get funcs k ≡ Some f �
 abbrev pub AloneByNames : Type 0
 AloneByNames = (c : Ctx) → UnitHolds c → HasNamesApart c.funcs → AreAlone c.funcs
 
--- so it is where what overrides is a plain function or a destructor, by its name
+-- and so are all where what overrides has a name that goes with its kind
+abbrev pub AloneByKinds : Type 0
+AloneByKinds = (classes : List ℕ → Bool) (c : Ctx) → UnitHolds c → HasOverridersBy classes c.funcs → AreAlone c.funcs
+
 abbrev pub SlotsHold : Type 0
 SlotsHold = (c : Ctx) (w : Work) → UnitHolds c → HasSoundTypes c w → HasOverriders c.funcs → HasSlots c
 

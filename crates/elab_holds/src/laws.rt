@@ -1,6 +1,6 @@
 //! Laws of the contexts that elaboration makes. A function here does nothing: its clauses are the laws.
 
-ghost use Rattle.elab_holds.specs.Contexts.{ClassesInOrder, SettingsHold, MakersHold, ClassesComplete, AloneByNames, SlotsWhereAlone, SlotsHold, FunctionsListed, ContextsHold, TextsHaveNames};
+ghost use Rattle.elab_holds.specs.Contexts.{ClassesInOrder, SettingsHold, MakersHold, ClassesComplete, AloneByKinds, AloneByNames, SlotsWhereAlone, SlotsHold, FunctionsListed, ContextsHold, TextsHaveNames};
 ghost use Rattle.elab_holds.specs.Locals.{LocalsStay, LocalsGrow, FunctionsEntered, ObjectsEntered, ParametersPlaced, LambdasEntered, VariablesPlaced, VariablesDeclared};
 
 /// The function at hand, from its parameters on.
@@ -22,6 +22,7 @@ pub fn contexts()
     ensures makers { MakersHold }
     ensures complete { ClassesComplete }
     ensures names { AloneByNames }
+    ensures kinds { AloneByKinds }
     ensures alone { SlotsWhereAlone }
     ensures slots { SlotsHold }
     ensures listed { FunctionsListed }

@@ -19,5 +19,4 @@ pub mod Declared
 pub mod Overriding
 pub mod Methods
 pub mod ReadMembers
-pub mod Alone
 pub mod Parts

@@ -11,7 +11,7 @@ use Rattle.std.proofs.lemmas.Bool.{and_parts, not-true}
 use Rattle.elab_fits_forms.specs.Types.{is_empty}
 use Rattle.elab_contexts.proofs.Lists.{one_more}
 use Rattle.elab_read_texts.specs.Names.{is_type_name, is_class_name}
-use Rattle.elab_read_texts.specs.Overriding.{is_overrider_by, HasOverridersBy}
+use Rattle.elab_contexts.specs.Overriders.{is_overrider_by, HasOverridersBy}
 
 -- Headers of members, by their kinds
 pub data IsFit (s : List Lexeme) (home : Home) (h : Header) : Type 0 where

@@ -28,7 +28,8 @@ use Rattle.elab_fits.specs.Standing.{On}
 use Rattle.elab_contexts.proofs.Walking.{bind, skip}
 use Rattle.elab_read_texts.specs.Names.{is_class_name, is_plain_token, is_declarator, is_declared_plainly, declares_plainly, declare_plainly}
 use Rattle.elab_read_texts.specs.Names.{is_named, are_named}
-use Rattle.elab_read_texts.specs.Overriding.{HasOverridersBy, MembersOverride}
+use Rattle.elab_contexts.specs.Overriders.{HasOverridersBy}
+use Rattle.elab_read_texts.specs.Overriding.{MembersOverride}
 use Rattle.elab_read_texts.proofs.Declared.{declared_plainly}
 use Rattle.elab_read_texts.proofs.Overriding.{IsFit, function_added}
 use Rattle.elab_read_texts.proofs.Methods.{IsHeader, header_is, plain_header, started_plainly, function_fits, constructor_fits, destructor_fits}

@@ -15,20 +15,8 @@ use Rattle.elab_rules.specs.Statements.{State}
 use Rattle.elab_rules.specs.Classes.{Home, Members, members_of}
 use Rattle.elab_rules.specs.Members.{members_among}
 use Rattle.elab_fits.specs.Standing.{On}
-use Rattle.elab_contexts.specs.Holding.{UnitHolds}
-use Rattle.elab_sound_types.specs.Contexts.{HasSoundTypes}
-use Rattle.elab_holds.specs.Contexts.{AreAlone, HasSlots}
+use Rattle.elab_contexts.specs.Overriders.{HasOverridersBy}
 use Rattle.elab_read_texts.specs.Names.{is_class_name, is_plain_token, declares_plainly, are_named}
-
--- where these are the names of classes
-abbrev pub is_overrider_by : (List ℕ → Bool) → Func → Bool
-is_overrider_by classes f = not f.declared.is_virtual
-    || (same_kind f.kind Plain && (not (is_destructor_name f.declared.name) && not (classes f.declared.name))
-    || (same_kind f.kind Constructor && (not (is_destructor_name f.declared.name) && classes f.declared.name)
-    || same_kind f.kind Destructor && is_destructor_name f.declared.name))
-
-abbrev pub HasOverridersBy : (List ℕ → Bool) → List Func → Type 0
-HasOverridersBy classes funcs = (k n : ℕ) (f : Func) → slice_get funcs k ≡ Some f → f.class ≡ Some n → is_overrider_by classes f ≡ true
 
 -- Laws
 
@@ -47,11 +35,3 @@ abbrev pub ClassMembersOverride : Type 0
 ClassMembersOverride = (s : List Lexeme) (home : Home) (st : State) (kids : syntax.Trees) → are_named s kids ≡ true → is_class_name s home.name ≡ true
     → HasOverridersBy (is_class_name s) st.ctx.funcs → On (λ (y : Members). HasOverridersBy (is_class_name s) y.state.ctx.funcs)
     (members_of s home (record { state = st; members = []; initialised = [] }) (members_among kids))
-
--- no two functions of a class override the same one then
-abbrev pub AloneByKinds : Type 0
-AloneByKinds = (classes : List ℕ → Bool) (c : Ctx) → UnitHolds c → HasOverridersBy classes c.funcs → AreAlone c.funcs
-
--- and each virtual function of a complete class has its slot
-abbrev pub SlotsByKinds : Type 0
-SlotsByKinds = (classes : List ℕ → Bool) (c : Ctx) (w : Work) → UnitHolds c → HasSoundTypes c w → HasOverridersBy classes c.funcs → HasSlots c

@@ -2,7 +2,7 @@
 
 ghost use Rattle.elab_read_texts.specs.Texts.{ReadUnitsAreTexts, ReadUnitsHaveClassNames};
 ghost use Rattle.elab_read_texts.specs.Names.{ReadUnitsAreNamed};
-ghost use Rattle.elab_read_texts.specs.Overriding.{DeclaratorsNamed, MembersOverride, ClassMembersOverride, AloneByKinds, SlotsByKinds};
+ghost use Rattle.elab_read_texts.specs.Overriding.{DeclaratorsNamed, MembersOverride, ClassMembersOverride};
 
 /// Each token of a unit is spelled, each `try` has a handler, and each class has a name.
 pub fn texts()
@@ -20,6 +20,4 @@ pub fn members()
     ensures declarators { DeclaratorsNamed }
     ensures members { MembersOverride }
     ensures classes { ClassMembersOverride }
-    ensures alone { AloneByKinds }
-    ensures slots { SlotsByKinds }
 {}

@@ -1,7 +1,8 @@
 use Rattle.elab_holds.proofs.Order.{order_law, listed_law}
 use Rattle.elab_holds.proofs.Complete.{complete_law}
 use Rattle.elab_holds.proofs.Makers.{makers_law}
-use Rattle.elab_holds.proofs.Slots.{names_alone, alone_law, slots_law}
+use Rattle.elab_holds.proofs.Alone.{alone, slots_law}
+use Rattle.elab_holds.proofs.Slots.{names_alone, alone_law}
 use Rattle.elab_holds.proofs.Texts.{texts_law}
 use Rattle.elab_holds.proofs.Contexts.{settings_are, contexts_law}
 use Rattle.elab_holds.proofs.laws.contexts.Goals as goal
@@ -35,3 +36,6 @@ returns-clause-alone c = alone_law
 
 pub returns-clause-names : goal.returns-clause-names
 returns-clause-names c = names_alone
+
+pub returns-clause-kinds : goal.returns-clause-kinds
+returns-clause-kinds c = alone

@@ -1,6 +1,5 @@
 use Rattle.elab_read_texts.proofs.Declared.{declarators_named}
 use Rattle.elab_read_texts.proofs.ReadMembers.{members_override}
-use Rattle.elab_read_texts.proofs.Alone.{alone, slots}
 use Rattle.elab_read_texts.proofs.Parts.{class_members}
 use Rattle.elab_read_texts.proofs.laws.members.Goals as goal
 
@@ -10,11 +9,5 @@ returns-clause-declarators c = declarators_named
 pub returns-clause-members : goal.returns-clause-members
 returns-clause-members c = members_override
 
-pub returns-clause-alone : goal.returns-clause-alone
-returns-clause-alone c = alone
-
 pub returns-clause-classes : goal.returns-clause-classes
 returns-clause-classes c = class_members
-
-pub returns-clause-slots : goal.returns-clause-slots
-returns-clause-slots c = slots

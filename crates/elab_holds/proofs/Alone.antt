@@ -2,9 +2,9 @@
 use Rattle.std.proofs.Common.{◌≡◌, refl, sym, ap, ◌∙◌, ℕ, Bool, true, false, not, ◌&&◌, ◌||◌, List, Some, slice_get, true≢false}
 use Rattle.std.specs.Str.{bytes_eq}
 use Rattle.std.proofs.lemmas.Bool.{and_parts}
-use Rattle.cpp_types.specs.Class.{Function}
-use Rattle.cpp_types.specs.Equal.{typs_eq, flag_eq}
-use Rattle.cpp_types.specs.Trivial.{is_destructor_name}
+use Rattle.elab_rules.specs.cpp_types.Class.{Function}
+use Rattle.elab_rules.specs.cpp_types.Equal.{typs_eq, flag_eq}
+use Rattle.elab_rules.specs.cpp_types.Trivial.{is_destructor_name}
 use Rattle.elab_rules.specs.cpp_tree.declared.program.FuncKind.{FuncKind}
 use Rattle.elab_rules.specs.cpp_tree.declared.program.FuncKind.TheVariants.{Plain, Constructor, Destructor}
 use Rattle.elab_rules.specs.elab_ctx.Ctx.{Ctx, Func}
@@ -14,8 +14,9 @@ use Rattle.elab_rules.specs.Initialising.{signature_parameters}
 use Rattle.elab_fits.proofs.Equal.{flag_same}
 use Rattle.elab_contexts.specs.Holding.{UnitHolds}
 use Rattle.elab_contexts.proofs.Functions.{alike_says, bytes_same, typs_same, kind_same}
+use Rattle.elab_contexts.specs.Overriders.{is_overrider_by}
+use Rattle.elab_holds.specs.Contexts.{AloneByKinds, SlotsHold}
 use Rattle.elab_holds.proofs.Slots.{alone_law}
-use Rattle.elab_read_texts.specs.Overriding.{is_overrider_by, AloneByKinds, SlotsByKinds}
 
 -- by its kind, or by its name alone
 data Kinds (classes : List ℕ → Bool) (f : Func) : Type 0 where
@@ -120,5 +121,5 @@ alone classes c u h k n f e d p v j g o q x w a b =
     alone_by classes c u n j k f g o e q d x p m (kinds_are classes g w (h j n g q x)) first
     (same_named g.declared o (second_false (is_destructor_name g.declared.name) (is_destructor_name o.name) other) a)
 
-pub slots : SlotsByKinds
-slots classes c w u h o = alone_law c w u h (alone classes c u o)
+pub slots_law : SlotsHold
+slots_law c w u h o = alone_law c w u h (alone o.classes c u o.by)
