@@ -1,13 +1,11 @@
 -- Functions of classes, and the functions in the records of classes.
 use Rattle.std.proofs.Common.{◌≡◌, refl, sym, ap, ◌∙◌, subst, ℕ, zero, suc, ◌≤◌, true, false, Bool, List, [], ◌∷◌, ◌++◌, length, slice_get, Option, Some, None, is_some, arith}
-use Rattle.std.specs.Prelude.{slice_set, not, ◌&&◌, ◌||◌}
+use Rattle.std.specs.Prelude.{slice_set}
 use Rattle.std.proofs.lemmas.List.{length-append, length-set}
 use Rattle.std.proofs.lemmas.Option.{same_Some}
 use Rattle.elab_rules.specs.cpp_types.Class.{Class, Member, Function}
 use Rattle.elab_rules.specs.cpp_tree.declared.program.FuncKind.{FuncKind}
-use Rattle.elab_rules.specs.cpp_tree.declared.program.FuncKind.TheVariants.{Plain, Destructor, ClosureCall}
-use Rattle.elab_rules.specs.cpp_types.Trivial.{is_destructor_name}
-use Rattle.elab_rules.specs.Functions.{same_kind}
+use Rattle.elab_rules.specs.cpp_tree.declared.program.FuncKind.TheVariants.{ClosureCall}
 use Rattle.elab_rules.specs.elab_ctx.Ctx.{Func}
 use Rattle.elab_contexts.specs.Overriders.{is_overrider_by, HasOverridersBy}
 use Rattle.elab_contexts.specs.Texts.{is_no_name}

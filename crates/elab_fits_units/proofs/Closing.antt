@@ -33,7 +33,7 @@ no_name [] h = absurd cc
 no_name (x ∷ xs) h = refl
 
 pub class_leads : (s : List Lexeme) (st : State) (at : At) (name : List ℕ) (kids : syntax.Trees) (home : Home) (r : Members) (c : Ctx) → UnitGood st
-    → is_nothing name ≡ false → AreTexts s kids → IsClosed s st at name kids home r c → (HasOverriders st.ctx.funcs → HasOverriders r.state.ctx.funcs)
+    → is_nothing name ≡ false → AreTexts s kids → IsClosed s st at name kids home r c → HasOverriders r.state.ctx.funcs
     → Leads st (record r.state { ctx = c }) × IsHome c.classes home.number
 class_leads s st at name kids home r c g n t k o = (
   record {
@@ -41,7 +41,7 @@ class_leads s st at name kids home r c g n t k o = (
     unit = holding.classes_law s st at kids home k.start r c g.unit title start k.based k.number k.read k.closed;
     sound = behind.after.sound;
     kept = behind.after.grown.kept;
-    overriders = λ h. holding.classes_override at home r c k.closed (o h);
+    overriders = λ h. record { classes = o.classes; by = holding.classes_override o.classes at home r c k.closed o.by };
     gone = record { grows = state_grows st (record r.state { ctx = c }) went.kept; numbers = went.kept.numbers; tidy = is_tidy (record r.state { ctx = c }) went.tidy };
   },
   braced.home,

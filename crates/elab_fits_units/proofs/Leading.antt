@@ -84,7 +84,7 @@ leads_one st y g u h w o l = record {
   unit = u;
   sound = h.sound;
   kept = h.grown.kept;
-  overriders = o;
+  overriders = λ h. record { classes = h.classes; by = o h.classes h.by };
   gone = record { grows = state_grows st y l.kept; numbers = l.kept.numbers; tidy = is_tidy y (l.tidy (to_tidy st g)) };
 }
 

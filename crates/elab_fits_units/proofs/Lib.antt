@@ -15,6 +15,7 @@ pub mod Implied
 pub mod Leading
 pub mod Leaves
 pub mod Methods
+pub mod Named
 pub mod Owners
 pub mod Parts
 pub mod Programs

@@ -22,7 +22,7 @@ use Rattle.state_growth.proofs.Steps.{seen, kept_refl, state_grows}
 use Rattle.elab_fits_states.specs.Made.{MadeFits}
 use Rattle.elab_fits_units.specs.Below.{Below}
 use Rattle.elab_fits_units.specs.Good.{UnitGood}
-use Rattle.elab_fits_units.specs.Laws.{Laws}
+use Rattle.elab_fits_units.specs.Laws.{Laws, Lasting}
 use Rattle.elab_fits_units.specs.Programs.{AreSources, UnitFits, AllUnitsFit}
 use Rattle.elab_fits_units.proofs.Growing.{held_earlier}
 use Rattle.elab_fits_units.proofs.Headers.{answered, split}
@@ -100,6 +100,7 @@ all_more P (z ∷ us) u f h zero y e = f 0 y e
 all_more P (z ∷ us) u f h (suc i) y e = all_more P us u (λ j w q. f (suc j) w q) h i y e
 
 module _ (below : (s : List Lexeme) → Below s) (laws : (s : List Lexeme) → Laws s)
+    (also : List Lexeme → State → Type 0) (left : (s : List Lexeme) → Lasting s (also s))
     (later : (source : ℕ) (p : TypedProgram) (x : Source) (st : State) → UnitGood st → UnitGood (start_behind source (with_unit p x st) st.ctx.traits)) where
   ends : (i : ℕ) (p q : TypedProgram) (traits : List Traits) (xs : List Source) → UnitGood (start_behind i p traits) → AreSources xs
       → ((j : ℕ) (u : UnitTree) → slice_get p.units j ≡ Some u → UnitFits q u) → program_from i p traits xs ≡ Ok q → AllUnitsFit q
@@ -107,8 +108,11 @@ module _ (below : (s : List Lexeme) → Below s) (laws : (s : List Lexeme) → L
   ends i p q traits (x ∷ xs) g t h e =
       let r = split (unit_from x.tokens (start_behind i p traits) x.decls) (λ (st : State). program_from (suc i) (with_unit p x st) st.ctx.traits xs) q e in
       let st : State = r.answer in
-      let good : UnitGood st = answered UnitGood (unit_from x.tokens (start_behind i p traits) x.decls) st
-      (unit_keeps x.tokens (below x.tokens) (laws x.tokens) (start_behind i p traits) x.decls g (t 0 x refl)) r.is in
+      let both : UnitGood st × also x.tokens st =
+      answered (λ (y : State). UnitGood y × also x.tokens y) (unit_from x.tokens (start_behind i p traits) x.decls) st
+      (unit_keeps x.tokens (also x.tokens) (below x.tokens) (laws x.tokens) (left x.tokens) (start_behind i p traits) x.decls g
+      ((left x.tokens).begins i p traits) (t 0 x refl)) r.is in
+      let good : UnitGood st = both.0 in
       let next : UnitGood (start_behind (suc i) (with_unit p x st) st.ctx.traits) = later (suc i) p x st good in
       let grown : ProgramGrows (with_unit p x st) q = answered (ProgramGrows (with_unit p x st)) (program_from (suc i) (with_unit p x st) st.ctx.traits xs) q
       (programs_law (suc i) (with_unit p x st) st.ctx.traits xs next.tidy) r.behind in

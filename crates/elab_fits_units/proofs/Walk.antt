@@ -170,15 +170,15 @@ module _ (w : Words) (s : List Lexeme) (q : Steps w s) where
   among_texts (syntax.more (syntax.node k.MemberSpecification p token members) ts) h = q.kids _ p token members (q.first _ ts h)
   among_texts (syntax.more t ts) h = among_texts ts (q.rest t ts h)
 
-  class_good : (st : State) (at : At) (name : List ℕ) (kids : syntax.Trees) → w.Good st → is_nothing name ≡ false → w.Texts kids
-      → On w.Good (class_defined lambdas_of s st at name kids)
-  class_good st at name kids g v h = told w.Good (text_sized at (class_text s kids)) _
-      (λ z o. told w.Good (begun st.ctx at name true) _ (λ b i. told w.Good (base_named s b.ctx kids) _ (λ base j.
+  class_good : (st : State) (at : At) (name : List ℕ) (kids : syntax.Trees) → w.Good st → is_nothing name ≡ false → w.Title name
+      → w.Texts kids → On w.Good (class_defined lambdas_of s st at name kids)
+  class_good st at name kids g v i h = told w.Good (text_sized at (class_text s kids)) _
+      (λ y o. told w.Good (begun st.ctx at name true) _ (λ b z. told w.Good (base_named s b.ctx kids) _ (λ base j.
       let home : Home = record { number = b.number; name = name; base = base; is_final = has_final kids } in
       told w.Good (members_of s home (record { state = record st { ctx = b.ctx }; members = []; initialised = [] }) (members_among kids)) _
       (λ r l. told w.Good (closed_class at home.number (completed r.state.ctx home at r.members r.initialised)) _
       (λ c m. behind_brace home.number name (record r.state { ctx = c }) (members_among kids)
-      (q.classes st at name kids home r c g v h (record { start = b; begins = i; based = j; number = refl; named = refl; read = l; closed = m }))
+      (q.classes st at name kids home r c g v i h (record { start = b; begins = z; based = j; number = refl; named = refl; read = l; closed = m }))
       (among_texts kids h))))))
 
   -- Declarations
@@ -197,7 +197,8 @@ module _ (w : Words) (s : List Lexeme) (q : Steps w s) where
         told w.Good (check (at_of p) OutOfProfile (is_c (string_bytes (spelling s t)))) _
         (λ y e. declarations_good (record x { is_c = true }) st kids g (q.kids _ p (Some t) kids h))
     declaration_good x st (syntax.node k.ClassDeclaration p (Some t) kids) g h = q.names st (at_of p) (spelling s t) g (q.spelled _ p t kids h)
-    declaration_good x st (syntax.node k.ClassSpecifier p (Some t) kids) g h = class_good st (at_of p) (spelling s t) kids g (q.spelled _ p t kids h) (q.kids _ p (Some t) kids h)
+    declaration_good x st (syntax.node k.ClassSpecifier p (Some t) kids) g h = class_good st (at_of p) (spelling s t) kids g (q.spelled _ p t kids h) (q.titled p t kids h)
+        (q.kids _ p (Some t) kids h)
     declaration_good x st (syntax.node k.ConstructorDefinition p (Some t) kids) g h =
         member_good x st (at_of p) Constructor t kids g (λ v. absurd cc) (q.kids _ p (Some t) kids h)
     declaration_good x st (syntax.node k.DestructorDefinition p (Some t) kids) g h =

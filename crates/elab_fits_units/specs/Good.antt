@@ -8,10 +8,11 @@ use Rattle.elab_contexts.specs.Overriders.{HasOverriders}
 use Rattle.elab_sound_types.specs.States.{IsSoundState}
 use Rattle.state_growth.specs.States.{IsTidy}
 use Rattle.elab_fits_braces.specs.Defaults.{AllDefaultsFit}
-use Rattle.elab_fits_states.specs.States.{setting, IsText, AreTexts}
+use Rattle.elab_fits_states.specs.States.{setting}
 use Rattle.elab_fits_states.specs.Made.{AllBodiesFit}
 use Rattle.elab_fits_parts.specs.Parts.{IsHome}
 use Rattle.elab_fits_parts.specs.Implicit.{HasImplicits}
+use Rattle.elab_fits_units.specs.Named.{IsNamedText, AreNamedTexts, IsTitle}
 use Rattle.elab_fits_units.specs.Steps.{Words}
 
 pub record UnitGood (st : State) : Type 0 where
@@ -33,6 +34,17 @@ abbrev pub unit_words : List Lexeme → Words
 unit_words s = record {
   Good = UnitGood;
   Home = λ (st : State). IsHome st.ctx.classes;
-  Text = IsText s;
-  Texts = AreTexts s;
+  Text = IsNamedText s;
+  Texts = AreNamedTexts s;
+  Title = IsTitle s;
+}
+
+-- where something holds of states beside
+abbrev pub words_with : List Lexeme → (State → Type 0) → Words
+words_with s also = record {
+  Good = λ (st : State). UnitGood st × also st;
+  Home = λ (st : State). IsHome st.ctx.classes;
+  Text = IsNamedText s;
+  Texts = AreNamedTexts s;
+  Title = IsTitle s;
 }

@@ -7,7 +7,9 @@ use Rattle.elab_rules.specs.cpp_ast.Trees as syntax
 use Rattle.elab_rules.specs.cpp_tree.Typing.{form_in}
 use Rattle.elab_rules.specs.cpp_tree.declared.program.FuncKind.{FuncKind}
 use Rattle.elab_rules.specs.cpp_tree.declared.program.FuncKind.TheVariants.{Plain}
-use Rattle.elab_rules.specs.elab_ctx.Ctx.{Ctx}
+use Rattle.elab_rules.specs.cpp_tree.Units.{TypedProgram}
+use Rattle.elab_rules.specs.elab_ctx.Ctx.{Ctx, Traits}
+use Rattle.elab_rules.specs.Programs.{start_behind}
 use Rattle.elab_rules.specs.Types.{Declared, is_nothing}
 use Rattle.elab_rules.specs.Expressions.{type_of_specifiers, declared_by}
 use Rattle.elab_rules.specs.Statements.{State}
@@ -29,6 +31,7 @@ use Rattle.elab_fits_states.specs.States.{IsText, AreTexts}
 use Rattle.elab_fits_parts.specs.Parts.{IsHome}
 use Rattle.elab_fits_parts.specs.Implicit.{HasImplicits}
 use Rattle.elab_fits_units.specs.Good.{UnitGood}
+use Rattle.elab_fits_units.specs.Named.{IsNamedText, AreNamedTexts, IsTitle}
 use Rattle.elab_fits_units.specs.Steps.{IsClosed}
 
 pub record Leads (a b : State) : Type 0 where
@@ -56,7 +59,7 @@ pub record Laws (s : List Lexeme) : Type 0 where
   pub enums : (st : State) (at : At) (name : List ℕ) (ts : syntax.Trees) → UnitGood st → AreTexts s ts → On (Leads st) (enum_declared s st at name ts)
   pub names : (st : State) (at : At) (name : List ℕ) → UnitGood st → is_nothing name ≡ false → On (Leads st) (declared_only st at name)
   pub classes : (st : State) (at : At) (name : List ℕ) (kids : syntax.Trees) (home : Home) (r : Members) (c : Ctx) → UnitGood st → is_nothing name ≡ false
-      → AreTexts s kids → IsClosed s st at name kids home r c → Leads st (record r.state { ctx = c }) × IsHome c.classes home.number
+      → AreTexts s kids → IsClosed s st at name kids home r c → HasOverriders r.state.ctx.funcs → Leads st (record r.state { ctx = c }) × IsHome c.classes home.number
   -- a function that is declared, and what a definition says of it
   pub declared : (st : State) (h : Header) (text : List ℕ) (closed : ℕ) (p : Placed) → UnitGood st → h.class ≡ None → h.kind ≡ Plain
       → IsSoundHeader st.ctx.classes h → function_declared st.ctx h true ≡ Ok p
@@ -75,8 +78,23 @@ pub record Laws (s : List Lexeme) : Type 0 where
       → On (Leads st) (default_made lambdas_of s st n i t e)
   pub members : (st : State) (k : ℕ) → UnitGood st → On (Leads st) (implied st k)
 
--- What is left of them
-pub record Left (s : List Lexeme) : Type 0 where
-  -- of the members that a class declares, what overrides is a plain function or a destructor, by its name
-  pub members : (st : State) (at : At) (name : List ℕ) (kids : syntax.Trees) (home : Home) (r : Members) (c : Ctx) → UnitGood st → AreTexts s kids
-      → IsClosed s st at name kids home r c → HasOverriders st.ctx.funcs → HasOverriders r.state.ctx.funcs
+-- What holds of states beside, where a unit begins and behind each step, and says of the members that a class declares that what overrides has a name that goes
+-- with its kind
+pub record Lasting (s : List Lexeme) (Also : State → Type 0) : Type 0 where
+  pub begins : (source : ℕ) (p : TypedProgram) (traits : List Traits) → Also (start_behind source p traits)
+  pub variables : (st : State) (x : Storage) (at : At) (ts : syntax.Trees) → UnitGood st → Also st → AreNamedTexts s ts → On Also (file_declaration s st x at ts)
+  pub aliases : (st : State) (at : At) (name : List ℕ) (ts : syntax.Trees) → UnitGood st → Also st → AreNamedTexts s ts → On Also (alias_of s st at name ts)
+  pub enums : (st : State) (at : At) (name : List ℕ) (ts : syntax.Trees) → UnitGood st → Also st → AreNamedTexts s ts → On Also (enum_declared s st at name ts)
+  pub names : (st : State) (at : At) (name : List ℕ) → UnitGood st → Also st → is_nothing name ≡ false → On Also (declared_only st at name)
+  pub functions : (st : State) (x : Storage) (at : At) (first : ℕ) (d body : syntax.Tree) (r : Declared) → UnitGood st → Also st → IsNamedText s d
+      → IsNamedText s body → On Also (defined_with s st x at first r body (form_in r.typ))
+  pub outside : (st : State) (n : ℕ) (kind : FuncKind) (first : ℕ) (m : Method) (body : syntax.Tree) → UnitGood st → Also st → IsNamedText s body
+      → On Also (outside_body lambdas_of s st n kind first m body)
+  pub classes : (st : State) (at : At) (name : List ℕ) (kids : syntax.Trees) (home : Home) (r : Members) (c : Ctx) → UnitGood st → Also st
+      → is_nothing name ≡ false → IsTitle s name → AreNamedTexts s kids → IsClosed s st at name kids home r c
+      → HasOverriders r.state.ctx.funcs × Also (record r.state { ctx = c })
+  pub defaults : (st : State) (n i : ℕ) (t : Typ) (e : syntax.Tree) → UnitGood st → Also st → IsHome st.ctx.classes n → IsNamedText s e
+      → On Also (default_made lambdas_of s st n i t e)
+  pub methods : (st : State) (n : ℕ) (kind : FuncKind) (m : Method) (body : syntax.Tree) → UnitGood st → Also st → IsHome st.ctx.classes n
+      → IsNamedText s body → On Also (late_method lambdas_of s st n kind m (Some body))
+  pub members : (st : State) (k : ℕ) → UnitGood st → Also st → On Also (implied st k)

@@ -6,11 +6,11 @@ use Rattle.elab_rules.specs.cpp_tree.Units.{Func, Unit, TypedProgram}
 use Rattle.elab_rules.specs.cpp_tree.WellFormed.{fits, outermost}
 use Rattle.elab_rules.specs.Programs.{Source, program_of}
 use Rattle.state_growth.specs.Programs.{unit_setting}
-use Rattle.elab_fits_states.specs.States.{AreTexts}
+use Rattle.elab_fits_units.specs.Named.{AreNamedTexts}
 
--- sources as the parser makes them: each token is spelled, and each `try` has a handler
+-- sources as the parser makes them: each token is spelled, each `try` has a handler, and members and functions have names of no type
 abbrev pub AreSources : List Source → Type 0
-AreSources xs = (i : ℕ) (x : Source) → slice_get xs i ≡ Some x → AreTexts x.tokens x.decls
+AreSources xs = (i : ℕ) (x : Source) → slice_get xs i ≡ Some x → AreNamedTexts x.tokens x.decls
 
 -- a unit whose bodies fit in a program
 abbrev pub UnitFits : TypedProgram → Unit → Type 0

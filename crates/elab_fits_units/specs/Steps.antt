@@ -5,6 +5,7 @@ use Rattle.elab_rules.specs.cpp_types.declared.classes.At.{At}
 use Rattle.elab_rules.specs.cpp_lex.Tokens.{Lexeme}
 use Rattle.elab_rules.specs.cpp_ast.declared.arena.At.{At as SyntaxAt}
 use Rattle.elab_rules.specs.cpp_ast.declared.kinds.NodeKind.{NodeKind}
+use Rattle.elab_rules.specs.cpp_ast.declared.kinds.NodeKind.TheVariants.{ClassSpecifier}
 use Rattle.elab_rules.specs.cpp_ast.Trees as syntax
 use Rattle.elab_rules.specs.cpp_tree.Typing.{form_in}
 use Rattle.elab_rules.specs.cpp_tree.declared.program.FuncKind.{FuncKind}
@@ -37,6 +38,8 @@ pub record Words : Type 1 where
   -- texts as the parser makes them
   pub Text : syntax.Tree → Type 0
   pub Texts : syntax.Trees → Type 0
+  -- names of classes
+  pub Title : List ℕ → Type 0
 
 -- a good state, in which classes that had their brace have it still
 pub record Follows (w : Words) (a b : State) : Type 0 where
@@ -60,6 +63,8 @@ pub record Steps (w : Words) (s : List Lexeme) : Type 0 where
   pub rest : (t : syntax.Tree) (ts : syntax.Trees) → w.Texts (syntax.more t ts) → w.Texts ts
   -- each token is spelled with something
   pub spelled : (kind : NodeKind) (p : SyntaxAt) (t : ℕ) (ts : syntax.Trees) → w.Text (syntax.node kind p (Some t) ts) → is_nothing (spelling s t) ≡ false
+  -- a class has the name of one
+  pub titled : (p : SyntaxAt) (t : ℕ) (ts : syntax.Trees) → w.Text (syntax.node ClassSpecifier p (Some t) ts) → w.Title (spelling s t)
   -- variables, functions that are only declared, names of types, enums, classes that are only declared
   pub variables : (st : State) (x : Storage) (at : At) (ts : syntax.Trees) → w.Good st → w.Texts ts → On w.Good (file_declaration s st x at ts)
   pub aliases : (st : State) (at : At) (name : List ℕ) (ts : syntax.Trees) → w.Good st → w.Texts ts → On w.Good (alias_of s st at name ts)
@@ -74,8 +79,8 @@ pub record Steps (w : Words) (s : List Lexeme) : Type 0 where
       → NoCall kind → w.Texts ts → w.Text body → outside_method s st at x kind ts ≡ Ok m → m.header.class ≡ Some n
       → On w.Good (outside_body lambdas_of s st n kind first m body)
   -- a class up to its brace
-  pub classes : (st : State) (at : At) (name : List ℕ) (kids : syntax.Trees) (home : Home) (r : Members) (c : Ctx) → w.Good st → is_nothing name ≡ false → w.Texts kids
-      → IsClosed s st at name kids home r c → w.Good (record r.state { ctx = c }) × w.Home (record r.state { ctx = c }) home.number
+  pub classes : (st : State) (at : At) (name : List ℕ) (kids : syntax.Trees) (home : Home) (r : Members) (c : Ctx) → w.Good st → is_nothing name ≡ false
+      → w.Title name → w.Texts kids → IsClosed s st at name kids home r c → w.Good (record r.state { ctx = c }) × w.Home (record r.state { ctx = c }) home.number
   -- behind it the initialisers of its members, and the bodies of its functions
   pub defaults : (st : State) (n i : ℕ) (name : List ℕ) (e : syntax.Tree) → w.Good st → w.Home st n → w.Text e
       → member_index 0 name (members_in (slice_get st.ctx.classes n)) ≡ Some i

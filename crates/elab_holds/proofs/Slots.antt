@@ -15,7 +15,7 @@ use Rattle.elab_rules.specs.cpp_types.Trivial.{is_destructor_name}
 use Rattle.cpp_types.proofs.Bases.{bases_unroll}
 use Rattle.elab_rules.specs.cpp_layout.Layout.{Extent, next_multiple, end_from, base_items, class_extent, is_virtual_function, functions_of, has_virtual}
 use Rattle.elab_rules.specs.cpp_layout.Layout.{has_class_pointer}
-use Rattle.elab_rules.specs.cpp_tree.declared.program.FuncKind.TheVariants.{Plain, Destructor}
+use Rattle.elab_rules.specs.cpp_tree.declared.program.FuncKind.TheVariants.{Plain}
 use Rattle.elab_rules.specs.cpp_tree.Notation.{plain}
 use Rattle.elab_rules.specs.cpp_tree.Typing.{passes}
 use Rattle.elab_rules.specs.cpp_tree.Units.{SlotFunc}
@@ -30,7 +30,7 @@ use Rattle.elab_fits.proofs.Equal.{form_refl, flag_same}
 use Rattle.elab_fits.proofs.Objects.{sized_from, size_is}
 use Rattle.elab_sound_types.specs.Contexts.{HasSoundTypes}
 use Rattle.elab_contexts.specs.Holding.{UnitHolds}
-use Rattle.elab_contexts.specs.Slots.{HasOwnSlot, IsAlone}
+use Rattle.elab_contexts.specs.Slots.{HasOwnSlot}
 use Rattle.elab_contexts.proofs.Functions.{alike_says, bytes_same, bytes_itself, typs_same, kind_same}
 use Rattle.elab_holds.specs.Contexts.{IsApart, AloneByNames, SlotsWhereAlone}
 use Rattle.elab_holds.proofs.Order.{order_law}

@@ -1,15 +1,12 @@
 -- Of the members that a text declares, what overrides is a plain function, a constructor or a destructor, each by its name. A constructor that overrides a
 -- function of the base has the name of its class, which no plain function has.
-use Rattle.std.specs.Prelude.{◌≡◌, ℕ, Bool, true, not, ◌&&◌, ◌||◌, List, [], Some, slice_get}
-use Rattle.cpp_types.specs.Trivial.{is_destructor_name}
+use Rattle.std.specs.Prelude.{◌≡◌, true, List, []}
 use Rattle.cpp_lex.specs.Tokens.{Lexeme}
 use Rattle.cpp_ast.specs.Trees as syntax
 use Rattle.elab_rules.specs.cpp_types.Typ.{Typ}
 use Rattle.elab_rules.specs.cpp_types.declared.classes.At.{At}
-use Rattle.elab_rules.specs.cpp_tree.declared.program.FuncKind.TheVariants.{Plain, Constructor, Destructor}
-use Rattle.elab_rules.specs.elab_ctx.Ctx.{Ctx, Work, Func}
+use Rattle.elab_rules.specs.elab_ctx.Ctx.{Ctx, Work}
 use Rattle.elab_rules.specs.Types.{Declared}
-use Rattle.elab_rules.specs.Functions.{same_kind}
 use Rattle.elab_rules.specs.Expressions.{declared_by}
 use Rattle.elab_rules.specs.Statements.{State}
 use Rattle.elab_rules.specs.Classes.{Home, Members, members_of}

@@ -25,7 +25,7 @@ use Rattle.elab_rules.specs.Globals.{enum_declared}
 use Rattle.elab_rules.specs.Implicit.{implied}
 use Rattle.elab_rules.specs.Lambdas.{lambdas_of}
 use Rattle.elab_rules.specs.Names.{members_in}
-use Rattle.elab_rules.specs.Units.{header_of, definition_text, closing_offset, defined_with, file_declaration, alias_of, unit_from}
+use Rattle.elab_rules.specs.Units.{header_of, definition_text, closing_offset, defined_with, file_declaration, alias_of}
 use Rattle.elab_places.proofs.Steps.{On, skip, held_by}
 use Rattle.elab_fits_statements.proofs.States.{told}
 use Rattle.elab_sound_types.specs.Types.{is_class}
@@ -34,7 +34,7 @@ use Rattle.elab_fits_states.specs.States.{IsText, AreTexts}
 use Rattle.elab_fits_parts.specs.Parts.{IsHome}
 use Rattle.elab_fits_units.specs.Below.{Below}
 use Rattle.elab_fits_units.specs.Definitions.{IsDefinition}
-use Rattle.elab_fits_units.specs.Good.{UnitGood, unit_words}
+use Rattle.elab_fits_units.specs.Good.{UnitGood, words_with}
 use Rattle.elab_fits_units.specs.Laws.{Leads, Laws}
 use Rattle.elab_fits_units.specs.Steps.{NoCall, Words, Follows, Steps}
 use Rattle.elab_fits_units.proofs.Headers.{declared_law, methods_law, outside_law}
@@ -43,10 +43,9 @@ use Rattle.elab_fits_units.proofs.Methods.{IsMethod, method_is, outside_is}
 use Rattle.elab_fits_units.proofs.Owners.{IsOwned, outside_owned}
 use Rattle.elab_fits_units.proofs.Quiet.{Quiet, Placing, function_quiet, declaration_quiet, aliases_quiet, enum_quiet, only_quiet, class_quiet}
 use Rattle.elab_fits_units.proofs.Specials.{home_over}
+use Rattle.elab_fits_units.proofs.Named.{By, names_beside}
 use Rattle.elab_fits_units.proofs.Texts.{rest_texts}
-use Rattle.elab_fits_units.proofs.Units.{steps}
-use Rattle.elab_fits_units.proofs.Walk.{unit_good}
-use Rattle.elab_unit_items.specs.Units.{IsWholeUnit, with_whole, GivesUnit, IsGoodUnit}
+use Rattle.elab_unit_items.specs.Units.{IsWholeUnit, with_whole, GivesUnit}
 use Rattle.elab_unit_items.proofs.Constructors.{constructor_whole, destructor_whole}
 use Rattle.elab_unit_items.proofs.Defaults.{default_whole}
 use Rattle.elab_unit_items.proofs.Ending.{quiet_whole}
@@ -153,6 +152,7 @@ module _ (s : List Lexeme) (b : Below s) (l : Laws s) where
       first = q.first;
       rest = q.rest;
       spelled = q.spelled;
+      titled = q.titled;
       variables = λ st x at ts g t. pair w (file_declaration s st x at ts) (q.variables st x at ts g.0 t)
           (quiet_on st (file_declaration s st x at ts) g.1 (l.variables st x at ts (u.good st g.0) (u.texts ts t)) (declaration_quiet s st x at ts));
       aliases = λ st at name ts g t. pair w (alias_of s st at name ts) (q.aliases st at name ts g.0 t)
@@ -167,8 +167,8 @@ module _ (s : List Lexeme) (b : Below s) (l : Laws s) where
       outside = λ st x at kind first n ts m body g free t v e k. pair w (outside_body lambdas_of s st n kind first m body)
           (q.outside st x at kind first n ts m body g.0 free t v e k)
           (outside_whole st x at kind first n ts m body (u.good st g.0) g.1 free (u.texts ts t) (u.text body v) e k);
-      classes = λ st at name kids home r c g n t k. let y = q.classes st at name kids home r c g.0 n t k in
-          ((y.0, quiet_whole st (record r.state { ctx = c }) (u.grown st at name kids home r c g.0 n t k) (class_quiet s st at name kids home r c k) g.1), y.1);
+      classes = λ st at name kids home r c g n i t k. let y = q.classes st at name kids home r c g.0 n i t k in
+          ((y.0, quiet_whole st (record r.state { ctx = c }) (u.grown st at name kids home r c g.0 n i t k) (class_quiet s st at name kids home r c k) g.1), y.1);
       defaults = λ st n i name e g h t k. let typ : Typ = member_type (slice_get (members_in (slice_get st.ctx.classes n)) i) in
           followed w st (default_made lambdas_of s st n i typ e) (q.defaults st n i name e g.0 h t k)
           (default_whole s b st n (u.good st g.0) (u.home st n h) g.1 i typ e (u.text e t));
@@ -179,15 +179,12 @@ module _ (s : List Lexeme) (b : Below s) (l : Laws s) where
     }
 
   -- the words of elab_fits_units
-  pub units : GivesUnit (unit_words s) s
+  pub units : GivesUnit (words_with s (By s)) s
   units = record {
-    good = λ st g. g;
+    good = λ st g. g.0;
     home = λ st n h. h;
-    text = λ t h. h;
-    texts = λ ts h. h;
-    grown = λ st at name kids home r c g n t k. (l.classes st at name kids home r c g n t k).0.gone.grows.unit.classes;
+    text = λ t h. h.text;
+    texts = λ ts h. h.texts;
+    grown = λ st at name kids home r c g n i t k. (l.classes st at name kids home r c g.0 n t.texts k
+        ((names_beside s).classes st at name kids home r c g.0 g.1 n i t k).0).0.gone.grows.unit.classes;
   }
-
-  -- a whole unit
-  pub unit_whole : (st : State) (decls : syntax.Trees) → IsGoodUnit st → AreTexts s decls → On IsGoodUnit (unit_from s st decls)
-  unit_whole st decls g t = unit_good (with_whole (unit_words s)) s (whole_steps (unit_words s) (steps s b l) units) st decls g t

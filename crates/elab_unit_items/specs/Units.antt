@@ -31,7 +31,7 @@ IsWholeUnit st = HasWholeBodies st.ctx.classes st.ctx.defaults st.bodies
 
 -- the words of a walk over the declarations of a unit, where states are good if all items are whole too
 abbrev pub with_whole : Words → Words
-with_whole w = record { Good = λ (st : State). w.Good st × IsWholeUnit st; Home = w.Home; Text = w.Text; Texts = w.Texts }
+with_whole w = record { Good = λ (st : State). w.Good st × IsWholeUnit st; Home = w.Home; Text = w.Text; Texts = w.Texts; Title = w.Title }
 
 -- What is asked of such words: states are good ones of elab_fits_units, texts are as the parser makes them, and behind a class up to its brace classes have
 -- grown
@@ -41,11 +41,7 @@ pub record GivesUnit (w : Words) (s : List Lexeme) : Type 0 where
   pub text : (t : syntax.Tree) → w.Text t → IsText s t
   pub texts : (ts : syntax.Trees) → w.Texts ts → AreTexts s ts
   pub grown : (st : State) (at : At) (name : List ℕ) (kids : syntax.Trees) (h : Home) (r : Members) (c : Ctx) → w.Good st → is_nothing name ≡ false
-      → w.Texts kids → IsClosed s st at name kids h r c → ClassesGrow st.ctx.classes c.classes
-
--- a good state at file scope in which they are
-abbrev pub IsGoodUnit : State → Type 0
-IsGoodUnit st = UnitGood st × IsWholeUnit st
+      → w.Title name → w.Texts kids → IsClosed s st at name kids h r c → ClassesGrow st.ctx.classes c.classes
 
 -- Programs: the field `items` of `WellFormedBody`, for each function of each unit
 

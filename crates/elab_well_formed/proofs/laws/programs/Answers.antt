@@ -1,0 +1,5 @@
+use Rattle.elab_well_formed.proofs.Programs.{programs_are_well_formed, read_are_sources}
+use Rattle.elab_well_formed.proofs.laws.programs.Goals as goal
+
+pub returns : goal.returns
+returns c = record { formed = programs_are_well_formed; sources = read_are_sources }
