@@ -63,7 +63,7 @@ setting f st = setting_at f st.ctx st.work
 pub record IsGood (f : UnitFunc) (st : State) : Type 0 where
   -- the classes and functions of the unit are as elaboration makes them
   pub unit : UnitHolds st.ctx
-  -- what overrides is a plain function or a destructor, by its name
+  -- what overrides has a name that goes with its kind
   pub overriders : HasOverriders st.ctx.funcs
   -- what is declared has types that can be declared
   pub sound : IsSoundState st
