@@ -19,7 +19,7 @@ use Rattle.elab_init.specs.elab_ctx.Says.{Faults}
 use Rattle.elab_init.specs.elab_rules.Statements.{Body}
 use Rattle.elab_init.specs.elab_rules.Functions.{Header, function_record, is_same_function, first_from, header_sized}
 use Rattle.elab_init.specs.elab_rules.Classes.{Home, Members, Marks, Definition, index_if, with_member, with_function, data_member, member_function}
-use Rattle.elab_init.specs.elab_rules.Classes.{member_form, has_member, has_function, overridden, overrides_well, marks_fit, definition_sized, as_defined}
+use Rattle.elab_init.specs.elab_rules.Classes.{member_form, has_member, has_function, overridden, overrides_well, marks_fit, definition_sized, as_written}
 use Rattle.class_members.specs.declared.records.Members.{Members as MembersRec}
 use Rattle.class_members.specs.Shown.{reading, Answers}
 use Rattle.class_members.specs.Parts.{fits_member, member_made, method_by, taken_over_of}
@@ -57,7 +57,7 @@ pub member_function_is : (h : Home) (r : Members) (f : Header) (m : Marks) (d : 
 member_function_is h r f m d = let o = overridden r.state.ctx h.base (function_record f) in
     five (check f.at Redeclared (is_none (first_from (is_same_function f) 0 r.state.ctx.funcs) && not (has_member f.name r.members))) (overrides_well f o)
     (marks_fit f m (is_some o) (f.storage.is_virtual || is_some o))
-    (header_sized r.state.ctx f) (definition_sized f.at d) (as_defined d (method_by f m (taken_over_of o))) (with_function r)
+    (header_sized r.state.ctx f) (definition_sized f.at d) (as_written d (method_by f m (taken_over_of o))) (with_function r)
 
 -- A fault of the tests is that of the whole
 

@@ -19,7 +19,7 @@ use Rattle.elab_init.specs.elab_rules.Types.{has_auto, is_abstract_type, is_boun
 use Rattle.elab_init.specs.elab_rules.Sizes.{typ_sized}
 use Rattle.elab_init.specs.elab_rules.Functions.{Header, function_record, new_function, is_same_function, first_from, header_sized}
 use Rattle.elab_init.specs.elab_rules.Classes.{Home, Marks, Definition, keeps, is_final_class, member_form, has_member, has_function, overridden_by}
-use Rattle.elab_init.specs.elab_rules.Classes.{slot_function, chosen_if, overridden, is_considered, overrides_well, marks_fit, definition_sized, as_defined}
+use Rattle.elab_init.specs.elab_rules.Classes.{slot_function, chosen_if, overridden, is_considered, overrides_well, marks_fit, definition_sized, as_written}
 use Rattle.class_members.specs.declared.overriding.TakenOver.{TakenOver}
 
 -- a class that others may stand on: complete, and not final
@@ -66,4 +66,4 @@ member_made c home ms h m d = and_then (check h.at Redeclared (is_none (first_fr
     and_then (marks_fit h m (is_some (overridden c home.base (function_record h)))
     (h.storage.is_virtual || is_some (overridden c home.base (function_record h)))) (λ x.
     and_then (header_sized c h) (λ w. and_then (definition_sized h.at d)
-    (λ v. Ok (as_defined d (method_by h m (taken_over_of (overridden c home.base (function_record h))))))))))
+    (λ v. Ok (as_written d (method_by h m (taken_over_of (overridden c home.base (function_record h))))))))))

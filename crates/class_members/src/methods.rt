@@ -12,7 +12,7 @@ ghost use Rattle.elab_init.specs.elab_rules.Initialising.{signature_parameters};
 ghost use Rattle.elab_init.specs.elab_rules.Names.{same_variable};
 ghost use Rattle.elab_init.specs.elab_rules.Statements.{Body};
 ghost use Rattle.elab_init.specs.elab_rules.Functions.{param_of as declared_param, safety_of as safety_of_of, linkage_of as linkage_of_of, function_record as function_record_of, same_kind as same_kind_of, is_same_function as is_same_function_of, defines_well as defines_well_of, first_from};
-ghost use Rattle.elab_init.specs.elab_rules.Classes.{as_defined as as_defined_of, definition_sized as definition_sized_of, member_function as member_function_of};
+ghost use Rattle.elab_init.specs.elab_rules.Classes.{as_written as as_written_of, definition_sized as definition_sized_of, member_function as member_function_of};
 ghost use Rattle.elab_types.specs.Shown.{Says, parameter_of, qualifiers_of};
 ghost use Rattle.class_members.specs.Shown.{header_of, storage_of, marks_of, definition_of, home_of, reading, Answers};
 ghost use Rattle.class_members.specs.Parts.{method_by, member_made as member_made_of};
@@ -133,9 +133,10 @@ fn method_from(
     })
 }
 
-// A function with the text that defines it, if that stands in the class: then it is inline (C++14 7.1.2, 9.3).
-fn as_defined(found: FuncDecl, definition: Option<Definition>) -> FuncDecl
-    ensures { func_of result ≡ as_defined_of (option_map definition_of definition) (func_of found) }
+// A function with the text that defines it, if that stands in the class: then it is inline (C++14 7.1.2, 9.3). It is
+// defined behind the brace.
+fn as_written(found: FuncDecl, definition: Option<Definition>) -> FuncDecl
+    ensures { func_of result ≡ as_written_of (option_map definition_of definition) (func_of found) }
 {
     match definition {
         Some(definition) => FuncDecl {
@@ -144,7 +145,7 @@ fn as_defined(found: FuncDecl, definition: Option<Definition>) -> FuncDecl
             class: found.class,
             linkage: Linkage::Inline,
             implicit: found.implicit,
-            is_defined: true,
+            is_defined: found.is_defined,
             builtin: found.builtin,
             params: found.params,
             text: definition.text,
@@ -265,7 +266,7 @@ fn member_made(
     header_sized(env, header)?;
     definition_sized(header, &definition)?;
     let made = method_from(alloc, header, marks, over)?;
-    Ok(as_defined(made, definition))
+    Ok(as_written(made, definition))
 }
 
 /// A member function, a constructor or a destructor that is declared in a class, with its text where that stands there.
@@ -302,7 +303,7 @@ fn takes(types: &[Ty], function: &FnTy) -> bool
 }
 
 /// Tests that a function which is defined has the parameters that its declarator writes: another name of its type does
-/// not do (C++14 8.3.5 p12).
+/// not do (C++14 8.3.5 p10).
 pub fn defines_well(alloc: Global, header: &Header) -> Result<bool, ElabFault>
     ensures { Tells result (defines_well_of (header_of header.now)) }
 {

@@ -8,14 +8,14 @@ ghost use Rattle.cpp_types.specs.Class.{function_of};
 ghost use Rattle.elab_init.specs.elab_ctx.Ctx.{ctx_of, func_of};
 ghost use Rattle.elab_init.specs.elab_ctx.Places.{passes};
 ghost use Rattle.elab_init.specs.elab_rules.Initialising.{signature_parameters, is_constructor as is_constructor_of, same_number as same_number_of};
-ghost use Rattle.elab_init.specs.cpp_tree.declared.program.FuncKind.TheVariants.{Destructor};
-ghost use Rattle.elab_init.specs.elab_rules.Functions.{first_from, same_kind};
+ghost use Rattle.elab_init.specs.elab_rules.Functions.{first_from};
 ghost use Rattle.elab_init.specs.elab_rules.Classes.{own_reference, is_copy_from as is_copy_from_of, written_copy as written_copy_of};
 ghost use Rattle.class_members.specs.Shown.{home_of};
 ghost use Rattle.class_specials.specs.Tests.{is_wanted as is_wanted_of};
 
 use class_members::overriding::same_flag;
 use class_members::records::Home;
+use class_members::same_kind;
 use cpp_types::copyability::{is_name, takes_only};
 use cpp_types::{FnTy, FuncRec, Shape, Ty, equal_lists};
 use elab_init::below::{Env, FuncDecl, FuncKind, Functions};
@@ -133,22 +133,13 @@ pub fn is_copy_from(found: &FuncDecl, class: u32, is_const: bool) -> bool
     is_constructor(found, class) && takes_reference(&found.rec.ty, class, is_const)
 }
 
-fn is_destructor(kind: FuncKind) -> bool
-    ensures { result ≡ same_kind kind Destructor }
-{
-    match kind {
-        FuncKind::Destructor => true,
-        FuncKind::Plain | FuncKind::Constructor | FuncKind::ClosureCall => false,
-    }
-}
-
 // Whether a function is what is looked for.
 fn is_wanted(what: Wanted, home: &Home, found: &FuncDecl) -> bool
     ensures { result ≡ is_wanted_of what (home_of home.now) (func_of found.now) }
 {
     let class = home.number;
     match what {
-        Wanted::Destructor => is_member(found, class) && is_destructor(found.kind),
+        Wanted::Destructor => is_member(found, class) && same_kind(found.kind, FuncKind::Destructor),
         Wanted::CopyOfConst => is_copy_from(found, class, true),
         Wanted::Copy => {
             is_constructor(found, class) && is_copy_constructor(&found.rec, class, &home.name)

@@ -33,7 +33,7 @@ use Rattle.elab_rules.specs.Initialising.{is_constructor, places_from}
 use Rattle.elab_rules.specs.Sizes.{typ_sized}
 use Rattle.elab_rules.specs.cpp_tree.Notation.{plain}
 use Rattle.elab_rules.specs.Classes.{with_class, begun_by, with_function, class_named}
-use Rattle.elab_rules.specs.Classes.{as_defined, member_func}
+use Rattle.elab_rules.specs.Classes.{as_written, member_func}
 use Rattle.elab_rules.specs.Members.{declared_only, class_with, class_defined, all_defaults, all_late}
 use Rattle.std.specs.Prelude.{slice_get}
 use Rattle.elab_fits.specs.Standing.{On}
@@ -192,20 +192,20 @@ no_function_here : (c : Option ℕ) (n : ℕ) (A : Type 0) → c ≡ Some n → 
 no_function_here None n A h e = absurd cc
 no_function_here (Some m) n A h e = absurd cc
 
-defined_same : (d : Option Definition) (f : Func) → SameFunction f (as_defined d f)
+defined_same : (d : Option Definition) (f : Func) → SameFunction f (as_written d f)
 defined_same (Some d) f = record { declared = refl; kind = refl; class = refl; builtin = refl; implicit = refl }
 defined_same None f = record { declared = refl; kind = refl; class = refl; builtin = refl; implicit = refl }
 
 same_declared : (d : Option Definition) (f : Func) (fs : List Func) → first_from (is_same_declared f) 0 fs ≡ None
-    → first_from (is_same_declared (as_defined d f)) 0 fs ≡ None
+    → first_from (is_same_declared (as_written d f)) 0 fs ≡ None
 same_declared (Some d) f fs h = h
 same_declared None f fs h = h
 
 function_added : (n : ℕ) (st : State) (h : Header) (m : Marks) (o : Option Function) (d : Option Definition) → Owned n h
     → IsOpen st.ctx.classes n → first_from (is_same_function h) 0 st.ctx.funcs ≡ None
-    → From st (record st { ctx = record st.ctx { funcs = st.ctx.funcs ++ as_defined d (member_func h m o) ∷ [] } })
+    → From st (record st { ctx = record st.ctx { funcs = st.ctx.funcs ++ as_written d (member_func h m o) ∷ [] } })
 function_added n st h m o d w z q =
-    let f : Func = as_defined d (member_func h m o) in
+    let f : Func = as_written d (member_func h m o) in
     let s = defined_same d (member_func h m o) in
     record {
       walk = one_step (added_step (record {
@@ -222,10 +222,10 @@ function_added n st h m o d w z q =
     }
 
 with_read : (n : ℕ) (st : State) (r : Members) (h : Header) (m : Marks) (o : Option Function) (d : Option Definition) → Owned n h
-    → first_from (is_same_function h) 0 r.state.ctx.funcs ≡ None → Read n st r → Read n st (with_function r (as_defined d (member_func h m o)))
+    → first_from (is_same_function h) 0 r.state.ctx.funcs ≡ None → Read n st r → Read n st (with_function r (as_written d (member_func h m o)))
 with_read n st r h m o d w q e = record {
   classes = e.classes;
-  leaves = from_on st r.state (with_function r (as_defined d (member_func h m o))).state e.leaves (function_added n r.state h m o d w e.unclosed q);
+  leaves = from_on st r.state (with_function r (as_written d (member_func h m o))).state e.leaves (function_added n r.state h m o d w e.unclosed q);
   unclosed = e.unclosed;
   are = e.are;
   types = e.types;

@@ -26,11 +26,11 @@ use Rattle.elab_rules.specs.Functions.{Header, with_parameters, defines_well}
 use Rattle.elab_rules.specs.Initialising.{func_at, signature_result}
 use Rattle.elab_rules.specs.cpp_types.Equal.{typ_eq}
 use Rattle.elab_contexts.proofs.Defined.{Further, further_leaves, definition_further}
-use Rattle.elab_rules.specs.Classes.{Method, method_of, body_in}
+use Rattle.elab_rules.specs.Classes.{Method, method_of, body_in, last_token, token_end}
 use Rattle.elab_rules.specs.Members.{Given, Giving, member_index, member_type, given_part, given_base, is_named_class, is_base_type, given_for}
 use Rattle.elab_rules.specs.Members.{for_part, given_by, all_given, default_built, base_built, member_built, members_built, parts_built, in_object}
 use Rattle.elab_rules.specs.Members.{this_type, constructor_body, destructor_body, body_by_kind, method_body, default_value, default_made, default_for, default_of, defaults_of}
-use Rattle.elab_rules.specs.Members.{all_defaults, initialiser_in, place_of_header, late_kept, late_method, late_function, late_of, all_late}
+use Rattle.elab_rules.specs.Members.{all_defaults, initialiser_in, place_of_header, late_agrees, late_kept, late_method, late_function, late_of, all_late}
 use Rattle.elab_fits.specs.Standing.{On}
 use Rattle.elab_contexts.proofs.Works.{same}
 use Rattle.elab_contexts.proofs.Walking.{Leaves, stays, after, bind, skip, behind, follow, of_state, of_done, of_full, Ends}
@@ -176,16 +176,16 @@ defaults_kept lams q s n st ts = each_leaves (defaults_of lams s n) (those_kept 
 
 -- Bodies behind the brace
 
-late_further : (c : Ctx) (i : ℕ) (h : Header) → On (Further c) (late_kept c i h)
-late_further c i h = skip (Further c)
-    (check h.at TypeDiffers (typ_eq (signature_result (func_at c.funcs i).declared.signature) (signature_result h.signature))) _
+late_further : (c : Ctx) (i : ℕ) (h : Header) (closed : ℕ) → On (Further c) (late_kept c i h closed)
+late_further c i h closed = skip (Further c) (late_agrees h closed (func_at c.funcs i)) _
     (λ y. definition_further c i h (func_at c.funcs i).text (func_at c.funcs i).closed_at)
 
 pub late_method_kept : (lams : Lambdas) → Lawful lams → (s : List Lexeme) (st : State) (n : ℕ) (kind : FuncKind) (m : Method) (body : Option syntax.Tree)
     → On (Leaves st) (late_method lams s st n kind m body)
 late_method_kept lams q s st n kind m (Some body) =
     skip (Leaves st) (place_of_header st.ctx m.header) _
-    (λ place. bind (Further st.ctx) (Leaves st) (late_kept st.ctx place m.header) _ (late_further st.ctx place m.header)
+    (λ place. bind (Further st.ctx) (Leaves st) (late_kept st.ctx place m.header (token_end (slice_get s (last_token (Some body))))) _
+    (late_further st.ctx place m.header (token_end (slice_get s (last_token (Some body)))))
     (λ c i. behind st (record st { ctx = c }) of_state (method_body lams s (record st { ctx = c }) n place kind m body) (further_leaves st c i)
     (method_kept lams q s (record st { ctx = c }) n place kind m body)))
 late_method_kept lams q s st n kind m None = stays st

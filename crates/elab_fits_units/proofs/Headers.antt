@@ -22,7 +22,7 @@ use Rattle.elab_rules.specs.Functions.{Header, Placed, Storage, new_function, is
 use Rattle.elab_rules.specs.Functions.{name_declared, declared_in, main_fits, may_be_c, dynamic_fits, header_sized}
 use Rattle.elab_rules.specs.Functions.{function_declared, defined_function, with_definition}
 use Rattle.elab_rules.specs.Classes.{token_end}
-use Rattle.elab_rules.specs.Members.{late_kept, outside_linkage, outside_text, linked_definition, with_noexcept}
+use Rattle.elab_rules.specs.Members.{late_agrees, late_kept, outside_linkage, outside_text, linked_definition, with_noexcept}
 use Rattle.elab_fits.specs.Standing.{On}
 use Rattle.elab_fits.proofs.Equal.{typ_same}
 use Rattle.elab_fits_units.specs.Definitions.{IsDefinition, DeclaredAreDefined, MethodsAreDefined, OutsideAreDefined}
@@ -186,12 +186,22 @@ pub expected : {A : Type 0} (at : At) (rule : IllRule) (o : Option A) (n : A) �
 expected at rule (Some m) n h = cc
 expected at rule None n h = absurd cc
 
+said : (at : At) (rule : IllRule) (b : Bool) → On (λ (y : Bool). b ≡ true) (check at rule b)
+said at rule true = refl
+said at rule false = tt
+
+agrees_late : (h : Header) (closed : ℕ) (f : Func)
+    → On (λ (y : Bool). typ_eq (signature_result f.declared.signature) (signature_result h.signature) ≡ true) (late_agrees h closed f)
+agrees_late h closed f = skip (λ (y : Bool). typ_eq (signature_result f.declared.signature) (signature_result h.signature) ≡ true)
+    (check h.at Redeclared (not f.is_defined && f.closed_at == closed)) _
+    (λ x. said h.at TypeDiffers (typ_eq (signature_result f.declared.signature) (signature_result h.signature)))
+
 pub methods_law : MethodsAreDefined
-methods_law c d h place e k = let r = found_at (is_same_function h) c.funcs place (expected h.at NoMember (first_from (is_same_function h) 0 c.funcs) place e) in
+methods_law c d h place closed e k = let r = found_at (is_same_function h) c.funcs place (expected h.at NoMember (first_from (is_same_function h) 0 c.funcs) place e) in
     let f : Func = func_at c.funcs place in
-    answered (λ (x : Ctx). IsDefinition x h place) (late_kept c place h) d
-    (checked (λ (x : Ctx). IsDefinition x h place) h.at TypeDiffers (typ_eq (signature_result f.declared.signature) (signature_result h.signature)) _
-    (λ q. defined_in c place h f.text f.closed_at r.func r.at
+    answered (λ (x : Ctx). IsDefinition x h place) (late_kept c place h closed) d
+    (bind (λ y. typ_eq (signature_result f.declared.signature) (signature_result h.signature) ≡ true) (λ (x : Ctx). IsDefinition x h place)
+    (late_agrees h closed f) _ (agrees_late h closed f) (λ y q. defined_in c place h f.text f.closed_at r.func r.at
     (matches h r.func r.passes (subst (λ (z : Func). signature_result z.declared.signature ≡ signature_result h.signature) (at_func c.funcs place r.func r.at)
     (typ_same (signature_result f.declared.signature) (signature_result h.signature) q))))) k
 

@@ -19,7 +19,7 @@ use Rattle.elab_rules.specs.Expressions.{type_of_specifiers, declared_by}
 use Rattle.elab_rules.specs.Statements.{State}
 use Rattle.elab_rules.specs.Functions.{Storage, Header, Placed, function_declared, with_definition}
 use Rattle.elab_rules.specs.Classes.{Method, method_of}
-use Rattle.elab_rules.specs.Members.{default_made, late_kept, late_method, outside_defined, outside_body, outside_method, declared_only}
+use Rattle.elab_rules.specs.Members.{default_made, late_agrees, late_kept, late_method, outside_defined, outside_body, outside_method, declared_only}
 use Rattle.elab_rules.specs.Implicit.{implied}
 use Rattle.elab_rules.specs.Lambdas.{lambdas_of}
 use Rattle.elab_rules.specs.Units.{file_declaration, alias_of, header_of, defined_with}
@@ -217,10 +217,9 @@ definition_leads st i h text closed u q t = let c : Ctx = with_definition st.ctx
     leads_one st y t (holding.left st y u w) (definition_after st i h text closed q) w.walk w.overrides
     (growth_changing.further_leaves st c (growth_changing.definition_further st.ctx i h text closed))
 
-pub again : (st : State) (h : Header) (place : ℕ) (c : Ctx) → UnitGood st → late_kept st.ctx place h ≡ Ok c → Leads st (record st { ctx = c })
-again st h place c g e = answered (λ (x : Ctx). Leads st (record st { ctx = x })) (late_kept st.ctx place h) c
-    (skip (λ (x : Ctx). Leads st (record st { ctx = x }))
-    (check h.at TypeDiffers (typ_eq (signature_result (func_at st.ctx.funcs place).declared.signature) (signature_result h.signature))) _
+pub again : (st : State) (h : Header) (place closed : ℕ) (c : Ctx) → UnitGood st → late_kept st.ctx place h closed ≡ Ok c → Leads st (record st { ctx = c })
+again st h place closed c g e = answered (λ (x : Ctx). Leads st (record st { ctx = x })) (late_kept st.ctx place h closed) c
+    (skip (λ (x : Ctx). Leads st (record st { ctx = x })) (late_agrees h closed (func_at st.ctx.funcs place)) _
     (λ y. definition_leads st place h (func_at st.ctx.funcs place).text (func_at st.ctx.funcs place).closed_at g.unit g.sound g.tidy)) e
 
 pub elsewhere : (s : List Lexeme) (st : State) (h : Header) (place first last : ℕ) → UnitGood st

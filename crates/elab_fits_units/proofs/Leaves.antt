@@ -20,8 +20,8 @@ use Rattle.elab_rules.specs.Types.{Declared, Parameter}
 use Rattle.elab_rules.specs.Expressions.{type_of_specifiers, declared_by}
 use Rattle.elab_rules.specs.Statements.{State}
 use Rattle.elab_rules.specs.Functions.{Storage, Header, function_declared, function_body, with_definition, text_sized, defines_well, first_from, is_same_function}
-use Rattle.elab_rules.specs.Classes.{Method, method_of, last_token}
-use Rattle.elab_rules.specs.Members.{body_by_kind, place_of_header, late_kept, late_method, is_member_named, outside_words, outside_agrees, outside_text}
+use Rattle.elab_rules.specs.Classes.{Method, method_of, last_token, token_end}
+use Rattle.elab_rules.specs.Members.{body_by_kind, place_of_header, late_agrees, late_kept, late_method, is_member_named, outside_words, outside_agrees, outside_text}
 use Rattle.elab_rules.specs.Members.{outside_defined, outside_body, outside_method, this_type, constructor_body, destructor_body}
 use Rattle.elab_rules.specs.Lambdas.{lambdas_of}
 use Rattle.elab_rules.specs.Units.{header_of, definition_text, closing_offset, defined_with}
@@ -101,9 +101,9 @@ pub class_complete : (s : List Lexeme) (st : State) (n : ℕ) (m : Method) → I
     → is_some (completion_of st.ctx.classes i) ≡ true
 class_complete s st n m home r i e = subst (λ (j : ℕ). is_some (completion_of st.ctx.classes j) ≡ true) (same_Some n i (sym r.header.class ∙ e)) home.complete
 
-pub late_quiet : (st : State) (h : Header) (place : ℕ) (c : Ctx) → late_kept st.ctx place h ≡ Ok c → Quiet st (record st { ctx = c })
-late_quiet st h place c e = answered (λ (x : Ctx). Quiet st (record st { ctx = x })) (late_kept st.ctx place h) c
-    (skip (λ (x : Ctx). Quiet st (record st { ctx = x })) (check h.at TypeDiffers (typ_eq (signature_result (func_at st.ctx.funcs place).declared.signature) (signature_result h.signature))) _
+pub late_quiet : (st : State) (h : Header) (place closed : ℕ) (c : Ctx) → late_kept st.ctx place h closed ≡ Ok c → Quiet st (record st { ctx = c })
+late_quiet st h place closed c e = answered (λ (x : Ctx). Quiet st (record st { ctx = x })) (late_kept st.ctx place h closed) c
+    (skip (λ (x : Ctx). Quiet st (record st { ctx = x })) (late_agrees h closed (func_at st.ctx.funcs place)) _
     (λ y. record { bodies = refl; defaults = refl; closures = refl })) e
 
 module _ (s : List Lexeme) (b : Below s) (l : Laws s) where
@@ -198,13 +198,14 @@ module _ (s : List Lexeme) (b : Below s) (l : Laws s) where
   methods st n name at kind ts m body g free home t u e =
       let r = answered (IsRead s st.ctx.classes n) (method_of s st n name at kind ts) m (l.read st n name at kind ts g.sound t) e in
       let x = answered (IsMethod (AreTexts s) (rest_texts s) s kind) (method_of s st n name at kind ts) m (method_is (AreTexts s) (rest_texts s) s st n name at kind ts t) e in
+      let closed : ℕ = token_end (slice_get s (last_token (Some body))) in
       follows_on st (late_method lambdas_of s st n kind m (Some body)) g (l.methods st n kind m body g home r u)
       (told Ended (place_of_header st.ctx m.header) _
-      (λ place p. told Ended (late_kept st.ctx place m.header) _ (λ c q.
+      (λ place p. told Ended (late_kept st.ctx place m.header closed) _ (λ c q.
       let z : State = record st { ctx = c } in
-      let leads : Leads st z = l.again st m.header place c g q in
-      let good : UnitGood z = quiet_good st z g leads (late_quiet st m.header place c q) in
-      skip Ended (defines_well m.header) _ (λ y. method_ended z n place kind m body good (methods_law st.ctx c m.header place p q) x.kind_is free
+      let leads : Leads st z = l.again st m.header place closed c g q in
+      let good : UnitGood z = quiet_good st z g leads (late_quiet st m.header place closed c q) in
+      skip Ended (defines_well m.header) _ (λ y. method_ended z n place kind m body good (methods_law st.ctx c m.header place closed p q) x.kind_is free
       (home_over st z n (gone_over st z leads.gone) home) (read_over b.types s st z n m leads r) x.behind u))))
 
   -- outside

@@ -25,7 +25,7 @@ DeclaredAreDefined = (c : Ctx) (h : Header) (text : List ℕ) (closed : ℕ) (p 
 
 -- in a class, behind its brace
 abbrev pub MethodsAreDefined : Type 0
-MethodsAreDefined = (c d : Ctx) (h : Header) (place : ℕ) → place_of_header c h ≡ Ok place → late_kept c place h ≡ Ok d → IsDefinition d h place
+MethodsAreDefined = (c d : Ctx) (h : Header) (place closed : ℕ) → place_of_header c h ≡ Ok place → late_kept c place h closed ≡ Ok d → IsDefinition d h place
 
 -- outside of its class
 abbrev pub OutsideAreDefined : Type 0

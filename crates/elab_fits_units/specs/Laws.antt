@@ -64,7 +64,7 @@ pub record Laws (s : List Lexeme) : Type 0 where
   pub declared : (st : State) (h : Header) (text : List ℕ) (closed : ℕ) (p : Placed) → UnitGood st → h.class ≡ None → h.kind ≡ Plain
       → IsSoundHeader st.ctx.classes h → function_declared st.ctx h true ≡ Ok p
       → Leads st (record st { ctx = with_definition p.ctx p.place h text closed })
-  pub again : (st : State) (h : Header) (place : ℕ) (c : Ctx) → UnitGood st → late_kept st.ctx place h ≡ Ok c → Leads st (record st { ctx = c })
+  pub again : (st : State) (h : Header) (place closed : ℕ) (c : Ctx) → UnitGood st → late_kept st.ctx place h closed ≡ Ok c → Leads st (record st { ctx = c })
   pub elsewhere : (st : State) (h : Header) (place first last : ℕ) → UnitGood st → Leads st (record st { ctx = outside_defined s st.ctx place h first last })
   -- definitions with their bodies
   pub functions : (st : State) (x : Storage) (at : At) (first : ℕ) (base d body : syntax.Tree) (t : Typ) (r : Declared) → UnitGood st → IsText s base

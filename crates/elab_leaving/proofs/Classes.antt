@@ -17,14 +17,14 @@ use Rattle.elab_rules.specs.Types.{Declared, has_auto, is_bounded, is_abstract_t
 use Rattle.elab_rules.specs.Statements.{State, Lambdas, statements_of, initialised, is_own_name, is_trivial, name_of}
 use Rattle.elab_rules.specs.Functions.{Header, Storage, function_body, text_sized, with_parameters, entered, first_from, header_sized, is_same_function}
 use Rattle.elab_rules.specs.Functions.{new_function, no_storage, within_frame, defines_well, with_definition}
-use Rattle.elab_rules.specs.Classes.{Home, Members, Begun, begun, begun_in, members_of, member_of, completed, closed_class, Method, method_of, body_in}
+use Rattle.elab_rules.specs.Classes.{Home, Members, Begun, begun, begun_in, members_of, member_of, completed, closed_class, Method, method_of, body_in, last_token, token_end}
 use Rattle.elab_rules.specs.Classes.{class_text, Marks, Definition, Started, data_member, member_function, declared_method, declared_member, member_declarator}
 use Rattle.elab_rules.specs.Classes.{member_declarators, Specials, with_destructor, with_copy, with_default, all_held, base_default, declarator_among}
 use Rattle.elab_rules.specs.Classes.{definition_between, definition_sized, has_equal, has_function, has_initialiser, has_member, has_no_pointer, header_in}
 use Rattle.elab_rules.specs.Classes.{is_destructor_of, is_no_place, is_trivial_default, last_token, marks_fit, marks_from, may_copy, member_form, member_named}
 use Rattle.elab_rules.specs.Classes.{members_default, no_function_words, no_marks, overridden, overrides_well, started_from, within_bounds, written_copy}
 use Rattle.elab_rules.specs.Members as rules
-use Rattle.elab_rules.specs.Members.{place_of_header, late_kept, base_named, has_final, members_among, all_given, in_object, parts_built}
+use Rattle.elab_rules.specs.Members.{place_of_header, late_agrees, late_kept, base_named, has_final, members_among, all_given, in_object, parts_built}
 use Rattle.class_table.specs.Written.{ClassRead, class_read, read_members, read_closed}
 use Rattle.elab_members.specs.Bodies as code_bodies
 use Rattle.elab_members.specs.Whole as code
@@ -80,18 +80,16 @@ method_settled lams s st n place kind m body e = skip Settled (defines_well m.he
 abbrev Clear : Ctx → Type 0
 Clear c = c.closures ≡ []
 
-late_clear : (c : Ctx) (place : ℕ) (h : Header) → Clear c → On Clear (late_kept c place h)
-late_clear c place h e =
-    skip Clear (check h.at TypeDiffers (typ_eq (signature_result (func_at c.funcs place).declared.signature) (signature_result h.signature))) _ (λ y. e)
+late_clear : (c : Ctx) (place : ℕ) (h : Header) (closed : ℕ) → Clear c → On Clear (late_kept c place h closed)
+late_clear c place h closed e = skip Clear (late_agrees h closed (func_at c.funcs place)) _ (λ y. e)
 
 late_method_same : (lams : Lambdas) → Lawful lams → (s : List Lexeme) (st : State) (n : ℕ) (kind : FuncKind) (m : Method) (body : Option syntax.Tree)
     → Settled st → code.late_method lams s st n kind m body ≡ rules.late_method lams s st n kind m body
 late_method_same lams q s st n kind m (Some body) e = same_behind (place_of_header st.ctx m.header) _ _
     (λ place. ap (λ (z : Result Ctx ElabFault). and_then z (λ (c : Ctx). code_bodies.method_body lams s (record st { ctx = c }) n place kind m.header m.rest body))
-    (nest (check m.header.at TypeDiffers
-    (typ_eq (signature_result (func_at st.ctx.funcs place).declared.signature) (signature_result m.header.signature))) _
+    (nest (late_agrees m.header (token_end (slice_get s (last_token (Some body)))) (func_at st.ctx.funcs place)) _
     (λ (d : Definition). Ok (with_definition st.ctx place m.header d.text d.closed_at)))
-    ∙ same_after Clear (late_kept st.ctx place m.header) _ _ (late_clear st.ctx place m.header e)
+    ∙ same_after Clear (late_kept st.ctx place m.header (token_end (slice_get s (last_token (Some body))))) _ _ (late_clear st.ctx place m.header (token_end (slice_get s (last_token (Some body)))) e)
     (λ c i. method_same lams q s (record st { ctx = c }) n place kind m body i))
 late_method_same lams q s st n kind m None e = refl
 
@@ -111,7 +109,8 @@ late_method_settled : (lams : Lambdas) (s : List Lexeme) (st : State) (n : ℕ) 
     → On Settled (rules.late_method lams s st n kind m body)
 late_method_settled lams s st n kind m (Some body) e =
     skip Settled (place_of_header st.ctx m.header) _
-    (λ place. bind Clear Settled (late_kept st.ctx place m.header) _ (late_clear st.ctx place m.header e)
+    (λ place. bind Clear Settled (late_kept st.ctx place m.header (token_end (slice_get s (last_token (Some body))))) _
+    (late_clear st.ctx place m.header (token_end (slice_get s (last_token (Some body)))) e)
     (λ c i. method_settled lams s (record st { ctx = c }) n place kind m body i))
 late_method_settled lams s st n kind m None e = e
 

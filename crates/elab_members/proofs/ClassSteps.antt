@@ -1,5 +1,5 @@
 -- The class as a whole, and bodies behind its brace.
-use Rattle.std.proofs.Common.{◌≡◌, ◌∙◌, ℕ, false, List, Option, Some, None, Result, Ok, Err, refl, sym, ap, subst}
+use Rattle.std.proofs.Common.{◌≡◌, ◌∙◌, ℕ, false, List, Option, Some, None, Result, Ok, Err, slice_get, refl, sym, ap, subst}
 use Rattle.elab_entry.specs.cpp_types.declared.classes.At.{At}
 use Rattle.elab_entry.specs.cpp_lex.Tokens.{Lexeme}
 use Rattle.elab_entry.specs.cpp_ast.Trees as syntax
@@ -14,7 +14,7 @@ use Rattle.elab_entry.specs.elab_ctx.Says.{Faults}
 use Rattle.elab_entry.proofs.elab_ctx.Looks.{grows_trans}
 use Rattle.elab_entry.specs.elab_rules.Lambdas.{kids_of}
 use Rattle.elab_entry.specs.elab_rules.Statements.{State, Lambdas}
-use Rattle.elab_entry.specs.elab_rules.Classes.{Begun, Method, method_of, begun, body_in}
+use Rattle.elab_entry.specs.elab_rules.Classes.{Begun, Method, method_of, begun, body_in, last_token, token_end}
 use Rattle.elab_entry.specs.elab_rules.Members.{members_among, declared_only, place_of_header}
 use Rattle.elab_entry.specs.elab_scopes.declared.state.State.{State as StateRec}
 use Rattle.elab_entry.specs.elab_scopes.States.{state_of, made}
@@ -47,26 +47,27 @@ undeclared_fault st at name e f = state_fails e (begun st.ctx at name false) (λ
 
 -- A function behind the brace
 
-pub with_place : (lams : Lambdas) (s : List Lexeme) (a b d : StateRec) (n : ℕ) (kind : FuncKind) (m : Method) (body : syntax.Tree) (place : ℕ)
+pub with_place : (lams : Lambdas) (s : List Lexeme) (a b d : StateRec) (n : ℕ) (kind : FuncKind) (m : Method) (closed : ℕ) (body : syntax.Tree) (place : ℕ)
     (rest : syntax.Trees) (r : Result (Unit {0}) ElabFault) → place_of_header (state_of a).ctx m.header ≡ Ok place
-    → late_kept (state_of a).ctx place m.header ≡ Ok (state_of b).ctx → state_of b ≡ record (state_of a) { ctx = (state_of b).ctx } → made b ≡ made a
+    → late_kept (state_of a).ctx place m.header closed ≡ Ok (state_of b).ctx → state_of b ≡ record (state_of a) { ctx = (state_of b).ctx } → made b ≡ made a
     → (state_of b).ctx.labels ≡ (state_of a).ctx.labels → rest ≡ m.rest
-    → Changes b d r (method_body lams s (state_of b) n place kind m.header rest body) → Changes a d r (late_with lams s (state_of a) n kind m body)
-with_place lams s a b d n kind m body place rest r p k e t l f h =
+    → Changes b d r (method_body lams s (state_of b) n place kind m.header rest body) → Changes a d r (late_with lams s (state_of a) n kind m closed body)
+with_place lams s a b d n kind m closed body place rest r p k e t l f h =
     let follow : Ctx → Result State ElabFault = λ (c : Ctx). method_body lams s (record (state_of a) { ctx = c }) n place kind m.header m.rest body in
     let next : Changes b d r (follow (state_of b).ctx) = changes_so b d r _ _
     (ap (λ (z : syntax.Trees). method_body lams s (record (state_of a) { ctx = (state_of b).ctx }) n place kind m.header z body) (sym f) ∙ ap
     (λ (z : State). method_body lams s z n place kind m.header rest body) (sym e)) h in
-    changes_so a d r _ _ (ap (λ (z : Result ℕ ElabFault). and_then z (λ (q : ℕ). and_then (late_kept (state_of a).ctx q m.header)
+    changes_so a d r _ _ (ap (λ (z : Result ℕ ElabFault). and_then z (λ (q : ℕ). and_then (late_kept (state_of a).ctx q m.header closed)
     (λ (c : Ctx). method_body lams s (record (state_of a) { ctx = c }) n q kind m.header m.rest body))) p)
-    (changes_after a b d (late_kept (state_of a).ctx place m.header) (state_of b).ctx follow r (grown_by a b (same_trees (made a) (made b) t) l) k next)
+    (changes_after a b d (late_kept (state_of a).ctx place m.header closed) (state_of b).ctx follow r (grown_by a b (same_trees (made a) (made b) t) l) k next)
 
 pub late_body : (lams : Lambdas) (s : List Lexeme) (a c : StateRec) (n : ℕ) (name those : List ℕ) (at : At) (kind : FuncKind) (kids : syntax.Trees) (m : Method)
-    (body : syntax.Tree) (r : Result (Unit {0}) ElabFault) → those ≡ name → method_of s (state_of a) n those at kind kids ≡ Ok m → body_in kids ≡ Some body
-    → Changes a c r (late_with lams s (state_of a) n kind m body) → Changes a c r (late_function lams s (state_of a) n name at kind kids)
-late_body lams s a c n name those at kind kids m body r q e f h =
+    (closed : ℕ) (body : syntax.Tree) (r : Result (Unit {0}) ElabFault) → those ≡ name → method_of s (state_of a) n those at kind kids ≡ Ok m
+    → body_in kids ≡ Some body → closed ≡ token_end (slice_get s (last_token (body_in kids))) → Changes a c r (late_with lams s (state_of a) n kind m closed body) → Changes a c r (late_function lams s (state_of a) n name at kind kids)
+late_body lams s a c n name those at kind kids m closed body r q e f l h =
     changes_so a c r _ _ (ap (λ (z : Result Method ElabFault). and_then z (λ (y : Method). late_method lams s (state_of a) n kind y (body_in kids)))
-    (ap (λ (z : List ℕ). method_of s (state_of a) n z at kind kids) (sym q) ∙ e) ∙ ap (late_method lams s (state_of a) n kind m) f) h
+    (ap (λ (z : List ℕ). method_of s (state_of a) n z at kind kids) (sym q) ∙ e) ∙ (ap (late_method lams s (state_of a) n kind m) f
+    ∙ ap (λ (z : ℕ). late_with lams s (state_of a) n kind m z body) (sym (l ∙ ap (λ (z : Option syntax.Tree). token_end (slice_get s (last_token z))) f)))) h
 
 pub late_bodiless : (lams : Lambdas) (s : List Lexeme) (a : StateRec) (n : ℕ) (name those : List ℕ) (at : At) (kind : FuncKind) (kids : syntax.Trees)
     (m : Method) → those ≡ name → method_of s (state_of a) n those at kind kids ≡ Ok m → body_in kids ≡ None

@@ -1,6 +1,5 @@
 -- What stands in the members of a class, and the class as a whole.
-use Rattle.std.specs.Prelude.{◌≡◌, ℕ, List, Option, Some, None, Result, Ok, Err}
-use Rattle.elab_entry.specs.cpp_types.Equal.{typ_eq}
+use Rattle.std.specs.Prelude.{◌≡◌, ℕ, List, Option, Some, None, Result, Ok, Err, slice_get}
 use Rattle.elab_entry.specs.cpp_types.declared.classes.At.{At}
 use Rattle.elab_entry.specs.cpp_lex.Tokens.{Lexeme}
 use Rattle.elab_entry.specs.cpp_ast.Trees as syntax
@@ -10,15 +9,14 @@ use Rattle.elab_entry.specs.cpp_tree.Arena.{Grows}
 use Rattle.elab_entry.specs.cpp_tree.declared.program.FuncKind.{FuncKind}
 use Rattle.elab_entry.specs.cpp_tree.declared.program.FuncKind.TheVariants.{Plain, Constructor, Destructor}
 use Rattle.elab_entry.specs.cpp_tree.declared.faults.ElabFault.{ElabFault}
-use Rattle.elab_entry.specs.cpp_tree.declared.faults.IllRule.TheVariants.{TypeDiffers}
 use Rattle.elab_entry.specs.elab_ctx.Ctx.{Ctx}
-use Rattle.elab_entry.specs.elab_ctx.Steps.{and_then, check, each_of, at_of}
+use Rattle.elab_entry.specs.elab_ctx.Steps.{and_then, each_of, at_of}
 use Rattle.elab_entry.specs.elab_ctx.Says.{Faults}
 use Rattle.elab_entry.specs.elab_rules.Statements.{State, Lambdas}
-use Rattle.elab_entry.specs.elab_rules.Initialising.{func_at, signature_result}
+use Rattle.elab_entry.specs.elab_rules.Initialising.{func_at}
 use Rattle.elab_entry.specs.elab_rules.Functions.{Header, with_definition}
-use Rattle.elab_entry.specs.elab_rules.Classes.{Definition, Method, method_of, body_in}
-use Rattle.elab_entry.specs.elab_rules.Members.{place_of_header, members_among}
+use Rattle.elab_entry.specs.elab_rules.Classes.{Definition, Method, method_of, body_in, last_token, token_end}
+use Rattle.elab_entry.specs.elab_rules.Members.{place_of_header, late_agrees, members_among}
 use Rattle.elab_entry.specs.elab_scopes.declared.state.State.{State as StateRec}
 use Rattle.elab_entry.specs.elab_scopes.States.{state_of, made}
 use Rattle.class_table.specs.Written.{ClassRead, class_read}
@@ -28,22 +26,22 @@ use Rattle.elab_members.specs.Initialisers.{all_defaults}
 -- Behind the brace, in the order of the text
 
 -- what stays of a function whose header is read again: its text, and where it ends
-abbrev pub late_found : Ctx → ℕ → Header → Result Definition ElabFault
-late_found c i h =
-    and_then (check h.at TypeDiffers (typ_eq (signature_result (func_at c.funcs i).declared.signature) (signature_result h.signature)))
+abbrev pub late_found : Ctx → ℕ → Header → ℕ → Result Definition ElabFault
+late_found c i h closed = and_then (late_agrees h closed (func_at c.funcs i))
     (λ y. Ok (record { text = (func_at c.funcs i).text; closed_at = (func_at c.funcs i).closed_at }))
 
 -- its parameters are those of the header
-abbrev pub late_kept : Ctx → ℕ → Header → Result Ctx ElabFault
-late_kept c i h = and_then (late_found c i h) (λ (d : Definition). Ok (with_definition c i h d.text d.closed_at))
+abbrev pub late_kept : Ctx → ℕ → Header → ℕ → Result Ctx ElabFault
+late_kept c i h closed = and_then (late_found c i h closed) (λ (d : Definition). Ok (with_definition c i h d.text d.closed_at))
 
--- a function with its body
-abbrev pub late_with : Lambdas → List Lexeme → State → ℕ → FuncKind → Method → syntax.Tree → Result State ElabFault
-late_with lams s st n kind m body = and_then (place_of_header st.ctx m.header)
-    (λ place. and_then (late_kept st.ctx place m.header) (λ (c : Ctx). method_body lams s (record st { ctx = c }) n place kind m.header m.rest body))
+-- a function with its body, which ends at this offset
+abbrev pub late_with : Lambdas → List Lexeme → State → ℕ → FuncKind → Method → ℕ → syntax.Tree → Result State ElabFault
+late_with lams s st n kind m closed body = and_then (place_of_header st.ctx m.header)
+    (λ place. and_then (late_kept st.ctx place m.header closed)
+    (λ (c : Ctx). method_body lams s (record st { ctx = c }) n place kind m.header m.rest body))
 
 abbrev pub late_method : Lambdas → List Lexeme → State → ℕ → FuncKind → Method → Option syntax.Tree → Result State ElabFault
-late_method lams s st n kind m (Some body) = late_with lams s st n kind m body
+late_method lams s st n kind m (Some body) = late_with lams s st n kind m (token_end (slice_get s (last_token (Some body)))) body
 late_method lams s st n kind m None = Ok st
 
 abbrev pub late_function : Lambdas → List Lexeme → State → ℕ → List ℕ → At → FuncKind → syntax.Trees → Result State ElabFault

@@ -23,7 +23,7 @@ use class_members::{Definition, first_same};
 use class_table::kids::rest_from;
 use class_table::method_of;
 use class_table::methods::Method;
-use class_table::texts::body_in;
+use class_table::texts::{body_end, body_in, token_end};
 use cpp_types::{FnTy, equal_types};
 use elab_decls::define_function;
 use elab_implicit::below::{
@@ -50,14 +50,24 @@ fn same_result(a: &FnTy, b: &FnTy) -> bool
     equal_types(&a.ret, &b.ret)
 }
 
-// What stays of a function whose header is read again; the result is the same.
-fn late_found(alloc: Global, env: &Env, func: u32, header: &Header) -> Result<Definition, ElabFault>
-    ensures { Says definition_of result (late_found_of (ctx_of env.now) func (header_of header.now)) }
+// What stays of a function whose header is read again: it is the one that was declared with the body that ends here, and its
+// result is the same.
+fn late_found(
+    alloc: Global,
+    env: &Env,
+    func: u32,
+    header: &Header,
+    closed: u32,
+) -> Result<Definition, ElabFault>
+    ensures { Says definition_of result (late_found_of (ctx_of env.now) func (header_of header.now) closed) }
 {
     // It stands there.
     let Some(found) = env.funcs.get(func as usize) else {
         return Err(ElabFault::Memory);
     };
+    if found.is_defined || found.closed_at != closed {
+        return Err(ill(header.at, IllRule::Redeclared));
+    }
     if !same_result(&found.rec.ty, &header.ty) {
         return Err(ill(header.at, IllRule::TypeDiffers));
     }
@@ -69,16 +79,22 @@ fn late_found(alloc: Global, env: &Env, func: u32, header: &Header) -> Result<De
 }
 
 // The parameters of a function are those of its header, as it is read behind the brace.
-fn keep_header(alloc: Global, env: &mut Env, func: u32, header: &Header) -> Result<(), ElabFault>
+fn keep_header(
+    alloc: Global,
+    env: &mut Env,
+    func: u32,
+    header: &Header,
+    closed: u32,
+) -> Result<(), ElabFault>
     ensures labels { OnOk result ((ctx_of env.new).labels ≡ (ctx_of env.old).labels) }
-    ensures is { Answers (ctx_of env.new) result (late_kept (ctx_of env.old) func (header_of header.now)) }
+    ensures is { Answers (ctx_of env.new) result (late_kept (ctx_of env.old) func (header_of header.now) closed) }
 {
-    let found = late_found(alloc, env, func, header)?;
+    let found = late_found(alloc, env, func, header, closed)?;
     define_function(alloc, env, func, header, found.text, found.closed_at)?;
     Ok(())
 }
 
-// A member function with its body.
+// A member function with its body, which ends at this offset.
 fn late_method<L: MakeLambdas>(
     alloc: Global,
     lams: &L,
@@ -89,15 +105,16 @@ fn late_method<L: MakeLambdas>(
     kind: FuncKind,
     method: &Method,
     kids: &[NodeId],
+    closed: u32,
     body: NodeId,
 ) -> Result<(), ElabFault>
     requires kids { are_below (length nodes.now) kids.now ≡ true }
     requires body { body.0 < length nodes.now }
     requires count { method.now.count ≤ length kids.now }
-    ensures { Changes st.old st.new result (late_with (L.lambdas lams.now) (lexemes_of tokens.now) (state_of st.old) class kind (method_shown (syntax_of nodes.now) kids.now method.now) (tree_at (syntax_of nodes.now) body)) }
+    ensures { Changes st.old st.new result (late_with (L.lambdas lams.now) (lexemes_of tokens.now) (state_of st.old) class kind (method_shown (syntax_of nodes.now) kids.now method.now) closed (tree_at (syntax_of nodes.now) body)) }
 {
     let func = place_of_header(&st.env, &method.header)?;
-    keep_header(alloc, &mut st.env, func, &method.header)?;
+    keep_header(alloc, &mut st.env, func, &method.header, closed)?;
     method_body(
         alloc,
         lams,
@@ -153,6 +170,7 @@ fn late_function<L: MakeLambdas>(
         kind,
         &method,
         kids,
+        token_end(tokens, body_end(nodes, kids)),
         body,
     )
 }

@@ -105,14 +105,14 @@ method_body : (lams : Lambdas) → LeavesFrame lams → (s : List Lexeme) (st : 
     → On Sound (Members.method_body lams s st n f kind m t)
 method_body lams leaves s st n f kind m t own = skip Sound (Functions.defines_well m.header) _ (λ y. kind_body lams leaves s st n f kind m t own)
 
-read_again : (c : Ctx) (f : ℕ) (h : Header) → Known c → On Known (Members.late_kept c f h)
-read_again c f h own = skip Known
-    (check h.at TypeDiffers (typ_eq (signature_result (func_at c.funcs f).declared.signature) (signature_result h.signature))) _ (λ y. own)
+read_again : (c : Ctx) (f : ℕ) (h : Header) (closed : ℕ) → Known c → On Known (Members.late_kept c f h closed)
+read_again c f h closed own = skip Known (Members.late_agrees h closed (func_at c.funcs f)) _ (λ y. own)
 
 late_method : (lams : Lambdas) → LeavesFrame lams → (s : List Lexeme) (st : State) (n : ℕ) (kind : FuncKind) (m : Method) (o : Option syntax.Tree) → Sound st
     → On Sound (Members.late_method lams s st n kind m o)
 late_method lams leaves s st n kind m (Some body) own = skip Sound (Members.place_of_header st.ctx m.header) _
-    (λ f. bind Known Sound (Members.late_kept st.ctx f m.header) _ (read_again st.ctx f m.header own)
+    (λ f. bind Known Sound (Members.late_kept st.ctx f m.header (Classes.token_end (slice_get s (Classes.last_token (Some body))))) _
+    (read_again st.ctx f m.header (Classes.token_end (slice_get s (Classes.last_token (Some body)))) own)
     (λ c h. method_body lams leaves s (record st { ctx = c }) n f kind m body h))
 late_method lams leaves s st n kind m None own = own
 

@@ -108,7 +108,7 @@ pub record Walks (K : Round → Type 0) : Type 0 where
       → On (Held K) (Units.defined_with s st x at first d body f)
   -- a function of a class is declared
   pub member : (r : Round) (n : ℕ) (of : FuncKind) (h : Header) (m : Marks) (o : Option Function) (d : Option Definition) → IsHeader n of h → K r
-      → K (with_func r (Classes.as_defined d (Classes.member_func h m o)))
+      → K (with_func r (Classes.as_written d (Classes.member_func h m o)))
   -- a class gets its implicit members
   pub completed : (bodies : List Body) (c : Ctx) (home : Home) (at : At) (ms : List Member) (initialised : List ℕ) → K (round_with bodies c)
       → K (round_with bodies (Classes.completed c home at ms initialised))

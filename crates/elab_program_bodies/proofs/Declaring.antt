@@ -85,8 +85,8 @@ member_params n of h i e = special_params n h.signature (subst (λ (z : FuncKind
     (i.special (ap is_special (sym i.kind ∙ e))))
 
 pub member_holds : (r : Round) (n : ℕ) (of : FuncKind) (h : Header) (m : Marks) (o : Option Function) (d : Option Definition) → IsHeader n of h → HoldsOf r
-    → HoldsOf (with_func r (Classes.as_defined d (Classes.member_func h m o)))
-member_holds r n of h m o (Some d) i j = holds_more r (Classes.as_defined (Some d) (Classes.member_func h m o)) (record {
+    → HoldsOf (with_func r (Classes.as_written d (Classes.member_func h m o)))
+member_holds r n of h m o (Some d) i j = holds_more r (Classes.as_written (Some d) (Classes.member_func h m o)) (record {
   inside = λ z. no_class (is_special h.kind ≡ false) h.class n i.class z;
   result = λ t. member_result n of h i t;
   params = λ e. member_params n of h i e;
@@ -157,10 +157,20 @@ record Again (c : Ctx) (place : ℕ) (h : Header) (d : Ctx) : Type 0 where
   result : signature_result (func_at c.funcs place).declared.signature ≡ signature_result h.signature
   is : d ≡ with_definition c place h (func_at c.funcs place).text (func_at c.funcs place).closed_at
 
-read_again : (c : Ctx) (place : ℕ) (h : Header) → On (Again c place h) (Members.late_kept c place h)
-read_again c place h = checked (Again c place h) h.at TypeDiffers
-    (typ_eq (signature_result (func_at c.funcs place).declared.signature) (signature_result h.signature)) _
-    (λ e. record { result = typ_same (signature_result (func_at c.funcs place).declared.signature) (signature_result h.signature) e; is = refl })
+said : (at : At) (rule : IllRule) (b : Bool) → On (λ (y : Bool). b ≡ true) (check at rule b)
+said at rule true = refl
+said at rule false = tt
+
+agrees_late : (h : Header) (closed : ℕ) (f : Func)
+    → On (λ (y : Bool). typ_eq (signature_result f.declared.signature) (signature_result h.signature) ≡ true) (Members.late_agrees h closed f)
+agrees_late h closed f = skip (λ (y : Bool). typ_eq (signature_result f.declared.signature) (signature_result h.signature) ≡ true)
+    (check h.at Redeclared (not f.is_defined && f.closed_at == closed)) _
+    (λ x. said h.at TypeDiffers (typ_eq (signature_result f.declared.signature) (signature_result h.signature)))
+
+read_again : (c : Ctx) (place : ℕ) (h : Header) (closed : ℕ) → On (Again c place h) (Members.late_kept c place h closed)
+read_again c place h closed = bind (λ y. typ_eq (signature_result (func_at c.funcs place).declared.signature) (signature_result h.signature) ≡ true) (Again c place h)
+    (Members.late_agrees h closed (func_at c.funcs place)) _ (agrees_late h closed (func_at c.funcs place))
+    (λ y e. record { result = typ_same (signature_result (func_at c.funcs place).declared.signature) (signature_result h.signature) e; is = refl })
 
 late_body : (s : List Lexeme) (st : State) (n place : ℕ) (of : FuncKind) (m : Method) (body : syntax.Tree) → Holds st → IsHeader n of m.header
     → Finds st.ctx.funcs m.header place → (text : List ℕ) (closed : ℕ)
@@ -174,7 +184,8 @@ late_method : (s : List Lexeme) (st : State) (n : ℕ) (of : FuncKind) (m : Meth
     → On Holds (Members.late_method lambdas_of s st n of m o)
 late_method s st n of m (Some body) h i = bind (λ (p : ℕ). first_from (is_same_function m.header) 0 st.ctx.funcs ≡ Some p) Holds
     (Members.place_of_header st.ctx m.header) _ (expected m.header.at NoMember (first_from (is_same_function m.header) 0 st.ctx.funcs))
-    (λ p e. bind (Again st.ctx p m.header) Holds (Members.late_kept st.ctx p m.header) _ (read_again st.ctx p m.header)
+    (λ p e. bind (Again st.ctx p m.header) Holds (Members.late_kept st.ctx p m.header (Classes.token_end (slice_get s (Classes.last_token (Some body))))) _
+    (read_again st.ctx p m.header (Classes.token_end (slice_get s (Classes.last_token (Some body)))))
     (λ c q. subst (λ (z : Ctx). On Holds (Members.method_body lambdas_of s (record st { ctx = z }) n p of m body)) (sym q.is)
     (late_body s st n p of m body h i (finds st.ctx.funcs m.header p e q.result) (func_at st.ctx.funcs p).text (func_at st.ctx.funcs p).closed_at)))
 late_method s st n of m None h i = h

@@ -6,7 +6,7 @@ use Rattle.cpp_lex.specs.Tokens.{Lexeme}
 use Rattle.elab_rules.specs.cpp_tree.declared.program.FuncKind.TheVariants.{Plain, Constructor, Destructor}
 use Rattle.elab_rules.specs.elab_ctx.Ctx.{Func}
 use Rattle.elab_rules.specs.Functions.{Header}
-use Rattle.elab_rules.specs.Classes.{Home, Members, Marks, Definition, as_defined, member_func, with_function}
+use Rattle.elab_rules.specs.Classes.{Home, Members, Marks, Definition, as_written, member_func, with_function}
 use Rattle.std.proofs.lemmas.Bool.{and_parts, not-true}
 use Rattle.elab_fits_forms.specs.Types.{is_empty}
 use Rattle.elab_contexts.proofs.Lists.{one_more}
@@ -51,13 +51,13 @@ added s home h m o n (constructor k e) =
     let c = ap (is_class_name s) e ∙ n in
     rw k (by_constructor (member_func h m o).declared.is_virtual (is_destructor_name h.name) (is_class_name s h.name) (class_plain s h.name c) c)
 
-defined : (classes : List ℕ → Bool) (d : Option Definition) (f : Func) → is_overrider_by classes f ≡ true → is_overrider_by classes (as_defined d f) ≡ true
+defined : (classes : List ℕ → Bool) (d : Option Definition) (f : Func) → is_overrider_by classes f ≡ true → is_overrider_by classes (as_written d f) ≡ true
 defined classes None f h = h
 defined classes (Some d) f h = h
 
 pub function_added : (s : List Lexeme) (home : Home) (r : Members) (h : Header) (m : Marks) (d : Option Definition) (o : Option Function)
     → is_class_name s home.name ≡ true → IsFit s home h → HasOverridersBy (is_class_name s) r.state.ctx.funcs
-    → HasOverridersBy (is_class_name s) (with_function r (as_defined d (member_func h m o))).state.ctx.funcs
+    → HasOverridersBy (is_class_name s) (with_function r (as_written d (member_func h m o))).state.ctx.funcs
 function_added s home r h m d o n x g k i f e c =
-    one_more (λ (y : Func). (j : ℕ) → y.class ≡ Some j → is_overrider_by (is_class_name s) y ≡ true) r.state.ctx.funcs (as_defined d (member_func h m o))
+    one_more (λ (y : Func). (j : ℕ) → y.class ≡ Some j → is_overrider_by (is_class_name s) y ≡ true) r.state.ctx.funcs (as_written d (member_func h m o))
     (λ a y q j z. g a j y q z) (λ j z. defined (is_class_name s) d (member_func h m o) (added s home h m o n x)) k f e i c

@@ -230,14 +230,14 @@ member_record g m o is_virtual = record g {
   no_except = g.no_except || is_destructor_name g.name;
 }
 
--- where its body stands in the class, it is inline, with its text (7.1.2, 9.3)
+-- where its body stands in the class, it is inline, with its text (7.1.2, 9.3); it is defined behind the brace, when the body is read
 pub record Definition : Type 0 where
   pub text : List ℕ
   pub closed_at : ℕ
 
-abbrev pub as_defined : Option Definition → Func → Func
-as_defined (Some d) f = record f { linkage = Inline; is_defined = true; text = d.text; closed_at = d.closed_at }
-as_defined None f = f
+abbrev pub as_written : Option Definition → Func → Func
+as_written (Some d) f = record f { linkage = Inline; text = d.text; closed_at = d.closed_at }
+as_written None f = f
 
 abbrev pub definition_sized : At → Option Definition → Result Bool ElabFault
 definition_sized at (Some d) = text_sized at d.text
@@ -284,7 +284,7 @@ member_function home r h m d = and_then (check h.at Redeclared
     and_then (marks_fit h m (is_some (overridden r.state.ctx home.base (new_function h).declared))
     (h.storage.is_virtual || is_some (overridden r.state.ctx home.base (new_function h).declared))) (λ x.
     and_then (header_sized r.state.ctx h) (λ w. and_then (definition_sized h.at d)
-    (λ v. Ok (with_function r (as_defined d (member_func h m (overridden r.state.ctx home.base (new_function h).declared)))))))))
+    (λ v. Ok (with_function r (as_written d (member_func h m (overridden r.state.ctx home.base (new_function h).declared)))))))))
 
 -- Declarations of members
 

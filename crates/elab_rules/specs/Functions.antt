@@ -304,7 +304,7 @@ abbrev pub body_made : State → At → ℕ → Tree → State → Result State 
 body_made before at place tree st = and_then (within_frame st.ctx at st.work.frame)
     (λ y. Ok (record (leaving before st) { bodies = st.bodies ++ record { func = place; tree = tree; frame = st.work.frame } ∷ [] }))
 
--- a function is defined with the parameters that its declarator writes, not through another name of its type (8.3.5 p12)
+-- a function is defined with the parameters that its declarator writes, not through another name of its type (8.3.5 p10)
 abbrev pub defines_well : Header → Result Bool ElabFault
 defines_well h = check h.at BadDeclaration (typs_eq (types_of h.params) (signature_parameters h.signature))
 

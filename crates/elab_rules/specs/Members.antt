@@ -292,15 +292,20 @@ method_body lams s st n place kind m body = and_then (defines_well m.header) (λ
 abbrev pub place_of_header : Ctx → Header → Result ℕ ElabFault
 place_of_header c h = expect h.at NoMember (first_from (is_same_function h) 0 c.funcs)
 
--- the header is read again behind the brace: the result is the same, and the parameters are those of now
-abbrev pub late_kept : Ctx → ℕ → Header → Result Ctx ElabFault
-late_kept c i h =
-    and_then (check h.at TypeDiffers (typ_eq (signature_result (func_at c.funcs i).declared.signature) (signature_result h.signature)))
-    (λ y. Ok (with_definition c i h (func_at c.funcs i).text (func_at c.funcs i).closed_at))
+-- the header is read again behind the brace: it declares the function that it declared before, which has this body and no other (3.3.7 p1, 9.2 p2)
+abbrev pub late_agrees : Header → ℕ → Func → Result Bool ElabFault
+late_agrees h closed f = and_then (check h.at Redeclared (not f.is_defined && f.closed_at == closed))
+    (λ x. check h.at TypeDiffers (typ_eq (signature_result f.declared.signature) (signature_result h.signature)))
+
+-- the parameters are those of now
+abbrev pub late_kept : Ctx → ℕ → Header → ℕ → Result Ctx ElabFault
+late_kept c i h closed = and_then (late_agrees h closed (func_at c.funcs i))
+    (λ x. Ok (with_definition c i h (func_at c.funcs i).text (func_at c.funcs i).closed_at))
 
 abbrev pub late_method : Lambdas → List Lexeme → State → ℕ → FuncKind → Method → Option syntax.Tree → Result State ElabFault
 late_method lams s st n kind m (Some body) = and_then (place_of_header st.ctx m.header)
-    (λ place. and_then (late_kept st.ctx place m.header) (λ (c : Ctx). method_body lams s (record st { ctx = c }) n place kind m body))
+    (λ place. and_then (late_kept st.ctx place m.header (token_end (slice_get s (last_token (Some body)))))
+    (λ (c : Ctx). method_body lams s (record st { ctx = c }) n place kind m body))
 late_method lams s st n kind m None = Ok st
 
 abbrev pub late_function : Lambdas → List Lexeme → State → ℕ → List ℕ → At → FuncKind → syntax.Trees → Result State ElabFault

@@ -29,7 +29,7 @@ use Rattle.elab_rules.specs.Classes.{method_of}
 use Rattle.elab_rules.specs.Classes.{body_in, class_text, Marks, Definition, Started, data_member, member_function, declared_method, declared_member}
 use Rattle.elab_rules.specs.Classes.{member_declarator, member_declarators, declarator_among, definition_between, definition_sized, has_equal, has_function}
 use Rattle.elab_rules.specs.Classes.{has_initialiser, has_member, header_in, last_token, marks_fit, marks_from, member_form, member_named, no_function_words}
-use Rattle.elab_rules.specs.Classes.{no_marks, overridden, overrides_well, started_from, within_bounds, with_function, as_defined, member_func}
+use Rattle.elab_rules.specs.Classes.{no_marks, overridden, overrides_well, started_from, within_bounds, with_function, as_written, member_func}
 use Rattle.elab_rules.specs.Members.{declared_only, class_closed, class_with, class_defined, all_defaults, all_late, base_named, has_final, members_among}
 use Rattle.elab_fits.specs.Standing.{On}
 use Rattle.elab_fits.proofs.Steps.{bind, skip, checked}
@@ -130,7 +130,7 @@ module _ (classes : List Class) where
     members = h.members;
   }
 
-  defined_sound : (d : Option Definition) (f : Func) → is_sound_function classes f ≡ true → is_sound_function classes (as_defined d f) ≡ true
+  defined_sound : (d : Option Definition) (f : Func) → is_sound_function classes f ≡ true → is_sound_function classes (as_written d f) ≡ true
   defined_sound (Some d) f h = h
   defined_sound None f h = h
 
@@ -158,7 +158,7 @@ module _ (classes : List Class) where
       (λ z. skip (IsSoundClass classes) (marks_fit h m (is_some (overridden r.state.ctx home.base (new_function h).declared))
       (h.storage.is_virtual || is_some (overridden r.state.ctx home.base (new_function h).declared))) _
       (λ x. skip (IsSoundClass classes) (header_sized r.state.ctx h) _ (λ u. skip (IsSoundClass classes) (definition_sized h.at d) _
-      (λ v. function_more r (as_defined d (member_func h m (overridden r.state.ctx home.base (new_function h).declared)))
+      (λ v. function_more r (as_written d (member_func h m (overridden r.state.ctx home.base (new_function h).declared)))
       (defined_sound d (member_func h m (overridden r.state.ctx home.base (new_function h).declared)) g.signature) e)))))
 
   -- what a declarator in the class says is said of these classes

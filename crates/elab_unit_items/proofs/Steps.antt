@@ -18,7 +18,7 @@ use Rattle.elab_rules.specs.Types.{Declared}
 use Rattle.elab_rules.specs.Expressions.{type_of_specifiers, declared_by}
 use Rattle.elab_rules.specs.Statements.{State}
 use Rattle.elab_rules.specs.Functions.{Storage, Header, function_declared, with_definition, text_sized, defines_well, first_from, is_same_function}
-use Rattle.elab_rules.specs.Classes.{Method, method_of, last_token}
+use Rattle.elab_rules.specs.Classes.{Method, method_of, last_token, token_end}
 use Rattle.elab_rules.specs.Members.{body_by_kind, place_of_header, late_kept, late_method, is_member_named, outside_words, outside_agrees, outside_text}
 use Rattle.elab_rules.specs.Members.{outside_defined, outside_body, outside_method, this_type, declared_only, default_made, member_type}
 use Rattle.elab_rules.specs.Globals.{enum_declared}
@@ -110,13 +110,14 @@ module _ (s : List Lexeme) (b : Below s) (l : Laws s) where
   late_whole st n name at kind ts m body g w free home t u e =
       let r = held_by (IsRead s st.ctx.classes n) (method_of s st n name at kind ts) m (l.read st n name at kind ts g.sound t) e in
       let x = held_by (IsMethod (AreTexts s) (rest_texts s) s kind) (method_of s st n name at kind ts) m (method_is (AreTexts s) (rest_texts s) s st n name at kind ts t) e in
+      let closed : ℕ = token_end (slice_get s (last_token (Some body))) in
       told IsWholeUnit (place_of_header st.ctx m.header) _
-      (λ place p. told IsWholeUnit (late_kept st.ctx place m.header) _ (λ c q.
+      (λ place p. told IsWholeUnit (late_kept st.ctx place m.header closed) _ (λ c q.
       let z : State = record st { ctx = c } in
-      let leads : Leads st z = l.again st m.header place c g q in
-      let quiet : Quiet st z = late_quiet st m.header place c q in
+      let leads : Leads st z = l.again st m.header place closed c g q in
+      let quiet : Quiet st z = late_quiet st m.header place closed c q in
       skip IsWholeUnit (defines_well m.header) _ (λ y. method_whole z n place kind m body (quiet_good s b l st z g leads quiet)
-      (quiet_whole st z leads.gone.grows.unit.classes quiet w) (methods_law st.ctx c m.header place p q) x.kind_is free
+      (quiet_whole st z leads.gone.grows.unit.classes quiet w) (methods_law st.ctx c m.header place closed p q) x.kind_is free
       (home_over st z n (gone_over st z leads.gone) home) (read_over b.types s st z n m leads r) x.behind u)))
 
   -- outside

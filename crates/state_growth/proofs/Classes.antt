@@ -32,7 +32,7 @@ use Rattle.elab_rules.specs.Operators.{is_complete}
 use Rattle.elab_rules.specs.Initialising.{is_constructor, places_from}
 use Rattle.elab_rules.specs.Sizes.{typ_sized}
 use Rattle.elab_rules.specs.Classes.{with_class, begun_by, with_function, with_implicit, with_record, class_named, own_functions, slots_of}
-use Rattle.elab_rules.specs.Classes.{is_completed, as_defined, member_func}
+use Rattle.elab_rules.specs.Classes.{is_completed, as_written, member_func}
 use Rattle.elab_rules.specs.Members.{declared_only, class_closed, class_with, class_defined, all_defaults, all_late}
 use Rattle.std.specs.Prelude.{count_by}
 use Rattle.elab_rules.specs.cpp_tree.declared.faults.IllRule.{IllRule}
@@ -141,7 +141,7 @@ function_member_read st home r h m d e = skip (Read st) (check h.at Redeclared
     (λ z. skip (Read st) (marks_fit h m (is_some (overridden r.state.ctx home.base (new_function h).declared))
     (h.storage.is_virtual || is_some (overridden r.state.ctx home.base (new_function h).declared))) _
     (λ x. skip (Read st) (header_sized r.state.ctx h) _ (λ w. skip (Read st) (definition_sized h.at d) _
-    (λ v. with_read st r (as_defined d (member_func h m (overridden r.state.ctx home.base (new_function h).declared))) e)))))
+    (λ v. with_read st r (as_written d (member_func h m (overridden r.state.ctx home.base (new_function h).declared))) e)))))
 
 method_declared_read : (st : State) (s : List Lexeme) (home : Home) (r : Members) (kind : FuncKind) (at : At) (d : Option Definition) (kids : syntax.Trees) → Read st r
     → On (Read st) (declared_method s home r kind at d kids)

@@ -25,11 +25,11 @@ use Rattle.elab_rules.specs.Braces.{default_at, string_object, string_token, syn
 use Rattle.elab_rules.specs.Expressions.{operands_of}
 use Rattle.elab_rules.specs.Statements.{State, Lambdas, with_work, all_lambdas, default_object, directly_initialised, statements_of, full_operand, copy_initialised}
 use Rattle.elab_rules.specs.Functions.{Header, with_parameters, defines_well}
-use Rattle.elab_rules.specs.Classes.{Method, method_of, body_in}
+use Rattle.elab_rules.specs.Classes.{Method, method_of, body_in, last_token, token_end}
 use Rattle.elab_rules.specs.Members.{Given, Giving, member_index, member_type, given_part, given_base, is_named_class, is_base_type, given_for}
 use Rattle.elab_rules.specs.Members.{for_part, given_by, all_given, default_built, base_built, member_built, members_built, parts_built, in_object}
 use Rattle.elab_rules.specs.Members.{this_type, constructor_body, destructor_body, method_body, default_value, default_made, default_for, default_of, defaults_of}
-use Rattle.elab_rules.specs.Members.{body_by_kind, late_kept as again, all_defaults, initialiser_in, place_of_header, late_method, late_function, late_of, all_late}
+use Rattle.elab_rules.specs.Members.{body_by_kind, late_agrees, late_kept as again, all_defaults, initialiser_in, place_of_header, late_method, late_function, late_of, all_late}
 use Rattle.elab_fits.specs.Standing.{On}
 use Rattle.elab_growth.proofs.Growth.{same}
 use Rattle.state_growth.proofs.Steps.{seen, Steps, Leaves, stays, after, bind, skip, behind, follow, of_state, of_done, of_full, Ends}
@@ -175,16 +175,15 @@ defaults_kept lams q s n st ts = each_leaves (defaults_of lams s n) (those_kept 
 
 -- Bodies behind the brace
 
-read_again : (c : Ctx) (place : ℕ) (h : Header) → On (Further c) (again c place h)
-read_again c place h = skip (Further c)
-    (check h.at TypeDiffers (typ_eq (signature_result (func_at c.funcs place).declared.signature) (signature_result h.signature))) _
+read_again : (c : Ctx) (place : ℕ) (h : Header) (closed : ℕ) → On (Further c) (again c place h closed)
+read_again c place h closed = skip (Further c) (late_agrees h closed (func_at c.funcs place)) _
     (λ y. definition_further c place h (func_at c.funcs place).text (func_at c.funcs place).closed_at)
 
 pub late_method_kept : (lams : Lambdas) → Lawful lams → (s : List Lexeme) (st : State) (n : ℕ) (kind : FuncKind) (m : Method) (body : Option syntax.Tree)
     → On (Leaves st) (late_method lams s st n kind m body)
 late_method_kept lams q s st n kind m (Some body) =
-    skip (Leaves st) (place_of_header st.ctx m.header) _ (λ place. bind (Further st.ctx) (Leaves st) (again st.ctx place m.header) _
-    (read_again st.ctx place m.header)
+    skip (Leaves st) (place_of_header st.ctx m.header) _ (λ place. bind (Further st.ctx) (Leaves st) (again st.ctx place m.header (token_end (slice_get s (last_token (Some body))))) _
+    (read_again st.ctx place m.header (token_end (slice_get s (last_token (Some body)))))
     (λ c i. behind st (record st { ctx = c }) of_state (method_body lams s (record st { ctx = c }) n place kind m body) (further_leaves st c i)
     (method_kept lams q s (record st { ctx = c }) n place kind m body)))
 late_method_kept lams q s st n kind m None = stays st

@@ -7,6 +7,6 @@ use Rattle.elab_members.proofs.late.late_method.Goals as goal
 
 pub returns : goal.returns
 returns g c = with_place (g.L.MakeLambdas.lambdas c.args.lams.now) (lexemes_of c.args.tokens.now) c.args.st.now _ _ c.args.class c.args.kind
-    (method_shown (syntax_of c.args.nodes.now) c.args.kids.now c.args.method.now) (tree_at (syntax_of c.args.nodes.now) c.args.body) _ _ _ c.in_ok-func.ensures
+    (method_shown (syntax_of c.args.nodes.now) c.args.kids.now c.args.method.now) _ (tree_at (syntax_of c.args.nodes.now) c.args.body) _ _ _ c.in_ok-func.ensures
     c.in_ok-keep_header.ensures.is refl refl c.in_ok-keep_header.ensures.labels (ap (trees_at (syntax_of c.args.nodes.now)) c.rest_from.ensures.rest)
     c.method_body.ensures
