@@ -118,7 +118,7 @@ pub(crate) const ILL_FORMED: [Explanation; 30] = [
     },
     Explanation {
         rule: "BadCase",
-        lines: "Ill BadCase\nThe label stands outside a switch, or for a value that has a label already.\nC++14 6.1, 6.4.2\nrefused: int main() { switch (1) { case 1: ; case 1: ; } return 0; }\naccepted: int main() { switch (1) { case 1: ; case 2: ; } return 0; }\n",
+        lines: "Ill BadCase\nThe label does not stand directly in the body of a switch, or is for a value that has a label already.\nC++14 6.1, 6.4.2\nrefused: int main() { switch (1) { case 1: ; case 1: ; } return 0; }\naccepted: int main() { switch (1) { case 1: ; case 2: ; } return 0; }\n",
     },
     Explanation {
         rule: "JumpPastInit",
