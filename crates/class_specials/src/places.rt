@@ -139,7 +139,8 @@ fn is_wanted(what: Wanted, home: &Home, found: &FuncDecl) -> bool
 {
     let class = home.number;
     match what {
-        Wanted::Destructor => is_member(found, class) && same_kind(found.kind, FuncKind::Destructor),
+        Wanted::Destructor => is_member(found, class)
+            && same_kind(found.kind, FuncKind::Destructor),
         Wanted::CopyOfConst => is_copy_from(found, class, true),
         Wanted::Copy => {
             is_constructor(found, class) && is_copy_constructor(&found.rec, class, &home.name)

@@ -1,6 +1,6 @@
 -- The bodies of lambdas' calls: with them all bodies fit still.
-use Rattle.std.proofs.Common.{◌≡◌, refl, sym, ap, ◌∙◌, subst, ℕ, zero, suc, ◌+◌, arith, Bool, false, not, List, [], ◌∷◌, ◌++◌, append_assoc, map, length, slice_get}
-use Rattle.std.proofs.Common.{Option, Some, None, Result, Ok, Err, eq-eqb}
+use Rattle.std.proofs.Common.{◌≡◌, refl, sym, ap, ◌∙◌, subst, ℕ, zero, suc, ◌+◌, arith, Bool, true, false, not, List, [], ◌∷◌, ◌++◌, append_assoc, map}
+use Rattle.std.proofs.Common.{length, slice_get, Option, Some, None, Result, Ok, Err, eq-eqb}
 use Rattle.std.specs.Prelude.{◌≤◌, ◌==◌}
 use Rattle.std.proofs.lemmas.Option.{same_Some}
 use Rattle.elab_rules.specs.cpp_types.Typ.{Typ, typ, func, ptr, closure, Signature, signature}
@@ -83,19 +83,20 @@ body_last fs bs b h p = record {
 
 -- What lambdas keep
 
--- the call of a lambda is written, and is no constructor or destructor
+-- the call of a lambda is written and defined, and is no constructor or destructor
 pub record IsCall (f : Func) : Type 0 where
   pub kind : f.kind ≡ ClosureCall
   pub written : f.implicit ≡ false
+  pub defined : f.is_defined ≡ true
   pub signed : WellSigned f
 
--- it holds still with the call of a lambda, and with a body that fits
+-- it holds still with the call of a lambda and the body of that, which fits
 pub record Grows (P : List Func → List Body → Type 0) : Type 0 where
-  pub call : (fs : List Func) (bs : List Body) (f : Func) → IsCall f → P fs bs → P (fs ++ f ∷ []) bs
-  pub body : (fs : List Func) (bs : List Body) (b : Body) → BodyFits fs b → P fs bs → P fs (bs ++ b ∷ [])
+  pub call : (fs : List Func) (bs : List Body) (f : Func) (b : Body) → IsCall f → b.func ≡ length fs → BodyFits (fs ++ f ∷ []) b → P fs bs
+      → P (fs ++ f ∷ []) (bs ++ b ∷ [])
 
 pub fits_grow : (now : Option ℕ) → Grows (AllFit now)
-fits_grow now = record { call = λ fs bs f i h. function_more now fs f bs h; body = λ fs bs b p h. body_more now fs bs b h p }
+fits_grow now = record { call = λ fs bs f b i n p h. body_more now (fs ++ f ∷ []) bs b (function_more now fs f bs h) p }
 
 -- The call of a lambda
 
@@ -107,10 +108,15 @@ as_many (p ∷ ps) = ap suc (as_many ps)
 abbrev call_of : State → Written → Signature → Func
 call_of st x sig = record (call_func (length st.ctx.classes) (call_record x.at sig x.qualifiers x.is_mutable) x.params) { closed_at = x.closed }
 
--- it holds, and the call is there
-record HasCall (P : List Func → List Body → Type 0) (place : ℕ) (g : Func) (funcs : List Func) (bodies : List Body) : Type 0 where
-  has : P funcs bodies
-  at : slice_get funcs place ≡ Some g
+-- the functions and bodies from before, and the call
+record HasCall (fs : List Func) (bs : List Body) (g : Func) (funcs : List Func) (bodies : List Body) : Type 0 where
+  call : funcs ≡ fs ++ g ∷ []
+  same : bodies ≡ bs
+
+with_body : (P : List Func → List Body → Type 0) → Grows P → (fs : List Func) (bs : List Body) (g : Func) (b : Body) (funcs : List Func) (bodies : List Body)
+    → IsCall g → b.func ≡ length fs → BodyFits (fs ++ g ∷ []) b → P fs bs → HasCall fs bs g funcs bodies → P funcs (bodies ++ b ∷ [])
+with_body P grows fs bs g b funcs bodies i n p h c = subst (λ (xs : List Func). P xs (bodies ++ b ∷ [])) (sym c.call)
+    (subst (λ (ys : List Body). P (fs ++ g ∷ []) (ys ++ b ∷ [])) (sym c.same) (grows.call fs bs g b i n p h))
 
 refused_holds : (P : List Func → List Body → Type 0) (st : State) (o : Option At) → P st.ctx.funcs st.bodies
     → On (λ (x : State). P x.ctx.funcs x.bodies) (refused_at st o)
@@ -118,16 +124,16 @@ refused_holds P st (Some at) h = tt
 refused_holds P st None h = h
 
 -- behind the statements of its body
-record Said (P : List Func → List Body → Type 0) (place : ℕ) (g : Func) (words : List Typ) (d : Done) : Type 0 where
-  has : HasCall P place g d.state.ctx.funcs d.state.bodies
+record Said (fs : List Func) (bs : List Body) (g : Func) (words : List Typ) (d : Done) : Type 0 where
+  has : HasCall fs bs g d.state.ctx.funcs d.state.bodies
   first : Begin words d.state.work.frame
 
 pub both : {A : Type 0} (P Q R : A → Type 0) (r : Result A ElabFault) → ((a : A) → P a → Q a → R a) → On P r → On Q r → On R r
 both P Q R (Ok a) f h g = f a h g
 both P Q R (Err e) f h g = tt
 
-record Entered (P : List Func → List Body → Type 0) (place : ℕ) (g : Func) (words : List Typ) (y : State) : Type 0 where
-  has : HasCall P place g y.ctx.funcs y.bodies
+record Entered (fs : List Func) (bs : List Body) (g : Func) (words : List Typ) (y : State) : Type 0 where
+  has : HasCall fs bs g y.ctx.funcs y.bodies
   first : y.work.frame ≡ words
 
 -- its type is that of its parameters and its result
@@ -145,14 +151,14 @@ module _ (P : List Func → List Body → Type 0) (grows : Grows P) where
   abbrev F : State → Type 0
   F st = P st.ctx.funcs st.bodies
 
-  said : (s : List Lexeme) (e : State) (x : Written) (place : ℕ) (g : Func) → HasCall P place g e.ctx.funcs e.bodies
-      → On (Said P place g (e.work.frame ++ param_items (map param_of x.params))) (body_statements s e x)
-  said s e x place g h = bind (Entered P place g words) (Said P place g words) (with_parameters s e x.params) _
-      (both (holding.Held (HasCall P place g)) (WithItems e items) (Entered P place g words) (with_parameters s e x.params)
-      (λ y i j. record { has = i; first = j }) (holding.parameters_held (HasCall P place g) s e x.params h) (parameters_added s e x.params))
-      (λ y i. both (holding.Ends (HasCall P place g)) (Ends y) (Said P place g words) (statements_of no_lambda s y x.body)
+  said : (s : List Lexeme) (e : State) (x : Written) (fs : List Func) (bs : List Body) (g : Func) → HasCall fs bs g e.ctx.funcs e.bodies
+      → On (Said fs bs g (e.work.frame ++ param_items (map param_of x.params))) (body_statements s e x)
+  said s e x fs bs g h = bind (Entered fs bs g words) (Said fs bs g words) (with_parameters s e x.params) _
+      (both (holding.Held (HasCall fs bs g)) (WithItems e items) (Entered fs bs g words) (with_parameters s e x.params)
+      (λ y i j. record { has = i; first = j }) (holding.parameters_held (HasCall fs bs g) s e x.params h) (parameters_added s e x.params))
+      (λ y i. both (holding.Ends (HasCall fs bs g)) (Ends y) (Said fs bs g words) (statements_of no_lambda s y x.body)
       (λ d j l. record { has = j; first = λ n t q. l.kept.frame n t (ap (λ (z : List Typ). slice_get z n) i.first ∙ q) })
-      (holding.statements_held (HasCall P place g) no_lambda s (λ st t u. refused_holds (HasCall P place g) st (first_lambda t) u) y x.body i.has)
+      (holding.statements_held (HasCall fs bs g) no_lambda s (λ st t u. refused_holds (HasCall fs bs g) st (first_lambda t) u) y x.body i.has)
       (statements_kept no_lambda no_lambda_lawful s y x.body))
     where
       items : List Typ
@@ -165,18 +171,18 @@ module _ (P : List Func → List Body → Type 0) (grows : Grows P) where
       → On F (lambda_with s st x r (signature (types_of x.params) r safe))
   with_fit s st x r safe h = skip F (check x.at Incomplete (is_complete st.ctx (held_class r))) _
       (λ y. skip F (closure_sized st x sig) _
-      (λ v. bind (Said P place g (e.work.frame ++ items)) F (body_statements s e x) _
-      (said s e x place g (record { has = grows.call st.ctx.funcs st.bodies g is_call h; at = at_end st.ctx.funcs g }))
+      (λ v. bind (Said st.ctx.funcs st.bodies g (e.work.frame ++ items)) F (body_statements s e x) _
+      (said s e x st.ctx.funcs st.bodies g (record { call = refl; same = refl }))
       (λ d i. skip F (within_frame d.state.ctx x.at d.state.work.frame) _
-      (λ z. grows.body d.state.ctx.funcs d.state.bodies _ (record {
+      (λ z. with_body P grows st.ctx.funcs st.bodies g _ d.state.ctx.funcs d.state.bodies is_call refl (record {
         func = g;
-        at = i.has.at;
+        at = at_end st.ctx.funcs g;
         defined = refl;
         signed = is_call.signed;
         fits = plain_block g place d.state.ctx r x.body_at d.trees d.state.work.frame refl refl
             (words_by g (Some own) r items (e.work.frame ++ items) d.state.work.frame (eq-eqb n n refl) refl refl
             (append_assoc (result_items r) (plain (ptr own) ∷ []) items) i.first);
-      }) i.has.has))))
+      }) h i.has))))
     where
       sig : Signature
       sig = signature (types_of x.params) r safe
@@ -194,7 +200,7 @@ module _ (P : List Func → List Body → Type 0) (grows : Grows P) where
       g = call_of st x sig
 
       is_call : IsCall g
-      is_call = record { kind = refl; written = refl; signed = record { params = as_many x.params; result = refl } }
+      is_call = record { kind = refl; written = refl; defined = refl; signed = record { params = as_many x.params; result = refl } }
 
       e : State
       e = inside st (lambda_entered st x (known r) r) (declared_closure st x sig)

@@ -25,7 +25,7 @@ use Rattle.elab_bodies.specs.Making.{MakesBody, Defines}
 use Rattle.elab_bodies.specs.Keeping.{HasFunction, FunctionsKeep, ConstructorsKeep, DestructorsKeep, DefaultsKeep, StandsImplicit, HasSource, ImplicitsStand}
 use Rattle.elab_bodies.specs.Keeping.{ImpliedKeep}
 use Rattle.elab_bodies.proofs.Making.{holds, function_made, constructor_made, destructor_made, implied_made}
-use Rattle.elab_bodies.proofs.Closures.{function_more, body_more, body_last, both, Grows, fits_grow, each_fit}
+use Rattle.elab_bodies.proofs.Closures.{body_last, both, Grows, fits_grow, each_fit}
 use Rattle.elab_bodies.proofs.Implicits.{call_stands, body_stands, last_stands, stand_due, fits_due}
 use Rattle.elab_bodies.proofs.Ending as ending
 use Rattle.elab_bodies.proofs.Ending.{EndsWith}
@@ -78,8 +78,7 @@ record Now (P : Option ℕ → List Func → List Body → Type 0) (func : ℕ) 
 
 now_grows : (P : Option ℕ → List Func → List Body → Type 0) → Follows P → (func : ℕ) (f : Func) → Grows (Now P func f)
 now_grows P q func f = record {
-  call = λ fs bs g i h. record { has = (q.grows (Some func)).call fs bs g i h.has; at = added fs (g ∷ []) func f h.at };
-  body = λ fs bs b p h. record { has = (q.grows (Some func)).body fs bs b p h.has; at = h.at };
+  call = λ fs bs g b i n p h. record { has = (q.grows (Some func)).call fs bs g b i n p h.has; at = added fs (g ∷ []) func f h.at };
 }
 
 joined : (P : Option ℕ → List Func → List Body → Type 0) → Follows P → (func : ℕ) (f : Func) → f.is_defined ≡ true → WellSigned f → (x : State)
@@ -189,8 +188,10 @@ pub record Fine (now : Option ℕ) (funcs : List Func) (bodies : List Body) : Ty
 pub fine_follows : Follows Fine
 fine_follows = record {
   grows = λ now. record {
-    call = λ fs bs g i h. record { fit = function_more now fs g bs h.fit; stand = call_stands now fs bs g i h.stand };
-    body = λ fs bs b p h. record { fit = body_more now fs bs b h.fit p; stand = body_stands now fs bs b h.stand };
+    call = λ fs bs g b i n p h. record {
+      fit = (fits_grow now).call fs bs g b i n p h.fit;
+      stand = body_stands now (fs ++ g ∷ []) bs b (call_stands now fs bs g i h.stand);
+    };
   };
   last = λ fs bs b m h. record { fit = fits_follow.last fs bs b m h.fit; stand = last_stands fs bs b h.stand };
 }

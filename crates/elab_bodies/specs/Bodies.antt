@@ -69,8 +69,7 @@ pub record BodyFits (funcs : List Func) (b : Body) : Type 0 where
   pub signed : WellSigned func
   pub fits : IsBodyOf func b
 
--- Functions that are defined twice. Behind the brace of a class a declarator may have another type than inside it, that of another member; then this one is
--- defined twice, with parameters of its last definition alone. So something is said only of bodies whose functions have no other.
+-- Something is said only of bodies whose functions have no other. That none has another is a law of whole units.
 
 -- how many of the bodies are ones of the function
 abbrev pub times_made : ℕ → List Body → ℕ

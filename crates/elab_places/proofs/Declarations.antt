@@ -219,10 +219,14 @@ module _ (K : Round → Type 0) (w : Walks K) where
 
   -- Implicit members
 
-  implied_below : (st : State) (n : ℕ) → Sound st → On Sound (Implicit.implied_below st n)
-  implied_below st zero own = own
-  implied_below st (suc n) own = bind Sound Sound (Implicit.implied st n) _ (w.implied st n own) (λ x h. implied_below x n h)
+  implied_below : ((st : State) (i : ℕ) → Sound st → On Sound (Implicit.implied st i)) → (st : State) (n : ℕ) → Sound st
+      → On Sound (Implicit.implied_below st n)
+  implied_below each st zero own = own
+  implied_below each st (suc n) own = bind Sound Sound (Implicit.implied st n) _ (each st n own) (λ x h. implied_below each x n h)
 
-  pub unit : (s : List Lexeme) (st : State) (ts : syntax.Trees) → Sound st → On Sound (Units.unit_from s st ts)
-  unit s st ts own = bind Sound Sound (Units.declarations_of s Functions.no_storage st ts) Implicit.with_implied (declarations s Functions.no_storage st ts own)
-      (λ x h. implied_below x (length x.ctx.funcs) h)
+  -- where the body of an implicit member keeps it too
+  pub unit : ((st : State) (i : ℕ) → Sound st → On Sound (Implicit.implied st i)) → (s : List Lexeme) (st : State) (ts : syntax.Trees) → Sound st
+      → On Sound (Units.unit_from s st ts)
+  unit each s st ts own =
+      bind Sound Sound (Units.declarations_of s Functions.no_storage st ts) Implicit.with_implied (declarations s Functions.no_storage st ts own)
+      (λ x h. implied_below each x (length x.ctx.funcs) h)

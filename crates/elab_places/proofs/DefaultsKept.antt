@@ -19,7 +19,6 @@ use Rattle.elab_rules.specs.elab_ctx.Ctx.{Ctx, Func}
 use Rattle.elab_rules.specs.elab_ctx.Steps.{expect, check, at_of, spelling}
 use Rattle.elab_rules.specs.Objects.{traits_at}
 use Rattle.elab_rules.specs.Initialising.{func_at, signature_parameters, signature_result, places_from, is_constructor}
-use Rattle.elab_rules.specs.cpp_types.Equal.{typ_eq}
 use Rattle.elab_rules.specs.Names.{members_in}
 use Rattle.elab_rules.specs.Types.{Declared}
 use Rattle.elab_rules.specs.Statements.{State, Lambdas, is_trivial}
@@ -231,7 +230,6 @@ owned_walks = record {
   defaults = λ s n st ts own. all_defaults lambdas_of lambdas_law s n st ts own;
   late = λ s n name st t own. late_of lambdas_of lambdas_law s n name st t own;
   outside = λ s x st at of first kids own. member_defined lambdas_of lambdas_law s x st at of first kids own;
-  implied = λ st i own. implied st i own;
 }
 
 pub declarations_law : DeclarationsKeep
@@ -242,7 +240,7 @@ all_declarations_law s x st ts y own e =
     held_by Sound (Units.declarations_of s x st ts) y (declarations.declarations (λ r. DefaultsOwn r.defaults) owned_walks s x st ts own) e
 
 pub units_law : UnitsKeep
-units_law s st ts y own e = held_by Sound (Units.unit_from s st ts) y (declarations.unit (λ r. DefaultsOwn r.defaults) owned_walks s st ts own) e
+units_law s st ts y own e = held_by Sound (Units.unit_from s st ts) y (declarations.unit (λ r. DefaultsOwn r.defaults) owned_walks implied s st ts own) e
 
 pub begin_law : UnitsBegin
 begin_law source p traits = tt

@@ -25,7 +25,6 @@ use Rattle.elab_rules.specs.Functions.{Storage, Header, new_function, no_storage
 use Rattle.elab_rules.specs.Classes
 use Rattle.elab_rules.specs.Classes.{Home, Marks, Definition, Method, Started}
 use Rattle.elab_rules.specs.Members
-use Rattle.elab_rules.specs.Implicit
 use Rattle.elab_rules.specs.Units
 use Rattle.elab_rules.specs.Lambdas.{lambdas_of}
 use Rattle.elab_places.specs.Round.{Round, round_of}
@@ -118,5 +117,3 @@ pub record Walks (K : Round → Type 0) : Type 0 where
   -- a member is defined outside its class
   pub outside : (s : List Lexeme) (x : Storage) (st : State) (at : At) (of : FuncKind) (first : ℕ) (kids : syntax.Trees) → Held K st
       → On (Held K) (Members.member_defined lambdas_of s x st at of first kids)
-  -- an implicit member gets its body
-  pub implied : (st : State) (i : ℕ) → Held K st → On (Held K) (Implicit.implied st i)

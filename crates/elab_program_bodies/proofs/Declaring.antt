@@ -1,10 +1,11 @@
 -- Functions that are declared and defined: at file scope, behind the brace of their class, and outside it.
 use Rattle.std.proofs.Common.{◌≡◌, refl, sym, ap, ◌∙◌, subst, ℕ, suc, ◌+◌, Bool, true, false, not, ◌&&◌, ◌||◌, List, [], ◌∷◌, length, slice_get}
-use Rattle.std.proofs.Common.{Option, Some, None, is_some, Result, Ok, Err, arith}
-use Rattle.std.specs.Prelude.{slice_set, if◌then◌else◌}
+use Rattle.std.proofs.Common.{Option, Some, None, is_some, arith}
+use Rattle.std.specs.Prelude.{slice_set, if◌then◌else◌, ◌==◌}
 use Rattle.std.specs.List.{list_any}
+use Rattle.std.proofs.lemmas.Bool.{and_parts}
 use Rattle.std.proofs.lemmas.Option.{same_Some}
-use Rattle.elab_rules.specs.cpp_types.Typ.{Form, void, func, none as no_typs}
+use Rattle.elab_rules.specs.cpp_types.Typ.{Form, void, func, Signature, none as no_typs}
 use Rattle.elab_rules.specs.cpp_tree.Notation.{plain}
 use Rattle.elab_rules.specs.cpp_types.Class.{Function}
 use Rattle.elab_rules.specs.cpp_types.Equal.{typ_eq, typs_eq, flag_eq}
@@ -17,7 +18,6 @@ use Rattle.elab_rules.specs.cpp_names.declared.entity.Entity.{Entity}
 use Rattle.elab_rules.specs.cpp_tree.declared.program.Linkage.TheVariants.{Inline}
 use Rattle.elab_rules.specs.cpp_tree.declared.program.FuncKind.{FuncKind}
 use Rattle.elab_rules.specs.cpp_tree.declared.program.FuncKind.TheVariants.{Plain, Constructor, Destructor, ClosureCall}
-use Rattle.elab_rules.specs.cpp_tree.declared.faults.ElabFault.{ElabFault}
 use Rattle.elab_rules.specs.cpp_tree.declared.faults.IllRule.{IllRule}
 use Rattle.elab_rules.specs.cpp_tree.declared.faults.IllRule.TheVariants.{BadDeclaration, NoMember, OutOfProfile, Redeclared, SafetyDiffers, TypeDiffers}
 use Rattle.elab_rules.specs.cpp_tree.Rows.{is_special}
@@ -46,7 +46,7 @@ use Rattle.elab_places.specs.Round.{Round}
 use Rattle.elab_places.proofs.Steps.{On, bind, skip}
 use Rattle.elab_places.proofs.Rounds.{bodies_more}
 use Rattle.elab_places.proofs.Walks.{checked, IsHeader, HasKind, header_in, special_header, Method_is, method_of, with_func, round_with}
-use Rattle.elab_program_bodies.specs.Known.{IsKnown, HoldsOf, Holds}
+use Rattle.elab_program_bodies.specs.Known.{IsKnown, all_wait, HoldsOf, Holds}
 use Rattle.elab_program_bodies.proofs.Lists.{not_both, at_func, set_at, set_again}
 use Rattle.elab_program_bodies.proofs.Known.{stand_more}
 use Rattle.elab_program_bodies.proofs.Special.{typs_same, special_result, special_params, same_function}
@@ -54,9 +54,9 @@ use Rattle.elab_program_bodies.proofs.Defining.{Finds, Becomes, becomes, ready, 
 
 -- A function that is declared
 
-pub holds_more : (r : Round) (f : Func) → IsKnown f → f.implicit ≡ false → HoldsOf r → HoldsOf (with_func r f)
+pub holds_more : (r : Round) (f : Func) → IsKnown f → f.implicit ≡ false → HoldsOf all_wait r → HoldsOf all_wait (with_func r f)
 holds_more r f i j h = record {
-  stand = stand_more None r.funcs r.bodies f i j h.stand;
+  stand = stand_more all_wait None r.funcs r.bodies f i j h.stand;
   owned = record { defaults = h.owned.defaults; bodies = bodies_more r.funcs f r.bodies h.owned.bodies };
 }
 
@@ -74,7 +74,7 @@ new_known h e = record {
   source = λ t e. not_both (number_of (signature_parameters h.signature) ≡ copy_words (signature_parameters h.signature)) false refl t;
 }
 
-pub declared_holds : (r : Round) (h : Header) → h.kind ≡ Plain → h.class ≡ None → HoldsOf r → HoldsOf (with_func r (new_function h))
+pub declared_holds : (r : Round) (h : Header) → h.kind ≡ Plain → h.class ≡ None → HoldsOf all_wait r → HoldsOf all_wait (with_func r (new_function h))
 declared_holds r h e f i = holds_more r (new_function h) (new_known h e) refl i
 
 member_result : (n : ℕ) (of : FuncKind) (h : Header) → IsHeader n of h → is_special h.kind ≡ true → is_class_typ (signature_result h.signature) ≡ false
@@ -84,8 +84,8 @@ member_params : (n : ℕ) (of : FuncKind) (h : Header) → IsHeader n of h → h
 member_params n of h i e = special_params n h.signature (subst (λ (z : FuncKind). Classes.is_special z n h.signature ≡ true) (sym i.kind ∙ e)
     (i.special (ap is_special (sym i.kind ∙ e))))
 
-pub member_holds : (r : Round) (n : ℕ) (of : FuncKind) (h : Header) (m : Marks) (o : Option Function) (d : Option Definition) → IsHeader n of h → HoldsOf r
-    → HoldsOf (with_func r (Classes.as_written d (Classes.member_func h m o)))
+pub member_holds : (r : Round) (n : ℕ) (of : FuncKind) (h : Header) (m : Marks) (o : Option Function) (d : Option Definition) → IsHeader n of h
+    → HoldsOf all_wait r → HoldsOf all_wait (with_func r (Classes.as_written d (Classes.member_func h m o)))
 member_holds r n of h m o (Some d) i j = holds_more r (Classes.as_written (Some d) (Classes.member_func h m o)) (record {
   inside = λ z. no_class (is_special h.kind ≡ false) h.class n i.class z;
   result = λ t. member_result n of h i t;
@@ -118,17 +118,22 @@ found : (test : Func → Bool) (j : ℕ) (fs : List Func) (i : ℕ) → first_fr
 found test j [] i h = absurd cc
 found test j (f ∷ fs) i h = found_by test j f fs i (test f) refl (found test (suc j) fs i) h
 
-finds : (fs : List Func) (h : Header) (i : ℕ) → first_from (is_same_function h) 0 fs ≡ Some i
-    → signature_result (func_at fs i).declared.signature ≡ signature_result h.signature → Finds fs h i
+-- it has this result, and is not defined yet
+record Agrees (sig : Signature) (f : Func) : Type 0 where
+  result : signature_result f.declared.signature ≡ signature_result sig
+  undefined : f.is_defined ≡ false
+
+finds : (fs : List Func) (h : Header) (i : ℕ) → first_from (is_same_function h) 0 fs ≡ Some i → Agrees h.signature (func_at fs i) → Finds fs h i
 finds fs h i e q = let r = found (is_same_function h) 0 fs i e in let g = r.is in
     let a : slice_get fs i ≡ Some r.func = ap (λ (n : ℕ). slice_get fs n) (omega arith) ∙ r.at in
     let s = same_function h r.func r.passes in record {
       func = r.func;
       at = a;
+      undefined = ap (λ (f : Func). f.is_defined) (sym (at_func fs i r.func a)) ∙ q.undefined;
       kind = s.kind;
       class = s.class;
       params = ap number_of s.params;
-      result = ap (λ (f : Func). signature_result f.declared.signature) (sym (at_func fs i r.func a)) ∙ q;
+      result = ap (λ (f : Func). signature_result f.declared.signature) (sym (at_func fs i r.func a)) ∙ q.result;
     }
 
 expected : {A : Type 0} (at : At) (rule : IllRule) (o : Option A) → On (λ (a : A). o ≡ Some a) (expect at rule o)
@@ -154,23 +159,28 @@ defined st h place text closed i x e = ready st h place (with_definition st.ctx 
 -- Behind the brace
 
 record Again (c : Ctx) (place : ℕ) (h : Header) (d : Ctx) : Type 0 where
-  result : signature_result (func_at c.funcs place).declared.signature ≡ signature_result h.signature
+  agrees : Agrees h.signature (func_at c.funcs place)
   is : d ≡ with_definition c place h (func_at c.funcs place).text (func_at c.funcs place).closed_at
 
-said : (at : At) (rule : IllRule) (b : Bool) → On (λ (y : Bool). b ≡ true) (check at rule b)
-said at rule true = refl
-said at rule false = tt
+-- what follows from what is checked
+said : (P : Type 0) (at : At) (rule : IllRule) (b : Bool) → (b ≡ true → P) → On (λ (y : Bool). P) (check at rule b)
+said P at rule true f = f refl
+said P at rule false f = tt
 
-agrees_late : (h : Header) (closed : ℕ) (f : Func)
-    → On (λ (y : Bool). typ_eq (signature_result f.declared.signature) (signature_result h.signature) ≡ true) (Members.late_agrees h closed f)
-agrees_late h closed f = skip (λ (y : Bool). typ_eq (signature_result f.declared.signature) (signature_result h.signature) ≡ true)
-    (check h.at Redeclared (not f.is_defined && f.closed_at == closed)) _
-    (λ x. said h.at TypeDiffers (typ_eq (signature_result f.declared.signature) (signature_result h.signature)))
+is_not : (b : Bool) → not b ≡ true → b ≡ false
+is_not false h = refl
+is_not true h = absurd cc
+
+agrees_late : (h : Header) (closed : ℕ) (f : Func) → On (λ (y : Bool). Agrees h.signature f) (Members.late_agrees h closed f)
+agrees_late h closed f = checked (λ (y : Bool). Agrees h.signature f) h.at Redeclared (not f.is_defined && f.closed_at == closed) _
+    (λ u. said (Agrees h.signature f) h.at TypeDiffers (typ_eq (signature_result f.declared.signature) (signature_result h.signature)) (λ e. record {
+      result = typ_same (signature_result f.declared.signature) (signature_result h.signature) e;
+      undefined = is_not f.is_defined (and_parts (not f.is_defined) (f.closed_at == closed) u).0;
+    }))
 
 read_again : (c : Ctx) (place : ℕ) (h : Header) (closed : ℕ) → On (Again c place h) (Members.late_kept c place h closed)
-read_again c place h closed = bind (λ y. typ_eq (signature_result (func_at c.funcs place).declared.signature) (signature_result h.signature) ≡ true) (Again c place h)
-    (Members.late_agrees h closed (func_at c.funcs place)) _ (agrees_late h closed (func_at c.funcs place))
-    (λ y e. record { result = typ_same (signature_result (func_at c.funcs place).declared.signature) (signature_result h.signature) e; is = refl })
+read_again c place h closed = bind (λ y. Agrees h.signature (func_at c.funcs place)) (Again c place h)
+    (Members.late_agrees h closed (func_at c.funcs place)) _ (agrees_late h closed (func_at c.funcs place)) (λ y a. record { agrees = a; is = refl })
 
 late_body : (s : List Lexeme) (st : State) (n place : ℕ) (of : FuncKind) (m : Method) (body : syntax.Tree) → Holds st → IsHeader n of m.header
     → Finds st.ctx.funcs m.header place → (text : List ℕ) (closed : ℕ)
@@ -187,7 +197,7 @@ late_method s st n of m (Some body) h i = bind (λ (p : ℕ). first_from (is_sam
     (λ p e. bind (Again st.ctx p m.header) Holds (Members.late_kept st.ctx p m.header (Classes.token_end (slice_get s (Classes.last_token (Some body))))) _
     (read_again st.ctx p m.header (Classes.token_end (slice_get s (Classes.last_token (Some body)))))
     (λ c q. subst (λ (z : Ctx). On Holds (Members.method_body lambdas_of s (record st { ctx = z }) n p of m body)) (sym q.is)
-    (late_body s st n p of m body h i (finds st.ctx.funcs m.header p e q.result) (func_at st.ctx.funcs p).text (func_at st.ctx.funcs p).closed_at)))
+    (late_body s st n p of m body h i (finds st.ctx.funcs m.header p e q.agrees) (func_at st.ctx.funcs p).text (func_at st.ctx.funcs p).closed_at)))
 late_method s st n of m None h i = h
 
 late_function : (s : List Lexeme) (st : State) (n : ℕ) (name : List ℕ) (at : At) (of : FuncKind) (kids : syntax.Trees) → Holds st
@@ -241,21 +251,23 @@ outside_ready s st h place first last i x e = ready st h place (outside_defined 
     same : f ≡ g
     same = at_func (slice_set st.ctx.funcs place g) place g (set_at st.ctx.funcs place g x.func x.at)
 
--- a further declaration has the result of the first
-agreeing : (h : Header) (f : Func) (defines : Bool) → On (λ (b : Bool). signature_result f.declared.signature ≡ signature_result h.signature) (agrees h f defines)
-agreeing h f defines = checked P h.at TypeDiffers (typ_eq (signature_result f.declared.signature) (signature_result h.signature)) _
+neither : (a b : Bool) → not (a || b) ≡ true → a ≡ false
+neither false b h = refl
+neither true b h = absurd cc
+
+-- a definition agrees with the declarations before, and is the only one
+agreeing : (h : Header) (f : Func) → On (λ (b : Bool). Agrees h.signature f) (agrees h f true)
+agreeing h f = checked P h.at TypeDiffers (typ_eq (signature_result f.declared.signature) (signature_result h.signature)) _
     (λ r. skip P (check h.at SafetyDiffers (same_safety f.declared.safety (safety_of h.qualifiers))) _
     (λ b. skip P (check h.at BadDeclaration
     (flag_eq f.declared.no_except h.qualifiers.no_except && not (h.storage.is_static && not (is_internal f.linkage)))) _
-    (λ d. always (check h.at Redeclared (not (defines && (f.is_defined || is_some f.builtin))))
-    (typ_same (signature_result f.declared.signature) (signature_result h.signature) r))))
+    (λ d. said (Agrees h.signature f) h.at Redeclared (not (f.is_defined || is_some f.builtin)) (λ u. record {
+      result = typ_same (signature_result f.declared.signature) (signature_result h.signature) r;
+      undefined = neither f.is_defined (is_some f.builtin) u;
+    }))))
   where
     P : Bool → Type 0
-    P b = signature_result f.declared.signature ≡ signature_result h.signature
-
-    always : (r : Result Bool ElabFault) → signature_result f.declared.signature ≡ signature_result h.signature → On P r
-    always (Ok b) e = e
-    always (Err z) e = tt
+    P b = Agrees h.signature f
 
 outside_body : (s : List Lexeme) (st : State) (n : ℕ) (of : FuncKind) (first : ℕ) (m : Method) (body : syntax.Tree) → Holds st → m.header.kind ≡ of
     → m.header.class ≡ Some n → On Holds (Members.outside_body lambdas_of s st n of first m body)
@@ -266,8 +278,8 @@ outside_body s st n of first m body h e c =
     (λ x. bind (λ (p : ℕ). first_from (is_same_function m.header) 0 st.ctx.funcs ≡ Some p) Holds
     (expect m.header.at TypeDiffers (first_from (is_same_function m.header) 0 st.ctx.funcs)) _
     (expected m.header.at TypeDiffers (first_from (is_same_function m.header) 0 st.ctx.funcs))
-    (λ p q. bind (λ (b : Bool). signature_result (func_at st.ctx.funcs p).declared.signature ≡ signature_result m.header.signature) Holds
-    (Members.outside_agrees m.header (func_at st.ctx.funcs p)) _ (agreeing (with_noexcept m.header) (func_at st.ctx.funcs p) true)
+    (λ p q. bind (λ (b : Bool). Agrees m.header.signature (func_at st.ctx.funcs p)) Holds
+    (Members.outside_agrees m.header (func_at st.ctx.funcs p)) _ (agreeing (with_noexcept m.header) (func_at st.ctx.funcs p))
     (λ y r. checked Holds m.header.at BadDeclaration (typs_eq (types_of m.header.params) (signature_parameters m.header.signature)) _
     (λ z. method_holds s (record st { ctx = outside_defined s st.ctx p m.header first (last_token (Some body)) }) n p of m body
     (outside_ready s st m.header p first (last_token (Some body)) h (finds st.ctx.funcs m.header p q r) z) e c))))))
@@ -319,47 +331,55 @@ outside_holds s x st at of first kids h = bind (OfKind of) Holds
 
 -- At file scope
 
-named : (bodies : List Body) (c : Ctx) (at : At) (name : List ℕ) (o : Option Entity) → HoldsOf (round_with bodies c)
-    → On (λ (d : Ctx). HoldsOf (round_with bodies d)) (Functions.function_named c at name o)
+named : (bodies : List Body) (c : Ctx) (at : At) (name : List ℕ) (o : Option Entity) → HoldsOf all_wait (round_with bodies c)
+    → On (λ (d : Ctx). HoldsOf all_wait (round_with bodies d)) (Functions.function_named c at name o)
 named bodies c at name None h = h
-named bodies c at name (Some e) h = skip (λ (d : Ctx). HoldsOf (round_with bodies d)) (check at Redeclared (Functions.is_function_entity e.kind)) _ (λ y. h)
+named bodies c at name (Some e) h =
+    skip (λ (d : Ctx). HoldsOf all_wait (round_with bodies d)) (check at Redeclared (Functions.is_function_entity e.kind)) _ (λ y. h)
 
-name_declared : (bodies : List Body) (c : Ctx) (h : Header) (o : Option ℕ) → HoldsOf (round_with bodies c)
-    → On (λ (d : Ctx). HoldsOf (round_with bodies d)) (Functions.name_declared c h o)
+name_declared : (bodies : List Body) (c : Ctx) (h : Header) (o : Option ℕ) → HoldsOf all_wait (round_with bodies c)
+    → On (λ (d : Ctx). HoldsOf all_wait (round_with bodies d)) (Functions.name_declared c h o)
 name_declared bodies c h (Some n) i = i
 name_declared bodies c h None i = named bodies c h.at h.name (innermost_of c.scopes h.name) i
 
 record Placing (bodies : List Body) (h : Header) (p : Placed) : Type 0 where
-  holds : HoldsOf (round_with bodies p.ctx)
+  holds : HoldsOf all_wait (round_with bodies p.ctx)
   finds : Finds p.ctx.funcs h p.place
 
-placing : (bodies : List Body) (c : Ctx) (h : Header) (defines : Bool) (o : Option ℕ) → h.kind ≡ Plain → h.class ≡ None → HoldsOf (round_with bodies c)
-    → first_from (is_same_function h) 0 c.funcs ≡ o → On (Placing bodies h) (Functions.declared_in c h defines o)
-placing bodies c h defines (Some i) e f j q =
-    bind (λ (b : Bool). signature_result (func_at c.funcs i).declared.signature ≡ signature_result h.signature) (Placing bodies h)
-    (agrees h (func_at c.funcs i) defines) _ (agreeing h (func_at c.funcs i) defines) (λ y r. record { holds = j; finds = finds c.funcs h i q r })
-placing bodies c h defines None e f j q = bind (λ (d : Ctx). HoldsOf (round_with bodies d)) (Placing bodies h) (Functions.name_declared c h h.class) _
+placing : (bodies : List Body) (c : Ctx) (h : Header) (o : Option ℕ) → h.kind ≡ Plain → h.class ≡ None → HoldsOf all_wait (round_with bodies c)
+    → first_from (is_same_function h) 0 c.funcs ≡ o → On (Placing bodies h) (Functions.declared_in c h true o)
+placing bodies c h (Some i) e f j q = bind (λ (b : Bool). Agrees h.signature (func_at c.funcs i)) (Placing bodies h)
+    (agrees h (func_at c.funcs i) true) _ (agreeing h (func_at c.funcs i)) (λ y r. record { holds = j; finds = finds c.funcs h i q r })
+placing bodies c h None e f j q = bind (λ (d : Ctx). HoldsOf all_wait (round_with bodies d)) (Placing bodies h) (Functions.name_declared c h h.class) _
     (name_declared bodies c h h.class j)
     (λ d i. record {
       holds = declared_holds (round_with bodies d) h e f i;
-      finds = record { func = new_function h; at = at_end d.funcs (new_function h); kind = refl; class = refl; params = refl; result = refl };
+      finds = record {
+        func = new_function h;
+        at = at_end d.funcs (new_function h);
+        undefined = refl;
+        kind = refl;
+        class = refl;
+        params = refl;
+        result = refl;
+      };
     })
 
-function_placed : (bodies : List Body) (c : Ctx) (h : Header) (defines : Bool) → h.kind ≡ Plain → h.class ≡ None → HoldsOf (round_with bodies c)
-    → On (Placing bodies h) (Functions.function_declared c h defines)
-function_placed bodies c h defines e f i = skip (Placing bodies h) (Functions.main_fits h) _
+function_placed : (bodies : List Body) (c : Ctx) (h : Header) → h.kind ≡ Plain → h.class ≡ None → HoldsOf all_wait (round_with bodies c)
+    → On (Placing bodies h) (Functions.function_declared c h true)
+function_placed bodies c h e f i = skip (Placing bodies h) (Functions.main_fits h) _
     (λ a. skip (Placing bodies h) (check h.at BadDeclaration (not h.qualifiers.is_const)) _
     (λ b. skip (Placing bodies h) (Functions.dynamic_fits h) _
     (λ d. skip (Placing bodies h) (check h.at OutOfProfile (not h.storage.is_c || Functions.may_be_c h)) _
     (λ y. skip (Placing bodies h) (Functions.header_sized c h) _
-    (λ z. placing bodies c h defines (first_from (is_same_function h) 0 c.funcs) e f i refl)))))
+    (λ z. placing bodies c h (first_from (is_same_function h) 0 c.funcs) e f i refl)))))
 
 pub file_holds : (s : List Lexeme) (st : State) (x : Storage) (at : At) (first : ℕ) (d : Declared) (body : syntax.Tree) (f : Form) → Holds st
     → On Holds (Units.defined_with s st x at first d body f)
 file_holds s st x at first d body (func sig) h = skip Holds (Functions.text_sized at (definition_text s x first body)) _
     (λ y. checked Holds at BadDeclaration (typs_eq (types_of d.params) (signature_parameters sig)) _
     (λ e. bind (Placing st.bodies (header_of s at x d sig)) Holds (Functions.function_declared st.ctx (header_of s at x d sig) true) _
-    (function_placed st.bodies st.ctx (header_of s at x d sig) true refl refl h)
+    (function_placed st.bodies st.ctx (header_of s at x d sig) refl refl h)
     (λ p i. function_holds s (record st {
       ctx = with_definition p.ctx p.place (header_of s at x d sig) (definition_text s x first body)
           (closing_offset s body);

@@ -31,14 +31,15 @@ use Rattle.elab_places.proofs.Declaring.{on}
 use Rattle.elab_places.proofs.Words.{words_law}
 use Rattle.elab_places.proofs.Rounds.{functions_bodies_law}
 use Rattle.elab_places.proofs.MemberRounds.{constructors_bodies_law, destructors_bodies_law}
-use Rattle.elab_program_bodies.specs.Known.{IsKnown, Stand, Holds}
+use Rattle.elab_program_bodies.specs.Known.{IsKnown, all_wait, Stand, Holds}
 use Rattle.elab_program_bodies.proofs.Lists.{at_func, is_within, set_at}
 use Rattle.elab_program_bodies.proofs.Known.{well_signed, stand_follows, Redefined, known_again, stand_set, bodies_set}
 
--- The function that the header is of
+-- The function that the header is of, before it is defined
 pub record Finds (funcs : List Func) (h : Header) (place : ℕ) : Type 0 where
   pub func : Func
   pub at : slice_get funcs place ≡ Some func
+  pub undefined : func.is_defined ≡ false
   pub kind : func.kind ≡ h.kind
   pub class : func.class ≡ h.class
   pub params : number_of (signature_parameters func.declared.signature) ≡ number_of (signature_parameters h.signature)
@@ -55,7 +56,7 @@ pub record Ready (st : State) (place : ℕ) (h : Header) : Type 0 where
   pub result : signature_result func.declared.signature ≡ signature_result h.signature
   pub params : func.params ≡ map param_of h.params
   pub counted : number_of (signature_parameters func.declared.signature) ≡ length func.params
-  pub stand : Stand (Some place) st.ctx.funcs st.bodies
+  pub stand : Stand all_wait (Some place) st.ctx.funcs st.bodies
   pub owned : AllOwned (round_of st)
 
 -- what it becomes
@@ -89,7 +90,8 @@ ready st h place c g i x b e d = record {
   result = ap (λ z. signature_result z.signature) b.redefined.declared ∙ x.result;
   params = b.params;
   counted = b.redefined.counted;
-  stand = subst (λ (fs : List Func). Stand (Some place) fs st.bodies) (sym e) (stand_set st.ctx.funcs st.bodies place x.func g x.at b.redefined i.stand);
+  stand = subst (λ (fs : List Func). Stand all_wait (Some place) fs st.bodies) (sym e)
+      (stand_set all_wait st.ctx.funcs st.bodies place x.func g x.at x.undefined b.redefined i.stand);
   owned = record {
     defaults = subst DefaultsOwn (sym d) i.owned.defaults;
     bodies = subst (λ (fs : List Func). BodiesOwn fs st.bodies) (sym e)
@@ -114,8 +116,8 @@ some_object (Some n) None e = absurd cc
 pub function_holds : (s : List Lexeme) (st : State) (h : Header) (this : Option Typ) (place : ℕ) (t : syntax.Tree) → Ready st place h → is_special h.kind ≡ false
     → is_object_of h.class this ≡ true → On Holds (function_body lambdas_of s st h this place t)
 function_holds s st h this place t r k o = on Holds (function_body lambdas_of s st h this place t) (λ x e. record {
-  stand = making.holds (keeping.Holds Stand) (function_body lambdas_of s st h this place t) x
-      (keeping.function_fits Stand stand_follows s st h this place t r.func r.stand (has_function st place h r)
+  stand = making.holds (keeping.Holds (Stand all_wait)) (function_body lambdas_of s st h this place t) x
+      (keeping.function_fits (Stand all_wait) (stand_follows all_wait) s st h this place t r.func r.stand (has_function st place h r)
       (record { kind = ap is_special r.kind ∙ k; object = object; result = r.result; params = r.params })) e;
   owned = functions_bodies_law s st h this place t x r.owned (is_within st.ctx.funcs place r.func r.at) words e;
 })
@@ -138,8 +140,9 @@ special_words st place n h r k c = ap words_of (at_func st.ctx.funcs place r.fun
 pub constructor_holds : (s : List Lexeme) (st : State) (h : Header) (n place : ℕ) (inits : syntax.Trees) (t : syntax.Tree) → Ready st place h
     → h.kind ≡ Constructor → h.class ≡ Some n → On Holds (constructor_body lambdas_of s st h n place inits t)
 constructor_holds s st h n place inits t r k c = on Holds (constructor_body lambdas_of s st h n place inits t) (λ x e. record {
-  stand = making.holds (keeping.Holds Stand) (constructor_body lambdas_of s st h n place inits t) x
-      (keeping.constructor_fits Stand stand_follows s st h n place inits t r.func r.stand (has_function st place h r) (r.kind ∙ k) (r.class ∙ c) r.params) e;
+  stand = making.holds (keeping.Holds (Stand all_wait)) (constructor_body lambdas_of s st h n place inits t) x
+      (keeping.constructor_fits (Stand all_wait) (stand_follows all_wait) s st h n place inits t r.func r.stand (has_function st place h r)
+      (r.kind ∙ k) (r.class ∙ c) r.params) e;
   owned = constructors_bodies_law s st h n place inits t x r.owned (is_within st.ctx.funcs place r.func r.at)
       (special_words st place n h r (ap is_special (r.kind ∙ k)) (r.class ∙ c)) e;
 })
@@ -151,8 +154,8 @@ no_params (p ∷ ps) h = absurd cc
 pub destructor_holds : (s : List Lexeme) (st : State) (h : Header) (n place : ℕ) (t : syntax.Tree) → Ready st place h → h.kind ≡ Destructor → h.class ≡ Some n
     → On Holds (destructor_body lambdas_of s st h n place t)
 destructor_holds s st h n place t r k c = on Holds (destructor_body lambdas_of s st h n place t) (λ x e. record {
-  stand = making.holds (keeping.Holds Stand) (destructor_body lambdas_of s st h n place t) x
-      (keeping.destructor_fits Stand stand_follows s st h n place t r.func r.stand (has_function st place h r) (r.kind ∙ k) (r.class ∙ c)
+  stand = making.holds (keeping.Holds (Stand all_wait)) (destructor_body lambdas_of s st h n place t) x
+      (keeping.destructor_fits (Stand all_wait) (stand_follows all_wait) s st h n place t r.func r.stand (has_function st place h r) (r.kind ∙ k) (r.class ∙ c)
       (no_params r.func.params none)) e;
   owned = destructors_bodies_law s st h n place t x r.owned (is_within st.ctx.funcs place r.func r.at)
       (special_words st place n h r (ap is_special (r.kind ∙ k)) (r.class ∙ c) ∙ (let m = many st place h r in let z = none in omega arith)) e;

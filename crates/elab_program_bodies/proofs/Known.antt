@@ -27,8 +27,9 @@ use Rattle.elab_bodies.proofs.Keeping.{Follows, fits_follow}
 use Rattle.state_growth.proofs.Lists.{added}
 use Rattle.elab_places.specs.Places.{Owned}
 use Rattle.elab_places.specs.Round.{BodyOwns, BodiesOwn}
-use Rattle.elab_program_bodies.specs.Known.{IsKnown, AllKnown, BodyCounts, AllCount, Stand}
+use Rattle.elab_program_bodies.specs.Known.{IsKnown, AllKnown, BodyCounts, AllCount, OneBody, Stand}
 use Rattle.elab_program_bodies.proofs.Lists.{not_both, apart, at_func, is_within, set_apart, set_each, set_kept, made_once}
+use Rattle.elab_program_bodies.proofs.Once.{fewer, one_more, one_call, one_last, one_set}
 
 -- A function that has as many parameters as its signature is well signed
 
@@ -57,12 +58,14 @@ count_further fs f b x = record { func = x.func; at = added fs (f ∷ []) b.func
 counts_more : (fs : List Func) (f : Func) (bs : List Body) → AllCount fs bs → AllCount (fs ++ f ∷ []) bs
 counts_more fs f bs h = record { each = λ i b e. count_further fs f b (h.each i b e) }
 
-pub stand_more : (now : Option ℕ) (fs : List Func) (bs : List Body) (f : Func) → IsKnown f → f.implicit ≡ false → Stand now fs bs → Stand now (fs ++ f ∷ []) bs
-stand_more now fs bs f k i h = record {
+pub stand_more : (w : ℕ → Bool) (now : Option ℕ) (fs : List Func) (bs : List Body) (f : Func) → IsKnown f → f.implicit ≡ false → Stand w now fs bs
+    → Stand w now (fs ++ f ∷ []) bs
+stand_more w now fs bs f k i h = record {
   fit = function_more now fs f bs h.fit;
   implicits = further_stands now fs bs f (λ t. not_both (StandsImplicit f) f.implicit i t) (λ t. not_both (HasSource f) f.implicit i t) h.implicits;
   known = known_more fs f k h.known;
   counts = counts_more fs f bs h.counts;
+  once = one_more w now fs bs f h.once;
 }
 
 no_call : (A : Type 0) (kind : FuncKind) → kind ≡ ClosureCall → kind ≡ Destructor → A
@@ -90,12 +93,13 @@ implied_known f i = record {
       ∙ copied_many f.kind (signature_parameters f.declared.signature) e;
 }
 
-pub stand_implied : (fs : List Func) (bs : List Body) (f : Func) → Implied f → Stand None fs bs → Stand None (fs ++ f ∷ []) bs
-stand_implied fs bs f i h = record {
+pub stand_implied : (w : ℕ → Bool) (fs : List Func) (bs : List Body) (f : Func) → Implied f → Stand w None fs bs → Stand w None (fs ++ f ∷ []) bs
+stand_implied w fs bs f i h = record {
   fit = function_more None fs f bs h.fit;
   implicits = implied_stands None fs bs f i h.implicits;
   known = known_more fs f (implied_known f i) h.known;
   counts = counts_more fs f bs h.counts;
+  once = one_more w None fs bs f h.once;
 }
 
 -- One body more
@@ -103,15 +107,15 @@ stand_implied fs bs f i h = record {
 counts_body : (fs : List Func) (bs : List Body) (b : Body) → BodyCounts fs b → AllCount fs bs → AllCount fs (bs ++ b ∷ [])
 counts_body fs bs b c h = record { each = each_more (BodyCounts fs) bs b h.each c }
 
-pub stand_follows : Follows Stand
-stand_follows = record {
+pub stand_follows : (w : ℕ → Bool) → Follows (Stand w)
+stand_follows w = record {
   grows = λ now. record {
-    call = λ fs bs g i h. stand_more now fs bs g (call_known g i) i.written h;
-    body = λ fs bs b p h. record {
-      fit = body_more now fs bs b h.fit p;
-      implicits = body_stands now fs bs b h.implicits;
-      known = h.known;
-      counts = counts_body fs bs b (record { func = p.func; at = p.at; counted = p.signed.params }) h.counts;
+    call = λ fs bs g b i n p h. let x = stand_more w now fs bs g (call_known g i) i.written h in record {
+      fit = body_more now (fs ++ g ∷ []) bs b x.fit p;
+      implicits = body_stands now (fs ++ g ∷ []) bs b x.implicits;
+      known = x.known;
+      counts = counts_body (fs ++ g ∷ []) bs b (record { func = p.func; at = p.at; counted = p.signed.params }) x.counts;
+      once = one_call w now fs bs g b i.defined i.written n h.once;
     };
   };
   last = λ fs bs b m h. record {
@@ -119,11 +123,23 @@ stand_follows = record {
     implicits = last_stands fs bs b h.implicits;
     known = h.known;
     counts = counts_body fs bs b (record { func = m.func; at = m.at; counted = m.signed.params }) h.counts;
+    once = one_last w fs bs b h.once;
   };
 }
 
-pub stand_now : (fs : List Func) (bs : List Body) (n : ℕ) → Stand None fs bs → Stand (Some n) fs bs
-stand_now fs bs n h = record { fit = fits_due fs bs n h.fit; implicits = stand_due fs bs n h.implicits; known = h.known; counts = h.counts }
+-- a function gets its body
+pub stand_now : (v w : ℕ → Bool) (fs : List Func) (bs : List Body) (n : ℕ) → OneBody v (Some n) fs bs → Stand w None fs bs → Stand v (Some n) fs bs
+stand_now v w fs bs n o h = record {
+  fit = fits_due fs bs n h.fit;
+  implicits = stand_due fs bs n h.implicits;
+  known = h.known;
+  counts = h.counts;
+  once = o;
+}
+
+-- fewer implicit members wait
+pub stand_fewer : (v w : ℕ → Bool) (fs : List Func) (bs : List Body) → ((k : ℕ) → v k ≡ true → w k ≡ true) → Stand w None fs bs → Stand v None fs bs
+stand_fewer v w fs bs l h = record { fit = h.fit; implicits = h.implicits; known = h.known; counts = h.counts; once = fewer v w None fs bs l h.once }
 
 -- A function is defined
 
@@ -147,9 +163,15 @@ known_again f g r k = record {
 own_due : (i : ℕ) (bs : List Body) (A : Type 0) → times_made i bs + due_to (Some i) i ≡ 0 → A
 own_due i bs A h = let o : one_if (i == i) ≡ 1 = ap one_if (eq-eqb i i refl) in absurd (omega arith)
 
-pub stand_set : (fs : List Func) (bs : List Body) (i : ℕ) (f g : Func) → slice_get fs i ≡ Some f → Redefined f g → Stand None fs bs
-    → Stand (Some i) (slice_set fs i g) bs
-stand_set fs bs i f g e r h = record {
+-- an implicit member is defined
+not_implicit : (w : ℕ → Bool) (fs : List Func) (bs : List Body) (i : ℕ) (f : Func) (b : Bool) → slice_get fs i ≡ Some f → f.is_defined ≡ false
+    → Stand w None fs bs → f.implicit ≡ b → f.implicit ≡ false
+not_implicit w fs bs i f true e u h m = not_both (f.implicit ≡ false) f.is_defined u (h.implicits.each i f e m).defined
+not_implicit w fs bs i f false e u h m = m
+
+pub stand_set : (w : ℕ → Bool) (fs : List Func) (bs : List Body) (i : ℕ) (f g : Func) → slice_get fs i ≡ Some f → f.is_defined ≡ false → Redefined f g
+    → Stand w None fs bs → Stand w (Some i) (slice_set fs i g) bs
+stand_set w fs bs i f g e u r h = record {
   fit = record {
     each = λ j b q l. let m = made_once bs j b q in let x = h.fit.each j b q (omega arith) in record {
       func = x.func;
@@ -175,6 +197,7 @@ stand_set fs bs i f g e r h = record {
         let y = set_kept (λ z. number_of (signature_parameters z.declared.signature) ≡ length z.params) fs i b.func g x.func x.at x.counted (λ z. r.counted) in
         record { func = y.func; at = y.at; counted = y.holds };
   };
+  once = one_set w fs bs i f g e (at_func fs i f e) u r.defined (r.implicit ∙ not_implicit w fs bs i f f.implicit e u h refl) h.once;
 }
 
 -- its words stay as many

@@ -3,6 +3,7 @@ pub mod Declaring
 pub mod Defining
 pub mod Known
 pub mod Lists
+pub mod Once
 pub mod Programs
 pub mod Shown
 pub mod Special

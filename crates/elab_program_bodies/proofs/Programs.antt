@@ -60,5 +60,5 @@ places_law sources p e i k u f tree g q t = let c = come_law sources p e i u g i
     shown.places_law c.source.tokens c.source.decls c.state c.is k f tree (ap (λ (z : Unit). slice_get z.funcs k) (sym c.shown) ∙ q) t
 
 pub functions_law : ProgramsFit
-functions_law sources p e i k u f tree g c l q t =
-    shown.functions_law c.source.tokens c.source.decls c.state c.is k f tree l (ap (λ (z : Unit). slice_get z.funcs k) (sym c.shown) ∙ q) t
+functions_law sources p e i k u f tree g q t = let c = come_law sources p e i u g in
+    shown.functions_law c.source.tokens c.source.decls c.state c.is k f tree (ap (λ (z : Unit). slice_get z.funcs k) (sym c.shown) ∙ q) t

@@ -20,11 +20,11 @@ use Rattle.elab_places.specs.Places.{Owned}
 use Rattle.elab_places.specs.Round.{BodyOwns, BodiesOwn}
 use Rattle.elab_places.proofs.Steps.{held_by}
 use Rattle.elab_places.proofs.Words.{free_law}
-use Rattle.elab_places.proofs.Declarations as declarations
-use Rattle.elab_program_bodies.specs.Known.{IsKnown, HoldsOf, Holds}
-use Rattle.elab_program_bodies.specs.Units.{UnitsHold, HasPlaces, PlacesShown, FunctionsShown}
+use Rattle.elab_program_bodies.specs.Known.{IsKnown, Holds, none_waits, HoldsWhole}
+use Rattle.elab_program_bodies.specs.Units.{UnitsHold, UnitsHaveOneBody, HasPlaces, PlacesShown, FunctionsShown}
 use Rattle.elab_program_bodies.proofs.Lists.{not_both, at_func}
-use Rattle.elab_program_bodies.proofs.Walk.{walks}
+use Rattle.elab_program_bodies.proofs.Once.{once}
+use Rattle.elab_program_bodies.proofs.Walk.{unit_holds}
 
 -- Where a unit begins
 
@@ -52,13 +52,17 @@ begins source p traits = record {
     };
     known = record { each = each_builtin IsKnown builtin_known };
     counts = record { each = λ i b e. absurd cc };
+    once = record { each = λ k. omega arith };
   };
   owned = record { defaults = tt; bodies = tt };
 }
 
 pub hold_law : UnitsHold
-hold_law s decls st u = held_by Holds (unit_from s (start_behind u.source u.before u.traits) decls) st
-    (declarations.unit HoldsOf walks s (start_behind u.source u.before u.traits) decls (begins u.source u.before u.traits)) u.made
+hold_law s decls st u = held_by HoldsWhole (unit_from s (start_behind u.source u.before u.traits) decls) st
+    (unit_holds s (start_behind u.source u.before u.traits) decls (begins u.source u.before u.traits)) u.made
+
+pub once_law : UnitsHaveOneBody
+once_law s decls st u k = once none_waits st.ctx.funcs st.bodies (hold_law s decls st u).stand.once k
 
 -- Places
 
@@ -84,4 +88,4 @@ places_law s decls st u k f tree e g = let h = hold_law s decls st u in let x = 
     (with_places st h.owned.bodies k x.func x.at (body_of k st.bodies) refl tree) g
 
 pub functions_law : FunctionsShown
-functions_law s decls st u k f tree l e g = shown.units_law s decls st (hold_law s decls st u).stand.fit k f tree l e g
+functions_law s decls st u k f tree e g = shown.units_law s decls st (hold_law s decls st u).stand.fit k f tree (once_law s decls st u k) e g

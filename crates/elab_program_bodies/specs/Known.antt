@@ -1,13 +1,14 @@
--- What holds of the functions of a unit and of the bodies so far, behind each declaration.
-use Rattle.std.specs.Prelude.{◌≡◌, ℕ, true, false, List, length, slice_get, Option, Some, None}
+-- What holds of the functions of a unit and of the bodies so far, behind each declaration and behind the unit.
+use Rattle.std.specs.Prelude.{◌≡◌, ◌≤◌, ℕ, ◌+◌, Bool, true, false, not, ◌&&◌, List, length, slice_get, Option, Some, None}
 use Rattle.elab_rules.specs.cpp_types.Typ.{none as no_typs}
 use Rattle.elab_rules.specs.cpp_tree.declared.program.FuncKind.TheVariants.{Constructor, Destructor}
 use Rattle.elab_rules.specs.cpp_tree.Rows.{is_special}
 use Rattle.elab_rules.specs.cpp_tree.Typing.{is_class_typ}
 use Rattle.elab_rules.specs.elab_ctx.Ctx.{Func}
-use Rattle.elab_rules.specs.Initialising.{signature_parameters, signature_result}
+use Rattle.elab_rules.specs.Initialising.{func_at, signature_parameters, signature_result}
+use Rattle.elab_rules.specs.Programs.{one_if}
 use Rattle.elab_rules.specs.Statements.{State, Body}
-use Rattle.elab_bodies.specs.Bodies.{number_of, AllFit}
+use Rattle.elab_bodies.specs.Bodies.{number_of, times_made, due_to, AllFit}
 use Rattle.elab_bodies.specs.Keeping.{ImplicitsStand}
 use Rattle.elab_places.specs.Functions.{copy_words}
 use Rattle.elab_places.specs.Round.{Round, round_of, AllOwned}
@@ -38,16 +39,38 @@ pub record BodyCounts (funcs : List Func) (b : Body) : Type 0 where
 pub record AllCount (funcs : List Func) (bodies : List Body) : Type 0 where
   pub each : (i : ℕ) (b : Body) → slice_get bodies i ≡ Some b → BodyCounts funcs b
 
+-- A function has one body at most, and none as long as it is not defined, or is an implicit member that waits
+
+abbrev pub most_bodies : Func → Bool → ℕ
+most_bodies f waits = one_if (f.is_defined && not (f.implicit && waits))
+
+pub record OneBody (waits : ℕ → Bool) (now : Option ℕ) (funcs : List Func) (bodies : List Body) : Type 0 where
+  pub each : (k : ℕ) → times_made k bodies + due_to now k ≤ most_bodies (func_at funcs k) (waits k)
+
 -- All of this, while the body of a function is made that is told, or of none
-pub record Stand (now : Option ℕ) (funcs : List Func) (bodies : List Body) : Type 0 where
+pub record Stand (waits : ℕ → Bool) (now : Option ℕ) (funcs : List Func) (bodies : List Body) : Type 0 where
   pub fit : AllFit now funcs bodies
   pub implicits : ImplicitsStand now funcs bodies
   pub known : AllKnown funcs
   pub counts : AllCount funcs bodies
+  pub once : OneBody waits now funcs bodies
 
-pub record HoldsOf (r : Round) : Type 0 where
-  pub stand : Stand None r.funcs r.bodies
+pub record HoldsOf (waits : ℕ → Bool) (r : Round) : Type 0 where
+  pub stand : Stand waits None r.funcs r.bodies
   pub owned : AllOwned r
 
+-- behind a declaration: implicit members get their bodies behind the last one
+
+abbrev pub all_wait : ℕ → Bool
+all_wait k = true
+
 abbrev pub Holds : State → Type 0
-Holds st = HoldsOf (round_of st)
+Holds st = HoldsOf all_wait (round_of st)
+
+-- behind the whole unit
+
+abbrev pub none_waits : ℕ → Bool
+none_waits k = false
+
+abbrev pub HoldsWhole : State → Type 0
+HoldsWhole st = HoldsOf none_waits (round_of st)

@@ -11,7 +11,7 @@ use Rattle.elab_rules.specs.Statements.{State}
 use Rattle.elab_rules.specs.Units.{unit_from}
 use Rattle.elab_rules.specs.Programs.{unit_shown, start_behind}
 use Rattle.elab_bodies.specs.Bodies.{times_made, FitsFunction}
-use Rattle.elab_program_bodies.specs.Known.{Holds}
+use Rattle.elab_program_bodies.specs.Known.{HoldsWhole}
 
 -- a unit that stands behind others
 pub record IsUnit (s : List Lexeme) (decls : syntax.Trees) (st : State) : Type 0 where
@@ -21,7 +21,11 @@ pub record IsUnit (s : List Lexeme) (decls : syntax.Trees) (st : State) : Type 0
   pub made : unit_from s (start_behind source before traits) decls ≡ Ok st
 
 abbrev pub UnitsHold : Type 0
-UnitsHold = (s : List Lexeme) (decls : syntax.Trees) (st : State) → IsUnit s decls st → Holds st
+UnitsHold = (s : List Lexeme) (decls : syntax.Trees) (st : State) → IsUnit s decls st → HoldsWhole st
+
+-- each function has one body at most
+abbrev pub UnitsHaveOneBody : Type 0
+UnitsHaveOneBody = (s : List Lexeme) (decls : syntax.Trees) (st : State) → IsUnit s decls st → (k : ℕ) → times_made k st.bodies ≤ 1
 
 -- what is made in the body has places behind the words of the call, each its own: the fields `within` and `once` of `WellFormedBody`
 pub record HasPlaces (f : Func) (tree : Tree) : Type 0 where
@@ -32,7 +36,7 @@ abbrev pub PlacesShown : Type 0
 PlacesShown = (s : List Lexeme) (decls : syntax.Trees) (st : State) → IsUnit s decls st → (k : ℕ) (f : Func) (tree : Tree)
     → slice_get (unit_shown s decls st).funcs k ≡ Some f → f.body ≡ Some tree → HasPlaces f tree
 
--- the fields `block`, `end` and `words`, where the function has no other body
+-- the fields `block`, `end` and `words`
 abbrev pub FunctionsShown : Type 0
-FunctionsShown = (s : List Lexeme) (decls : syntax.Trees) (st : State) → IsUnit s decls st → (k : ℕ) (f : Func) (tree : Tree) → times_made k st.bodies ≤ 1
+FunctionsShown = (s : List Lexeme) (decls : syntax.Trees) (st : State) → IsUnit s decls st → (k : ℕ) (f : Func) (tree : Tree)
     → slice_get (unit_shown s decls st).funcs k ≡ Some f → f.body ≡ Some tree → FitsFunction f tree

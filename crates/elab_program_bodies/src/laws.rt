@@ -1,11 +1,12 @@
 //! Laws of the bodies of programs. A function here does nothing: its clauses are the laws.
 
 ghost use Rattle.elab_program_bodies.specs.Programs.{UnitsCome, ProgramsHavePlaces, ProgramsFit};
-ghost use Rattle.elab_program_bodies.specs.Units.{UnitsHold, PlacesShown, FunctionsShown};
+ghost use Rattle.elab_program_bodies.specs.Units.{UnitsHold, UnitsHaveOneBody, PlacesShown, FunctionsShown};
 
 /// What holds behind the declarations of a unit, and of the bodies that it shows.
 pub fn units()
     ensures hold { UnitsHold }
+    ensures once { UnitsHaveOneBody }
     ensures places { PlacesShown }
     ensures functions { FunctionsShown }
 {}

@@ -9,9 +9,9 @@ use Rattle.elab_unit_items.proofs.Whole.{programs_law}
 use Rattle.elab_well_formed.specs.Programs.{ProgramsAreWellFormed, ReadAreSources}
 
 pub programs_are_well_formed : ProgramsAreWellFormed
-programs_are_well_formed xs p t e i k u f tree a b d one =
+programs_are_well_formed xs p t e i k u f tree a b d =
     let places : HasPlaces f tree = places_law xs p e i k u f tree a b d in
-    let function : FitsFunction f tree = functions_law xs p e i k u f tree a one.comes one.once b d in
+    let function : FitsFunction f tree = functions_law xs p e i k u f tree a b d in
     record {
       nodes = programs_fit xs p t e i u a k f tree b d;
       block = function.block;

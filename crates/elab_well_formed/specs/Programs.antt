@@ -1,25 +1,17 @@
 -- The law: each body of each unit of a program is well formed.
-use Rattle.std.specs.Prelude.{◌≡◌, ◌≤◌, ℕ, List, Some, Ok, slice_get}
+use Rattle.std.specs.Prelude.{◌≡◌, ℕ, List, Some, Ok, slice_get}
 use Rattle.elab_rules.specs.cpp_tree.Trees.{Tree}
 use Rattle.elab_rules.specs.cpp_tree.Units.{Func, Unit, TypedProgram}
 use Rattle.elab_rules.specs.cpp_tree.WellFormed.{WellFormedBody}
 use Rattle.elab_rules.specs.Programs.{Source, program_of}
 use Rattle.state_growth.specs.Programs.{unit_setting}
-use Rattle.elab_bodies.specs.Bodies.{times_made}
-use Rattle.elab_program_bodies.specs.Programs.{ComesFrom}
 use Rattle.elab_read_texts.specs.Texts.{IsRead}
 use Rattle.elab_fits_units.specs.Programs.{AreSources}
-
--- The function that a unit shows with a body has no other body: none was made for it twice behind the declarations of its source. One is, where the header of
--- a member, which is read again behind the brace of its class, is that of another member by then.
-pub record HasOneBody (sources : List Source) (i k : ℕ) (u : Unit) : Type 0 where
-  pub comes : ComesFrom sources i u
-  pub once : times_made k comes.state.bodies ≤ 1
 
 -- where sources are as the parser makes them
 abbrev pub ProgramsAreWellFormed : Type 0
 ProgramsAreWellFormed = (xs : List Source) (p : TypedProgram) → AreSources xs → program_of xs ≡ Ok p → (i k : ℕ) (u : Unit) (f : Func) (tree : Tree)
-    → slice_get p.units i ≡ Some u → slice_get u.funcs k ≡ Some f → f.body ≡ Some tree → HasOneBody xs i k u → WellFormedBody (unit_setting p u f) tree
+    → slice_get p.units i ≡ Some u → slice_get u.funcs k ≡ Some f → f.body ≡ Some tree → WellFormedBody (unit_setting p u f) tree
 
 -- a source has the tokens of a text, and the declarations that they derive
 pub record IsReadSource (x : Source) : Type 0 where

@@ -2,7 +2,7 @@
 
 ghost use Rattle.elab_well_formed.specs.Programs.{ProgramsAreWellFormed, ReadAreSources};
 
-/// Each body of each unit of a program is well formed, where its function has no other body; sources that are read from texts are as this asks.
+/// Each body of each unit of a program is well formed; sources that are read from texts are as this asks.
 pub fn programs()
     ensures formed { ProgramsAreWellFormed }
     ensures sources { ReadAreSources }
