@@ -116,10 +116,6 @@ pub ok_more : {A E X : Type 0} (r : Result A E) (x y z : X) → OnOk r (x ≡ y)
 ok_more (Ok a) x y z h e = h ∙ e
 ok_more (Err d) x y z h e = tt
 
-pub ok_shown : {A E X : Type 0} (r : Result A E) (f : A → X) (v : A) (x : X) → IfOk r (λ u. u ≡ v) → f v ≡ x → IfOk r (λ u. f u ≡ x)
-ok_shown (Ok a) f v x h e = ap f h ∙ e
-ok_shown (Err d) f v x h e = tt
-
 pub words_sum : (w n a b x y p q : ℕ) → w ≡ n + (a + b) → n ≡ p → a ≡ x → b ≡ y → q ≡ p → w ≡ x + (y + q)
 words_sum w n a b x y p q e f g h i = omega arith
 

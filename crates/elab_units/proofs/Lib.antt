@@ -5,4 +5,3 @@ pub mod Elaborating
 pub mod Joins
 pub mod KidSteps
 pub mod Outcomes
-pub mod Reading

@@ -1,5 +1,5 @@
 -- The bodies of a unit in one list of nodes.
-use Rattle.std.specs.Prelude.{ℕ, ◌+◌, nat_lt, Bool, List, map}
+use Rattle.std.specs.Prelude.{ℕ, nat_lt, Bool, List, map}
 use Rattle.std.specs.List.{list_all}
 use Rattle.elab_entry.specs.cpp_types.Typ.{typ_of}
 use Rattle.elab_entry.specs.cpp_tree.declared.arena.TNodeId.{TNodeId}
@@ -8,10 +8,6 @@ use Rattle.elab_entry.specs.cpp_tree.Arena.{tree_at, trees_of}
 use Rattle.elab_entry.specs.elab_rules.Statements.{Body}
 use Rattle.elab_units.specs.declared.joining.Placed.{Placed}
 use Rattle.elab_units.specs.declared.joining.Joined.{Joined}
-
--- the id of a node behind so many others
-abbrev pub moved_id : ℕ → TNodeId → TNodeId
-moved_id by id = record { 0 = id.0 + by }
 
 -- a body, whose tree is one of these
 abbrev pub placed_in : List Tree → Placed → Body
@@ -24,3 +20,7 @@ are_placed count bodies = list_all (λ (p : Placed). nat_lt p.tree.0 count) bodi
 -- the bodies that stand in the list
 abbrev pub bodies_in : Joined → List Body
 bodies_in j = map (placed_in (trees_of j.nodes.items)) j.bodies.items
+
+-- the places of their trees
+abbrev pub roots_of : List Placed → List TNodeId
+roots_of bodies = map (λ (p : Placed). p.tree) bodies

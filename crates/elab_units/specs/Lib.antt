@@ -4,5 +4,4 @@ pub mod Linkage
 pub mod Made
 pub mod Outcomes
 pub mod Programs
-pub mod Readable
 pub mod Sources

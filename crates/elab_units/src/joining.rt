@@ -1,13 +1,14 @@
 // The bodies of a unit in one list of nodes.
 
-ghost use Rattle.std.specs.Prelude.{◌≡◌, ◌∷◌, ◌++◌, [], List, length, map, nat_lt, true, IfOk, OnOk};
-ghost use Rattle.elab_entry.specs.cpp_tree.Trees.{Tree};
-ghost use Rattle.elab_entry.specs.cpp_tree.Arena.{trees_of, with_node};
+ghost use Rattle.std.specs.Prelude.{◌≡◌, ◌∷◌, ◌++◌, [], length, map, true, IfOk, OnOk};
+ghost use Rattle.elab_entry.specs.cpp_tree.Arena.{trees_of};
 ghost use Rattle.elab_entry.specs.elab_scopes.States.{body_of};
-ghost use Rattle.elab_units.specs.Joined.{moved_id as moved_id_of, placed_in, are_placed, bodies_in};
+ghost use Rattle.elab_units.specs.Joined.{placed_in, are_placed, roots_of, bodies_in};
+ghost use Rattle.tree_forests.specs.Copies.{OwnForest};
 
 use elab_entry::below::{Body, TNode, TNodeId};
 use std::alloc::{AllocError, Global};
+use tree_forests::copy_tree;
 
 /// Where the tree of a body stands among the nodes of the unit, and the items of its frame.
 #[derive(Drop)]
@@ -24,77 +25,7 @@ pub struct Joined {
     pub bodies: Vec<Placed>,
 }
 
-// An id behind so many nodes.
-fn moved_id(by: u32, id: TNodeId) -> Result<TNodeId, AllocError>
-    ensures { IfOk result (λ r. r ≡ moved_id_of by id) }
-{
-    match id.0.checked_add(by) {
-        Some(moved) => Ok(TNodeId(moved)),
-        None => Err(AllocError),
-    }
-}
-
-// Ids behind so many nodes.
-fn moved_ids(alloc: Global, by: u32, ids: &[TNodeId]) -> Result<Vec<TNodeId>, AllocError>
-    ensures { IfOk result (λ v. v.items ≡ map (moved_id_of by) ids.now) }
-{
-    let mut list = Vec::new(alloc);
-    for id in ids {
-        let moved = moved_id(by, *id)?;
-        list.push(moved)?;
-    }
-    Ok(list)
-}
-
-// Puts a node behind others: so many trees stand before those of its own list.
-fn put_node(alloc: Global, nodes: &mut Vec<TNode>, node: TNode, by: u32) -> Result<(), AllocError>
-    ensures { (before own : List Tree) → OnOk result (length before ≡ by → trees_of nodes.old.items ≡ before ++ own → trees_of nodes.new.items ≡ before ++ with_node own node) }
-{
-    let kids = moved_ids(alloc, by, &node.kids)?;
-    nodes.push(TNode {
-        kind: node.kind,
-        ty: node.ty,
-        cat: node.cat,
-        at: node.at,
-        kids,
-    })?;
-    Ok(())
-}
-
-// Puts nodes behind others.
-fn put_behind(
-    alloc: Global,
-    nodes: &mut Vec<TNode>,
-    others: Vec<TNode>,
-    by: u32,
-) -> Result<(), AllocError>
-    requires { by ≡ length nodes.old.items }
-    ensures { OnOk result (trees_of nodes.new.items ≡ trees_of nodes.old.items ++ trees_of others.items) }
-{
-    for node in others {
-        put_node(alloc, nodes, node, by)?;
-    }
-    Ok(())
-}
-
-// How many nodes there are.
-fn count_of(nodes: &Vec<TNode>) -> Result<u32, AllocError>
-    ensures { IfOk result (λ n. n ≡ length nodes.now.items) }
-{
-    match u32::try_from(nodes.len()) {
-        Ok(count) => Ok(count),
-        Err(_) => Err(AllocError),
-    }
-}
-
-// Whether a tree stands among nodes.
-fn is_there(nodes: &Vec<TNode>, tree: TNodeId) -> bool
-    ensures { result ≡ nat_lt tree.0 (length nodes.now.items) }
-{
-    (tree.0 as usize) < nodes.len()
-}
-
-// Puts a body behind others. Its tree stands among its nodes; another one is not made.
+// Puts a copy of a body behind others: its nodes are no kids of other nodes.
 fn put_body(
     alloc: Global,
     nodes: &mut Vec<TNode>,
@@ -104,13 +35,9 @@ fn put_body(
     requires { are_placed (length (trees_of nodes.old.items)) placed.old.items ≡ true }
     ensures placed { OnOk result (are_placed (length (trees_of nodes.new.items)) placed.new.items ≡ true) }
     ensures bodies { OnOk result (map (placed_in (trees_of nodes.new.items)) placed.new.items ≡ map (placed_in (trees_of nodes.old.items)) placed.old.items ++ body_of body ∷ []) }
+    ensures forest { OwnForest [] nodes.old.items (roots_of placed.old.items) → OnOk result (OwnForest [] nodes.new.items (roots_of placed.new.items)) }
 {
-    if !is_there(&body.nodes, body.tree) {
-        return Err(AllocError);
-    }
-    let by = count_of(nodes)?;
-    let tree = moved_id(by, body.tree)?;
-    put_behind(alloc, nodes, body.nodes, by)?;
+    let tree = copy_tree(alloc, &body.nodes, body.tree, nodes)?;
     placed.push(Placed {
         func: body.func,
         tree,
@@ -119,9 +46,10 @@ fn put_body(
     Ok(())
 }
 
-/// Bodies, one behind the other: those that stand in the list are those that were given.
+/// Bodies, one behind the other: those that stand in the list are those that were given, and their trees are a forest.
 pub fn joined_bodies(alloc: Global, bodies: Vec<Body>) -> Result<Joined, AllocError>
-    ensures { IfOk result (λ j. bodies_in j ≡ map body_of bodies.items) }
+    ensures bodies { IfOk result (λ j. bodies_in j ≡ map body_of bodies.items) }
+    ensures forest { IfOk result (λ j. OwnForest [] j.nodes.items (roots_of j.bodies.items)) }
 {
     let mut nodes = Vec::new(alloc);
     let mut placed = Vec::new(alloc);

@@ -9,7 +9,6 @@ pub mod joining;
 pub mod known;
 mod lambdas;
 pub mod programs;
-pub mod readable;
 pub mod shown;
 
 pub use programs::elaborate;

@@ -5,8 +5,8 @@ ghost use Rattle.std.specs.Prelude.{◌≡◌, ◌++◌, ◌∷◌, [], length, 
 ghost use Rattle.elab_entry.specs.cpp_ast.Orders.{are_below};
 ghost use Rattle.elab_entry.specs.cpp_types.Class.{InOrder, classes_of};
 ghost use Rattle.elab_entry.specs.elab_scopes.States.{state_of};
+ghost use Rattle.tree_forests.specs.Forests.{HasForest, HaveForests};
 ghost use Rattle.elab_units.specs.Programs.{IsKept, Keeps, Elaborates};
-ghost use Rattle.elab_units.specs.Readable.{IsReadable, AreReadable};
 ghost use Rattle.elab_units.specs.Sources.{source_in};
 
 use crate::beginning::{Classes, no_classes, start_behind};
@@ -27,7 +27,7 @@ pub struct Behind {
 // What is kept of a unit.
 fn unit_made(alloc: Global, unit: &Unit, whole: &WholeUnit, st: State) -> Result<Behind, AllocError>
     requires { are_below (length whole.now.nodes) whole.now.decls.items ≡ true }
-    ensures readable { IfOk result (λ b. IsReadable b.unit) }
+    ensures forest { IfOk result (λ b. HasForest b.unit) }
     ensures kept { IfOk result (λ b. IsKept (source_in unit.now whole.now) (state_of st) b) }
 {
     let env = st.env;
@@ -56,7 +56,7 @@ fn unit_made(alloc: Global, unit: &Unit, whole: &WholeUnit, st: State) -> Result
 
 // A unit behind others: its declarations, and the bodies of the implicit members to which they refer.
 fn unit_behind(alloc: Global, source: u32, unit: &Unit, known: Classes) -> Result<Behind, ElabFault>
-    ensures readable { IfOk result (λ b. IsReadable b.unit) }
+    ensures forest { IfOk result (λ b. HasForest b.unit) }
     ensures keeps { Keeps unit.now source known result }
 {
     let whole = whole_unit(alloc, unit)?;
@@ -79,12 +79,12 @@ fn keep_unit(units: &mut Vec<UnitTree>, unit: UnitTree) -> Result<(), AllocError
 ///
 /// C++14 clauses 3 to 15, cut to the profile, and the TS. A fault names its place and the rule that is broken there; it
 /// stands in the first declaration, member, initialiser or statement in the order of the text that has one. Want of
-/// memory is `Memory`. The classes are in order, so that their objects have sizes, and the check for safety can read each
-/// unit.
+/// memory is `Memory`. The classes are in order, so that their objects have sizes, and the nodes of each unit are a
+/// forest, whose roots are the bodies of its functions.
 pub fn elaborate(alloc: Global, units: &[Unit]) -> Result<Program, ElabFault>
     ensures elaborates { Elaborates units.now result }
     ensures many { IfOk result (λ p. length p.units.items ≡ length units.now) }
-    ensures readable { IfOk result (λ p. AreReadable p.units.items) }
+    ensures forests { IfOk result (λ p. HaveForests p.units.items) }
     ensures in_order { IfOk result (λ p. InOrder (classes_of p.classes.items)) }
 {
     let mut known = no_classes(alloc);

@@ -18,13 +18,12 @@ ghost use Rattle.elab_entry.specs.elab_rules.Types.{type_named as type_named_of}
 ghost use Rattle.elab_entry.specs.elab_rules.Statements.{State as StateOf, Body as BodyOf};
 ghost use Rattle.elab_entry.specs.elab_rules.Programs.{one_if as one_if_of, words_of as words_of_of, typed_func as typed_func_of_rules, typed_funcs as typed_funcs_of, definition_in as definition_in_of, definition_if, definitions_in as definitions_in_of, unit_shown as unit_shown_of};
 ghost use Rattle.elab_entry.specs.elab_types.Syntax.{syntax_of, tree_at, trees_at};
-ghost use Rattle.elab_units.specs.Joined.{placed_in};
+ghost use Rattle.elab_units.specs.Joined.{placed_in, roots_of};
 ghost use Rattle.elab_units.specs.Made.{with_body, with_bodies, state_with, class_of_typ, class_called, definition_by};
-ghost use Rattle.elab_units.specs.Readable.{IsReadable};
+ghost use Rattle.tree_forests.specs.Forests.{HasForest, GetBodies};
 
 use crate::declarations::node_in;
 use crate::joining::{Placed, joined_bodies};
-use crate::readable::readable_unit;
 use class_table::class_text;
 use elab_entry::below::{
     Body, ClassDef, ClassRec, FuncDecl, Functions, NodeId, NodeKind, Nodes, Shape, TFunc, TGlobal,
@@ -71,7 +70,8 @@ fn words_of(found: &FuncDecl) -> Result<u32, AllocError>
 
 // A function without a body.
 fn typed_func(alloc: Global, found: FuncDecl, classes: &[ClassRec]) -> Result<TFunc, AllocError>
-    ensures { (trees : List Tree) → IfOk result (λ f. typed_func_of trees f ≡ typed_func_of_rules (classes_of classes.now) (func_of found) None) }
+    ensures shown { (trees : List Tree) → IfOk result (λ f. typed_func_of trees f ≡ typed_func_of_rules (classes_of classes.now) (func_of found) None) }
+    ensures bare { IfOk result (λ f. f.body ≡ None) }
 {
     let symbol = symbol_of(alloc, &found, classes)?;
     let words = words_of(&found)?;
@@ -97,7 +97,8 @@ fn typed_funcs(
     funcs: Vec<FuncDecl>,
     classes: &[ClassRec],
 ) -> Result<Vec<TFunc>, AllocError>
-    ensures { (trees : List Tree) → IfOk result (λ v. map (typed_func_of trees) v.items ≡ map (λ f. typed_func_of_rules (classes_of classes.now) (func_of f) None) funcs.items) }
+    ensures shown { (trees : List Tree) → IfOk result (λ v. map (typed_func_of trees) v.items ≡ map (λ f. typed_func_of_rules (classes_of classes.now) (func_of f) None) funcs.items) }
+    ensures bare { IfOk result (λ v. GetBodies [] v.items []) }
 {
     let mut list = Vec::new(alloc);
     for found in funcs {
@@ -109,7 +110,8 @@ fn typed_funcs(
 
 // Gives a function its body, unless it has one.
 fn put_body(func: &mut TFunc, body: Placed)
-    ensures { (trees : List Tree) → typed_func_of trees func.new ≡ with_body (typed_func_of trees func.old) (Some (placed_in trees body)) }
+    ensures shown { (trees : List Tree) → typed_func_of trees func.new ≡ with_body (typed_func_of trees func.old) (Some (placed_in trees body)) }
+    ensures root { GetBodies (func.old ∷ []) (func.new ∷ []) (body.tree ∷ []) }
 {
     match func.body {
         Some(_) => {}
@@ -122,7 +124,8 @@ fn put_body(func: &mut TFunc, body: Placed)
 
 // Gives a body to its function.
 fn put_one(funcs: &mut Vec<TFunc>, body: Placed)
-    ensures { (trees : List Tree) (rest : List BodyOf) → with_bodies 0 (map (typed_func_of trees) funcs.new.items) rest ≡ with_bodies 0 (map (typed_func_of trees) funcs.old.items) (placed_in trees body ∷ rest) }
+    ensures shown { (trees : List Tree) (rest : List BodyOf) → with_bodies 0 (map (typed_func_of trees) funcs.new.items) rest ≡ with_bodies 0 (map (typed_func_of trees) funcs.old.items) (placed_in trees body ∷ rest) }
+    ensures root { GetBodies funcs.old.items funcs.new.items (body.tree ∷ []) }
 {
     match funcs.get_mut(body.func as usize) {
         Some(func) => put_body(func, body),
@@ -132,7 +135,8 @@ fn put_one(funcs: &mut Vec<TFunc>, body: Placed)
 
 // Gives functions their bodies.
 fn put_bodies(funcs: &mut Vec<TFunc>, bodies: Vec<Placed>)
-    ensures { (trees : List Tree) → map (typed_func_of trees) funcs.new.items ≡ with_bodies 0 (map (typed_func_of trees) funcs.old.items) (map (placed_in trees) bodies.items) }
+    ensures shown { (trees : List Tree) → map (typed_func_of trees) funcs.new.items ≡ with_bodies 0 (map (typed_func_of trees) funcs.old.items) (map (placed_in trees) bodies.items) }
+    ensures roots { GetBodies funcs.old.items funcs.new.items (roots_of bodies.items) }
 {
     for body in bodies {
         put_one(funcs, body);
@@ -146,7 +150,8 @@ fn funcs_shown(
     bodies: Vec<Placed>,
     classes: &[ClassRec],
 ) -> Result<Vec<TFunc>, AllocError>
-    ensures { (trees : List Tree) (st : StateOf) → st.ctx.classes ≡ classes_of classes.now → st.bodies ≡ map (placed_in trees) bodies.items → IfOk result (λ v. map (typed_func_of trees) v.items ≡ typed_funcs_of st 0 (map func_of funcs.items)) }
+    ensures shown { (trees : List Tree) (st : StateOf) → st.ctx.classes ≡ classes_of classes.now → st.bodies ≡ map (placed_in trees) bodies.items → IfOk result (λ v. map (typed_func_of trees) v.items ≡ typed_funcs_of st 0 (map func_of funcs.items)) }
+    ensures roots { IfOk result (λ v. GetBodies [] v.items (roots_of bodies.items)) }
 {
     let mut list = typed_funcs(alloc, funcs, classes)?;
     put_bodies(&mut list, bodies);
@@ -277,13 +282,13 @@ pub fn unit_shown(
     classes: &[ClassRec],
 ) -> Result<UnitTree, AllocError>
     requires { are_below (length nodes.now) ids.now ≡ true }
-    ensures readable { IfOk result (λ u. IsReadable u) }
+    ensures forest { IfOk result (λ u. HasForest u) }
     ensures shown { (st : StateOf) → IfOk result (λ u. unit_of u ≡ unit_shown_of (lexemes_of tokens.now) (trees_at (syntax_of nodes.now) ids.now) (state_with st made (classes_of classes.now))) }
 {
     let defined = definitions_in(alloc, tokens, nodes, &made.types, ids)?;
     let joined = joined_bodies(alloc, made.bodies)?;
     let funcs = funcs_shown(alloc, made.funcs.into_list(), joined.bodies, classes)?;
-    readable_unit(UnitTree {
+    Ok(UnitTree {
         nodes: joined.nodes,
         funcs,
         globals: made.globals,

@@ -3,3 +3,4 @@ mod Alike
 mod Meant
 mod OneProgram
 mod OneVerdict
+mod WellFormed

@@ -12,9 +12,10 @@ use crate::refusals::{refuse_fault, refuse_front, refuse_unsafe};
 use cpp_ast::Unit;
 use cpp_tree::Program;
 use elab_units::elaborate;
+use elab_well_formed::laws::programs;
 use mark_check::is_unmarked;
 use std::alloc::{AllocError, Global};
-use tree_check::is_well_formed;
+use tree_forests::laws::forests;
 use tx_answers::Decision;
 use tx_safety::laws::readable;
 use tx_safety::{SafeProgram, SafetyFault, check};
@@ -60,26 +61,7 @@ fn checked(
     }
 }
 
-// The program of the units is tested for being well formed, which it always is, and checked.
-fn with_program(
-    alloc: Global,
-    names: &[String],
-    texts: &[Vec<u8>],
-    units: &[Unit],
-    program: Program,
-) -> Result<Verdict, AllocError>
-    requires read { AreRead 0 (map (λ text. text.items) texts.now) units.now }
-    requires elaborated { HasProgram (map (λ text. text.items) texts.now) (program_of program) }
-    ensures { IfOk result (Says (map string_bytes names.now) (map (λ text. text.items) texts.now)) }
-{
-    if is_well_formed(alloc, &program)? {
-        checked(alloc, names, texts, units, program)
-    } else {
-        Err(AllocError)
-    }
-}
-
-// The units get their typed program.
+// The units get their typed program, which is well formed: its nodes are forests, and its bodies are those of a text.
 fn with_units(
     alloc: Global,
     names: &[String],
@@ -90,8 +72,10 @@ fn with_units(
     ensures { IfOk result (Says (map string_bytes names.now) (map (λ text. text.items) texts.now)) }
 {
     wholes();
+    forests();
+    programs();
     match elaborate(alloc, units) {
-        Ok(program) => with_program(alloc, names, texts, units, program),
+        Ok(program) => checked(alloc, names, texts, units, program),
         Err(fault) => Ok(Verdict::Refused(refuse_fault(alloc, names, texts, fault)?)),
     }
 }

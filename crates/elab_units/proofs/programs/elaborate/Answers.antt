@@ -4,7 +4,7 @@ use Rattle.std.proofs.lemmas.Option.{slice_get_read}
 use Rattle.elab_entry.specs.cpp_types.Class.{classes_of}
 use Rattle.elab_entry.proofs.elab_ctx.Sizes.{in_order}
 use Rattle.elab_units.proofs.Elaborating.{none_yet, one_more, refused_at, all_units}
-use Rattle.elab_units.proofs.Reading.{readable_none, readable_more}
+use Rattle.tree_forests.proofs.Forests.{no_forests, more_forests}
 use Rattle.elab_units.proofs.programs.elaborate.Goals as goal
 
 pub loop-unit-init : goal.loop-unit-init
@@ -12,7 +12,7 @@ loop-unit-init c =
     let empty : c.new-trees.result.items ≡ [] = search rules in
     record {
       long = ap length empty;
-      readable = readable_none c.new-trees.result.items empty;
+      forests = no_forests c.new-trees.result.items empty;
       so_far =
           none_yet c.args.units.now c.new-trees.result.items c.no_classes-known.result empty c.no_classes-known.ensures.known c.no_classes-known.ensures.traits;
     }
@@ -25,7 +25,7 @@ loop-unit-preserved c =
     let source : c.in-Ok.source ≡ c.loop-unit.unit-index = search rules in
     record {
       long = omega (arith, ap length c.in_ok-keep_unit.ensures, length-append all (u ∷ []), c.loop-unit.invariant.long);
-      readable = readable_more all c.keep_unit.new.units.items u c.loop-unit.invariant.readable c.in_ok-behind.ensures.readable c.in_ok-keep_unit.ensures;
+      forests = more_forests all c.keep_unit.new.units.items u c.loop-unit.invariant.forests c.in_ok-behind.ensures.forest c.in_ok-keep_unit.ensures;
       so_far = one_more c.args.units.now c.loop-unit.unit-index c.in-Ok.source _ all c.keep_unit.new.units.items c.loop-unit.known c.unit-item.result
           c.in_ok-behind.behind c.loop-unit.invariant.so_far here source refl c.in_ok-behind.ensures.keeps c.in_ok-keep_unit.ensures;
     }

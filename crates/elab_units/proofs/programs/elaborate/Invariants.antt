@@ -1,11 +1,11 @@
 use Rattle.std.proofs.Common.{◌≡◌, length}
-use Rattle.elab_units.specs.Readable.{AreReadable}
+use Rattle.tree_forests.specs.Forests.{HaveForests}
 use Rattle.elab_units.proofs.Elaborating.{SoFar}
 use Rattle.elab_units.proofs.programs.elaborate.Given as goal
 
 abbrev pub invariant-loop-unit : goal.invariant-loop-unit
 invariant-loop-unit l = record {
   long : length l.trees.items ≡ l.unit-index;
-  readable : AreReadable l.trees.items;
+  forests : HaveForests l.trees.items;
   so_far : SoFar l.units l.unit-index l.trees.items l.known;
 }
