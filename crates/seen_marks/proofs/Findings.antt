@@ -8,7 +8,8 @@ use Rattle.cpp_tree.specs.declared.faults.UnsafeReason.{UnsafeReason}
 use Rattle.cpp_tree.specs.declared.kinds.TKind.{TKind}
 use Rattle.cpp_tree.specs.Trees.{Tree}
 use Rattle.tx_unsafe.specs.Volatile.{is_volatile_object, is_volatile_class}
-use Rattle.tx_unsafe.specs.Unsafe.{where_so, own, accesses, objects, foreign_calls, declares_volatile, writes_volatile, builds_object, initialises_volatile, is_made}
+use Rattle.tx_unsafe.specs.Unsafe.{where_so, own, accesses, objects, foreign_calls, declares_volatile, writes_volatile, builds_object, initialises_volatile}
+use Rattle.tx_unsafe.specs.Unsafe.{is_made}
 
 pub nothing_left : {A : Type 0} (xs ys : List A) → (xs ++ ys) ≡ [] → xs ≡ []
 nothing_left [] ys h = refl

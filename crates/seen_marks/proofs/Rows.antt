@@ -1,5 +1,6 @@
 -- What builds an object in a node at which the check finds nothing, is seen by itself or has no volatile part.
-use Rattle.std.proofs.Common.{◌≡◌, ◌∙◌, sym, subst, ap, refl, ℕ, zero, suc, Bool, true, false, not, ◌&&◌, ◌||◌, cond, List, [], ◌∷◌, slice_get, Option, Some, None, length}
+use Rattle.std.proofs.Common.{◌≡◌, ◌∙◌, sym, subst, ap, refl, ℕ, zero, suc, Bool, true, false, not, ◌&&◌, ◌||◌, cond, List, [], ◌∷◌, slice_get, Option, Some}
+use Rattle.std.proofs.Common.{None, length}
 use Rattle.std.specs.Prelude.{unwrap_or, ◌==◌}
 use Rattle.std.specs.List.{list_all}
 use Rattle.std.specs.Option.{option_or}
@@ -17,20 +18,23 @@ use Rattle.cpp_tree.specs.declared.roles.Role.{Role}
 use Rattle.cpp_tree.specs.declared.roles.Role.TheVariants.{Value, Word, Initialiser, CopyInit, Zero, Statement, BlockItem, SwitchItem, Step, Part, CopiedPart}
 use Rattle.cpp_tree.specs.declared.roles.Role.TheVariants.{Catch, Destruction, Scalar}
 use Rattle.cpp_tree.specs.Trees.{Tree, node, Trees, none, more, kind_of, typ_in, rest}
-use Rattle.cpp_tree.specs.Typing.{Head, head_of, passes, form_in, is_void, is_class_typ, builds, is_class_prvalue, is_argument, is_prvalue, is_lvalue_of, is_result}
+use Rattle.cpp_tree.specs.Typing.{Head, head_of, passes, form_in, is_void, is_class_typ, builds, is_class_prvalue, is_argument, is_prvalue, is_lvalue_of}
+use Rattle.cpp_tree.specs.Typing.{is_result}
 use Rattle.cpp_tree.specs.Typing.{Word as WordOf, object, passed, is_word, are_words, is_class, initialises, is_statement_typ}
 use Rattle.cpp_types.specs.Conversion.{is_lvalue}
 use Rattle.cpp_types.specs.Typ.{Signature}
 use Rattle.cpp_tree.specs.declared.program.FuncKind.TheVariants.{Plain}
 use Rattle.cpp_tree.specs.Parts.{are_elements}
-use Rattle.cpp_tree.specs.Roles.{is_throw, Kids, only, and_any, kids_for, role_at, serves, way_fits, may_build, branch_role, result_role, part_role, object_role}
+use Rattle.cpp_tree.specs.Roles.{is_throw, Kids, only, and_any, kids_for, role_at, serves, way_fits, may_build, branch_role, result_role, part_role}
+use Rattle.cpp_tree.specs.Roles.{object_role}
 use Rattle.cpp_tree.specs.Rows.{Setting, row_fits, kid, same_value, is_branch, words_of, signature_words, result_in, called_in, is_loaded, are_destructions}
 use Rattle.cpp_tree.specs.Units.{Func}
 use Rattle.cpp_tree.specs.WellFormed.{heads_of, kids_in, no_object}
 use Rattle.tx_unsafe.specs.Volatile.{is_volatile_object, is_volatile_class, is_class_object}
 use Rattle.tx_unsafe.specs.Unsafe.{first_of, is_local, is_declared, builds_object, is_made}
 use Rattle.seen_marks.specs.Marks.{is_marked_store}
-use Rattle.seen_marks.proofs.Types.{Marks, Dull, AllDull, IsClosed, is_calm, is_plain_class, class_object, calm_class, calm_dull, built, built_class, or_two, branch_calm, value_equal}
+use Rattle.seen_marks.proofs.Types.{Marks, Dull, AllDull, IsClosed, is_calm, is_plain_class, class_object, calm_class, calm_dull, built, built_class, or_two}
+use Rattle.seen_marks.proofs.Types.{branch_calm, value_equal}
 use Rattle.seen_marks.proofs.Types.{equal_class, equal_object, same_volatile, object_same, pieces_dull, elements_calm, plain_mark, seen_or_dull, not_false}
 use Rattle.seen_marks.proofs.Findings.{Unfound}
 
@@ -80,7 +84,8 @@ role_plain [] (Some r) i h g = g
 role_plain (r ∷ rs) others zero h g = (and_parts (is_plain r) (list_all is_plain rs) h).0
 role_plain (r ∷ rs) others (suc i) h g = role_plain rs others i (and_parts (is_plain r) (list_all is_plain rs) h).1 g
 
-pub plain_kids : (v : Marks) (ks : Kids) (i : ℕ) (hs : List Head) → list_all is_plain ks.fixed ≡ true → is_plain_other ks.others ≡ true → all_asked v ks i hs ≡ true
+pub plain_kids : (v : Marks) (ks : Kids) (i : ℕ) (hs : List Head) → list_all is_plain ks.fixed ≡ true → is_plain_other ks.others ≡ true
+    → all_asked v ks i hs ≡ true
 plain_kids v ks i [] p q = refl
 plain_kids v ks i (h ∷ hs) p q = and_from _ _ (plain_asks v (role_of ks i) h (role_plain ks.fixed ks.others i p q)) (plain_kids v ks (suc i) hs p q)
 
@@ -125,7 +130,8 @@ word_class (passed (typ f c p)) h e = by_form (is_object_form f) refl e
     right true b x = refl
     right false b x = x
 
-    by_form : (b : Bool) → is_object_form f ≡ b → cond b (is_argument h.kind && is_lvalue_of (typ f false false) h) (not (is_argument h.kind) && initialises (typ f c p) h) ≡ true
+    by_form : (b : Bool) → is_object_form f ≡ b
+        → cond b (is_argument h.kind && is_lvalue_of (typ f false false) h) (not (is_argument h.kind) && initialises (typ f c p) h) ≡ true
         → (not (is_argument h.kind) || is_class_typ h.typ) ≡ true
     by_form true o x = right (not (is_argument h.kind)) (is_class_typ h.typ)
         (equal_class (typ f false false) h.typ (and_parts _ _ (and_parts (is_argument h.kind) _ x).1).1 o)
@@ -139,11 +145,13 @@ words_class (w ∷ ws) [] e = absurd (false≢true e)
 
 words_asked : (v : Marks) (i : ℕ) (hs : List Head) → all_words hs ≡ true → all_asked v (and_any [] Word) i hs ≡ true
 words_asked v i [] e = refl
-words_asked v i (h ∷ hs) e = let a = and_parts (not (is_argument h.kind) || is_class_typ h.typ) (all_words hs) e in and_from _ _ a.0 (words_asked v (suc i) hs a.1)
+words_asked v i (h ∷ hs) e = let a = and_parts (not (is_argument h.kind) || is_class_typ h.typ) (all_words hs) e in
+    and_from _ _ a.0 (words_asked v (suc i) hs a.1)
 
 later_words : (v : Marks) (i : ℕ) (hs : List Head) → all_words hs ≡ true → all_asked v (and_any (Value ∷ []) Word) (suc i) hs ≡ true
 later_words v i [] e = refl
-later_words v i (h ∷ hs) e = let a = and_parts (not (is_argument h.kind) || is_class_typ h.typ) (all_words hs) e in and_from _ _ a.0 (later_words v (suc i) hs a.1)
+later_words v i (h ∷ hs) e = let a = and_parts (not (is_argument h.kind) || is_class_typ h.typ) (all_words hs) e in
+    and_from _ _ a.0 (later_words v (suc i) hs a.1)
 
 passed_by : {A : Type 0} (test : A → Bool) (o : Option A) (R : Type 0) → ((a : A) → test a ≡ true → R) → passes test o ≡ true → R
 passed_by test None R f h = absurd (false≢true h)
@@ -251,7 +259,8 @@ pub record Known (v : Marks) (s : Setting) (role : Role) (kind : TKind) (t : Typ
 
 mark_of : (v : Marks) (role : Role) (kind : TKind) (t : Typ) (cat : Cat) → takes role ≡ true → is_throw kind ≡ false
     → asks v role (record { kind = kind; typ = t; cat = cat }) ≡ true → (is_class_object t || not (is_volatile_object v t)) ≡ true
-mark_of v role kind t cat k n a = less (is_throw kind) (is_class_object t) (not (is_volatile_object v t)) n (calm_by v role (record { kind = kind; typ = t; cat = cat }) k a)
+mark_of v role kind t cat k n a = less (is_throw kind) (is_class_object t) (not (is_volatile_object v t)) n
+    (calm_by v role (record { kind = kind; typ = t; cat = cat }) k a)
   where
     less : (x y z : Bool) → x ≡ false → (x || y || z) ≡ true → (y || z) ≡ true
     less true y z e h = absurd cc
@@ -281,7 +290,8 @@ class_of : (t : Typ) (cat : Cat) → is_class_prvalue t cat ≡ true → is_clas
 class_of t Prvalue h = h
 class_of t Lvalue h = absurd (false≢true h)
 
-argument_calm : (v : Marks) (n : ℕ) (t : Typ) (h : Head) → is_class_typ t ≡ true → (is_made (Materialize n true) t && is_volatile_object v t) ≡ false → builds t h ≡ true
+argument_calm : (v : Marks) (n : ℕ) (t : Typ) (h : Head) → is_class_typ t ≡ true → (is_made (Materialize n true) t && is_volatile_object v t) ≡ false
+    → builds t h ≡ true
     → is_calm v h ≡ true
 argument_calm v n (typ (class m) c p) h k d b = built_class v (typ (class m) c p) h refl b
 argument_calm v n (typ (closure m) c p) h k d b = built_class v (typ (closure m) c p) h refl b
@@ -290,7 +300,8 @@ argument_calm v n (typ f c p) h k d b = absurd (false≢true k)
 
 calm_equal : (v : Marks) (t : Typ) (h : Head) → (is_class_object t || not (is_volatile_object v t)) ≡ true → typ_eq t h.typ ≡ true → is_calm v h ≡ true
 calm_equal v t h m e = more (is_throw h.kind) (is_class_object h.typ) (not (is_volatile_object v h.typ))
-    (sym (same (is_class_object t) (is_class_object h.typ) (is_volatile_object v t) (is_volatile_object v h.typ) (equal_object t h.typ e) (same_volatile v t h.typ e)) ∙ m)
+    (sym (same (is_class_object t) (is_class_object h.typ) (is_volatile_object v t) (is_volatile_object v h.typ)
+    (equal_object t h.typ e) (same_volatile v t h.typ e)) ∙ m)
   where
     more : (a b c : Bool) → (b || c) ≡ true → (a || b || c) ≡ true
     more true b c x = refl
@@ -312,7 +323,8 @@ zero_asks v true h f = refl
 zero_asks v false h f = f refl
 
 pointer_words : (t : Typ) (cat : Cat) (h : Head) (hs : List Head)
-    → (is_prvalue h.cat && passes (λ (g : Signature). is_result (result_in Plain g) t cat && are_words (signature_words None g) hs) (called_in (form_in h.typ))) ≡ true
+    → (is_prvalue h.cat && passes (λ (g : Signature). is_result (result_in Plain g) t cat && are_words (signature_words None g) hs)
+    (called_in (form_in h.typ))) ≡ true
     → all_words hs ≡ true
 pointer_words t cat h hs e = passed_by (λ (g : Signature). is_result (result_in Plain g) t cat && are_words (signature_words None g) hs)
     (called_in (form_in h.typ)) (all_words hs ≡ true) (λ g q. words_class (signature_words None g) hs (and_parts _ _ q).1) (and_parts (is_prvalue h.cat) _ e).1

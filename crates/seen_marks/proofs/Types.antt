@@ -1,5 +1,6 @@
 -- Types of objects that have no volatile part, and of what builds them.
-use Rattle.std.proofs.Common.{◌≡◌, ◌∙◌, ℕ, zero, suc, ◌+◌, ◌*◌, ◌-◌, ◌==◌, nat_lt, nat_le, Bool, true, false, not, ◌&&◌, ◌||◌, List, [], ◌∷◌, Option, Some, None}
+use Rattle.std.proofs.Common.{◌≡◌, ◌∙◌, ℕ, zero, suc, ◌+◌, ◌*◌, ◌-◌, ◌==◌, nat_lt, nat_le, Bool, true, false, not, ◌&&◌, ◌||◌, List, [], ◌∷◌, Option, Some}
+use Rattle.std.proofs.Common.{None}
 use Rattle.std.proofs.Common.{slice_get, ap, sym, subst, refl, eqb-true, cond}
 use Rattle.std.specs.Prelude.{option_map, option_and_then, is_some}
 use Rattle.std.specs.List.{list_any, list_all}
@@ -19,7 +20,8 @@ use Rattle.cpp_tree.specs.Rows.{is_access, is_branch, same_value}
 use Rattle.cpp_tree.specs.declared.kinds.TKind.{TKind}
 use Rattle.cpp_types.specs.declared.ranks.Cat.{Cat}
 use Rattle.cpp_types.specs.declared.ranks.Cat.TheVariants.{Lvalue, Prvalue}
-use Rattle.tx_unsafe.specs.Volatile.{is_volatile_object, is_volatile_form, is_class_object, is_class_form, is_volatile_class, is_volatile_member, has_volatile_part_by}
+use Rattle.tx_unsafe.specs.Volatile.{is_volatile_object, is_volatile_form, is_class_object, is_class_form, is_volatile_class, is_volatile_member}
+use Rattle.tx_unsafe.specs.Volatile.{has_volatile_part_by}
 
 abbrev pub Marks : Type 0
 Marks = ℕ → Bool

@@ -31,7 +31,8 @@ no_mark true c h g = absurd cc
 
 mutual
   -- all of it counts
-  pub zero_inside : (v : ℕ → Bool) (cs : List Class) (b : Bool) (t : Typ) (x : Tree) → zeroes cs b t x ≡ true → own_in v true x ≡ [] → is_unmarked false x ≡ true
+  pub zero_inside : (v : ℕ → Bool) (cs : List Class) (b : Bool) (t : Typ) (x : Tree) → zeroes cs b t x ≡ true → own_in v true x ≡ []
+      → is_unmarked false x ≡ true
   zero_inside v cs b t (node Pieces u cat at kids) h o =
       zeros_inside v cs _ _ 0 kids (and_parts _ _ h).1 (nothing_right _ (own_in_all v true kids) o)
   zero_inside v cs b t (node (Elements count stride) u cat at (more kid none)) h o =
@@ -39,7 +40,8 @@ mutual
   zero_inside v cs b t (node (Store k marked) u cat at (more word none)) h o =
       let a = and_parts _ _ h in
       and_from _ _ (or_first (no_mark marked (is_void u) (statement_void u cat a.0)
-      (unfound v (Store k marked) u cat at (first_of (more word none)) (first_of (rest (more word none))) (nothing_left _ (own_in v true word ++ []) o)).writes))
+      (unfound v (Store k marked) u cat at (first_of (more word none)) (first_of (rest (more word none)))
+      (nothing_left _ (own_in v true word ++ []) o)).writes))
       (and_from _ _ (zero_word false _ word (and_parts _ _ a.1).1) refl)
     where
       or_first : {b : Bool} → b ≡ true → (b || false) ≡ true
