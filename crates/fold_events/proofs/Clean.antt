@@ -23,7 +23,7 @@ use Rattle.cpp_tree.specs.WellFormed.{heads_of, kids_in, inside, is_zero_role, f
 use Rattle.cpp_tree.specs.cpp_types.declared.ranks.Cat.TheVariants.{Prvalue}
 use Rattle.cpp_tree.specs.Trees.{Tree, node, Trees, none, more, kind_of, typ_in, first, rest}
 use Rattle.cpp_tree.specs.Typing.{is_void}
-use Rattle.tx_unsafe.specs.Volatile.{is_volatile_object, is_volatile_class}
+use Rattle.tx_unsafe.specs.Volatile.{is_volatile_object, is_class_object, is_volatile_class}
 use Rattle.tx_unsafe.specs.Unsafe.{own, own_in, own_in_all, calls_in, calls_in_all, counted, called, sites, is_atomic, is_local, first_of, place_of, where_so}
 use Rattle.tx_unsafe.specs.declared.finding.Finding.{Finding}
 use Rattle.tx_unsafe.specs.declared.finding.CallSite.{CallSite}
@@ -225,10 +225,10 @@ module _ (v : ℕ → Bool) where
       ≡ is_empty (own v kind t cat at (first_of kids) (first_of (rest kids)))
   own_alike kind t cat at none e f = refl
   own_alike Init t cat at (more a ts) e f =
-      ap₂ (λ (x : Bool) (y : Typ). is_empty (init_findings (x && is_volatile_object v y) (is_volatile_class v y) at (place_of at (first_of (all_folded v ts)))))
-      (f refl) e
-      ∙ init_places (is_local (kind_of a) && is_volatile_object v (typ_in a)) (is_volatile_class v (typ_in a)) at (place_of at (first_of (all_folded v ts)))
-      (place_of at (first_of ts))
+      ap₂ (λ (x : Bool) (y : Typ). is_empty (init_findings ((x || not (is_class_object y)) && is_volatile_object v y) (is_volatile_class v y) at
+      (place_of at (first_of (all_folded v ts))))) (f refl) e
+      ∙ init_places ((is_local (kind_of a) || not (is_class_object (typ_in a))) && is_volatile_object v (typ_in a)) (is_volatile_class v (typ_in a)) at
+      (place_of at (first_of (all_folded v ts))) (place_of at (first_of ts))
   own_alike (Update op stored operation true old) t cat at (more a ts) e f = refl
   own_alike (Update op stored operation false old) t cat at (more a ts) e f = refl
   own_alike PointerCall t cat at (more a ts) e f = rw e refl

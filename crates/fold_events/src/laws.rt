@@ -10,10 +10,8 @@ ghost use Rattle.src_bind.specs.Tables.{Given, typed, linked_of};
 ghost use Rattle.src_bind.specs.declared.choices.Choices.{Choices};
 ghost use Rattle.src_link.specs.Slots.{AreChoices};
 ghost use Rattle.src_mean.specs.Links.{first_cells, globals_size};
-ghost use Rattle.src_mean.specs.Notation.{bodies_fit};
 ghost use Rattle.tree_fold.specs.Programs.{folded_program};
 ghost use Rattle.tx_safety.specs.Safe.{IsSafe, is_safe};
-ghost use Rattle.fold_events.specs.Corner.{chosen_declaration};
 ghost use Rattle.fold_events.specs.Declaring.{DeclaresPlainly};
 ghost use Rattle.fold_events.specs.Keeping.{Linking, linked_by, Keeps};
 ghost use Rattle.fold_events.specs.Lagging.{Lags};
@@ -40,14 +38,6 @@ pub fn same_choices()
 pub fn same_safety()
     ensures program { (p : Program) → WellFormed p → DeclaresPlainly (program_of p) → IsSafe (program_of p) → IsSafe (folded_program (program_of p)) }
     ensures functions { (p : Program) (unit n : ℕ) → WellFormed p → DeclaresPlainly (program_of p) → is_safe (folded_program (program_of p)) unit n ≡ is_safe (program_of p) unit n }
-{}
-
-/// Why these two ask that declarations name their variables: the bodies of this program are well formed, and its function is safe, but not in
-/// the folded program.
-pub fn chosen_declaration()
-    ensures fits { bodies_fit chosen_declaration ≡ true }
-    ensures before { is_safe chosen_declaration 0 0 ≡ true }
-    ensures after { is_safe (folded_program chosen_declaration) 0 0 ≡ false }
 {}
 
 /// Memory begins with the same bytes, and the globals take as many.

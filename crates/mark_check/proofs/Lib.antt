@@ -1,2 +1,1 @@
-pub mod Kids
 pub mod Tested

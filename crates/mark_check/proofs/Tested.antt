@@ -9,18 +9,14 @@ use Rattle.std.proofs.lemmas.Option.{slice_get_read}
 use Rattle.std.proofs.lemmas.List.{take-map}
 use Rattle.cpp_tree.specs.cpp_types.declared.types.Ty.{Ty}
 use Rattle.cpp_tree.specs.cpp_types.Typ.{Typ, typ_of}
-use Rattle.cpp_tree.specs.declared.arena.TNode.{TNode}
-use Rattle.cpp_tree.specs.declared.arena.TNodeId.{TNodeId}
 use Rattle.cpp_tree.specs.declared.program.TFunc.{TFunc}
 use Rattle.cpp_tree.specs.declared.program.UnitTree.{UnitTree}
 use Rattle.cpp_tree.specs.declared.program.Program.{Program}
-use Rattle.cpp_tree.specs.Trees.{Tree}
 use Rattle.cpp_tree.specs.Units.{Func, Unit as TypedUnit, TypedProgram, unit_of, program_of}
-use Rattle.cpp_tree.specs.WellFormed.{WellFormed, WellFormedUnit}
 use Rattle.src_mean.specs.Links.{func_at, is_marked}
 use Rattle.tx_safety.specs.Safe.{is_safe, unit_end}
-use Rattle.safe_blocks.specs.UnsafeFree.{is_unmarked, has_unmarked_words, IsUnmarked}
-use Rattle.mark_check.specs.Functions.{is_body_unmarked, is_func_unmarked, are_funcs_unmarked, are_units_unmarked}
+use Rattle.safe_blocks.specs.UnsafeFree.{has_unmarked_words, IsUnmarked}
+use Rattle.mark_check.specs.Functions.{is_func_unmarked, are_funcs_unmarked, are_units_unmarked}
 
 -- Words
 
@@ -39,10 +35,6 @@ if_safe false words h e = absurd cc
 where_safe : (safe words : Bool) → (safe ≡ true → words ≡ true) → (not safe || words) ≡ true
 where_safe true words h = h refl
 where_safe false words h = refl
-
-body_shown : (safe : Bool) (o : Option Tree) → ((body : Tree) → o ≡ Some body → is_unmarked (not safe) body ≡ true) → is_body_unmarked safe o ≡ true
-body_shown safe None h = refl
-body_shown safe (Some body) h = h body refl
 
 -- All functions
 
@@ -109,26 +101,18 @@ tested : (t : TypedProgram) → are_units_unmarked (is_safe t) 0 t.units ≡ tru
 tested t h unit n f e = tested_unit t h unit n f (slice_get t.units unit) refl e
 
 -- what the test of a function has
-place_of : (safe : Bool) (f : Func) → is_func_unmarked safe f ≡ true → nat_le f.closed_at unit_end ≡ true
-place_of safe f h = (and_parts (nat_le f.closed_at unit_end) ((not safe || has_unmarked_words f) && is_body_unmarked safe f.body) h).0
-
-inner_of : (safe : Bool) (f : Func) → is_func_unmarked safe f ≡ true → ((not safe || has_unmarked_words f) ≡ true) × (is_body_unmarked safe f.body ≡ true)
-inner_of safe f h = and_parts (not safe || has_unmarked_words f) (is_body_unmarked safe f.body)
-    ((and_parts (nat_le f.closed_at unit_end) ((not safe || has_unmarked_words f) && is_body_unmarked safe f.body) h).1)
-
 marks_of : (t : TypedProgram) → are_units_unmarked (is_safe t) 0 t.units ≡ true → IsUnmarked t
 marks_of t h = record {
-  body = λ unit n f body e b. sym (ap (is_body_unmarked (is_safe t unit n)) b) ∙ (inner_of (is_safe t unit n) f (tested t h unit n f e)).1;
-  words = λ unit n f e s. if_safe (is_safe t unit n) (has_unmarked_words f) ((inner_of (is_safe t unit n) f (tested t h unit n f e)).0) s;
-  places = λ unit n f e. place_of (is_safe t unit n) f (tested t h unit n f e);
+  words = λ unit n f e s. if_safe (is_safe t unit n) (has_unmarked_words f) (parts (is_safe t unit n) f (tested t h unit n f e)).1 s;
+  places = λ unit n f e. (parts (is_safe t unit n) f (tested t h unit n f e)).0;
 }
+  where
+    parts : (safe : Bool) (f : Func) → is_func_unmarked safe f ≡ true → (nat_le f.closed_at unit_end ≡ true) × ((not safe || has_unmarked_words f) ≡ true)
+    parts safe f h = and_parts (nat_le f.closed_at unit_end) (not safe || has_unmarked_words f) h
 
 func_shown : (t : TypedProgram) → IsUnmarked t → (unit n : ℕ) (f : Func) → func_at t unit n ≡ Some f → is_func_unmarked (is_safe t unit n) f ≡ true
-func_shown t u unit n f e =
-    let safe = is_safe t unit n in
-    and_from (nat_le f.closed_at unit_end) ((not safe || has_unmarked_words f) && is_body_unmarked safe f.body) (u.places unit n f e)
-    (and_from (not safe || has_unmarked_words f) (is_body_unmarked safe f.body) (where_safe safe (has_unmarked_words f) (u.words unit n f e))
-    (body_shown safe f.body (λ body b. u.body unit n f body e b)))
+func_shown t u unit n f e = and_from (nat_le f.closed_at unit_end) (not (is_safe t unit n) || has_unmarked_words f) (u.places unit n f e)
+    (where_safe (is_safe t unit n) (has_unmarked_words f) (u.words unit n f e))
 
 shown_unit : (t : TypedProgram) → IsUnmarked t → (i : ℕ) (x : TypedUnit) → slice_get t.units i ≡ Some x → are_funcs_unmarked (is_safe t i) 0 x.funcs ≡ true
 shown_unit t u i x g = all_funcs (is_safe t i) x.funcs 0 (λ n f e. let here : 0 + n ≡ n = omega arith in ap (λ (z : ℕ). is_func_unmarked (is_safe t i z) f) here
@@ -146,18 +130,3 @@ pub units_answer : (r : Result Bool AllocError) (p : Program) (us : List UnitTre
     → IfOk r (λ b. IsTrue b ↔ IsUnmarked (program_of p))
 units_answer (Ok b) p us e h = units_are (program_of p) b (h ∙ ap (λ z. are_units_unmarked (is_safe (program_of p)) 0 (map unit_of z)) e)
 units_answer (Err x) p us e h = h
-
--- What a well-formed program has
-
-pub root_within : (p : Program) (u : UnitTree) (fs : List TFunc) (nodes : List TNode) (i : ℕ) (f : TFunc) → WellFormedUnit p u → fs ≡ u.funcs.items
-    → nodes ≡ u.nodes.items → i < length fs → f ≡ get_or fs i f
-    → (root : TNodeId) → f.body ≡ Some root → root.0 < length nodes
-root_within p u fs nodes i f w e m l r root b =
-    let there : slice_get u.funcs.items i ≡ Some f = sym (ap (λ z. slice_get z i) e) ∙ slice_get_read fs (length fs) i f refl l r in
-    let h : root.0 < length u.nodes.items = (w.bodies i f root there b).within in
-    let k : length nodes ≡ length u.nodes.items = ap length m in
-    omega (arith, h, k)
-
-pub unit_formed : (p : Program) (us : List UnitTree) (i : ℕ) (u : UnitTree) → WellFormed p → us ≡ p.units.items → i < length us → u ≡ get_or us i u
-    → WellFormedUnit p u
-unit_formed p us i u w e l r = w.units i u (sym (ap (λ z. slice_get z i) e) ∙ slice_get_read us (length us) i u refl l r)

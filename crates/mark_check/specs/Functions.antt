@@ -1,17 +1,11 @@
--- Functions whose initialisers and words have no mark of `volatile`, as a test.
-use Rattle.std.specs.Prelude.{ℕ, ◌+◌, nat_le, Bool, true, not, ◌&&◌, ◌||◌, List, [], ◌∷◌, Option, Some, None}
-use Rattle.cpp_tree.specs.Trees.{Tree}
+-- Functions whose words have no mark of `volatile`, as a test.
+use Rattle.std.specs.Prelude.{ℕ, ◌+◌, nat_le, Bool, true, not, ◌&&◌, ◌||◌, List, [], ◌∷◌}
 use Rattle.cpp_tree.specs.Units.{Func, Unit as TypedUnit}
 use Rattle.tx_safety.specs.Safe.{unit_end}
-use Rattle.safe_blocks.specs.UnsafeFree.{is_unmarked, has_unmarked_words}
-
--- of a function that is safe all of the body counts, of others the atomic blocks
-abbrev pub is_body_unmarked : (safe : Bool) → Option Tree → Bool
-is_body_unmarked safe None = true
-is_body_unmarked safe (Some body) = is_unmarked (not safe) body
+use Rattle.safe_blocks.specs.UnsafeFree.{has_unmarked_words}
 
 abbrev pub is_func_unmarked : (safe : Bool) → Func → Bool
-is_func_unmarked safe f = nat_le f.closed_at unit_end && ((not safe || has_unmarked_words f) && is_body_unmarked safe f.body)
+is_func_unmarked safe f = nat_le f.closed_at unit_end && (not safe || has_unmarked_words f)
 
 -- the functions of a unit, and the units, from a number on
 abbrev pub are_funcs_unmarked : (safe : ℕ → Bool) → (number : ℕ) → List Func → Bool

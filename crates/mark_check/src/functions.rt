@@ -1,19 +1,16 @@
 //! Marks of `volatile` in the functions of a program.
 
-ghost use Rattle.std.specs.Prelude.{◌≡◌, ◌<◌, ◌↔◌, IsTrue, IfOk, Some, length, map, nat_le, not, take};
+ghost use Rattle.std.specs.Prelude.{◌≡◌, ◌<◌, ◌↔◌, IsTrue, IfOk, length, map, nat_le, not, take};
 ghost use Rattle.std.specs.List.{list_all};
 ghost use Rattle.cpp_tree.specs.cpp_types.Typ.{Typ, typ_of};
-ghost use Rattle.cpp_tree.specs.declared.arena.TNodeId.{TNodeId};
-ghost use Rattle.cpp_tree.specs.Arena.{IsOrdered, trees_of};
+ghost use Rattle.cpp_tree.specs.Arena.{trees_of};
 ghost use Rattle.cpp_tree.specs.Units.{func_of, unit_of, program_of};
-ghost use Rattle.cpp_tree.specs.WellFormed.{WellFormed, WellFormedUnit};
 ghost use Rattle.src_mean.specs.Links.{is_marked};
 ghost use Rattle.tx_safety.specs.Safe.{is_safe, unit_end};
 ghost use Rattle.tx_safety.specs.Answers.{checked_in};
 ghost use Rattle.safe_blocks.specs.UnsafeFree.{has_unmarked_words as has_words, IsUnmarked};
-ghost use Rattle.mark_check.specs.Functions.{is_body_unmarked as is_body, is_func_unmarked, are_funcs_unmarked, are_units_unmarked as are_units};
+ghost use Rattle.mark_check.specs.Functions.{is_func_unmarked, are_funcs_unmarked, are_units_unmarked as are_units};
 
-use crate::trees::is_tree_unmarked;
 use cpp_tree::below::Ty;
 use cpp_tree::{TFunc, TNode, UnitTree};
 use std::alloc::AllocError;
@@ -67,27 +64,11 @@ fn has_offset(function: &TFunc) -> bool
     function.closed_at <= u32::MAX
 }
 
-// Whether the body of a function, if it has one, is unmarked: all of it in a safe function, else its blocks.
-fn is_body_unmarked(nodes: &[TNode], safe: bool, function: &TFunc) -> bool
-    requires ordered { IsOrdered nodes.now }
-    requires within { (root : TNodeId) → function.now.body ≡ Some root → root.0 < length nodes.now }
-    ensures { result ≡ is_body safe (func_of (trees_of nodes.now) function.now).body }
-{
-    match function.body {
-        Some(root) => is_tree_unmarked(nodes, !safe, root),
-        None => true,
-    }
-}
-
 // Whether a function is unmarked.
 fn is_function_unmarked(nodes: &[TNode], safe: bool, function: &TFunc) -> bool
-    requires ordered { IsOrdered nodes.now }
-    requires within { (root : TNodeId) → function.now.body ≡ Some root → root.0 < length nodes.now }
     ensures { result ≡ is_func_unmarked safe (func_of (trees_of nodes.now) function.now) }
 {
-    has_offset(function)
-        && (!safe || has_unmarked_words(nodes, function))
-        && is_body_unmarked(nodes, safe, function)
+    has_offset(function) && (!safe || has_unmarked_words(nodes, function))
 }
 
 // Whether the functions of a unit are unmarked.
@@ -97,7 +78,6 @@ fn are_functions_unmarked(
     unit: &UnitTree,
 ) -> Result<bool, AllocError>
     requires within { number < length (checked_in safe.now).units.items }
-    requires well_formed { WellFormedUnit (checked_in safe.now) unit.now }
     ensures { IfOk result (λ answer. answer ≡ are_funcs_unmarked (is_safe (program_of (checked_in safe.now)) number) 0 (unit_of unit.now).funcs) }
 {
     for (i, function) in unit.funcs.iter().enumerate() {
@@ -112,7 +92,6 @@ fn are_functions_unmarked(
 // Whether the functions of all units are unmarked.
 fn are_units_unmarked(safe: &SafeProgram, units: &[UnitTree]) -> Result<bool, AllocError>
     requires units { units.now ≡ (checked_in safe.now).units.items }
-    requires well_formed { WellFormed (checked_in safe.now) }
     ensures { IfOk result (λ answer. answer ≡ are_units (is_safe (program_of (checked_in safe.now))) 0 (map unit_of units.now)) }
 {
     for (i, unit) in units.iter().enumerate() {
@@ -124,12 +103,10 @@ fn are_units_unmarked(safe: &SafeProgram, units: &[UnitTree]) -> Result<bool, Al
     Ok(true)
 }
 
-/// Whether no initialiser in a block or in a safe function, and no word of a safe function, stores with a mark of `volatile`
-/// (the TS, [dcl.fct.def.tx]: such a store is unsafe). The check reads marks off the objects, so that it finds those of all programs
-/// that are written; a tree may have others. The nodes of all bodies are walked once. Want of memory stands for a list that is too
-/// long for numbers of 32 bits.
+/// Whether no word of a safe function is stored with a mark of `volatile` (the TS, [dcl.fct.def.tx]: such a store is unsafe). The
+/// check reads marks off the parameters, so that it finds those of all programs that are written; the object of a member function may
+/// have another. Want of memory stands for a list that is too long for numbers of 32 bits.
 pub fn is_unmarked(safe: &SafeProgram) -> Result<bool, AllocError>
-    requires { WellFormed (checked_in safe.now) }
     ensures { IfOk result (λ answer. IsTrue answer ↔ IsUnmarked (program_of (checked_in safe.now))) }
 {
     are_units_unmarked(safe, &safe.program().units)

@@ -5,4 +5,3 @@ pub mod SafeFuncs
 pub mod Linking
 pub mod Entered
 pub mod Theorem
-pub mod CornerRuns

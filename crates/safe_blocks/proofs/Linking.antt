@@ -16,18 +16,20 @@ use Rattle.tx_unsafe.specs.Volatile.{has_volatile_part}
 use Rattle.tx_unsafe.specs.Unsafe.{own_in, calls_in, body_calls, counted, head_findings, body_findings}
 use Rattle.tx_safety.specs.Safe.{is_safe_by, safe, safe_within, unit_end, func_findings, unit_findings, IsSafe, is_safe}
 use Rattle.block_marks.specs.Marks.{is_free, is_tame, hides_all, has_safe_body, IsTameFunc, IsTame}
-use Rattle.safe_blocks.specs.UnsafeFree.{safely_linked, LinksSafely, is_unmarked, IsUnmarked}
+use Rattle.seen_marks.specs.Marks.{is_unmarked}
+use Rattle.safe_blocks.specs.UnsafeFree.{safely_linked, LinksSafely, IsUnmarked}
 use Rattle.safe_blocks.proofs.Placed.{is_scoped}
 use Rattle.safe_blocks.proofs.TameTrees.{nothing_right, calls_safe, tame_tree}
 use Rattle.safe_blocks.proofs.SafeFuncs.{AreClosed, func_clean, from_all, from_funcs}
 
--- a body that is well-formed as far as scopes go
-pub record IsScopedFunc (f : UnitFunc) : Type 0 where
+-- a body that is well-formed as far as scopes and marks go
+pub record IsScopedFunc (v : ℕ → Bool) (f : UnitFunc) : Type 0 where
   pub scoped : (body : Tree) → f.body ≡ Some body → is_scoped body ≡ true
   pub free : (body : Tree) → f.body ≡ Some body → is_free body ≡ true
+  pub unmarked : (body : Tree) → f.body ≡ Some body → (w : Bool) → own_in v w body ≡ [] → is_unmarked (not w) body ≡ true
 
 pub record AreScoped (t : TypedProgram) : Type 0 where
-  pub each : (unit n : ℕ) (f : UnitFunc) → func_at t unit n ≡ Some f → IsScopedFunc f
+  pub each : (unit n : ℕ) (f : UnitFunc) → func_at t unit n ≡ Some f → IsScopedFunc (has_volatile_part t.classes) f
 
 -- Numbers
 
@@ -116,8 +118,9 @@ by_test t unit body true c o k m = tame_tree (has_volatile_part t.classes) (is_s
 by_test t unit body false c o k m = tame_tree (has_volatile_part t.classes) (is_safe t unit) true body o k m c
 
 func_tame : (t : TypedProgram) → IsSafe t → IsUnmarked t → (unit n : ℕ) (f : UnitFunc) (body : Tree) → func_at t unit n ≡ Some f → f.body ≡ Some body
-    → is_scoped body ≡ true → is_tame (is_safe t unit) (not (is_safe t unit n)) body ≡ true
-func_tame t s u unit n f body e b c =
+    → is_scoped body ≡ true → ((w : Bool) → own_in (has_volatile_part t.classes) w body ≡ [] → is_unmarked (not w) body ≡ true)
+    → is_tame (is_safe t unit) (not (is_safe t unit n)) body ≡ true
+func_tame t s u unit n f body e b c g =
     let x = found_at t unit n f e in
     let v = has_volatile_part t.classes in
     let fs = (x.0).funcs in
@@ -125,12 +128,12 @@ func_tame t s u unit n f body e b c =
     subst (λ k. func_findings v (safe v fs) k f ≡ []) (let z : 0 + n ≡ n = omega arith in z)
     (from_funcs v (safe v fs) 0 fs n f (from_all (unit_findings v) t.units unit x.0 s x.1) x.2) in
     let clean = func_clean v fs (closed_unit t u unit x.0 x.1) n f (is_safe t unit n) x.2 findings (sym (safe_of_unit t unit n x.0 x.1)) in
-    by_test t unit body (is_safe t unit n) c
-    (subst (λ o. body_findings v (is_safe t unit n) o ≡ []) b
-    (nothing_right (counted (is_safe t unit n) (head_findings v f)) (body_findings v (is_safe t unit n) f.body) clean.own))
+    let own : own_in v (is_safe t unit n) body ≡ [] = subst (λ o. body_findings v (is_safe t unit n) o ≡ []) b
+    (nothing_right (counted (is_safe t unit n) (head_findings v f)) (body_findings v (is_safe t unit n) f.body) clean.own) in
+    by_test t unit body (is_safe t unit n) c own
     (calls_same (safe v fs unit_end) (is_safe t unit) (λ m. sym (safe_of_unit t unit m x.0 x.1)) (calls_in (is_safe t unit n) body)
     (subst (λ o. list_all (calls_safe (safe v fs unit_end)) (body_calls (is_safe t unit n) o) ≡ true) b clean.calls))
-    (u.body unit n f body e b)
+    (g (is_safe t unit n) own)
 
 words_tame : (b : Bool) (n : ℕ) (offsets : List ℕ) (items : List Typ) → (b ≡ true → list_all (λ (t : Typ). not (is_marked t)) (take n items) ≡ true)
     → hides_all (not b) (word_places n offsets items) ≡ true
@@ -141,6 +144,7 @@ body_of : (t : TypedProgram) → IsSafe t → IsUnmarked t → AreScoped t → (
     → is_tame (is_safe t unit) (not (is_safe t unit n)) (unwrap_or o (literal 0)) ≡ true
 body_of t s u a unit n f e None b = refl
 body_of t s u a unit n f e (Some body) b = func_tame t s u unit n f body e b ((a.each unit n f e).scoped body b)
+    (λ w o. (a.each unit n f e).unmarked body b w o)
 
 free_of : (t : TypedProgram) → AreScoped t → (unit n : ℕ) (f : UnitFunc) → func_at t unit n ≡ Some f → (o : Option Tree) → f.body ≡ o
     → is_free (unwrap_or o (literal 0)) ≡ true

@@ -1,5 +1,5 @@
 -- A tree without unsafe parts, whose calls are safe and whose initialisers have no marks, is tame.
-use Rattle.std.specs.Prelude.{◌≡◌, ℕ, Bool, true, false, not, ◌||◌, List, [], ◌∷◌, ◌++◌, Option, refl}
+use Rattle.std.specs.Prelude.{◌≡◌, ℕ, Bool, true, false, not, ◌&&◌, ◌||◌, List, [], ◌∷◌, ◌++◌, Option, refl}
 use Rattle.std.specs.List.{list_all}
 use Rattle.std.proofs.Common.{sym, ap, subst, ◌∙◌}
 use Rattle.std.proofs.lemmas.Bool.{false≢true, and_parts, and_from, or_right}
@@ -16,7 +16,7 @@ use Rattle.tx_unsafe.specs.declared.finding.CallSite.{CallSite}
 use Rattle.tx_unsafe.specs.Unsafe.{first_of, own, own_in, own_in_all, called, sites, counted, is_atomic, calls_in, calls_in_all}
 use Rattle.tx_safety.specs.Safe.{is_empty}
 use Rattle.block_marks.specs.Marks.{is_tame_kind, are_placed, below, is_tame, are_tame}
-use Rattle.safe_blocks.specs.UnsafeFree.{is_marked_store, is_unmarked, are_unmarked}
+use Rattle.seen_marks.specs.Marks.{is_marked_store, is_unmarked, are_unmarked}
 use Rattle.safe_blocks.proofs.Placed.{is_scoped, all_scoped}
 
 pub nothing_left : {A : Type 0} (xs ys : List A) → (xs ++ ys) ≡ [] → xs ≡ []
@@ -77,6 +77,12 @@ below_is (Atomic kind) false = refl
 below_is kind true = refl
 below_is kind false = refl
 
+still_outside : (kind : TKind) (outside : Bool) → (outside && not (is_atomic kind)) ≡ below kind outside
+still_outside (Atomic kind) true = refl
+still_outside (Atomic kind) false = refl
+still_outside kind true = refl
+still_outside kind false = refl
+
 mutual
   pub tame_tree : (v s : ℕ → Bool) (outside : Bool) (t : Tree) → own_in v (not outside) t ≡ [] → list_all (calls_safe s) (calls_in (not outside) t) ≡ true
       → is_unmarked outside t ≡ true → is_scoped t ≡ true → is_tame s outside t ≡ true
@@ -84,7 +90,7 @@ mutual
       let deeper = not outside || is_atomic kind in
       let own_here = counted (not outside) (own v kind t cat at (first_of kids) (first_of (rest kids))) in
       let calls_here = counted (not outside) (sites (called kind) at) in
-      let um = and_parts (not (is_marked_store kind) || outside) (are_unmarked (below kind outside) kids) u in
+      let um = and_parts (not (is_marked_store kind) || outside) (are_unmarked (outside && not (is_atomic kind)) kids) u in
       let sc = and_parts (are_placed kind kids) (all_scoped kids) p in
       let own_kids : own_in_all v (not (below kind outside)) kids ≡ [] =
       subst (λ z. own_in_all v z kids ≡ []) (below_is kind outside) (nothing_right own_here (own_in_all v deeper kids) o) in
@@ -93,7 +99,8 @@ mutual
       (all_right (calls_safe s) calls_here (calls_in_all deeper kids) c) in
       and_from _ _ (tame_node v s outside kind t cat at (first_of kids) (first_of (rest kids)) (nothing_left own_here (own_in_all v deeper kids) o)
       (all_left (calls_safe s) calls_here (calls_in_all deeper kids) c) um.0)
-      (and_from _ _ sc.0 (tame_trees v s (below kind outside) kids own_kids calls_kids um.1 sc.1))
+      (and_from _ _ sc.0 (tame_trees v s (below kind outside) kids own_kids calls_kids
+      (subst (λ z. are_unmarked z kids ≡ true) (still_outside kind outside) um.1) sc.1))
 
   pub tame_trees : (v s : ℕ → Bool) (outside : Bool) (ts : Trees) → own_in_all v (not outside) ts ≡ []
       → list_all (calls_safe s) (calls_in_all (not outside) ts) ≡ true

@@ -1,2 +1,1 @@
 pub mod UnsafeFree
-pub mod Corner

@@ -1,13 +1,10 @@
 -- What the safety check is for: what happens in the blocks of a safe program.
-use Rattle.std.specs.Prelude.{◌≡◌, ℕ, ℤ, nat_le, Bool, true, false, not, ◌&&◌, ◌||◌, List, take, cond, Option, Some, None, slice_get}
+use Rattle.std.specs.Prelude.{◌≡◌, ℕ, ℤ, nat_le, Bool, true, false, not, List, take, cond, Option, Some, None, slice_get}
 use Rattle.std.specs.List.{list_all}
 use Rattle.cpp_tree.specs.tx_events.declared.Reply.{Reply}
 use Rattle.cpp_tree.specs.tx_events.Thread.{no_atomic}
 use Rattle.cpp_tree.specs.cpp_types.Typ.{Typ}
-use Rattle.cpp_tree.specs.declared.kinds.TKind.{TKind}
-use Rattle.cpp_tree.specs.declared.kinds.TKind.TheVariants.{Store, CopyScalar}
 use Rattle.cpp_tree.specs.declared.program.Program.{Program as TypedUnits}
-use Rattle.cpp_tree.specs.Trees.{Tree, node, Trees, none, more}
 use Rattle.cpp_tree.specs.Units.{Func, SlotFunc, TypedProgram, program_of}
 use Rattle.cpp_tree.specs.WellFormed.{WellFormed}
 use Rattle.src_mean.specs.Linked.{Func as LinkedFunc, Program}
@@ -16,7 +13,6 @@ use Rattle.src_mean.specs.Frames.{State}
 use Rattle.src_mean.specs.Source.{source, begins, main_state}
 use Rattle.src_mean.specs.Laws.{is_hidden}
 use Rattle.tx_safety.specs.Safe.{IsSafe, is_safe, unit_end}
-use Rattle.block_marks.specs.Marks.{below}
 
 -- the states that threads come to: of `main`, of threads that begin with any function and argument, and behind them after any replies
 pub data Comes (p : Program) : State → Type 0 where
@@ -50,29 +46,14 @@ pub record LinksSafely (t : TypedProgram) : Type 0 where
   pub kept : (unit n : ℕ) (f : Func) (d : Def) → func_at t unit n ≡ Some f → is_safe t unit n ≡ true
       → slice_get (kept_funcs t) (number_in (def_of_func unit n f) (kept_funcs t)) ≡ Some d → is_safe t d.unit d.place ≡ true
 
--- Marks of `volatile` on what initialises. The check reads them off the object: a variable, a temporary, a parameter, a class. A well-formed tree may also
--- initialise a volatile scalar elsewhere, through a reference say, or have a volatile word for the object of a call; programs that were written have neither
-
-abbrev pub is_marked_store : TKind → Bool
-is_marked_store (Store kind volatile) = volatile
-is_marked_store (CopyScalar kind volatile) = volatile
-is_marked_store kind = false
-
--- no initialiser in what counts of a tree is marked: in all of it inside a block, else in its atomic blocks
-abbrev mutual
-  pub is_unmarked : (outside : Bool) → Tree → Bool
-  is_unmarked outside (node kind t cat at kids) = (not (is_marked_store kind) || outside) && are_unmarked (below kind outside) kids
-
-  pub are_unmarked : (outside : Bool) → Trees → Bool
-  are_unmarked outside none = true
-  are_unmarked outside (more t ts) = is_unmarked outside t && are_unmarked outside ts
+-- Marks of `volatile` on the words of a call. The check reads them off the parameters. A well-formed function may also have such a word for its object;
+-- functions that were written have none
 
 abbrev pub has_unmarked_words : Func → Bool
 has_unmarked_words f = list_all (λ (t : Typ). not (is_marked t)) (take f.words f.frame)
 
--- so in all blocks, and in all of each safe function; and offsets are numbers of 32 bits
+-- so in each safe function; and offsets are numbers of 32 bits
 pub record IsUnmarked (t : TypedProgram) : Type 0 where
-  pub body : (unit n : ℕ) (f : Func) (body : Tree) → func_at t unit n ≡ Some f → f.body ≡ Some body → is_unmarked (not (is_safe t unit n)) body ≡ true
   pub words : (unit n : ℕ) (f : Func) → func_at t unit n ≡ Some f → is_safe t unit n ≡ true → has_unmarked_words f ≡ true
   pub places : (unit n : ℕ) (f : Func) → func_at t unit n ≡ Some f → nat_le f.closed_at unit_end ≡ true
 

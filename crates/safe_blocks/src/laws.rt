@@ -1,14 +1,9 @@
 //! What holds of the blocks of linked programs. A function here does nothing: its clauses are the laws.
-ghost use Rattle.std.specs.Prelude.{◌≡◌, ℕ, ℤ, pos, Bool, true};
-ghost use Rattle.cpp_tree.specs.tx_events.declared.End.TheVariants.{Exit};
+ghost use Rattle.std.specs.Prelude.{◌≡◌, ℕ, ℤ, Bool, true};
 ghost use Rattle.src_mean.specs.Linked.{Program};
 ghost use Rattle.src_mean.specs.Frames.{State};
 ghost use Rattle.src_mean.specs.Source.{begins, main_state};
 ghost use Rattle.src_mean.specs.Laws.{StaysSafe};
-ghost use Rattle.src_mean.specs.Notation.{bodies_fit};
-ghost use Rattle.src_mean.specs.Runs.{outcome, ends};
-ghost use Rattle.tx_safety.specs.Safe.{IsSafe};
-ghost use Rattle.safe_blocks.specs.Corner.{marked_initialiser, marked_initialiser_events};
 ghost use Rattle.cpp_tree.specs.declared.program.Program.{Program as TypedUnits};
 ghost use Rattle.safe_blocks.specs.UnsafeFree.{HidesBlocks, UnsafeFree};
 
@@ -22,12 +17,4 @@ pub fn hidden()
 /// join of a thread, in every state that a thread comes to, and no unsafe function is entered in them.
 pub fn unsafe_free()
     ensures { (p : TypedUnits) → UnsafeFree p }
-{}
-
-/// Why `UnsafeFree` asks for `IsUnmarked`: in this program each body is well-formed and the check finds nothing, and yet
-/// a volatile store comes in its block.
-pub fn marked_initialiser()
-    ensures fits { bodies_fit marked_initialiser ≡ true }
-    ensures safe { IsSafe marked_initialiser }
-    ensures seen { outcome 200 marked_initialiser ≡ ends marked_initialiser_events (Exit (pos 0)) }
 {}

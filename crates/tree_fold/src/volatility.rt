@@ -21,6 +21,7 @@ fn has_volatile_shape(shape: &Shape, volatile: &[bool]) -> bool
 {
     match shape {
         Shape::Array(element, _) => has_volatile(element, volatile),
+        Shape::TxEx(value) => has_volatile(value, volatile),
         _ => is_marked(held_class(shape), volatile),
     }
 }

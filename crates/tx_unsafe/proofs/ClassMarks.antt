@@ -8,7 +8,7 @@ use Rattle.std.proofs.lemmas.Option.{slice_get_past}
 use Rattle.std.proofs.lemmas.List.{length-set, length-map, get_or-set_same, get_or-set_other}
 use Rattle.std.proofs.lemmas.List.Sums.{count_by-le-length, sum_by-set}
 use Rattle.cpp_types.specs.Typ.{Typ, typ, Form, void, int, enum, null, ptr, ref, array, func, class, closure, tx_ex}
-use Rattle.cpp_types.specs.Class.{Class, Member, held_form}
+use Rattle.cpp_types.specs.Class.{Class, Member}
 use Rattle.cpp_tree.specs.Typing.{passes}
 use Rattle.tx_unsafe.specs.Volatile.{is_volatile_object, is_volatile_form, is_volatile_member, has_volatile_part_by, volatile_within, has_volatile_part, marked}
 use Rattle.tx_unsafe.specs.ClassMarks.{count_marked, has_new_part, SoundClasses, ClosedClasses}
@@ -53,7 +53,7 @@ mutual
   form_more p q f (func s) h = h
   form_more p q f (class n) h = f n h
   form_more p q f (closure n) h = f n h
-  form_more p q f (tx_ex t) h = passes_more p q f (held_form (tx_ex t)) h
+  form_more p q f (tx_ex t) h = typ_more p q f t h
 
 pub part_more : (p q : ℕ → Bool) → ((n : ℕ) → p n ≡ true → q n ≡ true) → (c : Class) → has_volatile_part_by p c ≡ true → has_volatile_part_by q c ≡ true
 part_more p q f c h = or_more (list_any (is_volatile_member p) c.members) (passes p c.base) (list_any (is_volatile_member q) c.members) (passes q c.base)

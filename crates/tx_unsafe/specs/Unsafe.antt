@@ -1,7 +1,7 @@
 -- Which nodes of a typed tree are unsafe by themselves, and which functions it calls (the TS, [dcl.fct.def.tx]; [expr]).
 use Rattle.std.specs.Prelude.{ℕ, Bool, true, false, not, ◌&&◌, ◌||◌, List, [], ◌∷◌, ◌++◌, slice_get, Option, Some, None, option_map, cond}
 use Rattle.std.specs.List.{flat_map}
-use Rattle.cpp_types.specs.Typ.{Typ, typ, typ_of, ptr, func, Signature, signature}
+use Rattle.cpp_types.specs.Typ.{Typ, typ, typ_of, ptr, func, tx_ex, Signature, signature}
 use Rattle.cpp_types.specs.declared.classes.At.{At}
 use Rattle.cpp_types.specs.declared.ranks.Cat.{Cat}
 use Rattle.cpp_tree.specs.declared.faults.UnsafeReason.{UnsafeReason}
@@ -22,7 +22,7 @@ use Rattle.cpp_tree.specs.Rows.{is_constructor}
 use Rattle.cpp_tree.specs.Units.{Func, Param}
 use Rattle.tx_unsafe.specs.declared.finding.Finding.{Finding}
 use Rattle.tx_unsafe.specs.declared.finding.CallSite.{CallSite}
-use Rattle.tx_unsafe.specs.Volatile.{is_volatile_object, is_volatile_class}
+use Rattle.tx_unsafe.specs.Volatile.{is_volatile_object, is_class_object, is_volatile_class}
 
 -- Parts of a node
 
@@ -76,18 +76,25 @@ abbrev pub initialises_volatile : (ℕ → Bool) → TKind → Option Tree → B
 initialises_volatile volatile Init address = passes (λ (a : Tree). is_volatile_class volatile (typ_in a)) address
 initialises_volatile volatile kind address = false
 
--- a temporary, but no object that is passed as an argument
-abbrev pub is_made : TKind → Bool
-is_made (Materialize place argument) = not argument
-is_made kind = false
+-- a temporary, but no object that is passed as an argument: of a class, it is seen where it is built, but not the value of a `std::tx_exception`
+abbrev pub is_exception : Typ → Bool
+is_exception (typ (tx_ex t) c v) = true
+is_exception t = false
 
--- a variable, or what a handler has a name for
+abbrev pub is_made : TKind → Typ → Bool
+is_made (Materialize place argument) t = not argument || is_exception t
+is_made kind t = false
+
+-- a variable, a part of an object under construction that is no class object, or what a handler has a name for
 abbrev pub is_local : TKind → Bool
 is_local (Local place) = true
 is_local kind = false
 
+abbrev pub is_declared : Tree → Bool
+is_declared address = is_local (kind_of address) || not (is_class_object (typ_in address))
+
 abbrev pub declares_volatile : (ℕ → Bool) → TKind → Typ → Option Tree → Bool
-declares_volatile volatile Init t address = passes (λ (a : Tree). is_local (kind_of a) && is_volatile_object volatile (typ_in a)) address
+declares_volatile volatile Init t address = passes (λ (a : Tree). is_declared a && is_volatile_object volatile (typ_in a)) address
 declares_volatile volatile (Handler (Some place)) t first = is_volatile_object volatile t
 declares_volatile volatile kind t first = false
 
@@ -127,7 +134,7 @@ accesses volatile kind t at first = where_so (declares_volatile volatile kind t 
 abbrev pub objects : (ℕ → Bool) → TKind → Typ → Cat → At → (first second : Option Tree) → List Finding
 objects volatile kind t cat at first second = where_so (builds_object kind cat && is_volatile_class volatile t) at VolatileWrite
     ++ where_so (initialises_volatile volatile kind first) (place_of at second) VolatileWrite
-    ++ where_so (is_made kind && is_volatile_object volatile t) at VolatileTemp
+    ++ where_so (is_made kind t && is_volatile_object volatile t) at VolatileTemp
 
 -- what it calls that is no function of the unit
 abbrev pub foreign_calls : TKind → At → (first : Option Tree) → List Finding

@@ -1,7 +1,7 @@
 -- Objects that are volatile or have a volatile part (C++14 1.8, 3.9.3).
 use Rattle.std.specs.Prelude.{ℕ, zero, suc, Bool, false, ◌&&◌, ◌||◌, List, length, slice_get, get_or}
 use Rattle.std.specs.List.{list_any}
-use Rattle.cpp_types.specs.Typ.{Typ, typ, Form, array}
+use Rattle.cpp_types.specs.Typ.{Typ, typ, Form, array, tx_ex}
 use Rattle.cpp_types.specs.Class.{Class, Member, held_form}
 use Rattle.cpp_types.specs.Conversion.{is_object_form}
 use Rattle.cpp_tree.specs.Typing.{passes}
@@ -14,6 +14,7 @@ abbrev mutual
 
   pub is_volatile_form : (ℕ → Bool) → Form → Bool
   is_volatile_form volatile (array t n) = is_volatile_object volatile t
+  is_volatile_form volatile (tx_ex t) = is_volatile_object volatile t
   is_volatile_form volatile f = passes volatile (held_form f)
 
 -- a class, or an array of one

@@ -5,11 +5,11 @@ ghost use Rattle.cpp_types.specs.Typ.{typ_of, signature_of};
 ghost use Rattle.cpp_tree.specs.Typing.{is_void, is_prvalue};
 ghost use Rattle.cpp_tree.specs.Arena.{IsOrdered, are_below, trees_of, tree_of};
 ghost use Rattle.tx_unsafe.specs.Volatile.{marked};
-ghost use Rattle.tx_unsafe.specs.Unsafe.{writes_volatile, reads_volatile, builds_object, is_made, is_local, calls_predeclared, is_safe_signature, is_safe_pointer, called, is_atomic, where_so, place_of, read_at, initialises_volatile, declares_volatile, calls_unsafe_pointer, kid_in, accesses_of, objects_of, foreign_calls_of, own_of};
+ghost use Rattle.tx_unsafe.specs.Unsafe.{writes_volatile, reads_volatile, builds_object, is_made, is_exception, is_local, calls_predeclared, is_safe_signature, is_safe_pointer, called, is_atomic, where_so, place_of, read_at, initialises_volatile, declares_volatile, calls_unsafe_pointer, kid_in, accesses_of, objects_of, foreign_calls_of, own_of};
 ghost use Rattle.tx_unsafe.specs.First.{sooner, is_before};
 
 use crate::finding::Finding;
-use crate::volatility::{has_volatile, is_volatile_class};
+use crate::volatility::{has_volatile, is_class, is_volatile_class};
 use cpp_tree::{Builtin, TKind, TNode, TNodeId, UnsafeReason};
 use cpp_types::{At, Cat, FnTy, Shape, Ty};
 
@@ -69,12 +69,21 @@ fn is_value(cat: Cat) -> bool
     }
 }
 
-// The creation of a temporary that is no argument.
-fn is_temporary(kind: TKind) -> bool
-    ensures { result ≡ is_made kind }
+// The creation of a temporary that is no argument, or of a `std::tx_exception` that is one.
+fn is_temporary(kind: TKind, ty: &Ty) -> bool
+    ensures { result ≡ is_made kind (typ_of ty.now) }
 {
     match kind {
-        TKind::Materialize { argument, .. } => !argument,
+        TKind::Materialize { argument, .. } => !argument || is_exception_type(ty),
+        _ => false,
+    }
+}
+
+fn is_exception_type(ty: &Ty) -> bool
+    ensures { result ≡ is_exception (typ_of ty.now) }
+{
+    match &ty.shape {
+        Shape::TxEx(_) => true,
         _ => false,
     }
 }
@@ -159,7 +168,7 @@ pub(crate) fn kid_at<'a>(nodes: &'a [TNode], ids: &[TNodeId], i: usize) -> Optio
     }
 }
 
-// A variable, or what a handler has a name for, that is volatile or has a volatile part.
+// A variable, a part that is no class object, or what a handler has a name for, that is volatile or has a volatile part.
 fn is_volatile_declaration(nodes: &[TNode], volatile: &[bool], node: &TNode) -> bool
     requires ordered { IsOrdered nodes.now }
     requires below { are_below (length nodes.now) node.now.kids.items ≡ true }
@@ -167,7 +176,10 @@ fn is_volatile_declaration(nodes: &[TNode], volatile: &[bool], node: &TNode) -> 
 {
     match node.kind {
         TKind::Init => match kid_at(nodes, &node.kids, 0) {
-            Some(address) => is_variable(address.kind) && has_volatile(&address.ty, volatile),
+            Some(address) => {
+                (is_variable(address.kind) || !is_class(&address.ty))
+                    && has_volatile(&address.ty, volatile)
+            }
             None => false,
         },
         TKind::Handler { place: Some(_) } => has_volatile(&node.ty, volatile),
@@ -313,7 +325,7 @@ fn with_objects(
     );
     noted(
         found,
-        is_temporary(node.kind) && has_volatile(&node.ty, volatile),
+        is_temporary(node.kind, &node.ty) && has_volatile(&node.ty, volatile),
         node.at,
         UnsafeReason::VolatileTemp,
     )

@@ -22,6 +22,7 @@ fn has_volatile_shape(shape: &Shape, volatile: &[bool]) -> bool
 {
     match shape {
         Shape::Array(element, _) => has_volatile(element, volatile),
+        Shape::TxEx(value) => has_volatile(value, volatile),
         _ => is_marked(held_class(shape), volatile),
     }
 }
@@ -37,7 +38,7 @@ pub(crate) fn is_marked(class: Option<u32>, volatile: &[bool]) -> bool
 }
 
 /// Whether a type is a class, or an array of one.
-fn is_class(ty: &Ty) -> bool
+pub(crate) fn is_class(ty: &Ty) -> bool
     ensures { result ≡ is_class_object (typ_of ty.now) }
 {
     match &ty.shape {
