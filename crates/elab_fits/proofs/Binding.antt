@@ -36,12 +36,12 @@ use Rattle.elab_fits.proofs.Initials.{operand_gives}
 
 -- Temporaries (C++14 12.2)
 
-last_item : {A : Type 0} (xs : List A) (x : A) → slice_get (xs ++ x ∷ []) (length xs) ≡ Some x
+pub last_item : {A : Type 0} (xs : List A) (x : A) → slice_get (xs ++ x ∷ []) (length xs) ≡ Some x
 last_item {A} [] x = refl
 last_item {A} (y ∷ ys) x = last_item ys x
 
 -- the place of a temporary
-place_row : (s : Setting) (w : Work) (t : Typ) → Reaches s (with_item w t) → at_place s.function.frame (next_place w) t ≡ true
+pub place_row : (s : Setting) (w : Work) (t : Typ) → Reaches s (with_item w t) → at_place s.function.frame (next_place w) t ≡ true
 place_row s w t h = ap (λ (x : Option Typ). passes (typ_eq t) x) (h.frame (next_place w) t (last_item w.frame t)) ∙ typ_refl t
 
 -- an object of a scalar's type, with no destructions

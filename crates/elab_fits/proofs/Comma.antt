@@ -32,7 +32,7 @@ use Rattle.elab_fits.proofs.Choosing.{worded}
 commas : Simple Comma (only (Value ∷ Value ∷ []))
 commas = record { is_value = refl; anywhere = λ f p n. refl; unbranched = λ t hs. refl; asks = λ a b. refl; no_switch = refl }
 
-same_row : (t : Typ) (cat : Cat) (h : Head) → h.typ ≡ t → h.cat ≡ cat → same_value t cat h ≡ true
+pub same_row : (t : Typ) (cat : Cat) (h : Head) → h.typ ≡ t → h.cat ≡ cat → same_value t cat h ≡ true
 same_row t Lvalue h e d = both (ap is_lvalue d) (ap (λ (u : Typ). typ_eq t u) e ∙ typ_refl t)
 same_row t Prvalue h e d = both (ap is_prvalue d) (ap (λ (u : Typ). typ_eq t u) e ∙ typ_refl t)
 

@@ -45,7 +45,7 @@ class_form c v (typ (class m) d w) n h = h
 class_form c v (typ (closure m) d w) n h = h
 class_form c v (typ (tx_ex t) d w) n h = h
 
-count_low : (p : ℕ → Bool) (r : Bool) (t : Typ) → typ_ready p r t ≡ true → 1 ≤ count_in t
+pub count_low : (p : ℕ → Bool) (r : Bool) (t : Typ) → typ_ready p r t ≡ true → 1 ≤ count_in t
 count_low p r (typ void c v) h = omega arith
 count_low p r (typ (int k) c v) h = omega arith
 count_low p r (typ (enum m s) c v) h = omega arith

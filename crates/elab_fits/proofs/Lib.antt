@@ -9,6 +9,7 @@ pub mod Copies
 pub mod Destructions
 pub mod ElementTypes
 pub mod Equal
+pub mod Growing
 pub mod Initials
 pub mod Nodes
 pub mod Numbers

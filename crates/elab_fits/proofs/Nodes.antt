@@ -9,7 +9,7 @@ use Rattle.elab_rules.specs.cpp_tree.declared.kinds.TKind.TheVariants.{Block, Lo
 use Rattle.elab_rules.specs.cpp_tree.declared.program.FuncKind.{FuncKind}
 use Rattle.elab_rules.specs.cpp_tree.declared.roles.Position.{Position}
 use Rattle.elab_rules.specs.cpp_tree.declared.roles.Role.{Role}
-use Rattle.elab_rules.specs.cpp_tree.declared.roles.Role.TheVariants.{Value, Initialiser}
+use Rattle.elab_rules.specs.cpp_tree.declared.roles.Role.TheVariants.{Value, Word, Initialiser, CopyInit, Destruction}
 use Rattle.elab_rules.specs.cpp_tree.Trees.{Tree, node, Trees, none, one, two, three, kind_of, typ_in, cat_of}
 use Rattle.elab_rules.specs.cpp_tree.Typing.{Head, head_of, builds, is_class_prvalue}
 use Rattle.elab_rules.specs.cpp_tree.Roles.{Kids, only, and_any, kids_for, serves, way_fits}
@@ -55,14 +55,26 @@ inside_full (Loop first) p h = h
 inside_full Switch p h = h
 inside_full kind p h = h
 
--- what serves as a value or an initialiser is a kid of nodes
-value_kid : (s : Setting) (p : Position) (e : Tree) → fits s p Value e ≡ true → is_kid (kind_of e) ≡ true
+-- what serves as a value, an initialiser, a word, a copy or a destruction is a kid of nodes
+pub value_kid : (s : Setting) (p : Position) (e : Tree) → fits s p Value e ≡ true → is_kid (kind_of e) ≡ true
 value_kid s p (node (Block b) t cat at kids) h = absurd cc
 value_kid s p (node kind t cat at kids) h = refl
 
-initial_kid : (s : Setting) (p : Position) (e : Tree) → fits s p Initialiser e ≡ true → is_kid (kind_of e) ≡ true
+pub initial_kid : (s : Setting) (p : Position) (e : Tree) → fits s p Initialiser e ≡ true → is_kid (kind_of e) ≡ true
 initial_kid s p (node (Block b) t cat at kids) h = absurd cc
 initial_kid s p (node kind t cat at kids) h = refl
+
+pub word_kid : (s : Setting) (p : Position) (e : Tree) → fits s p Word e ≡ true → is_kid (kind_of e) ≡ true
+word_kid s p (node (Block b) t cat at kids) h = absurd cc
+word_kid s p (node kind t cat at kids) h = refl
+
+pub copy_kid : (s : Setting) (p : Position) (e : Tree) → fits s p CopyInit e ≡ true → is_kid (kind_of e) ≡ true
+copy_kid s p (node (Block b) t cat at kids) h = absurd cc
+copy_kid s p (node kind t cat at kids) h = refl
+
+pub destruction_kid : (s : Setting) (p : Position) (e : Tree) → fits s p Destruction e ≡ true → is_kid (kind_of e) ≡ true
+destruction_kid s p (node (Block b) t cat at kids) h = absurd cc
+destruction_kid s p (node kind t cat at kids) h = refl
 
 pub one_value : (s : Setting) (p : Position) (e : Tree) → fits s p Value e ≡ true → kids_fit s p (only (Value ∷ [])) 0 (one e) ≡ true
 one_value s p e h = both (both (value_kid s p e h) h) refl

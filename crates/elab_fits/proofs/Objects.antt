@@ -177,7 +177,7 @@ laid_by classes n (Some c) e h l = by c.complete refl
 pub laid_from : (classes : List Class) (n : ℕ) (c v : Bool) → Sized classes (typ (class n) c v) → Laid classes n
 laid_from classes n c v h = laid_by classes n (slice_get classes n) refl h.complete h.within
 
-class_end : (classes : List Class) → InOrder classes → (n : ℕ) (l : Laid classes n)
+pub class_end : (classes : List Class) → InOrder classes → (n : ℕ) (l : Laid classes n)
     → end_from 0 (items_of (class_extent classes) classes n l.owner) ≤ (class_extent classes n).size
 class_end classes o n l =
     let items : List Extent = items_of (class_extent classes) classes n l.owner in
@@ -195,7 +195,7 @@ first_end classes None b h = absurd cc
 first_end classes (Some x) b h = let e : x ≡ b = cc in
     subst (λ (z : ℕ). (class_extent classes z).size ≤ end_from 0 (class_extent classes x ∷ [])) e (omega arith)
 
-base_end : (classes : List Class) (n : ℕ) (c : Class) (b : ℕ) → c.base ≡ Some b
+pub base_end : (classes : List Class) (n : ℕ) (c : Class) (b : ℕ) → c.base ≡ Some b
     → (class_extent classes b).size ≤ end_from 0 (items_of (class_extent classes) classes n c)
 base_end classes n c b h =
     let base : List Extent = base_items (class_extent classes) c.base in

@@ -107,7 +107,7 @@ exception_from s copying f a b c v e h = let t : Typ = typ (tx_ex (typ f a b)) c
   kid = h.kid;
 }
 
-any_many : (role : Role) (many : ℕ) → enough (and_any [] role) many ≡ true
+pub any_many : (role : Role) (many : ℕ) → enough (and_any [] role) many ≡ true
 any_many role many = le-leb 0 many (omega arith)
 
 -- an object of a class, by its parts

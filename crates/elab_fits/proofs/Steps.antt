@@ -1,5 +1,5 @@
 -- Steps that may be refused: what holds of their answers.
-use Rattle.std.proofs.Common.{◌≡◌, refl, Bool, true, false, Option, Some, None, Result, Ok, Err}
+use Rattle.std.proofs.Common.{◌≡◌, refl, subst, Bool, true, false, Option, Some, None, Result, Ok, Err}
 use Rattle.std.specs.Prelude.{if◌then◌else◌}
 use Rattle.elab_rules.specs.cpp_types.declared.classes.At.{At}
 use Rattle.elab_rules.specs.cpp_tree.declared.faults.ElabFault.{ElabFault}
@@ -36,3 +36,26 @@ either P false x y h k = k refl
 pub known : {A : Type 0} (P : A → Type 0) (x : Result A ElabFault) → ((a : A) → P a) → On P x
 known P (Ok a) g = g a
 known P (Err e) g = tt
+
+-- the same where nothing is asked of the test
+pub either_way : {A : Type 0} (P : A → Type 0) (b : Bool) (x y : Result A ElabFault) → On P x → On P y → On P (if b then x else y)
+either_way P true x y h k = h
+either_way P false x y h k = k
+
+-- and of values
+pub choose : {A : Type 0} (P : A → Type 0) (b : Bool) (x y : A) → P x → P y → P (if b then x else y)
+choose P true x y h k = h
+choose P false x y h k = k
+
+-- what follows from what holds
+pub weaken : {A : Type 0} (P Q : A → Type 0) (x : Result A ElabFault) → ((a : A) → P a → Q a) → On P x → On Q x
+weaken P Q (Ok a) f h = f a h
+weaken P Q (Err e) f h = tt
+
+-- a step whose answer is told
+pub told : {A B : Type 0} (Q : B → Type 0) (x : Result A ElabFault) (f : A → Result B ElabFault) → ((a : A) → x ≡ Ok a → On Q (f a)) → On Q (and_then x f)
+told Q (Ok a) f g = g a refl
+told Q (Err e) f g = tt
+
+pub answered : {A : Type 0} (P : A → Type 0) (x : Result A ElabFault) (a : A) → On P x → x ≡ Ok a → P a
+answered P x a h e = subst (λ (z : Result _ ElabFault). On P z) e h

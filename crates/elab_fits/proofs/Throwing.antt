@@ -40,18 +40,18 @@ throw_is Throw = refl
 throw_is Rethrow = refl
 throw_is kind = refl
 
-thrown_kind : (e : Tree) → throws e ≡ true → is_thrown (head_of (bare_throw e)).kind ≡ true
+pub thrown_kind : (e : Tree) → throws e ≡ true → is_thrown (head_of (bare_throw e)).kind ≡ true
 thrown_kind e h = ap is_thrown (head_kind (bare_throw e)) ∙ sym (throw_is (kind_of (bare_throw e))) ∙ h
 
-thrown_branch : (t : Typ) (cat : Cat) (x : Head) → is_thrown x.kind ≡ true → is_branch t cat x ≡ true
+pub thrown_branch : (t : Typ) (cat : Cat) (x : Head) → is_thrown x.kind ≡ true → is_branch t cat x ≡ true
 thrown_branch t Lvalue x h = or_left _ h
 thrown_branch t Prvalue x h = or_left _ (or_left _ h)
 
 -- an operand beside one that throws
-own_row : (e : Tree) → is_branch (typ_in e) (cat_of e) (head_of e) ≡ true
+pub own_row : (e : Tree) → is_branch (typ_in e) (cat_of e) (head_of e) ≡ true
 own_row e = own_branch (typ_in e) (cat_of e) (head_of e) (ap (λ (u : Typ). typ_eq (typ_in e) u) (head_typ e) ∙ typ_refl (typ_in e)) (head_cat e)
 
-no_value : (e : Tree) → is_void (typ_in e) ≡ true → has_no_typ (head_of e) ≡ true
+pub no_value : (e : Tree) → is_void (typ_in e) ≡ true → has_no_typ (head_of e) ≡ true
 no_value e v = void_typ (head_of e) (ap is_void (head_typ e) ∙ v)
 
 second_throws : (s : Setting) (at : At) (test a b : Tree) → IsTruth s test → Stands s a → Stands s b → is_class_prvalue (typ_in a) (cat_of a) ≡ false

@@ -38,7 +38,7 @@ use Rattle.elab_fits.proofs.Arithmetic.{IsTruth, as_kind_gives, pointed_form, po
 
 -- Choices between scalars
 
-no_void : (f : Form) → is_scalar f ≡ true → is_void (plain f) ≡ false
+pub no_void : (f : Form) → is_scalar f ≡ true → is_void (plain f) ≡ false
 no_void void h = absurd cc
 no_void f h = refl
 

@@ -105,16 +105,16 @@ value_initialises f c v x i e d = both (ap is_prvalue d) (ap (λ (t : Typ). typ_
 
 -- Kinds of nodes
 
-loads : (k : IntKind) (v : Bool) → Simple (Load k v) (only (Value ∷ []))
+pub loads : (k : IntKind) (v : Bool) → Simple (Load k v) (only (Value ∷ []))
 loads k v = record { is_value = refl; anywhere = λ f p n. refl; unbranched = λ t hs. refl; asks = λ a b. refl; no_switch = refl }
 
-retypes : Simple Retype (only (Value ∷ []))
+pub retypes : Simple Retype (only (Value ∷ []))
 retypes = record { is_value = refl; anywhere = λ f p n. refl; unbranched = λ t hs. refl; asks = λ a b. refl; no_switch = refl }
 
 converts : (k : IntKind) → Simple (Convert k) (only (Value ∷ []))
 converts k = record { is_value = refl; anywhere = λ f p n. refl; unbranched = λ t hs. refl; asks = λ a b. refl; no_switch = refl }
 
-literals : (w : ℕ) → Simple (Literal w) (only [])
+pub literals : (w : ℕ) → Simple (Literal w) (only [])
 literals w = record { is_value = refl; anywhere = λ f p n. refl; unbranched = λ t hs. refl; asks = λ a b. refl; no_switch = refl }
 
 -- Numbers

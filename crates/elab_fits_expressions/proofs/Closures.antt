@@ -31,14 +31,14 @@ use Rattle.elab_fits.proofs.Destructions.{destructions_law}
 use Rattle.elab_fits.proofs.Nodes.{both, or_left, node_fits}
 use Rattle.elab_fits.proofs.Equal.{typ_refl}
 use Rattle.elab_fits.proofs.Objects.{Sized, sized_from, size_is, Laid, laid_from, sized_class_is, few_members, IsPart, part_is, count_is, shown}
-use Rattle.elab_fits.proofs.Pieces.{pieces_agree}
+use Rattle.elab_fits.proofs.Pieces.{pieces_agree, any_many}
 use Rattle.elab_fits.proofs.Steps.{bind, expected}
 use Rattle.elab_fits.proofs.Wholes.{qualified_none}
 use Rattle.elab_fits_objects.specs.Capturing.{IsCaptureTyp, IsCaptured}
 use Rattle.elab_fits_objects.specs.Contexts.{is_whole, IsCapture as IsCaptureType}
 use Rattle.elab_fits_objects.specs.Making.{IsSourceTree}
 use Rattle.elab_fits_objects.proofs.Casting.{plain_source}
-use Rattle.elab_fits_objects.proofs.Fits.{object_kids, at_least_one, any_many}
+use Rattle.elab_fits_objects.proofs.Fits.{object_kids, at_least_one}
 use Rattle.elab_fits_objects.proofs.Lambdas.{captures_build}
 use Rattle.elab_fits_objects.proofs.Types.{whole_sized, whole_ready}
 use Rattle.elab_fits_forms.specs.Types.{is_lambda}

@@ -23,7 +23,6 @@ use Rattle.elab_rules.specs.cpp_tree.Trees.{Tree, node, Trees, none, one, two, t
 use Rattle.elab_rules.specs.cpp_tree.Notation.{plain}
 use Rattle.elab_rules.specs.cpp_tree.Typing.{Head, head_of, passes, form_in, is_class, is_class_typ, is_class_prvalue, is_volatile_typ, is_prvalue, are_words}
 use Rattle.elab_rules.specs.cpp_tree.Typing.{without_exception, same_shape, kind_in, is_kind, is_result as is_given}
-use Rattle.elab_rules.specs.cpp_tree.Roles.{only}
 use Rattle.elab_rules.specs.cpp_tree.Rows.{Setting, row_fits, is_special, result_in, result_of, signature_words, called_in, param_words, is_load, is_access}
 use Rattle.elab_rules.specs.cpp_tree.WellFormed.{heads_of}
 use Rattle.elab_rules.specs.elab_ctx.Ctx.{Ctx, Work, Func}
@@ -36,9 +35,9 @@ use Rattle.elab_rules.specs.Calls.{call_get, is_closure_call, call_closure, call
 use Rattle.elab_fits.specs.Standing.{FitsAs, Reaches, On}
 use Rattle.elab_fits.specs.Scalars.{Gives, IsZero, is_scalar}
 use Rattle.elab_fits.proofs.Equal.{form_refl, kind_refl}
-use Rattle.elab_fits.proofs.Nodes.{both, or_left, or_right, clash, head_typ, head_cat, Simple, one_kid}
+use Rattle.elab_fits.proofs.Nodes.{both, or_left, or_right, clash, head_typ, head_cat, one_kid}
 use Rattle.elab_fits.proofs.Steps.{bind, checked, expected}
-use Rattle.elab_fits.proofs.Values.{given_typ, given_cat, no_class, scalar_value}
+use Rattle.elab_fits.proofs.Values.{given_typ, given_cat, no_class, scalar_value, loads}
 use Rattle.elab_fits.proofs.Arithmetic.{pointer_of}
 use Rattle.elab_fits_objects.proofs.Fits.{within, within_full, fit_as}
 use Rattle.elab_fits_objects.proofs.Passing as passing
@@ -149,9 +148,6 @@ value_stands s c w at (closure n) callee os h x e xs = closure_stands s c w at n
 value_stands s c w at f callee os h x e xs = pointed_stands s c w at (value_form callee) callee os h x refl xs
 
 -- `get` of a `std::tx_exception`: the value in it
-
-loads : (k : IntKind) (v : Bool) → Simple (Load k v) (only (Value ∷ []))
-loads k v = record { is_value = refl; anywhere = λ f p n. refl; unbranched = λ t hs. refl; asks = λ a b. refl; no_switch = refl }
 
 read_row : (result : Typ) (f : Form) (q : Bool) (k : IntKind) (x : Head) → x.cat ≡ Lvalue → x.typ ≡ typ (tx_ex (plain f)) q false → is_scalar f ≡ true
     → is_kind k (kind_in f) ≡ true → is_load result k false (plain f) Prvalue x ≡ true

@@ -44,11 +44,12 @@ use Rattle.elab_fits.specs.Standing.{FitsAs, On}
 use Rattle.elab_fits.specs.Scalars.{is_scalar}
 use Rattle.elab_fits.specs.Objects.{AllFit}
 use Rattle.elab_fits.proofs.Equal.{typ_refl, typ_same}
-use Rattle.elab_fits.proofs.Nodes.{both, head_typ, head_cat, head_kind, node_fits, of_value}
+use Rattle.elab_fits.proofs.Nodes.{both, head_typ, head_cat, head_kind, node_fits, of_value, value_kid}
 use Rattle.elab_fits.proofs.Steps.{bind, checked}
 use Rattle.elab_fits.proofs.Values.{lvalue_stands}
+use Rattle.elab_fits.proofs.Pieces.{any_many}
 use Rattle.elab_fits_objects.specs.Making.{WordsFit}
-use Rattle.elab_fits_objects.proofs.Fits.{within, within_full, value_kid, value_word, no_argument, any_many}
+use Rattle.elab_fits_objects.proofs.Fits.{within, within_full, value_word, no_argument}
 use Rattle.elab_fits_forms.specs.Types.{is_result}
 use Rattle.elab_fits_forms.specs.Meaning.{Proper, IsObject}
 use Rattle.elab_fits_forms.specs.Context.{HasSlot, Holds}

@@ -8,26 +8,27 @@ use Rattle.elab_rules.specs.cpp_types.declared.classes.At.{At}
 use Rattle.elab_rules.specs.cpp_types.declared.ranks.Cat.{Cat}
 use Rattle.elab_rules.specs.cpp_types.declared.ranks.Cat.TheVariants.{Lvalue, Prvalue}
 use Rattle.elab_rules.specs.cpp_tree.declared.kinds.TKind.{TKind}
-use Rattle.elab_rules.specs.cpp_tree.declared.kinds.TKind.TheVariants.{Block, Call, VirtualCall, PointerCall}
+use Rattle.elab_rules.specs.cpp_tree.declared.kinds.TKind.TheVariants.{Call, VirtualCall, PointerCall}
 use Rattle.elab_rules.specs.cpp_tree.declared.program.FuncKind.{FuncKind}
 use Rattle.elab_rules.specs.cpp_tree.declared.roles.Position.{Position}
 use Rattle.elab_rules.specs.cpp_tree.declared.roles.Role.{Role}
 use Rattle.elab_rules.specs.cpp_tree.declared.roles.Role.TheVariants.{Value, Word, Initialiser}
-use Rattle.elab_rules.specs.cpp_tree.Trees.{Tree, node, Trees, none, more, kind_of}
+use Rattle.elab_rules.specs.cpp_tree.Trees.{Tree, node, Trees, none, more}
 use Rattle.elab_rules.specs.cpp_tree.Notation.{plain}
 use Rattle.elab_rules.specs.cpp_tree.Units.{Func as UnitFunc}
 use Rattle.elab_rules.specs.cpp_tree.Typing.{Head, passes, is_class_typ, is_class_prvalue}
 use Rattle.elab_rules.specs.cpp_tree.Typing.{is_result as is_given, are_words, goes_both_ways}
 use Rattle.elab_rules.specs.cpp_tree.Roles.{Kids, and_any, kids_for, is_expression, is_initialiser, is_throw, is_full}
 use Rattle.elab_rules.specs.cpp_tree.Rows.{Setting, row_fits, is_special, result_in, result_of, signature_words, words_of}
-use Rattle.elab_rules.specs.cpp_tree.WellFormed.{fits, kids_fit, heads_of, enough, may_stand, branches_fit, is_switch, inside, is_kid}
+use Rattle.elab_rules.specs.cpp_tree.WellFormed.{fits, kids_fit, heads_of, enough, may_stand, branches_fit, is_switch, inside}
 use Rattle.elab_rules.specs.elab_ctx.Ctx.{Ctx, Func}
 use Rattle.elab_rules.specs.Initialising.{signature_result}
 use Rattle.elab_rules.specs.Calls.{result_type, result_category, call_node}
 use Rattle.elab_fits.specs.Standing.{FitsAs, IsExpressionType, IsSetting}
 use Rattle.elab_fits.specs.Objects.{AllFit}
 use Rattle.elab_fits.proofs.Equal.{typ_refl}
-use Rattle.elab_fits.proofs.Nodes.{both, or_right, clash, node_fits, of_value}
+use Rattle.elab_fits.proofs.Nodes.{both, or_right, clash, node_fits, of_value, value_kid, word_kid}
+use Rattle.elab_fits.proofs.Pieces.{any_many}
 use Rattle.elab_fits_forms.specs.Types.{is_sound, is_sound_form, is_target, is_result, IsWhole}
 use Rattle.elab_fits_objects.specs.Contexts.{copies_itself}
 use Rattle.elab_fits_forms.specs.Meaning.{Proper}
@@ -36,14 +37,6 @@ use Rattle.elab_fits_forms.proofs.Proper.{proper_lvalue}
 use Rattle.elab_fits_forms.proofs.Settled.{proper_built, own_builds}
 
 -- Words as kids
-
-word_kid : (s : Setting) (p : Position) (e : Tree) → fits s p Word e ≡ true → is_kid (kind_of e) ≡ true
-word_kid s p (node (Block b) t cat at kids) h = absurd cc
-word_kid s p (node kind t cat at kids) h = refl
-
-value_kid : (s : Setting) (p : Position) (e : Tree) → fits s p Value e ≡ true → is_kid (kind_of e) ≡ true
-value_kid s p (node (Block b) t cat at kids) h = absurd cc
-value_kid s p (node kind t cat at kids) h = refl
 
 words_fit : (s : Setting) (p : Position) (i : ℕ) (ts : Trees) → AllFit s Word ts → p.full ≡ true → kids_fit s p (and_any [] Word) i ts ≡ true
 words_fit s p i none h full = refl
@@ -68,9 +61,6 @@ pub record IsCall (s : Setting) (kind : TKind) (ts : Trees) : Type 0 where
   pub kids : (p : Position) → p.full ≡ true → kids_fit s (inside kind p) asked 0 ts ≡ true
   pub whole : (t : Typ) (cat : Cat) (at : At) → copies_itself (node kind t cat at ts) ≡ true
   pub itself : (t : Typ) (cat : Cat) (at : At) → builder (node kind t cat at ts) ≡ node kind t cat at ts
-
-any_many : (role : Role) (many : ℕ) → enough (and_any [] role) many ≡ true
-any_many role many = le-leb 0 many (omega arith)
 
 one_at_least : (role other : Role) (many : ℕ) → enough (and_any (role ∷ []) other) (suc many) ≡ true
 one_at_least role other many = le-leb 1 (suc many) (omega arith)

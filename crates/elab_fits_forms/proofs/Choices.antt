@@ -12,16 +12,15 @@ use Rattle.elab_rules.specs.cpp_types.declared.ranks.Cat.{Cat}
 use Rattle.elab_rules.specs.cpp_types.declared.ranks.Cat.TheVariants.{Lvalue, Prvalue}
 use Rattle.elab_rules.specs.cpp_tree.declared.faults.ElabFault.{ElabFault}
 use Rattle.elab_rules.specs.cpp_tree.declared.faults.IllRule.TheVariants.{BadOperand}
-use Rattle.elab_rules.specs.cpp_tree.declared.kinds.TKind.{TKind}
-use Rattle.elab_rules.specs.cpp_tree.declared.kinds.TKind.TheVariants.{Block, Conditional, Throw, Rethrow}
+use Rattle.elab_rules.specs.cpp_tree.declared.kinds.TKind.TheVariants.{Conditional, Throw, Rethrow}
 use Rattle.elab_rules.specs.cpp_tree.declared.roles.Position.{Position}
 use Rattle.elab_rules.specs.cpp_tree.declared.roles.Role.TheVariants.{Value, Initialiser}
 use Rattle.elab_rules.specs.cpp_tree.Trees.{Tree, node, three, kind_of, typ_in, cat_of}
 use Rattle.elab_rules.specs.cpp_tree.Notation.{plain}
-use Rattle.elab_rules.specs.cpp_tree.Typing.{Head, head_of, form_in, is_void, is_class_typ, is_class_prvalue, kind_in, goes_both_ways}
+use Rattle.elab_rules.specs.cpp_tree.Typing.{head_of, form_in, is_void, is_class_typ, is_class_prvalue, kind_in, goes_both_ways}
 use Rattle.elab_rules.specs.cpp_tree.Roles.{only, is_throw as is_thrown, is_full}
 use Rattle.elab_rules.specs.cpp_tree.Rows.{Setting, is_branch}
-use Rattle.elab_rules.specs.cpp_tree.WellFormed.{fits, kids_fit, is_kid, has_no_typ}
+use Rattle.elab_rules.specs.cpp_tree.WellFormed.{fits, kids_fit, has_no_typ}
 use Rattle.elab_rules.specs.elab_ctx.Ctx.{Ctx, Work}
 use Rattle.elab_rules.specs.elab_ctx.Steps.{Operand}
 use Rattle.elab_rules.specs.Operators.{value, value_form, arithmetic, is_null, is_throw, bare_throw, throws, settled, conditional_node}
@@ -29,12 +28,12 @@ use Rattle.elab_rules.specs.Operators.{conditional_like, same_lvalues, both_of_c
 use Rattle.elab_rules.specs.Operators.{same_work, branches, truth, conditional}
 use Rattle.elab_fits.specs.Standing.{FitsAs, Stands, On}
 use Rattle.elab_fits.specs.Scalars.{IsValue}
-use Rattle.elab_fits.proofs.Equal.{typ_refl}
-use Rattle.elab_fits.proofs.Nodes.{both, or_left, or_right, head_typ, head_cat, head_kind, node_fits}
+use Rattle.elab_fits.proofs.Nodes.{both, or_left, or_right, node_fits, initial_kid, value_kid}
 use Rattle.elab_fits.proofs.Steps.{bind, checked, either}
 use Rattle.elab_fits.proofs.Arithmetic.{IsTruth, or_case}
 use Rattle.elab_fits.proofs.Unary.{bool_row, truth_gives, lvalue_is}
-use Rattle.elab_fits.proofs.Choosing.{values_choose, choice_stands, own_branch, void_typ, lvalues_choose, shared_stands, voids_choose}
+use Rattle.elab_fits.proofs.Choosing.{values_choose, choice_stands, lvalues_choose, shared_stands, voids_choose}
+use Rattle.elab_fits.proofs.Throwing.{thrown_kind, thrown_branch, own_row, no_value}
 use Rattle.elab_fits_forms.specs.Types.{is_sound, is_sound_form, is_target, IsWhole}
 use Rattle.elab_fits_forms.specs.Meaning.{Proper, ProperOperand}
 use Rattle.elab_fits_forms.specs.Context.{Holds}
@@ -43,27 +42,9 @@ use Rattle.elab_fits_forms.proofs.Types.{class_no_void, class_target}
 use Rattle.elab_fits_forms.proofs.Proper.{proper_lvalue, proper_value, proper_valued}
 use Rattle.elab_fits_forms.proofs.Temporaries.{prvalue_class}
 use Rattle.elab_fits_forms.proofs.Dropped.{operand_is, thrown_fits}
-use Rattle.elab_fits_forms.proofs.Settled.{IsBuilt, proper_built, own_builds, initial_kid, IsSettled, settled_is}
+use Rattle.elab_fits_forms.proofs.Settled.{IsBuilt, proper_built, own_builds, IsSettled, settled_is}
 
 -- What throws
-
-throw_is : (kind : TKind) → is_throw kind ≡ is_thrown kind
-throw_is Throw = refl
-throw_is Rethrow = refl
-throw_is kind = refl
-
-thrown_kind : (e : Tree) → throws e ≡ true → is_thrown (head_of (bare_throw e)).kind ≡ true
-thrown_kind e h = ap is_thrown (head_kind (bare_throw e)) ∙ sym (throw_is (kind_of (bare_throw e))) ∙ h
-
-thrown_branch : (t : Typ) (cat : Cat) (x : Head) → is_thrown x.kind ≡ true → is_branch t cat x ≡ true
-thrown_branch t Lvalue x h = or_left _ h
-thrown_branch t Prvalue x h = or_left _ (or_left _ h)
-
-own_row : (e : Tree) → is_branch (typ_in e) (cat_of e) (head_of e) ≡ true
-own_row e = own_branch (typ_in e) (cat_of e) (head_of e) (ap (λ (u : Typ). typ_eq (typ_in e) u) (head_typ e) ∙ typ_refl (typ_in e)) (head_cat e)
-
-no_value : (e : Tree) → is_void (typ_in e) ≡ true → has_no_typ (head_of e) ≡ true
-no_value e v = void_typ (head_of e) (ap is_void (head_typ e) ∙ v)
 
 -- a throw builds an object, as it gives a value
 throw_built : (s : Setting) (p : Position) (e : Tree) → is_throw (kind_of e) ≡ true → fits s p Value e ≡ true → fits s p Initialiser e ≡ true
@@ -72,10 +53,6 @@ throw_built s p (node Rethrow t cat at kids) k h = h
 throw_built s p (node kind t cat at kids) k h = absurd cc
 
 -- Objects
-
-value_kid : (s : Setting) (p : Position) (e : Tree) → fits s p Value e ≡ true → is_kid (kind_of e) ≡ true
-value_kid s p (node (Block b) t cat at kids) h = absurd cc
-value_kid s p (node kind t cat at kids) h = refl
 
 choice_kids : (s : Setting) (p : Position) (a b d : Tree) → fits s p Value a ≡ true → fits s p Initialiser b ≡ true → fits s p Initialiser d ≡ true
     → kids_fit s p (only (Value ∷ Initialiser ∷ Initialiser ∷ [])) 0 (three a b d) ≡ true

@@ -1,5 +1,5 @@
 -- Values that are dropped, and what has no value.
-use Rattle.std.proofs.Common.{◌≡◌, refl, ap, ◌∙◌, Bool, true, false, ◌&&◌, [], ◌∷◌, is_some}
+use Rattle.std.proofs.Common.{◌≡◌, refl, ap, ◌∙◌, Bool, true, false, ◌&&◌, is_some}
 use Rattle.std.proofs.lemmas.Bool.{and_parts}
 use Rattle.std.specs.Prelude.{if◌then◌else◌}
 use Rattle.elab_rules.specs.cpp_types.Typ.{Typ, typ, Form, void, int, enum, null, ptr, ref, tx_ex}
@@ -13,7 +13,6 @@ use Rattle.elab_rules.specs.cpp_tree.declared.roles.Role.TheVariants.{Value, Ini
 use Rattle.elab_rules.specs.cpp_tree.Trees.{Tree, node, none, more, one, kind_of, typ_in, cat_of}
 use Rattle.elab_rules.specs.cpp_tree.Notation.{plain}
 use Rattle.elab_rules.specs.cpp_tree.Typing.{form_in, kind_in, is_class_prvalue, is_volatile_typ}
-use Rattle.elab_rules.specs.cpp_tree.Roles.{only}
 use Rattle.elab_rules.specs.cpp_tree.Rows.{Setting}
 use Rattle.elab_rules.specs.cpp_tree.WellFormed.{fits}
 use Rattle.elab_rules.specs.elab_ctx.Ctx.{Ctx, Work}
@@ -22,11 +21,12 @@ use Rattle.elab_rules.specs.Values.{place_of, same_at, builder}
 use Rattle.elab_rules.specs.Operators.{value, bare_throw, is_throw, dropped, throws, is_volatile_scalar, is_read_when_dropped, without_value}
 use Rattle.elab_fits.specs.Standing.{FitsAs, Reaches}
 use Rattle.elab_fits.specs.Scalars.{IsOperand}
-use Rattle.elab_fits.proofs.Nodes.{of_value, Simple, one_kid}
+use Rattle.elab_fits.proofs.Nodes.{of_value, one_kid}
 use Rattle.elab_fits.proofs.Arithmetic.{value_of}
 use Rattle.elab_fits.proofs.Initials.{value_form_is}
 use Rattle.elab_fits.proofs.Choosing.{worded}
 use Rattle.elab_fits.proofs.Comma.{bare_fits}
+use Rattle.elab_fits.proofs.Values.{retypes}
 use Rattle.elab_fits_forms.specs.Meaning.{Proper, ProperOperand}
 use Rattle.elab_fits_forms.specs.Context.{Holds}
 use Rattle.elab_fits_forms.proofs.Temporaries.{object_value}
@@ -91,9 +91,6 @@ dropped_value s c w w' o h x = if_made (λ (m : Made). Reaches s m.work → Fits
     (λ v r. object_value s c w o.at o.tree h.setting h.makers.specials x.proper r))
 
 -- What has no value
-
-retypes : Simple Retype (only (Value ∷ []))
-retypes = record { is_value = refl; anywhere = λ f p n. refl; unbranched = λ t hs. refl; asks = λ a b. refl; no_switch = refl }
 
 pub nothing_proper : (s : Setting) (c : Ctx) (at : At) (e : Tree) → FitsAs s Value e → Proper s c (without_value at e)
 nothing_proper s c at e h = record {

@@ -34,7 +34,7 @@ use Rattle.elab_fits.specs.Scalars.{is_scalar, Gives}
 use Rattle.elab_fits.proofs.Equal.{typ_refl}
 use Rattle.elab_fits.proofs.Nodes.{both, clash, Simple, no_kids}
 use Rattle.elab_fits.proofs.Steps.{checked, expected, either}
-use Rattle.elab_fits.proofs.Values.{no_class, scalar_value}
+use Rattle.elab_fits.proofs.Values.{no_class, scalar_value, literals}
 use Rattle.elab_fits_forms.specs.Types.{is_empty, is_sound_form, is_target}
 use Rattle.elab_fits_forms.specs.Meaning.{Proper, Means}
 use Rattle.elab_fits_forms.specs.Context.{IsEnumerator, Holds}
@@ -43,9 +43,6 @@ use Rattle.elab_fits_forms.proofs.Places.{place_is, func_is}
 use Rattle.elab_fits_forms.proofs.Proper.{lvalue_node, proper_value}
 use Rattle.elab_fits_forms.proofs.Variables.{variable_stands}
 use Rattle.elab_fits_forms.proofs.Members.{OnSome, IsFound, found_is, implicit_means}
-
-literals : (w : ℕ) → Simple (Literal w) (only [])
-literals w = record { is_value = refl; anywhere = λ f p n. refl; unbranched = λ t hs. refl; asks = λ a b. refl; no_switch = refl }
 
 globals : (g : ℕ) → Simple (GlobalNode g) (only [])
 globals g = record { is_value = refl; anywhere = λ f p n. refl; unbranched = λ t hs. refl; asks = λ a b. refl; no_switch = refl }

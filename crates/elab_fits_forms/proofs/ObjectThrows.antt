@@ -1,5 +1,5 @@
 -- `throw` of objects of classes.
-use Rattle.std.proofs.Common.{◌≡◌, refl, sym, ap, ◌∙◌, subst, ℕ, zero, suc, ◌+◌, Bool, true, false, not, ◌&&◌, nat_le, List, [], ◌∷◌, length, Option, Some, None, is_some}
+use Rattle.std.proofs.Common.{◌≡◌, refl, sym, ap, ◌∙◌, subst, ℕ, zero, suc, ◌+◌, Bool, true, false, not, nat_le, List, [], ◌∷◌, length, Option, Some, None, is_some}
 use Rattle.std.proofs.Common.{Result, Ok, Err}
 use Rattle.std.specs.Prelude.{if◌then◌else◌}
 use Rattle.elab_rules.specs.tx_ints.declared.kinds.IntKind.{IntKind}
@@ -21,24 +21,24 @@ use Rattle.elab_rules.specs.cpp_tree.Parts.{are_scalars}
 use Rattle.elab_rules.specs.cpp_tree.Rows.{Setting, is_thrown}
 use Rattle.elab_rules.specs.cpp_tree.WellFormed.{heads_of}
 use Rattle.elab_rules.specs.elab_ctx.Ctx.{Ctx, Work}
-use Rattle.elab_rules.specs.elab_ctx.Steps.{and_then, check, Operand, Made}
+use Rattle.elab_rules.specs.elab_ctx.Steps.{and_then, Operand, Made}
 use Rattle.elab_rules.specs.Objects.{size_of, followed_by, Part, parts_of, fields_of_parts, scalar_field, repeated, fields_in, fields_form, class_fields, fields}
 use Rattle.elab_rules.specs.Objects.{traits_at}
 use Rattle.elab_rules.specs.Initialising.{object_of, with_tree}
 use Rattle.elab_rules.specs.Operators.{value, without_value}
 use Rattle.elab_rules.specs.cpp_types.Class.{completion_of}
 use Rattle.elab_rules.specs.Casts.{is_thrown_scalar, within_exception, throw_node, throw_object, throw_in, throw}
+use Rattle.elab_fits_objects.proofs.Types.{ready_more}
 use Rattle.elab_fits.specs.Standing.{FitsAs, Reaches, On}
 use Rattle.elab_fits.specs.Objects.{AllFit, is_closure}
 use Rattle.elab_fits.proofs.Equal.{form_refl}
 use Rattle.elab_fits.proofs.Initials.{value_form_is}
 use Rattle.elab_fits.proofs.Nodes.{both, clash, head_typ, head_cat}
-use Rattle.elab_fits.proofs.Steps.{bind, checked, known}
-use Rattle.elab_fits_forms.specs.Types.{is_sound, IsWhole}
+use Rattle.elab_fits.proofs.Steps.{bind, checked}
+use Rattle.elab_fits_forms.specs.Types.{IsWhole}
 use Rattle.elab_fits_forms.specs.Meaning.{IsObject, ProperOperand}
 use Rattle.elab_fits_forms.specs.Context.{Holds}
 use Rattle.elab_fits_forms.specs.Forms.{MadeStands, ProperOperands, FieldsAgree}
-use Rattle.elab_fits_forms.proofs.Readiness.{any_ready}
 use Rattle.elab_fits_forms.proofs.Proper.{object_fits}
 use Rattle.elab_fits_forms.proofs.Temporaries.{object_is, object_typ}
 use Rattle.elab_fits_forms.proofs.Wholes.{class_whole}
@@ -105,7 +105,7 @@ thrown_by : (s : Setting) (c : Ctx) (w : Work) (at : At) (t : Typ) (e : Tree) �
 thrown_by s c w at (typ f q v) e agree h o d k x n = throw_fits s at f e (fields c.classes at (typ f q v)) (object_fits s c e o)
     (object_thrown f e k (ap is_lvalue (head_cat e ∙ o.category)) (ap form_in (head_typ e ∙ d))) (fields_fit s c.classes at (typ f q v))
     (ap (λ (cs : List Class). are_scalars cs (plain f) (heads_of (fields c.classes at (typ f q v)))) h.setting.classes
-    ∙ agree c.classes at f q v h.setting.ordered x.sized (any_ready c.classes (is_closure f) (typ f q v) x.ready) k n)
+    ∙ agree c.classes at f q v h.setting.ordered x.sized (ready_more c.classes (is_closure f) (typ f q v) x.ready) k n)
 
 small : (c : Ctx) (at : At) (t : Typ) → On (λ (b : Bool). nat_le (size_of c.classes t) EXCEPTION_SIZE ≡ true) (within_exception c at t)
 small c at t = by (nat_le (size_of c.classes t) EXCEPTION_SIZE) refl

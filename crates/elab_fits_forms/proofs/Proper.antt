@@ -1,5 +1,5 @@
 -- Expressions that stand and are of sound types.
-use Rattle.std.proofs.Common.{◌≡◌, refl, ap, ◌∙◌, ℕ, Bool, true, false, ◌||◌, [], ◌∷◌, Option, Some}
+use Rattle.std.proofs.Common.{◌≡◌, refl, ap, ◌∙◌, ℕ, Bool, true, ◌||◌, [], ◌∷◌, Option, Some}
 use Rattle.elab_rules.specs.tx_ints.declared.kinds.IntKind.{IntKind}
 use Rattle.elab_rules.specs.tx_ints.declared.kinds.IntKind.TheVariants.{ULong}
 use Rattle.elab_rules.specs.tx_ints.declared.kinds.BinOp.TheVariants.{Add}
@@ -11,14 +11,13 @@ use Rattle.elab_rules.specs.cpp_tree.declared.kinds.TKind.{TKind}
 use Rattle.elab_rules.specs.cpp_tree.declared.kinds.TKind.TheVariants.{Binary}
 use Rattle.elab_rules.specs.cpp_tree.declared.roles.Role.TheVariants.{Value}
 use Rattle.elab_rules.specs.cpp_tree.Trees.{Tree, node, Trees, typ_in, cat_of}
-use Rattle.elab_rules.specs.cpp_tree.Notation.{plain}
 use Rattle.elab_rules.specs.cpp_tree.Typing.{head_of, is_void, is_class_prvalue, is_kind, word_kind, is_word_of}
 use Rattle.elab_rules.specs.cpp_tree.Roles.{only}
 use Rattle.elab_rules.specs.cpp_tree.Rows.{Setting}
 use Rattle.elab_rules.specs.elab_ctx.Ctx.{Ctx}
 use Rattle.elab_rules.specs.Values.{number, part_at, retyped, builder, valued}
 use Rattle.elab_fits.specs.Standing.{FitsAs, Stands}
-use Rattle.elab_fits.specs.Scalars.{is_scalar, Gives}
+use Rattle.elab_fits.specs.Scalars.{Gives}
 use Rattle.elab_fits.proofs.Nodes.{both, clash, head_typ, head_cat, of_value, Simple, two_kids}
 use Rattle.elab_fits.proofs.Values.{given_stands, no_object, number_gives, value_gives, lvalue_stands}
 use Rattle.elab_fits.proofs.Arithmetic.{part_stands}
@@ -46,10 +45,6 @@ lvalue_node s c kind t at kids h i = proper_lvalue s c (node kind t Lvalue at ki
     (of_value s (node kind t Lvalue at kids) (target_type c.classes t i) refl h) refl i
 
 -- the value of a scalar
-no_void : (f : Form) → is_scalar f ≡ true → is_void (plain f) ≡ false
-no_void void h = absurd cc
-no_void f h = refl
-
 pub proper_value : (s : Setting) (c : Ctx) (f : Form) (e : Tree) → Gives s f e → is_sound_form c.classes f ≡ true → Proper s c e
 proper_value s c f e g h = record {
   stands = given_stands s f e g;

@@ -6,15 +6,15 @@ use Rattle.elab_rules.specs.cpp_types.Equal.{typ_eq, form_eq}
 use Rattle.elab_rules.specs.cpp_types.declared.classes.At.{At}
 use Rattle.elab_rules.specs.cpp_types.declared.ranks.Cat.{Cat}
 use Rattle.elab_rules.specs.cpp_types.declared.ranks.Cat.TheVariants.{Lvalue, Prvalue}
-use Rattle.elab_rules.specs.cpp_tree.declared.kinds.TKind.TheVariants.{Block, Comma, CopyFrom, Retype}
+use Rattle.elab_rules.specs.cpp_tree.declared.kinds.TKind.TheVariants.{Comma, CopyFrom, Retype}
 use Rattle.elab_rules.specs.cpp_tree.declared.roles.Position.{Position}
 use Rattle.elab_rules.specs.cpp_tree.declared.roles.Role.TheVariants.{Value, Initialiser, CopyInit}
-use Rattle.elab_rules.specs.cpp_tree.Trees.{Tree, node, two, kind_of, typ_in, cat_of}
-use Rattle.elab_rules.specs.cpp_tree.Typing.{Head, head_of, form_in, is_prvalue, is_class_typ, is_class_prvalue, builds, same_shape}
+use Rattle.elab_rules.specs.cpp_tree.Trees.{Tree, node, two, typ_in, cat_of}
+use Rattle.elab_rules.specs.cpp_tree.Typing.{head_of, form_in, is_prvalue, is_class_typ, is_class_prvalue, builds, same_shape}
 use Rattle.elab_rules.specs.cpp_tree.Typing.{goes_both_ways}
 use Rattle.elab_rules.specs.cpp_tree.Roles.{only, is_throw as is_thrown, is_full}
-use Rattle.elab_rules.specs.cpp_tree.Rows.{Setting, same_value, is_copied_from}
-use Rattle.elab_rules.specs.cpp_tree.WellFormed.{fits, kids_fit, is_kid}
+use Rattle.elab_rules.specs.cpp_tree.Rows.{Setting, is_copied_from}
+use Rattle.elab_rules.specs.cpp_tree.WellFormed.{fits, kids_fit}
 use Rattle.elab_rules.specs.elab_ctx.Ctx.{Ctx, Work, with_item}
 use Rattle.elab_rules.specs.elab_ctx.Steps.{Operand, Made}
 use Rattle.elab_rules.specs.Values.{builder}
@@ -24,32 +24,18 @@ use Rattle.elab_rules.specs.Operators.{dropped, settled, comma_of, comma}
 use Rattle.elab_fits.specs.Standing.{FitsAs, IsExpressionType, Reaches}
 use Rattle.elab_fits.specs.Objects.{CopiesOne, is_closure}
 use Rattle.elab_fits.proofs.Equal.{typ_refl, form_refl}
-use Rattle.elab_fits.proofs.Nodes.{both, or_left, or_right, clash, head_typ, head_cat, node_fits}
-use Rattle.elab_fits.proofs.Comma.{pair_stands, written_object}
+use Rattle.elab_fits.proofs.Nodes.{both, or_left, or_right, clash, head_typ, head_cat, node_fits, value_kid, copy_kid, initial_kid}
+use Rattle.elab_fits.proofs.Comma.{pair_stands, written_object, same_row}
 use Rattle.elab_fits.proofs.Copies.{copies_law}
 use Rattle.elab_fits_forms.specs.Types.{is_sound, IsWhole}
 use Rattle.elab_fits_objects.specs.Contexts.{copies_itself}
+use Rattle.elab_fits_objects.proofs.Types.{ready_more}
 use Rattle.elab_fits_forms.specs.Meaning.{Proper, IsObject, ProperOperand}
 use Rattle.elab_fits_forms.specs.Context.{Holds}
 use Rattle.elab_fits_forms.specs.Forms.{MadeStands}
-use Rattle.elab_fits_forms.proofs.Readiness.{any_ready}
 use Rattle.elab_fits_forms.proofs.Proper.{object_fits}
 use Rattle.elab_fits_forms.proofs.Temporaries.{prvalue_class, object_is, object_typ}
 use Rattle.elab_fits_forms.proofs.Dropped.{if_made, dropped_value}
-
--- Kids
-
-value_kid : (s : Setting) (p : Position) (e : Tree) → fits s p Value e ≡ true → is_kid (kind_of e) ≡ true
-value_kid s p (node (Block b) t cat at kids) h = absurd cc
-value_kid s p (node kind t cat at kids) h = refl
-
-copy_kid : (s : Setting) (p : Position) (e : Tree) → fits s p CopyInit e ≡ true → is_kid (kind_of e) ≡ true
-copy_kid s p (node (Block b) t cat at kids) h = absurd cc
-copy_kid s p (node kind t cat at kids) h = refl
-
-pub initial_kid : (s : Setting) (p : Position) (e : Tree) → fits s p Initialiser e ≡ true → is_kid (kind_of e) ≡ true
-initial_kid s p (node (Block b) t cat at kids) h = absurd cc
-initial_kid s p (node kind t cat at kids) h = refl
 
 -- Objects that are built as prvalues
 
@@ -93,7 +79,7 @@ own_builds e h = both (ap is_prvalue (head_cat e ∙ h)) (or_left _ (or_left _ (
 -- A `std::tx_exception` that is written with its value is copied (C++14 5.16, 5.18)
 
 pub copy_made : (s : Setting) (c : Ctx) (w : Work) (at : At) (t : Typ) → Holds s c w → IsWhole c.classes t → CopiesOne s t (copies c.classes at t)
-copy_made s c w at t h x = copies_law s c at t h.setting x.sized (any_ready c.classes (is_closure (form_in t)) t x.ready)
+copy_made s c w at t h x = copies_law s c at t h.setting x.sized (ready_more c.classes (is_closure (form_in t)) t x.ready)
 
 copied_kids : (s : Setting) (p : Position) (a b : Tree) → fits s p Value a ≡ true → fits s p CopyInit b ≡ true
     → kids_fit s p (only (Value ∷ CopyInit ∷ [])) 0 (two a b) ≡ true
@@ -191,10 +177,6 @@ before_settled s c w o = if_made (λ (m : Made). Reaches s m.work → Reaches s 
     (λ k r. before_object s c w o.at o.tree r) (λ k r. r)
 
 -- `a, b` (C++14 5.18)
-
-same_row : (t : Typ) (cat : Cat) (h : Head) → h.typ ≡ t → h.cat ≡ cat → same_value t cat h ≡ true
-same_row t Lvalue h e d = both (ap is_lvalue d) (ap (λ (u : Typ). typ_eq t u) e ∙ typ_refl t)
-same_row t Prvalue h e d = both (ap is_prvalue d) (ap (λ (u : Typ). typ_eq t u) e ∙ typ_refl t)
 
 pair_kids : (s : Setting) (p : Position) (a b : Tree) → fits s p Value a ≡ true → fits s p Initialiser b ≡ true
     → kids_fit s p (only (Value ∷ Initialiser ∷ [])) 0 (two a b) ≡ true

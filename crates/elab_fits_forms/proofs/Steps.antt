@@ -16,16 +16,16 @@ use Rattle.elab_rules.specs.cpp_types.declared.ranks.Cat.{Cat}
 use Rattle.elab_rules.specs.cpp_types.declared.ranks.Cat.TheVariants.{Lvalue, Prvalue}
 use Rattle.elab_rules.specs.cpp_tree.declared.faults.ElabFault.{ElabFault}
 use Rattle.elab_rules.specs.cpp_tree.declared.faults.IllRule.TheVariants.{BadOperand, ConstTarget, NoConversion, NoCopy, NotLvalue}
-use Rattle.elab_rules.specs.cpp_tree.declared.kinds.TKind.TheVariants.{Block, CopyAssign}
+use Rattle.elab_rules.specs.cpp_tree.declared.kinds.TKind.TheVariants.{CopyAssign}
 use Rattle.elab_rules.specs.cpp_tree.declared.roles.Position.{Position}
 use Rattle.elab_rules.specs.cpp_tree.declared.roles.Role.TheVariants.{Value, CopyInit}
-use Rattle.elab_rules.specs.cpp_tree.Trees.{Tree, node, three, kind_of, typ_in, cat_of}
+use Rattle.elab_rules.specs.cpp_tree.Trees.{Tree, node, three, typ_in, cat_of}
 use Rattle.elab_rules.specs.cpp_tree.Notation.{plain}
 use Rattle.elab_rules.specs.cpp_tree.Typing.{head_of, form_in, is_class_typ, is_class_prvalue, is_volatile_typ, unqualified, kind_in}
 use Rattle.elab_rules.specs.cpp_tree.Typing.{builds}
 use Rattle.elab_rules.specs.cpp_tree.Roles.{only}
 use Rattle.elab_rules.specs.cpp_tree.Rows.{Setting, row_fits}
-use Rattle.elab_rules.specs.cpp_tree.WellFormed.{fits, kids_fit, is_kid}
+use Rattle.elab_rules.specs.cpp_tree.WellFormed.{fits, kids_fit}
 use Rattle.elab_rules.specs.elab_ctx.Ctx.{Ctx, Work}
 use Rattle.elab_rules.specs.elab_ctx.Steps.{and_then, check, Operand, Made}
 use Rattle.elab_rules.specs.Values.{builder}
@@ -36,7 +36,7 @@ use Rattle.elab_rules.specs.Operators.{step_in, step}
 use Rattle.elab_fits.specs.Standing.{Stands, Reaches, On}
 use Rattle.elab_fits.specs.Objects.{CopiesOne}
 use Rattle.elab_fits.proofs.Equal.{typ_refl, form_refl, form_same}
-use Rattle.elab_fits.proofs.Nodes.{both, clash, head_typ, head_cat, node_fits, of_value}
+use Rattle.elab_fits.proofs.Nodes.{both, clash, head_typ, head_cat, node_fits, of_value, value_kid, copy_kid}
 use Rattle.elab_fits.proofs.Steps.{bind, skip, checked, either}
 use Rattle.elab_fits.proofs.Unary.{lvalue_is}
 use Rattle.elab_fits.proofs.Assigning.{assignment_stands, step_stands}
@@ -132,14 +132,6 @@ scalar_assigned s c w at a b x y n = known_target (MadeStands s c) at a _
     (assignment_target c w at a b n))
 
 -- Assignments to objects of classes (C++14 12.8)
-
-value_kid : (s : Setting) (p : Position) (e : Tree) → fits s p Value e ≡ true → is_kid (kind_of e) ≡ true
-value_kid s p (node (Block b) t cat at kids) h = absurd cc
-value_kid s p (node kind t cat at kids) h = refl
-
-copy_kid : (s : Setting) (p : Position) (e : Tree) → fits s p CopyInit e ≡ true → is_kid (kind_of e) ≡ true
-copy_kid s p (node (Block b) t cat at kids) h = absurd cc
-copy_kid s p (node kind t cat at kids) h = refl
 
 assigned_kids : (s : Setting) (p : Position) (a b d : Tree) → fits s p Value a ≡ true → fits s p Value b ≡ true → fits s p CopyInit d ≡ true
     → kids_fit s p (only (Value ∷ Value ∷ CopyInit ∷ [])) 0 (three a b d) ≡ true

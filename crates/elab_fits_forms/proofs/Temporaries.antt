@@ -1,44 +1,37 @@
 -- The object that a class prvalue stands for, in a temporary.
-use Rattle.std.proofs.Common.{◌≡◌, refl, ap, ◌∙◌, ℕ, suc, Bool, true, false, List, [], ◌∷◌, ◌++◌, length, slice_get}
-use Rattle.std.proofs.Common.{Option, Some, arith, le-leb}
+use Rattle.std.proofs.Common.{◌≡◌, refl, ap, ◌∙◌, ℕ, suc, Bool, true, false, [], ◌∷◌, length}
+use Rattle.std.proofs.Common.{Option, arith, le-leb}
 use Rattle.std.specs.Prelude.{if◌then◌else◌}
 use Rattle.elab_rules.specs.cpp_types.Typ.{Typ, typ, class, closure, tx_ex}
 use Rattle.elab_rules.specs.cpp_types.Equal.{typ_eq}
 use Rattle.elab_rules.specs.cpp_types.declared.classes.At.{At}
 use Rattle.elab_rules.specs.cpp_types.declared.ranks.Cat.{Cat}
 use Rattle.elab_rules.specs.cpp_types.declared.ranks.Cat.TheVariants.{Lvalue, Prvalue}
-use Rattle.elab_rules.specs.cpp_tree.declared.kinds.TKind.TheVariants.{Materialize, Block}
+use Rattle.elab_rules.specs.cpp_tree.declared.kinds.TKind.TheVariants.{Materialize}
 use Rattle.elab_rules.specs.cpp_tree.declared.roles.Position.{Position}
 use Rattle.elab_rules.specs.cpp_tree.declared.roles.Role.TheVariants.{Value, Initialiser, Destruction}
-use Rattle.elab_rules.specs.cpp_tree.Trees.{Tree, node, Trees, none, more, kind_of, typ_in, cat_of}
+use Rattle.elab_rules.specs.cpp_tree.Trees.{Tree, Trees, none, more, typ_in, cat_of}
 use Rattle.elab_rules.specs.cpp_tree.Typing.{head_of, form_in, passes, is_class_typ, is_class_prvalue, builds}
 use Rattle.elab_rules.specs.cpp_tree.Roles.{and_any}
 use Rattle.elab_rules.specs.cpp_tree.Rows.{Setting, at_place}
-use Rattle.elab_rules.specs.cpp_tree.WellFormed.{fits, kids_fit, heads_of, is_kid}
+use Rattle.elab_rules.specs.cpp_tree.WellFormed.{kids_fit, heads_of}
 use Rattle.elab_rules.specs.elab_ctx.Ctx.{Ctx, Work, with_item, next_place}
 use Rattle.elab_rules.specs.Values.{temporary, builder}
 use Rattle.elab_rules.specs.Objects.{destroys}
 use Rattle.elab_rules.specs.Initialising.{object_of}
+use Rattle.elab_fits_objects.proofs.Types.{ready_more}
 use Rattle.elab_fits.specs.Standing.{FitsAs, IsSetting, Reaches}
 use Rattle.elab_fits.specs.Objects.{HasSpecials, AllFit, DestroysOne, has_lambdas, is_closure}
 use Rattle.elab_fits.proofs.Equal.{typ_refl}
-use Rattle.elab_fits.proofs.Nodes.{both, or_right, clash, node_fits}
+use Rattle.elab_fits.proofs.Nodes.{both, or_right, clash, node_fits, initial_kid, destruction_kid}
 use Rattle.elab_fits.proofs.Destructions.{destructions_law}
+use Rattle.elab_fits.proofs.Binding.{last_item}
 use Rattle.elab_fits_forms.specs.Types.{IsWhole}
 use Rattle.elab_fits_forms.specs.Meaning.{Proper, IsObject}
 use Rattle.elab_fits_forms.proofs.Types.{class_target}
-use Rattle.elab_fits_forms.proofs.Readiness.{any_ready}
 use Rattle.elab_fits_forms.proofs.Proper.{lvalue_node, proper_object}
 
 -- Kids
-
-initial_kid : (s : Setting) (p : Position) (e : Tree) → fits s p Initialiser e ≡ true → is_kid (kind_of e) ≡ true
-initial_kid s p (node (Block b) t cat at kids) h = absurd cc
-initial_kid s p (node kind t cat at kids) h = refl
-
-destruction_kid : (s : Setting) (p : Position) (e : Tree) → fits s p Destruction e ≡ true → is_kid (kind_of e) ≡ true
-destruction_kid s p (node (Block b) t cat at kids) h = absurd cc
-destruction_kid s p (node kind t cat at kids) h = refl
 
 destroying_kids : (s : Setting) (p : Position) (i : ℕ) (ds : Trees) → AllFit s Destruction ds → p.full ≡ true
     → kids_fit s p (and_any (Initialiser ∷ []) Destruction) (suc i) ds ≡ true
@@ -46,10 +39,6 @@ destroying_kids s p i none h full = refl
 destroying_kids s p i (more d ds) h full = both (both (destruction_kid s p d (h.0 p full)) (h.0 p full)) (destroying_kids s p (suc i) ds h.1 full)
 
 -- Temporaries (C++14 12.2)
-
-last_item : {A : Type 0} (xs : List A) (x : A) → slice_get (xs ++ x ∷ []) (length xs) ≡ Some x
-last_item {A} [] x = refl
-last_item {A} (y ∷ ys) x = last_item ys x
 
 pub placed : (s : Setting) (w : Work) (t : Typ) → Reaches s (with_item w t) → at_place s.function.frame (next_place w) t ≡ true
 placed s w t h = ap (λ (x : Option Typ). passes (typ_eq t) x) (h.frame (next_place w) t (last_item w.frame t)) ∙ typ_refl t
@@ -74,7 +63,7 @@ prvalue_class t Lvalue h = absurd cc
 
 pub destroyed : (s : Setting) (c : Ctx) (at : At) (t : Typ) → IsSetting s c → HasSpecials c → is_class_typ t ≡ true → IsWhole c.classes t
     → DestroysOne s t (destroys c at t)
-destroyed s c at t i h k x = destructions_law s c at t i h x.sized (any_ready c.classes (is_closure (form_in t)) t x.ready) (class_single t k)
+destroyed s c at t i h k x = destructions_law s c at t i h x.sized (ready_more c.classes (is_closure (form_in t)) t x.ready) (class_single t k)
 
 temporary_proper : (s : Setting) (c : Ctx) (w : Work) (at : At) (e : Tree) → IsSetting s c → HasSpecials c → Proper s c e
     → is_class_prvalue (typ_in e) (cat_of e) ≡ true → Reaches s (with_item w (typ_in e))

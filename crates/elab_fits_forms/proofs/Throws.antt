@@ -30,7 +30,7 @@ use Rattle.elab_fits.specs.Standing.{FitsAs, On}
 use Rattle.elab_fits.specs.Scalars.{is_scalar, Gives}
 use Rattle.elab_fits.specs.Objects.{AllFit}
 use Rattle.elab_fits.proofs.Equal.{typ_refl}
-use Rattle.elab_fits.proofs.Nodes.{both, node_fits, of_value}
+use Rattle.elab_fits.proofs.Nodes.{both, node_fits, of_value, value_kid}
 use Rattle.elab_fits.proofs.Steps.{checked}
 use Rattle.elab_fits.proofs.Arithmetic.{value_of}
 use Rattle.elab_fits.proofs.Values.{given_typ, given_cat}
@@ -40,10 +40,6 @@ use Rattle.elab_fits_forms.specs.Forms.{MadeStands, ProperOperands}
 use Rattle.elab_fits_forms.proofs.Dropped.{operand_is, nothing_proper}
 
 -- Kids
-
-value_kid : (s : Setting) (p : Position) (e : Tree) → fits s p Value e ≡ true → is_kid (kind_of e) ≡ true
-value_kid s p (node (Block b) t cat at kids) h = absurd cc
-value_kid s p (node kind t cat at kids) h = refl
 
 scalar_kid : (s : Setting) (p : Position) (e : Tree) → fits s p Scalar e ≡ true → is_kid (kind_of e) ≡ true
 scalar_kid s p (node (Block b) t cat at kids) h = absurd cc

@@ -3,7 +3,6 @@ use Rattle.std.proofs.Common.{◌≡◌, refl, sym, ap, ◌∙◌, subst, ℕ, s
 use Rattle.std.proofs.Common.{None, unwrap_or}
 use Rattle.std.proofs.lemmas.Bool.{and_parts}
 use Rattle.std.specs.Prelude.{if◌then◌else◌}
-use Rattle.elab_rules.specs.tx_ints.declared.kinds.IntKind.{IntKind}
 use Rattle.elab_rules.specs.tx_ints.declared.kinds.IntKind.TheVariants.{ULong}
 use Rattle.elab_rules.specs.cpp_types.Typ.{Typ, typ, void, ptr, ref}
 use Rattle.elab_rules.specs.cpp_types.Equal.{typ_eq}
@@ -25,7 +24,7 @@ use Rattle.elab_fits.specs.Scalars.{Gives}
 use Rattle.elab_fits.proofs.Equal.{typ_refl, typ_same}
 use Rattle.elab_fits.proofs.Nodes.{both, clash, Simple, no_kids, one_kid}
 use Rattle.elab_fits.proofs.Steps.{expected}
-use Rattle.elab_fits.proofs.Values.{load_gives}
+use Rattle.elab_fits.proofs.Values.{load_gives, loads}
 use Rattle.elab_fits.proofs.Arithmetic.{or_case}
 use Rattle.elab_fits_forms.specs.Types.{is_target, is_declared}
 use Rattle.elab_fits_forms.specs.Meaning.{Proper}
@@ -37,9 +36,6 @@ use Rattle.elab_fits_forms.proofs.Proper.{lvalue_node, proper_value, proper_part
 
 locals : (place : ℕ) → Simple (Local place) (only [])
 locals place = record { is_value = refl; anywhere = λ f p n. refl; unbranched = λ t hs. refl; asks = λ a b. refl; no_switch = refl }
-
-loads : (k : IntKind) (v : Bool) → Simple (Load k v) (only (Value ∷ []))
-loads k v = record { is_value = refl; anywhere = λ f p n. refl; unbranched = λ t hs. refl; asks = λ a b. refl; no_switch = refl }
 
 -- Slots
 

@@ -24,15 +24,15 @@ use Rattle.elab_rules.specs.Initialising.{class_number, copied_part, copy_of_hel
 use Rattle.elab_fits.specs.Standing.{FitsAs, IsSetting}
 use Rattle.elab_fits.specs.Objects.{typ_ready, part_ready, class_ready, is_ready, is_closure, has_lambdas, CopiesOne, DestroysOne}
 use Rattle.elab_fits.proofs.Copies.{copies_law}
-use Rattle.elab_fits.proofs.Destructions.{destructions_law}
+use Rattle.elab_fits.proofs.Destructions.{destructions_law, count_low}
 use Rattle.elab_fits.proofs.ElementTypes.{elements_law}
 use Rattle.elab_fits.proofs.Equal.{typ_refl}
 use Rattle.elab_fits.proofs.Nodes.{both, or_left, node_fits}
 use Rattle.elab_fits.proofs.Objects.{Sized, sized_from, size_is, qualified_sized, laid_from, sized_class_is, few_members, IsPart, part_is, count_is, shown}
-use Rattle.elab_fits.proofs.Pieces.{pieces_agree}
+use Rattle.elab_fits.proofs.Pieces.{pieces_agree, any_many}
 use Rattle.elab_fits_objects.specs.Contexts.{HasMakers, is_whole}
-use Rattle.elab_fits_objects.proofs.Elements.{count_low, exact_builds, array_are, own_element}
-use Rattle.elab_fits_objects.proofs.Fits.{copied_kids, at_least_one, any_many}
+use Rattle.elab_fits_objects.proofs.Elements.{exact_builds, array_are, own_element}
+use Rattle.elab_fits_objects.proofs.Fits.{copied_kids, at_least_one}
 use Rattle.elab_fits_objects.proofs.Types.{whole_sized, whole_ready}
 
 -- Qualifiers

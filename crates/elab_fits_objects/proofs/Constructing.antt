@@ -22,9 +22,10 @@ use Rattle.elab_rules.specs.Initialising.{parameters_at, signature_parameters}
 use Rattle.elab_fits.specs.Standing.{BuildsOne, IsSetting}
 use Rattle.elab_fits.proofs.Equal.{typ_refl}
 use Rattle.elab_fits.proofs.Nodes.{or_left, node_fits}
+use Rattle.elab_fits.proofs.Pieces.{any_many}
 use Rattle.elab_fits_objects.specs.Contexts.{IsConstructorOf, AreParameters, HasMakers}
 use Rattle.elab_fits_objects.specs.Making.{WordsFit}
-use Rattle.elab_fits_objects.proofs.Fits.{words_kids, any_many}
+use Rattle.elab_fits_objects.proofs.Fits.{words_kids}
 
 -- The places of the functions that pass a test have such functions
 

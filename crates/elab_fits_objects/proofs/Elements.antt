@@ -1,5 +1,5 @@
 -- Elements of arrays that are built alike.
-use Rattle.std.proofs.Common.{◌≡◌, refl, sym, ap, ◌∙◌, subst, ℕ, ◌*◌, ◌<◌, ◌≤◌, ◌==◌, Bool, true, false, not, ◌&&◌, ◌||◌, nat_le, nat_lt, arith}
+use Rattle.std.proofs.Common.{◌≡◌, refl, sym, ap, ◌∙◌, subst, ℕ, ◌*◌, ◌<◌, ◌≤◌, ◌==◌, Bool, true, false, ◌&&◌, ◌||◌, nat_le, nat_lt, arith}
 use Rattle.std.proofs.Common.{ltb-true, le-leb, eq-eqb, mul_assoc, List}
 use Rattle.std.proofs.lemmas.Bool.{and_parts, and_from, or_left, or_right}
 use Rattle.std.proofs.lemmas.Nat.{mul-le}
@@ -13,25 +13,7 @@ use Rattle.elab_fits.specs.Objects.{typ_ready}
 use Rattle.elab_fits.proofs.Objects.{Sized, size_is, element_sized}
 use Rattle.elab_fits.proofs.Wholes.{qualified_none}
 use Rattle.elab_fits.proofs.Equal.{typ_refl}
-
-pub count_low : (p : ℕ → Bool) (r : Bool) (t : Typ) → typ_ready p r t ≡ true → 1 ≤ count_in t
-count_low p r (typ void c v) h = omega arith
-count_low p r (typ (int k) c v) h = omega arith
-count_low p r (typ (enum m s) c v) h = omega arith
-count_low p r (typ null c v) h = omega arith
-count_low p r (typ (ptr t) c v) h = omega arith
-count_low p r (typ (ref t) c v) h = omega arith
-count_low p r (typ (array t n) c v) h =
-    let a = and_parts (not (c || v)) (nat_lt 0 n && typ_ready p r t) h in
-    let b = and_parts (nat_lt 0 n) (typ_ready p r t) a.1 in
-    let l : 0 < n = ltb-true 0 n b.0 in
-    let i = count_low p r t b.1 in
-    let m : 1 * 1 ≤ n * count_in t = mul-le 1 1 n (count_in t) (omega arith) i in
-    omega arith
-count_low p r (typ (func s) c v) h = omega arith
-count_low p r (typ (class m) c v) h = omega arith
-count_low p r (typ (closure m) c v) h = omega arith
-count_low p r (typ (tx_ex t) c v) h = omega arith
+use Rattle.elab_fits.proofs.Destructions.{count_low}
 
 -- what has exactly a type and is a prvalue builds an object of it
 pub exact_builds : (t : Typ) (x : Head) → is_prvalue x.cat ≡ true → x.typ ≡ t → builds t x ≡ true

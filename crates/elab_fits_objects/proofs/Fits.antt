@@ -6,7 +6,7 @@ use Rattle.elab_rules.specs.cpp_types.declared.classes.At.{At}
 use Rattle.elab_rules.specs.cpp_types.declared.ranks.Cat.{Cat}
 use Rattle.elab_rules.specs.cpp_types.declared.ranks.Cat.TheVariants.{Prvalue}
 use Rattle.elab_rules.specs.cpp_tree.declared.kinds.TKind.{TKind}
-use Rattle.elab_rules.specs.cpp_tree.declared.kinds.TKind.TheVariants.{Block, CopyFrom, Conditional, Materialize}
+use Rattle.elab_rules.specs.cpp_tree.declared.kinds.TKind.TheVariants.{CopyFrom, Conditional, Materialize}
 use Rattle.elab_rules.specs.cpp_tree.declared.roles.Position.{Position}
 use Rattle.elab_rules.specs.cpp_tree.declared.roles.Role.{Role}
 use Rattle.elab_rules.specs.cpp_tree.declared.roles.Role.TheVariants.{Value, Word, Initialiser, CopyInit, Destruction}
@@ -14,12 +14,13 @@ use Rattle.elab_rules.specs.cpp_tree.Trees.{Tree, node, Trees, none, more, two, 
 use Rattle.elab_rules.specs.cpp_tree.Typing.{Head, head_of, is_void, is_argument}
 use Rattle.elab_rules.specs.cpp_tree.Roles.{only, and_any, serves, way_fits}
 use Rattle.elab_rules.specs.cpp_tree.Rows.{Setting, row_fits, is_copied_from}
-use Rattle.elab_rules.specs.cpp_tree.WellFormed.{fits, kids_fit, enough, kids_in, heads_of, inside, is_kid, is_switch, labels_fit, may_stand}
+use Rattle.elab_rules.specs.cpp_tree.WellFormed.{fits, kids_fit, enough, kids_in, heads_of, inside, is_switch, labels_fit, may_stand}
 use Rattle.elab_rules.specs.cpp_tree.WellFormed.{branches_fit, stands}
 use Rattle.elab_fits.specs.Standing.{FitsAs, BuildsOne}
 use Rattle.elab_fits.specs.Objects.{CopiesOne, AllFit}
 use Rattle.elab_fits.proofs.Equal.{typ_refl}
-use Rattle.elab_fits.proofs.Nodes.{both, or_left, node_fits}
+use Rattle.elab_fits.proofs.Nodes.{both, or_left, node_fits, value_kid, word_kid, initial_kid, copy_kid, destruction_kid}
+pub use Rattle.elab_fits.proofs.Pieces.{any_many}
 
 -- a position inside of a full-expression
 pub within : Position
@@ -60,26 +61,6 @@ fit_as s role kind t cat at kids h = fit_of s within role kind t cat at kids (h 
 
 -- Kids
 
-pub value_kid : (s : Setting) (p : Position) (e : Tree) → fits s p Value e ≡ true → is_kid (kind_of e) ≡ true
-value_kid s p (node (Block b) t cat at kids) h = absurd cc
-value_kid s p (node kind t cat at kids) h = refl
-
-pub word_kid : (s : Setting) (p : Position) (e : Tree) → fits s p Word e ≡ true → is_kid (kind_of e) ≡ true
-word_kid s p (node (Block b) t cat at kids) h = absurd cc
-word_kid s p (node kind t cat at kids) h = refl
-
-pub initial_kid : (s : Setting) (p : Position) (e : Tree) → fits s p Initialiser e ≡ true → is_kid (kind_of e) ≡ true
-initial_kid s p (node (Block b) t cat at kids) h = absurd cc
-initial_kid s p (node kind t cat at kids) h = refl
-
-pub copy_kid : (s : Setting) (p : Position) (e : Tree) → fits s p CopyInit e ≡ true → is_kid (kind_of e) ≡ true
-copy_kid s p (node (Block b) t cat at kids) h = absurd cc
-copy_kid s p (node kind t cat at kids) h = refl
-
-destruction_kid : (s : Setting) (p : Position) (e : Tree) → fits s p Destruction e ≡ true → is_kid (kind_of e) ≡ true
-destruction_kid s p (node (Block b) t cat at kids) h = absurd cc
-destruction_kid s p (node kind t cat at kids) h = refl
-
 -- destructions behind what builds an object, or copies one
 destructions_fit : (s : Setting) (p : Position) (role : Role) (i : ℕ) (ds : Trees) → p.full ≡ true → AllFit s Destruction ds
     → kids_fit s p (and_any (role ∷ []) Destruction) (suc i) ds ≡ true
@@ -101,9 +82,6 @@ words_kids s p i (more t ts) full h = both (both (word_kid s p t (h.0 p full)) (
 
 pub at_least_one : (hs : List Head) (h : Head) (role other : Role) → enough (and_any (role ∷ []) other) (length (h ∷ hs)) ≡ true
 at_least_one hs h role other = le-leb 1 (length (h ∷ hs)) (omega arith)
-
-pub any_many : (role : Role) (many : ℕ) → enough (and_any [] role) many ≡ true
-any_many role many = le-leb 0 many (omega arith)
 
 -- Copies
 

@@ -1,17 +1,15 @@
 -- The object of an operand: itself, or a temporary.
-use Rattle.std.proofs.Common.{◌≡◌, refl, ap, ◌∙◌, ℕ, Bool, true, false, List, [], ◌∷◌, ◌++◌, length, slice_get}
-use Rattle.std.proofs.Common.{Option, Some}
+use Rattle.std.proofs.Common.{◌≡◌, refl, ap, ◌∙◌, ℕ, Bool, true, false, [], ◌∷◌}
 use Rattle.std.specs.Prelude.{if◌then◌else◌}
 use Rattle.elab_rules.specs.cpp_types.Typ.{Typ, typ, class, closure, tx_ex}
-use Rattle.elab_rules.specs.cpp_types.Equal.{typ_eq}
 use Rattle.elab_rules.specs.cpp_types.declared.classes.At.{At}
 use Rattle.elab_rules.specs.cpp_types.declared.ranks.Cat.TheVariants.{Lvalue}
 use Rattle.elab_rules.specs.cpp_tree.declared.kinds.TKind.TheVariants.{Materialize}
 use Rattle.elab_rules.specs.cpp_tree.declared.roles.Role.TheVariants.{Value, Initialiser, Destruction}
 use Rattle.elab_rules.specs.cpp_tree.Trees.{Tree, Trees, more, typ_in, cat_of}
-use Rattle.elab_rules.specs.cpp_tree.Typing.{head_of, passes, is_class_typ, is_class_prvalue}
+use Rattle.elab_rules.specs.cpp_tree.Typing.{head_of, is_class_typ, is_class_prvalue}
 use Rattle.elab_rules.specs.cpp_tree.Roles.{and_any}
-use Rattle.elab_rules.specs.cpp_tree.Rows.{Setting, at_place}
+use Rattle.elab_rules.specs.cpp_tree.Rows.{Setting}
 use Rattle.elab_rules.specs.cpp_tree.WellFormed.{heads_of}
 use Rattle.elab_rules.specs.elab_ctx.Ctx.{Ctx, Work, with_item, next_place}
 use Rattle.elab_rules.specs.elab_ctx.Steps.{Operand}
@@ -21,20 +19,12 @@ use Rattle.elab_rules.specs.Initialising.{object_of}
 use Rattle.elab_fits.specs.Standing.{FitsAs, BuildsOne, IsSetting, Reaches}
 use Rattle.elab_fits.specs.Objects.{DestroysOne, has_lambdas}
 use Rattle.elab_fits.proofs.Destructions.{destructions_law}
-use Rattle.elab_fits.proofs.Equal.{typ_refl}
 use Rattle.elab_fits.proofs.Nodes.{both, or_right, node_fits, of_value}
+use Rattle.elab_fits.proofs.Binding.{place_row}
 use Rattle.elab_fits_objects.specs.Contexts.{is_whole, HasMakers, IsSource}
 use Rattle.elab_fits_objects.specs.Making.{IsPlaced, ObjectsPlaced}
 use Rattle.elab_fits_objects.proofs.Fits.{object_kids, at_least_one}
 use Rattle.elab_fits_objects.proofs.Types.{whole_sized, whole_ready, class_typed, prvalue_class, other_lvalue}
-
-last_item : {A : Type 0} (xs : List A) (x : A) → slice_get (xs ++ x ∷ []) (length xs) ≡ Some x
-last_item {A} [] x = refl
-last_item {A} (y ∷ ys) x = last_item ys x
-
--- the place of a temporary
-pub place_row : (s : Setting) (w : Work) (t : Typ) → Reaches s (with_item w t) → at_place s.function.frame (next_place w) t ≡ true
-place_row s w t h = ap (λ (x : Option Typ). passes (typ_eq t) x) (h.frame (next_place w) t (last_item w.frame t)) ∙ typ_refl t
 
 no_lambdas : (t : Typ) → is_class_typ t ≡ true → has_lambdas t ≡ false
 no_lambdas (typ (class n) c v) h = refl

@@ -25,10 +25,11 @@ use Rattle.elab_fits.proofs.Equal.{typ_refl, typ_same}
 use Rattle.elab_fits.proofs.Initials.{initial_gives}
 use Rattle.elab_fits.proofs.Nodes.{both, head_kind, head_typ, node_fits}
 use Rattle.elab_fits.proofs.Values.{no_class, value_initialises, given_typ, given_cat}
+use Rattle.elab_fits.proofs.Binding.{place_row}
+use Rattle.elab_fits.proofs.Unary.{no_void}
 use Rattle.elab_fits_objects.specs.Contexts.{refers, IsParameter, HasMakers, IsSource}
 use Rattle.elab_fits_objects.specs.Making.{IsWord}
 use Rattle.elab_fits_objects.proofs.Fits.{value_word, no_argument, within, within_full, object_kids, at_least_one}
-use Rattle.elab_fits_objects.proofs.Placing.{place_row}
 use Rattle.elab_fits_objects.proofs.Referring.{binds}
 
 pub on_map : {A : Type 0} (P Q : A → Type 0) (r : Result A ElabFault) → On P r → ((a : A) → P a → Q a) → On Q r
@@ -40,10 +41,6 @@ on_map P Q (Err e) h g = tt
 otherwise : (b x y : Bool) → b ≡ false → y ≡ true → cond b x y ≡ true
 otherwise true x y e h = absurd cc
 otherwise false x y e h = h
-
-no_void : (f : Form) → is_scalar f ≡ true → is_void (plain f) ≡ false
-no_void void h = absurd cc
-no_void f h = refl
 
 pub given_word : (s : Setting) (f : Form) (q v : Bool) (e : Tree) → Gives s f e → IsWord s (typ f q v) e
 given_word s f q v e g = record {

@@ -41,6 +41,7 @@ use Rattle.elab_fits.specs.Standing.{FitsAs}
 use Rattle.elab_fits.proofs.Equal.{kind_same, form_same, typ_same}
 use Rattle.elab_fits.proofs.Nodes.{clash, head_typ, head_cat}
 use Rattle.elab_fits.proofs.Numbers.{zero_word}
+use Rattle.elab_fits.proofs.Arithmetic.{or_case}
 use Rattle.elab_fits_statements.proofs.Anywhere.{fitting}
 
 -- Words
@@ -90,10 +91,6 @@ truth_of : (k : IntKind) (b : Bool) (z : ℤ) → ◌≡◌ {A = Result ℤ Arit
 truth_of k b z h = subst (λ (x : ℤ). is_word_of BoolKind (word_of x) ≡ true) (ok_same (reduced k (truth b)) z h) (truth_word k b)
 
 -- Options
-
-or_case : (A : Type 0) (a b : Bool) → (a || b) ≡ true → (a ≡ true → A) → (b ≡ true → A) → A
-or_case A true b h f g = f refl
-or_case A false b h f g = g h
 
 some_same : {A : Type 0} (x y : A) → Some x ≡ Some y → x ≡ y
 some_same x y h = cc

@@ -26,7 +26,7 @@ use Rattle.elab_rules.specs.Statements.{declarable, is_fresh}
 use Rattle.elab_rules.specs.Statements.{is_own_name, only_expression, same_deduction, may_be_skipped, is_direct_label, past_declaration, declared_more}
 use Rattle.elab_fits.specs.Standing.{On}
 use Rattle.elab_fits.proofs.Nodes.{both, or_left, or_right, clash}
-use Rattle.elab_fits.proofs.Steps.{bind, checked, expected}
+use Rattle.elab_fits.proofs.Steps.{bind, checked, expected, told}
 use Rattle.elab_fits_statements.specs.Anywhere.{AllServe}
 use Rattle.elab_fits_statements.specs.Variables.{HasItem}
 use Rattle.elab_fits_statements.specs.Items.{skipped}
@@ -34,7 +34,7 @@ use Rattle.elab_fits_statements.specs.Discipline.{Words, Goes, Discipline}
 use Rattle.elab_fits_statements.proofs.Variables.{variable_stands, variable_fits}
 use Rattle.elab_fits_statements.proofs.Skipping.{skipped_law}
 use Rattle.elab_fits_statements.proofs.Items.{one_skips, skipped_followed, all_followed}
-use Rattle.elab_fits_statements.proofs.States.{told, mapped, goes_still, goes_then, fits_still, all_still, builds_still}
+use Rattle.elab_fits_statements.proofs.States.{mapped, goes_still, goes_then, fits_still, all_still, builds_still}
 
 -- trees of variables, behind which no label stands that may not jump past them
 pub record Declares (w : Words) (st : State) (ts : Trees) (b : State) : Type 0 where

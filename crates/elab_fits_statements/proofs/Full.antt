@@ -18,6 +18,7 @@ use Rattle.elab_fits.specs.Standing.{On}
 use Rattle.elab_fits.proofs.Numbers.{promoted_kind}
 use Rattle.elab_fits.proofs.Unary.{truth_gives}
 use Rattle.elab_fits.proofs.Arithmetic.{IsTruth}
+use Rattle.elab_fits.proofs.Steps.{told}
 use Rattle.elab_fits_statements.specs.Anywhere.{FitsAnywhere, AllServe}
 use Rattle.elab_fits_statements.specs.Forms.{IsCondition}
 use Rattle.elab_fits_statements.specs.Variables.{Switches}
@@ -27,7 +28,7 @@ use Rattle.elab_fits_statements.proofs.Wholes.{whole_value}
 use Rattle.elab_fits_statements.proofs.Forms.{value_serves}
 use Rattle.elab_fits_statements.proofs.Variables.{condition_fits}
 use Rattle.elab_fits_statements.proofs.Switches.{switched_law}
-use Rattle.elab_fits_statements.proofs.States.{told, goes_then, condition_still}
+use Rattle.elab_fits_statements.proofs.States.{goes_then, condition_still}
 
 -- an expression as a statement, and as a step of a loop
 pub record IsWhole (w : Words) (st : State) (d : Done) : Type 0 where

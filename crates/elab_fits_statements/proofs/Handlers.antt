@@ -18,11 +18,12 @@ use Rattle.elab_rules.specs.Names.{is_const_typ}
 use Rattle.elab_rules.specs.Statements.{State, block, handler_node, Lambdas, Caught, caught_form, caught_type, named_handler, handler_type, placed_variable}
 use Rattle.elab_fits.specs.Standing.{On}
 use Rattle.elab_fits.proofs.Nodes.{both}
+use Rattle.elab_fits.proofs.Steps.{told}
 use Rattle.elab_fits_statements.specs.Anywhere.{AllServe}
 use Rattle.elab_fits_statements.specs.Variables.{HasItem}
 use Rattle.elab_fits_statements.specs.Discipline.{Words, Goes, Discipline}
 use Rattle.elab_fits_statements.proofs.Fields.{fields_serve}
-use Rattle.elab_fits_statements.proofs.States.{told, goes_still}
+use Rattle.elab_fits_statements.proofs.States.{goes_still}
 use Rattle.elab_rules.specs.cpp_types.Typ.{Typ, typ, Form, int, enum, ref, class, tx_ex}
 use Rattle.elab_rules.specs.cpp_types.Class.{Class}
 use Rattle.elab_rules.specs.cpp_types.declared.ranks.Cat.TheVariants.{Prvalue}

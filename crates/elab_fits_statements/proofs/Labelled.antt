@@ -29,14 +29,13 @@ use Rattle.elab_rules.specs.Statements.{State, Done, Lambdas, statement, with_la
 use Rattle.elab_fits.specs.Standing.{On}
 use Rattle.elab_fits.specs.Scalars.{Gives}
 use Rattle.elab_fits.proofs.Nodes.{both, clash}
-use Rattle.elab_fits.proofs.Steps.{checked, expected}
+use Rattle.elab_fits.proofs.Steps.{checked, expected, told}
 use Rattle.elab_fits.proofs.Initials.{initial_gives}
 use Rattle.elab_fits_statements.specs.Anywhere.{Serves, AllServe}
 use Rattle.elab_fits_statements.specs.Items.{role_if, IsLabelType, HasLabels, Behind, Items}
 use Rattle.elab_fits_statements.specs.Discipline.{Words, StandsSomewhere, Discipline}
 use Rattle.elab_fits_statements.proofs.Constants.{constants_law}
 use Rattle.elab_fits_statements.proofs.Forms.{labels_serve}
-use Rattle.elab_fits_statements.proofs.States.{told}
 
 -- a label may stand there
 record IsHere (l : Label) (past : Bool) : Type 0 where

@@ -21,11 +21,11 @@ use Rattle.elab_rules.specs.Operators.{bare_throw}
 use Rattle.elab_rules.specs.Statements as statements
 use Rattle.elab_rules.specs.Statements.{State, Done, Lambdas, Full, with_work, full, full_operand, return_node, return_nothing, return_by}
 use Rattle.elab_rules.specs.Statements.{return_value, returned}
-use Rattle.elab_rules.specs.Statements.{class_returned, done, statement}
+use Rattle.elab_rules.specs.Statements.{class_returned, done}
 use Rattle.elab_fits.specs.Standing.{On}
 use Rattle.elab_fits.specs.Scalars.{Initialises}
 use Rattle.elab_fits.proofs.Nodes.{both}
-use Rattle.elab_fits.proofs.Steps.{checked, either}
+use Rattle.elab_fits.proofs.Steps.{checked, either, told}
 use Rattle.elab_fits.proofs.Comma.{bare_fits}
 use Rattle.elab_fits_statements.specs.Anywhere.{Serves, AllServe}
 use Rattle.elab_fits_statements.specs.Variables.{HasItem, BuildsWhole}
@@ -33,7 +33,7 @@ use Rattle.elab_fits_statements.specs.Discipline.{Words, Goes, HasRead, Discipli
 use Rattle.elab_fits_statements.proofs.Wholes.{whole_value}
 use Rattle.elab_fits_statements.proofs.Forms.{value_serves, as_item, block_serves}
 use Rattle.elab_fits_statements.proofs.Variables.{end_fits, return_fits, object_returned}
-use Rattle.elab_fits_statements.proofs.States.{told, goes_still, goes_then}
+use Rattle.elab_fits_statements.proofs.States.{goes_still, goes_then}
 
 pub record IsReturn (w : Words) (st : State) (d : Done) : Type 0 where
   pub goes : Goes w st d.state

@@ -1,6 +1,6 @@
 -- The fields of an exception are its scalars.
 use Rattle.std.proofs.Common.{◌≡◌, refl, sym, ap, ap₂, ◌∙◌, subst, ℕ, zero, suc, ◌+◌, ◌*◌, ◌/◌, ◌==◌, ◌<◌, ◌≤◌, Bool, true, false, not, ◌&&◌, ◌||◌}
-use Rattle.std.proofs.Common.{nat_le, nat_lt, max, List}
+use Rattle.std.proofs.Common.{nat_le, nat_lt, List}
 use Rattle.std.proofs.Common.{[], ◌∷◌, ◌++◌, length, take, slice_get, Option, Some, None, is_some, cond, unwrap_or, arith, le-leb, leb-true, ltb-true}
 use Rattle.std.proofs.Common.{eq-eqb, ne_eqb, append_assoc}
 use Rattle.std.proofs.Math.Nat.{suc-mul, mul_assoc}
@@ -13,26 +13,26 @@ use Rattle.elab_rules.specs.elab_ctx.tx_events.declared.TheConstants.{EXCEPTION_
 use Rattle.elab_rules.specs.cpp_types.Typ.{Typ, typ, void, int, enum, null, ptr, ref, array, func, class, closure, tx_ex}
 use Rattle.elab_rules.specs.cpp_types.Class.{Class, Member, InOrder}
 use Rattle.elab_rules.specs.cpp_types.declared.classes.At.{At}
-use Rattle.elab_rules.specs.cpp_layout.Layout.{Extent, class_extent, base_items, pointer_items, has_class_pointer, head_items, items_of}
-use Rattle.elab_rules.specs.cpp_layout.Layout.{member_extent, end_from, greatest_align, next_multiple}
+use Rattle.elab_rules.specs.cpp_layout.Layout.{Extent, class_extent, head_items}
+use Rattle.elab_rules.specs.cpp_layout.Layout.{member_extent, end_from, next_multiple}
 use Rattle.elab_rules.specs.cpp_layout.Measured.{member_extents, member_offset}
 use Rattle.elab_rules.specs.cpp_tree.Trees.{Trees, none, more}
 use Rattle.elab_rules.specs.cpp_tree.Notation.{plain}
 use Rattle.elab_rules.specs.cpp_tree.Typing.{head_of, form_in, kind_in, passes}
 use Rattle.elab_rules.specs.cpp_tree.Parts.{size_in, where_counted, scalar_at, one_element, element_scalars, object_scalars, part_scalars, scalars_from}
-use Rattle.elab_rules.specs.cpp_tree.Parts.{scalars_within, scalars_of, is_field_of, are_fields, is_value_form, are_scalars, part_of, count_of_parts}
+use Rattle.elab_rules.specs.cpp_tree.Parts.{scalars_within, is_field_of, are_fields, is_value_form, are_scalars, part_of, count_of_parts}
 use Rattle.elab_rules.specs.cpp_tree.Parts as told
 use Rattle.elab_rules.specs.cpp_tree.WellFormed.{heads_of}
 use Rattle.elab_rules.specs.Objects.{Part, parts_of, parts_in, base_part, members_from, size_of, followed_by, fields_of_parts, scalar_field, repeated}
 use Rattle.elab_rules.specs.Objects.{fields_in}
 use Rattle.elab_rules.specs.Objects.{class_fields, fields}
-use Rattle.elab_rules.proofs.cpp_layout.Ends.{next_low, end_low, end_append, greatest_low}
-use Rattle.elab_rules.proofs.cpp_layout.Nesting.{class_whole, extents_aligned}
+use Rattle.elab_rules.proofs.cpp_layout.Ends.{end_low, end_append}
+use Rattle.elab_rules.proofs.cpp_layout.Nesting.{extents_aligned}
 use Rattle.elab_fits.specs.Objects.{typ_ready, part_ready, class_ready, is_ready}
 use Rattle.elab_fits.proofs.Equal.{kind_refl}
 use Rattle.elab_fits.proofs.Nodes.{both}
-use Rattle.elab_fits.proofs.Objects.{Sized, sized_from, size_is, element_sized, Laid, laid_from, first_end, pointer_aligned, few_members, part_is, count_is}
-use Rattle.elab_fits.proofs.Objects.{typ_low, all_at}
+use Rattle.elab_fits.proofs.Objects.{Sized, sized_from, size_is, element_sized, Laid, laid_from, few_members, part_is, count_is}
+use Rattle.elab_fits.proofs.Objects.{typ_low, all_at, class_end, base_end}
 
 -- Lists of scalars
 
@@ -233,27 +233,6 @@ module _ (classes : List Class) (p : ℕ → Bool) (r : Bool) where
         (typ_same t o q s l)
 
 -- Where parts end
-
-class_end : (classes : List Class) → InOrder classes → (n : ℕ) (l : Laid classes n)
-    → end_from 0 (items_of (class_extent classes) classes n l.owner) ≤ (class_extent classes n).size
-class_end classes o n l =
-    let items : List Extent = items_of (class_extent classes) classes n l.owner in
-    let w : (class_extent classes n).size ≡ max 1 (next_multiple (end_from 0 items) (greatest_align items)) =
-    ap (λ (e : Extent). e.size) (class_whole classes o n l.number l.owner l.found l.complete) in
-    let h = next_low (end_from 0 items) (greatest_align items) (greatest_low items) in
-    omega arith
-
-base_end : (classes : List Class) (n : ℕ) (c : Class) (b : ℕ) → c.base ≡ Some b
-    → (class_extent classes b).size ≤ end_from 0 (items_of (class_extent classes) classes n c)
-base_end classes n c b h =
-    let base : List Extent = base_items (class_extent classes) c.base in
-    let pointer : List Extent = pointer_items (has_class_pointer classes n) in
-    let x = first_end classes c.base b h in
-    let y = end_append 0 (base ++ pointer) (member_extents classes c.members) in
-    let z = end_append 0 base pointer in
-    let u = end_low (end_from 0 base) pointer (pointer_aligned (has_class_pointer classes n)) in
-    let v = end_low (end_from 0 (base ++ pointer)) (member_extents classes c.members) (extents_aligned classes c.members) in
-    omega arith
 
 member_within : (classes : List Class) (s : ℕ) (ms : List Member) (i : ℕ) (m : Member) → slice_get ms i ≡ Some m
     → next_multiple (end_from s (member_extents classes (take i ms))) (member_extent (class_extent classes) m).align

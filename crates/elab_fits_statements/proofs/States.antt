@@ -1,23 +1,18 @@
 -- States that come of others, and what fits in them still.
-use Rattle.std.proofs.Common.{◌≡◌, refl, ◌∙◌, Bool, List, Result, Ok, Err}
+use Rattle.std.proofs.Common.{refl, ◌∙◌, Bool, List, Result, Ok, Err}
 use Rattle.elab_rules.specs.cpp_lex.Tokens.{Lexeme}
 use Rattle.elab_rules.specs.cpp_types.Typ.{Typ}
 use Rattle.elab_rules.specs.cpp_tree.declared.faults.ElabFault.{ElabFault}
 use Rattle.elab_rules.specs.cpp_tree.declared.roles.Role.{Role}
 use Rattle.elab_rules.specs.cpp_tree.declared.roles.Role.TheVariants.{Value, Initialiser}
 use Rattle.elab_rules.specs.cpp_tree.Trees.{Tree, Trees, none, more}
-use Rattle.elab_rules.specs.elab_ctx.Steps.{and_then}
 use Rattle.elab_rules.specs.Statements.{State, Lambdas}
 use Rattle.elab_fits.specs.Standing.{On}
 use Rattle.elab_fits_statements.specs.Anywhere.{FitsAnywhere, Serves, AllServe}
 use Rattle.elab_fits_statements.specs.Forms.{IsCondition, IsSwitched}
 use Rattle.elab_fits_statements.specs.Variables.{BuildsWhole}
 use Rattle.elab_fits_statements.specs.Discipline.{StandsAs, Words, Goes, Discipline}
-
--- a step whose answer is told
-pub told : {A B : Type 0} (Q : B → Type 0) (x : Result A ElabFault) (f : A → Result B ElabFault) → ((a : A) → x ≡ Ok a → On Q (f a)) → On Q (and_then x f)
-told Q (Ok a) f g = g a refl
-told Q (Err e) f g = tt
+pub use Rattle.elab_fits.proofs.Steps.{told}
 
 pub mapped : {A : Type 0} (P Q : A → Type 0) (x : Result A ElabFault) → On P x → ((a : A) → P a → Q a) → On Q x
 mapped P Q (Ok a) h f = f a h

@@ -19,7 +19,7 @@ use Rattle.elab_rules.specs.cpp_tree.Typing.{Head, head_of, is_prvalue, is_class
 use Rattle.elab_rules.specs.cpp_tree.Typing.{is_prvalue_of, is_temporary, unqualified, word_kind, same_kind}
 use Rattle.elab_rules.specs.cpp_tree.Roles.{only, and_any}
 use Rattle.elab_rules.specs.cpp_tree.Rows.{Setting, is_retyped, result_of, has_value, are_destructions}
-use Rattle.elab_rules.specs.cpp_tree.WellFormed.{fits, heads_of, is_kid}
+use Rattle.elab_rules.specs.cpp_tree.WellFormed.{fits, heads_of}
 use Rattle.elab_rules.specs.elab_ctx.Ctx.{next_place}
 use Rattle.elab_rules.specs.elab_ctx.Steps.{Made}
 use Rattle.elab_rules.specs.Initialising.{seen_as}
@@ -33,7 +33,8 @@ use Rattle.elab_fits.specs.Standing.{FitsAs}
 use Rattle.elab_fits.specs.Scalars.{is_scalar, Gives, Initialises}
 use Rattle.elab_fits.specs.Objects.{AllFit, DestroysOne}
 use Rattle.elab_fits.proofs.Equal.{typ_refl, typ_same}
-use Rattle.elab_fits.proofs.Nodes.{both, or_left, clash, head_typ, head_cat, node_fits, Simple, one_kid}
+use Rattle.elab_fits.proofs.Nodes.{both, or_left, clash, head_typ, head_cat, node_fits, Simple, one_kid, initial_kid}
+use Rattle.elab_fits.proofs.Unary.{lvalue_is}
 use Rattle.elab_fits_statements.specs.Anywhere.{FitsAnywhere, BuildsAnywhere, Serves, AllServe}
 use Rattle.elab_fits_statements.specs.Forms.{IsCondition}
 use Rattle.elab_fits_statements.specs.Variables.{HasItem, BuildsWhole}
@@ -129,10 +130,6 @@ pub destructions_serve : (s : Setting) (b c : Bool) (ts : Trees) → AllFit s De
 destructions_serve s b c none h = tt
 destructions_serve s b c (more t ts) (h, hs) = (destruction_serves s b c t h, destructions_serve s b c ts hs)
 
-initial_kid : (s : Setting) (p : Position) (e : Tree) → fits s p Initialiser e ≡ true → is_kid (kind_of e) ≡ true
-initial_kid s p (node (forms.Block b) t cat at kids) h = absurd cc
-initial_kid s p (node kind t cat at kids) h = refl
-
 -- an object with what builds and destroys it
 declares : (s : Setting) (at : At) (t : Typ) (variable init : Tree) (ds : Trees) → FitsAnywhere s Value variable → typ_in variable ≡ t
     → cat_of variable ≡ Lvalue
@@ -200,10 +197,6 @@ seen s p u e h l = by_type (typ_eq u (typ_in e)) refl
       category = refl;
       typed = typ_refl u;
     }
-
-lvalue_is : (cat : Cat) → is_lvalue cat ≡ true → cat ≡ Lvalue
-lvalue_is Lvalue h = refl
-lvalue_is Prvalue h = absurd cc
 
 abbrev within : Position
 within = record { full = true; breaks = false; continues = false }

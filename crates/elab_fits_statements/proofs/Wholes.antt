@@ -9,7 +9,7 @@ use Rattle.elab_rules.specs.cpp_types.declared.classes.At.{At}
 use Rattle.elab_rules.specs.cpp_types.declared.ranks.Cat.{Cat}
 use Rattle.elab_rules.specs.cpp_types.declared.ranks.Cat.TheVariants.{Lvalue, Prvalue}
 use Rattle.elab_rules.specs.cpp_tree.declared.kinds.TKind.{TKind}
-use Rattle.elab_rules.specs.cpp_tree.declared.kinds.TKind.TheVariants.{FullExpression, Retype, Throw, Rethrow, Block}
+use Rattle.elab_rules.specs.cpp_tree.declared.kinds.TKind.TheVariants.{FullExpression, Retype, Throw, Rethrow}
 use Rattle.elab_rules.specs.cpp_tree.declared.roles.Position.{Position}
 use Rattle.elab_rules.specs.cpp_tree.declared.roles.Role.TheVariants.{Value, Initialiser}
 use Rattle.elab_rules.specs.cpp_tree.Trees.{Tree, node, one, kind_of, typ_in, cat_of}
@@ -17,13 +17,14 @@ use Rattle.elab_rules.specs.cpp_tree.Notation.{plain}
 use Rattle.elab_rules.specs.cpp_tree.Typing.{Head, head_of, is_prvalue, is_class_typ, is_class_prvalue, builds, goes_both_ways, same_shape, without_exception}
 use Rattle.elab_rules.specs.cpp_tree.Roles.{only, may_give}
 use Rattle.elab_rules.specs.cpp_tree.Rows.{Setting, same_value}
-use Rattle.elab_rules.specs.cpp_tree.WellFormed.{fits, is_kid}
+use Rattle.elab_rules.specs.cpp_tree.WellFormed.{fits}
 use Rattle.elab_rules.specs.Values.{place_of}
 use Rattle.elab_rules.specs.Operators.{is_throw, without_value}
 use Rattle.elab_rules.specs.Statements.{holds_temporary, throws_object, whole_of, whole_if, full}
 use Rattle.elab_fits.specs.Standing.{FitsAs, BuildsOne}
 use Rattle.elab_fits.proofs.Equal.{typ_refl}
-use Rattle.elab_fits.proofs.Nodes.{both, head_typ, head_cat, node_fits, Simple, one_kid, one_value}
+use Rattle.elab_fits.proofs.Nodes.{both, head_typ, head_cat, node_fits, one_kid, one_value, initial_kid}
+use Rattle.elab_fits.proofs.Values.{retypes}
 use Rattle.elab_fits_statements.specs.Anywhere.{FitsAnywhere, BuildsAnywhere}
 use Rattle.elab_fits_statements.proofs.Anywhere.{fitting, anywhere, fully}
 
@@ -61,9 +62,6 @@ value_way s (node kind t cat at kids) h = (fitting s somewhere Value kind t cat 
     somewhere : Position
     somewhere = record { full = true; breaks = false; continues = false }
 
-retypes : Simple Retype (only (Value ∷ []))
-retypes = record { is_value = refl; anywhere = λ f p n. refl; unbranched = λ t hs. refl; asks = λ a b. refl; no_switch = refl }
-
 no_value_fits : (s : Setting) (at : At) (e : Tree) → FitsAs s Value e → FitsAs s Value (without_value at e)
 no_value_fits s at e h = one_kid s Retype (plain void) Prvalue at e retypes refl refl h
 
@@ -77,10 +75,6 @@ whole_value s at e h = by_hold (holds_temporary e) refl
     by_hold false k = anywhere s Value e h k
 
 -- What builds an object
-
-initial_kid : (s : Setting) (p : Position) (e : Tree) → fits s p Initialiser e ≡ true → is_kid (kind_of e) ≡ true
-initial_kid s p (node (Block b) t cat at kids) h = absurd cc
-initial_kid s p (node kind t cat at kids) h = refl
 
 whole_initial : (s : Setting) (at : At) (e : Tree) → FitsAs s Initialiser e → FitsAnywhere s Initialiser (whole_of at e)
 whole_initial s at e h = λ p. node_fits s p Initialiser FullExpression (typ_in e) (cat_of e) at (one e) (only (Initialiser ∷ [])) refl refl refl refl

@@ -23,8 +23,7 @@ use Rattle.elab_rules.specs.Braces.{ThisAt, syntax_place, string_token}
 use Rattle.elab_rules.specs.Expressions.{expression_of, chosen_operand}
 use Rattle.elab_rules.specs.Statements.{is_lasting, bound_reference, copy_initialised, directly_initialised}
 use Rattle.elab_fits.specs.Standing.{On}
-use Rattle.elab_fits.proofs.Steps.{bind, skip}
-use Rattle.elab_sound_types.proofs.Objects.{either}
+use Rattle.elab_fits.proofs.Steps.{bind, skip, either_way as either}
 use Rattle.elab_sound_types.proofs.Globals as globals
 use Rattle.elab_sound_types.proofs.Globals.{Behind, same, after, made, all_made, typed}
 

@@ -24,7 +24,7 @@ use Rattle.elab_rules.specs.elab_ctx.Ctx.{Ctx, Work, Closure}
 use Rattle.elab_rules.specs.elab_ctx.Steps.{and_then, expect, check, at_of, spelling, token_place, value_at, Operand, Made, Typed}
 use Rattle.elab_rules.specs.Objects.{parts_of}
 use Rattle.elab_rules.specs.Values.{same_at}
-use Rattle.elab_rules.specs.Types.{Specifiers, no_specifiers, has_auto, is_nothing, type_named}
+use Rattle.elab_rules.specs.Types.{no_specifiers, has_auto, is_nothing, type_named}
 use Rattle.elab_rules.specs.Types as types
 use Rattle.elab_rules.specs.Operators as operators
 use Rattle.elab_rules.specs.Names as names
@@ -32,7 +32,7 @@ use Rattle.elab_rules.specs.Calls as calls
 use Rattle.elab_rules.specs.Casts as casts
 use Rattle.elab_rules.specs.Expressions as expressions
 use Rattle.elab_fits.specs.Standing.{On}
-use Rattle.elab_fits.proofs.Steps.{bind, skip, expected}
+use Rattle.elab_fits.proofs.Steps.{bind, skip, expected, either_way as either}
 use Rattle.elab_sound_types.specs.Types.{is_lambda, is_head, IsExpression, IsSoundTree, AreExpressions, abort, expression, looked_up}
 use Rattle.elab_sound_types.specs.Contexts.{HasSoundTypes, is_sound_closure, are_sound_closures, is_spelled, are_spelled}
 use Rattle.elab_sound_types.specs.Laws.{IsSoundTyped, AreSoundTyped, ExpressionsAreSound, OperandsAreSound, TypesAreSound, SpecifiersAreSound, DeclaratorsAreSound}
@@ -41,7 +41,7 @@ use Rattle.elab_sound_types.proofs.Globals as globals
 use Rattle.elab_sound_types.proofs.Globals.{Behind}
 use Rattle.elab_sound_types.proofs.Sound.{both}
 use Rattle.elab_sound_types.proofs.Initial.{made}
-use Rattle.elab_sound_types.proofs.Objects.{either, not_true}
+use Rattle.elab_sound_types.proofs.Objects.{not_true}
 use Rattle.elab_sound_types.proofs.Operators as by_operator
 use Rattle.elab_sound_types.proofs.Names as by_name
 use Rattle.elab_sound_types.proofs.Names.{SoundMade, IfThere, if_there, there_if}

@@ -6,7 +6,7 @@ use Rattle.std.specs.List.{list_all}
 use Rattle.std.proofs.lemmas.Bool.{and_parts}
 use Rattle.std.proofs.lemmas.List.Folds.{list_all-append}
 use Rattle.elab_rules.specs.cpp_types.Typ.{Typ, typ, void, int, enum, null, ptr, ref, array, func, class, closure, tx_ex}
-use Rattle.elab_rules.specs.cpp_types.Class.{Class, Member, Function}
+use Rattle.elab_rules.specs.cpp_types.Class.{Class}
 use Rattle.elab_rules.specs.cpp_types.Conversion.{referred}
 use Rattle.elab_rules.specs.cpp_types.declared.classes.At.{At}
 use Rattle.elab_rules.specs.cpp_lex.Tokens.{Lexeme}
@@ -22,12 +22,11 @@ use Rattle.elab_rules.specs.Operators
 use Rattle.elab_rules.specs.cpp_types.Class
 use Rattle.elab_rules.specs.Lambdas as lambdas
 use Rattle.elab_fits.specs.Standing.{On}
-use Rattle.elab_fits.proofs.Steps.{bind, skip, expected}
+use Rattle.elab_fits.proofs.Steps.{bind, skip, expected, either_way as either}
 use Rattle.elab_sound_types.specs.Types.{target, variable, is_sound}
 use Rattle.elab_sound_types.specs.Contexts.{HasSoundTypes, is_sound_known, is_sound_variable}
 use Rattle.elab_sound_types.specs.Contexts.{is_sound_capture}
 use Rattle.elab_sound_types.proofs.Sound.{both}
-use Rattle.elab_sound_types.proofs.Objects.{either}
 use Rattle.elab_sound_types.proofs.Names.{at_place, this_object}
 
 -- Captures (C++14 5.1.2)

@@ -29,7 +29,7 @@ use Rattle.elab_rules.specs.Initialising.{func_at, no_function, object_of, class
 use Rattle.elab_rules.specs.Names as names
 use Rattle.elab_rules.specs.Names.{Found, field, methods, Captured, captured_from, or_else, field_from, members_in, own_member, found_along, first_place, functions}
 use Rattle.elab_fits.specs.Standing.{On}
-use Rattle.elab_fits.proofs.Steps.{bind, skip, expected}
+use Rattle.elab_fits.proofs.Steps.{bind, skip, expected, either_way as either}
 use Rattle.elab_sound_types.specs.Types.{object, target, variable, is_sound, is_sound_signature, is_head, IsExpression, IsLookedUp, IsSoundTree, free}
 use Rattle.elab_sound_types.specs.Types.{method, get, abort, expression, looked_up}
 use Rattle.elab_sound_types.specs.Contexts.{HasSoundTypes, member_use, is_sound_member, has_sound_members, is_sound_function, is_number}
@@ -38,7 +38,6 @@ use Rattle.elab_sound_types.specs.Contexts.{are_sound_captures, is_sound_global}
 use Rattle.elab_sound_types.proofs.Sound.{both, sound_as, object_target, qualified_object}
 use Rattle.elab_sound_types.proofs.Trees.{some_same, tree_if, valued_sound, lvalue_retyped}
 use Rattle.elab_sound_types.proofs.Initial.{object_sound}
-use Rattle.elab_sound_types.proofs.Objects.{either}
 use Rattle.elab_sound_types.proofs.Operators.{pointed_target}
 
 -- Lists

@@ -30,14 +30,11 @@ use Rattle.elab_sound_types.specs.Types.{value, is_lambda, is_class, is_held, is
 use Rattle.elab_sound_types.proofs.Growth.{held_class}
 use Rattle.elab_sound_types.proofs.Trees.{tree_if, class_head}
 use Rattle.elab_sound_types.proofs.Initial.{made, object_sound}
+pub use Rattle.elab_fits.proofs.Steps.{either_way as either}
 
 -- where it is an exception, it has the type of an expression; else it is the value that an exception is written with
 abbrev pub Writes : List Class → Tree → Type 0
 Writes cs e = is_exception_form (form_in (typ_in e)) ≡ true → IsExpression cs e
-
-pub either : {A : Type 0} (P : A → Type 0) (b : Bool) (x y : Result A ElabFault) → On P x → On P y → On P (if b then x else y)
-either P true x y h k = h
-either P false x y h k = k
 
 -- Nodes of classes
 

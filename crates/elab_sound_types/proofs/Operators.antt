@@ -28,12 +28,11 @@ use Rattle.elab_rules.specs.Initialising.{initial, is_written_exception, class_n
 use Rattle.elab_rules.specs.Operators as operators
 use Rattle.elab_rules.specs.Operators.{value, value_form, pointed, arithmetic, as_kind}
 use Rattle.elab_fits.specs.Standing.{On}
-use Rattle.elab_fits.proofs.Steps.{bind, skip, checked, expected}
+use Rattle.elab_fits.proofs.Steps.{bind, skip, checked, expected, either_way as either}
 use Rattle.elab_sound_types.specs.Types.{target, is_sound, is_head, IsExpression}
 use Rattle.elab_sound_types.proofs.Sound.{both, unqualified_sound}
 use Rattle.elab_sound_types.proofs.Trees.{some_same, class_head, class_sound, scalar_head, lvalue_retyped, valued_sound, in_kind_sound}
 use Rattle.elab_sound_types.proofs.Initial.{made, made_if}
-use Rattle.elab_sound_types.proofs.Objects.{either}
 use Rattle.elab_sound_types.proofs.Pointers.{pointers_law}
 
 -- Parts of operands

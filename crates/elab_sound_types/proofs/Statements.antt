@@ -32,19 +32,18 @@ use Rattle.elab_rules.specs.Braces
 use Rattle.elab_rules.specs.Braces.{item_of, string_token, string_object, is_char_array}
 use Rattle.elab_rules.specs.Expressions.{expression_of, operands_of, chosen_operand, type_of_specifiers, declared_by}
 use Rattle.elab_rules.specs.Statements as statements
-use Rattle.elab_rules.specs.Statements.{State, Done, Full, Lambdas, Deduction, Declaring, Caught, Switched, with_work, full_operand, full_made, inner, in_loop, in_block}
-use Rattle.elab_rules.specs.Statements.{in_switch, outer, declared_variable, placed_variable, auto_placed, with_labels, past_declaration, replaced}
+use Rattle.elab_rules.specs.Statements.{State, Done, Full, Lambdas, Declaring, Caught, Switched, with_work, full_operand, inner, in_loop, in_block}
+use Rattle.elab_rules.specs.Statements.{in_switch, outer, declared_variable, placed_variable, with_labels, past_declaration, replaced}
 use Rattle.elab_fits.specs.Standing.{On}
-use Rattle.elab_fits.proofs.Steps.{bind, skip, checked, expected}
+use Rattle.elab_fits.proofs.Steps.{bind, skip, checked, expected, either_way as either}
 use Rattle.elab_sound_types.specs.Types.{target, variable, denoted, declared, is_sound}
 use Rattle.elab_sound_types.specs.Contexts.{is_spelled, are_spelled}
 use Rattle.elab_sound_types.specs.Laws.{IsSoundDeclared, AreSoundTyped}
 use Rattle.elab_sound_types.specs.States.{IsSoundState, IsSoundAfter, KeepsSound, StatementsKeep, BlocksKeep}
 use Rattle.elab_sound_types.proofs.Sound.{sound_as, all_declared}
-use Rattle.elab_sound_types.proofs.Objects.{either}
 use Rattle.elab_sound_types.proofs.Names.{if_there}
 use Rattle.elab_sound_types.proofs.Globals as globals
-use Rattle.elab_sound_types.proofs.Globals.{Behind, same}
+use Rattle.elab_sound_types.proofs.Globals.{same}
 use Rattle.elab_sound_types.proofs.Written as written
 use Rattle.elab_sound_types.proofs.Written.{IsDenoted, as_declared}
 use Rattle.elab_sound_types.proofs.Deduced.{IsReplaced, deduced_sound, returned_sound}

@@ -25,17 +25,17 @@ use Rattle.elab_rules.specs.Constants.{constant}
 use Rattle.elab_rules.specs.Operators.{value, arithmetic}
 use Rattle.elab_rules.specs.Types as types
 use Rattle.elab_rules.specs.Types.{Specifiers, no_specifiers, Parameter, Declared, Qualifiers, has_auto, type_named, word_form, integer_words, words_of}
-use Rattle.elab_rules.specs.Types.{with_qualifiers, may_be_thrown, is_reference_form, is_array_form, is_function_form, is_bounded, auto_in, declared_name, owner_token}
+use Rattle.elab_rules.specs.Types.{may_be_thrown, is_reference_form, is_array_form, is_function_form, is_bounded, auto_in, declared_name, owner_token}
 use Rattle.elab_rules.specs.Types.{qualifiers_of, is_declared_safe, is_name}
 use Rattle.elab_rules.specs.Expressions as expressions
 use Rattle.elab_fits.specs.Standing.{On}
-use Rattle.elab_fits.proofs.Steps.{bind, skip, checked, expected}
+use Rattle.elab_fits.proofs.Steps.{bind, skip, checked, expected, either_way as either}
 use Rattle.elab_sound_types.specs.Types.{object, target, parameter, denoted, declared, is_lambda, is_sound, are_sound, is_unqualified}
 use Rattle.elab_sound_types.specs.Contexts.{HasSoundTypes, is_sound_name, is_sound_parameter}
 use Rattle.elab_sound_types.specs.Laws.{IsSoundDeclared}
 use Rattle.elab_sound_types.proofs.Sound.{both, declared_target, denoted_object, declared_result, unqualified_sound, written_sound, qualified_object, sound_as}
 use Rattle.elab_sound_types.proofs.Sound.{object_target, all_declared}
-use Rattle.elab_sound_types.proofs.Objects.{either, not_true}
+use Rattle.elab_sound_types.proofs.Objects.{not_true}
 use Rattle.elab_sound_types.proofs.Names.{IfThere, if_there, there_if}
 
 -- Specifiers (C++14 7.1.6)
