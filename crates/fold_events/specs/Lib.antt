@@ -1,4 +1,3 @@
 pub mod Lagging
 pub mod Keeping
-pub mod Declaring
 pub mod Corner

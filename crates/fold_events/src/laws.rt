@@ -14,7 +14,7 @@ ghost use Rattle.src_mean.specs.Notation.{bodies_fit};
 ghost use Rattle.tree_fold.specs.Programs.{folded_program};
 ghost use Rattle.tx_safety.specs.Safe.{IsSafe, is_safe};
 ghost use Rattle.fold_events.specs.Corner.{chosen_declaration};
-ghost use Rattle.fold_events.specs.Declaring.{DeclaresPlainly};
+ghost use Rattle.tree_fold.specs.Declaring.{DeclaresPlainly};
 ghost use Rattle.fold_events.specs.Keeping.{Linking, linked_by, Keeps};
 ghost use Rattle.fold_events.specs.Lagging.{Lags};
 
