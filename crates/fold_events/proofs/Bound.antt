@@ -21,7 +21,7 @@ use Rattle.src_bind.specs.Tables.{Given, name_in, no_name, slot_in, linked_of, t
 use Rattle.src_bind.specs.declared.choices.Choices.{Choices}
 use Rattle.src_link.specs.Slots.{slot_function, is_that, symbol_among, or_else, first_symbol, slot_symbol, safe_row, safe_rows, AreChoices}
 use Rattle.tree_fold.specs.Programs.{folded_func, folded_unit, folded_program}
-use Rattle.fold_events.specs.Declaring.{DeclaresPlainly}
+use Rattle.tree_fold.specs.Declaring.{DeclaresPlainly}
 use Rattle.fold_events.specs.Keeping.{Keeps}
 use Rattle.fold_events.proofs.Shown.{program_shown}
 use Rattle.fold_events.proofs.Program.{shown_keeps}

@@ -35,7 +35,7 @@ use Rattle.tree_fold.specs.Folding.{stands_for, only_taken, taken_by, taken, lit
 use Rattle.fold_events.proofs.Steady.{typ_kept}
 use Rattle.fold_events.proofs.Comes.{guarded}
 use Rattle.fold_events.proofs.Fitting.{first_true, last_true, zeros_stay, fits_kids, kid_fits, rest_fits, same_tree}
-use Rattle.fold_events.specs.Declaring.{is_init, is_choice, declares_plainly, all_declare_plainly}
+use Rattle.tree_fold.specs.Declaring.{is_init, is_choice, declares_plainly, all_declare_plainly}
 
 -- Lists
 

@@ -19,7 +19,7 @@ use Rattle.tx_safety.specs.Safe.{is_promised, is_passed, may_call, is_empty, is_
 use Rattle.tx_safety.specs.Safe.{funcs_findings, unit_findings, program_findings, IsSafe}
 use Rattle.tree_fold.specs.Folding.{folded}
 use Rattle.tree_fold.specs.Programs.{folded_func, folded_unit, folded_program}
-use Rattle.fold_events.specs.Declaring.{DeclaresPlainly}
+use Rattle.tree_fold.specs.Declaring.{DeclaresPlainly}
 use Rattle.fold_events.proofs.Clean.{empty_both, Alike, alike_tree}
 use Rattle.fold_events.proofs.Linking.{map_get, found_in, some_kept}
 

@@ -1,3 +1,2 @@
 pub mod Lagging
 pub mod Keeping
-pub mod Declaring

@@ -12,7 +12,7 @@ ghost use Rattle.src_link.specs.Slots.{AreChoices};
 ghost use Rattle.src_mean.specs.Links.{first_cells, globals_size};
 ghost use Rattle.tree_fold.specs.Programs.{folded_program};
 ghost use Rattle.tx_safety.specs.Safe.{IsSafe, is_safe};
-ghost use Rattle.fold_events.specs.Declaring.{DeclaresPlainly};
+ghost use Rattle.tree_fold.specs.Declaring.{DeclaresPlainly};
 ghost use Rattle.fold_events.specs.Keeping.{Linking, linked_by, Keeps};
 ghost use Rattle.fold_events.specs.Lagging.{Lags};
 

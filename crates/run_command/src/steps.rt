@@ -19,7 +19,6 @@ use src_link::choices;
 use std::alloc::{AllocError, Global};
 use tx_answers::Decision;
 use tx_safety::SafeProgram;
-use tx_safety::laws::readable;
 use tx_words::RunOptions;
 use unit_objects::unit_objects;
 
@@ -32,8 +31,7 @@ pub fn folded_if(alloc: Global, fold: bool, safe: SafeProgram) -> Result<SafePro
     if !fold {
         return Ok(safe);
     }
-    readable();
-    tree_fold::fold(alloc, safe)
+    program_fold::fold(alloc, safe)
 }
 
 // The objects of a program are run, and what was run is a run of the source, linked by these choices.

@@ -4,3 +4,5 @@ pub mod Copied
 pub mod Nothing
 pub mod Values
 pub mod ProgramParts
+mod Forests
+mod PlainTrees

@@ -19,7 +19,7 @@ use Rattle.tx_unsafe.specs.Volatile.{marked, has_volatile_part}
 use Rattle.tree_fold.specs.Folding.{folded}
 use Rattle.tree_fold.specs.Programs.{folded_func, folded_unit, folded_program}
 use Rattle.tree_fold.specs.Bodies.{is_body_within, AddsBody, are_bodies_within, HaveRootsFrom, FoldedUpTo, ReadableFrom, UnitFolded, units_folded}
-use Rattle.tx_safety.specs.Marks.{HaveRoots, AreReadable}
+use Rattle.cpp_tree.specs.WellFormed.{WellFormed}
 use Rattle.tree_fold.proofs.Growing.{both_true, grows_refl, within_grown, at_grown, drop_past}
 
 -- One function
@@ -185,9 +185,6 @@ pub body_is_within : (from : List TNode) (funcs : List TFunc) (i : ℕ) (f : TFu
     → slice_get funcs i ≡ Some f → old ≡ f.body → is_body_within (length from) old ≡ true
 body_is_within from funcs i f old r s e = ap (is_body_within (length from)) e ∙ root_within from f.body ((r.each i f (omega arith) s).within)
 
-pub first_roots : (from : List TNode) (funcs : List TFunc) → HaveRoots from funcs → HaveRootsFrom 0 from funcs
-first_roots from funcs r = record { each = λ n f l s. r.each n f s }
-
 pub next_roots : (from : List TNode) (funcs new : List TFunc) (i : ℕ) (g : TFunc) → HaveRootsFrom i from funcs → new ≡ set funcs i g
     → HaveRootsFrom (i + 1) from new
 next_roots from funcs new i g r e = record {
@@ -201,6 +198,10 @@ set_long xs new i m y l e = ap length e ∙ length-set xs i y ∙ l
 pub weaker : {X E : Type 0} (r : Result X E) (P Q : Type 0) → (P → Q) → OnOk r P → OnOk r Q
 weaker (Ok x) P Q f p = f p
 weaker (Err e) P Q f p = tt
+
+pub both_ok : {X E : Type 0} (r : Result X E) (P Q : Type 0) → OnOk r P → OnOk r Q → OnOk r (P × Q)
+both_ok (Ok x) P Q p q = (p, q)
+both_ok (Err e) P Q p q = tt
 
 pub next_func_at : (v : ℕ → Bool) (from now next : List Tree) (i : ℕ) (start funcs new : List TFunc) (f : TFunc) (old body : Option TNodeId)
     → FoldedUpTo v from now i start funcs → i < length funcs → slice_get funcs i ≡ Some f → old ≡ f.body
@@ -220,8 +221,12 @@ next_readable units new i w r e = record {
   roots = λ n u l s. r.roots n u (omega arith) (sym (get_set_other units i n w (omega arith)) ∙ sym (ap (λ (z : List UnitTree). slice_get z n) e) ∙ s);
 }
 
-pub first_readable : (units : List UnitTree) → AreReadable units → ReadableFrom 0 units
-first_readable units r = record { ordered = λ n u l s. r.ordered n u s; roots = λ n u l s. r.roots n u s }
+-- a well-formed program can be read
+pub readable_first : (p : Program) → WellFormed p → ReadableFrom 0 p.units.items
+readable_first p w = record {
+  ordered = λ n u l s. (w.units n u s).ordered;
+  roots = λ n u l s. record { each = λ i f m g. record { within = λ root e. ((w.units n u s).bodies i f root g e).within } };
+}
 
 pub program_is : (p q : Program) (units : List TypedUnit) (marks slice : List Bool) (classes : List ClassRec) → q ≡ p → slice ≡ marks
     → classes ≡ q.classes.items → ((n : ℕ) → marked marks n ≡ has_volatile_part (classes_of classes) n)

@@ -9,7 +9,7 @@ use Rattle.cpp_tree.specs.Trees.{Tree}
 use Rattle.cpp_tree.specs.Arena.{IsOrdered, tree_at, Grows}
 use Rattle.cpp_tree.specs.Units.{Unit as TypedUnit, func_of, unit_of}
 use Rattle.tx_unsafe.specs.Roots.{HasRoot}
-use Rattle.tx_safety.specs.Marks.{HaveRoots}
+use Rattle.tree_fold.specs.Forests.{HasOwnTrees}
 use Rattle.tree_fold.specs.Programs.{folded_func, folded_unit}
 
 -- a body stands in a list of so many
@@ -39,13 +39,14 @@ pub record FoldedUpTo (volatile : ℕ → Bool) (from now : List Tree) (i : ℕ)
 -- the units from an index on can be read
 pub record ReadableFrom (i : ℕ) (units : List UnitTree) : Type 0 where
   pub ordered : (n : ℕ) (u : UnitTree) → i ≤ n → slice_get units n ≡ Some u → IsOrdered u.nodes.items
-  pub roots : (n : ℕ) (u : UnitTree) → i ≤ n → slice_get units n ≡ Some u → HaveRoots u.nodes.items u.funcs.items
+  pub roots : (n : ℕ) (u : UnitTree) → i ≤ n → slice_get units n ≡ Some u → HaveRootsFrom 0 u.nodes.items u.funcs.items
 
 -- one unit is folded
 pub record UnitFolded (volatile : ℕ → Bool) (i : ℕ) (old new : List UnitTree) (u : UnitTree) : Type 0 where
   pub unit : UnitTree
   pub are : new ≡ slice_set old i unit
   pub is : unit_of unit ≡ folded_unit volatile (unit_of u)
+  pub own : HasOwnTrees unit
 
 -- the units before an index are folded, those from there on are still to be
 abbrev pub units_folded : (volatile : ℕ → Bool) → ℕ → List UnitTree → List TypedUnit

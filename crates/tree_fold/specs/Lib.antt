@@ -7,3 +7,5 @@ pub mod Sights
 pub mod Quiet
 pub mod Examples
 pub mod Bodies
+pub mod Forests
+pub mod Declaring

@@ -1,21 +1,23 @@
 // Folded trees in another list of nodes.
 
-ghost use Rattle.std.specs.Prelude.{◌≡◌, ◌<◌, ℕ, Bool, ◌++◌, ◌∷◌, [], true, length, unwrap_or, IfOk, OnOk};
+ghost use Rattle.std.specs.Prelude.{◌≡◌, ◌<◌, ℕ, Bool, List, ◌++◌, ◌∷◌, [], true, length, unwrap_or, IfOk, OnOk};
 ghost use Rattle.cpp_tree.specs.cpp_types.Typ.{typ_of};
 ghost use Rattle.cpp_tree.specs.cpp_types.declared.ranks.Cat.TheVariants.{Prvalue};
+ghost use Rattle.cpp_tree.specs.declared.arena.TNode.{TNode};
 ghost use Rattle.cpp_tree.specs.declared.kinds.TKind.TheVariants.{Literal};
 ghost use Rattle.cpp_tree.specs.Arena.{IsOrdered, are_below, trees_of, tree_of, tree_at, trees_at, Adds};
 ghost use Rattle.cpp_tree.specs.Trees.{node as node_of, none};
 ghost use Rattle.tree_fold.specs.Folding.{taken, folded, all_folded};
+ghost use Rattle.tree_fold.specs.Forests.{AddsOwn};
 ghost use Rattle.tree_fold.specs.Sights.{AreSights, Adding};
 
 use crate::sights::{Sight, constant, taken};
 use cpp_tree::below::{Cat, copy};
-use cpp_tree::{TKind, TNode, TNodeId, add_leaf, add_node};
+use cpp_tree::{TKind, TNode, TNodeId};
 use std::alloc::{AllocError, Global};
 
-// The node with this id, which shows its tree, and whose kids stand before it.
-fn node_at(nodes: &[TNode], id: TNodeId) -> &TNode
+/// The node with this id, which shows its tree, and whose kids stand before it.
+pub(crate) fn node_at(nodes: &[TNode], id: TNodeId) -> &TNode
     requires ordered { IsOrdered nodes.now }
     requires within { id.0 < length nodes.now }
     ensures tree { tree_at (trees_of nodes.now) id ≡ tree_of (trees_of nodes.now) result.now }
@@ -25,6 +27,18 @@ fn node_at(nodes: &[TNode], id: TNodeId) -> &TNode
     &nodes[id.0 as usize]
 }
 
+// Adds a node, whose kids are the roots of trees that were added. Where no id is left, that counts as want of memory.
+fn push_node(nodes: &mut Vec<TNode>, node: TNode) -> Result<TNodeId, AllocError>
+    ensures tree { IfOk result (λ r. Adds (trees_of nodes.old.items) (trees_of nodes.new.items) r (tree_of (trees_of nodes.old.items) node)) }
+    ensures own { (start : List TNode) → AddsOwn start nodes.old.items node.kids.items → IfOk result (λ r. AddsOwn start nodes.new.items (r ∷ [])) }
+{
+    let Ok(id) = u32::try_from(nodes.len()) else {
+        return Err(AllocError);
+    };
+    nodes.push(node)?;
+    Ok(TNodeId(id))
+}
+
 // A literal in the place of a node.
 fn add_literal(
     alloc: Global,
@@ -32,16 +46,19 @@ fn add_literal(
     node: &TNode,
     word: u64,
 ) -> Result<TNodeId, AllocError>
-    ensures { IfOk result (λ r. Adds (trees_of nodes.old.items) (trees_of nodes.new.items) r (node_of (Literal word) (typ_of node.now.ty) Prvalue node.now.at none)) }
+    ensures tree { IfOk result (λ r. Adds (trees_of nodes.old.items) (trees_of nodes.new.items) r (node_of (Literal word) (typ_of node.now.ty) Prvalue node.now.at none)) }
+    ensures own { IfOk result (λ r. AddsOwn nodes.old.items nodes.new.items (r ∷ [])) }
 {
     let ty = copy(alloc, &node.ty)?;
-    add_leaf(
-        alloc,
+    push_node(
         nodes,
-        TKind::Literal { word },
-        ty,
-        Cat::Prvalue,
-        node.at,
+        TNode {
+            kind: TKind::Literal { word },
+            ty,
+            cat: Cat::Prvalue,
+            at: node.at,
+            kids: Vec::new(alloc),
+        },
     )
 }
 
@@ -52,10 +69,11 @@ fn add_copy(
     node: &TNode,
     kids: Vec<TNodeId>,
 ) -> Result<TNodeId, AllocError>
-    ensures { IfOk result (λ r. Adds (trees_of nodes.old.items) (trees_of nodes.new.items) r (node_of node.now.kind (typ_of node.now.ty) node.now.cat node.now.at (trees_at (trees_of nodes.old.items) kids.items))) }
+    ensures tree { IfOk result (λ r. Adds (trees_of nodes.old.items) (trees_of nodes.new.items) r (node_of node.now.kind (typ_of node.now.ty) node.now.cat node.now.at (trees_at (trees_of nodes.old.items) kids.items))) }
+    ensures own { (start : List TNode) → AddsOwn start nodes.old.items kids.items → IfOk result (λ r. AddsOwn start nodes.new.items (r ∷ [])) }
 {
     let ty = copy(alloc, &node.ty)?;
-    add_node(
+    push_node(
         nodes,
         TNode {
             kind: node.kind,
@@ -87,7 +105,8 @@ pub(crate) fn fold_tree(
     requires ordered { IsOrdered from.now }
     requires within { id.0 < length from.now }
     requires many { length sights.now ≡ length from.now }
-    ensures { (volatile : ℕ → Bool) → AreSights volatile (trees_of from.now) sights.now → IfOk result (λ r. Adds (trees_of nodes.old.items) (trees_of nodes.new.items) r (folded volatile (tree_at (trees_of from.now) id))) }
+    ensures tree { (volatile : ℕ → Bool) → AreSights volatile (trees_of from.now) sights.now → IfOk result (λ r. Adds (trees_of nodes.old.items) (trees_of nodes.new.items) r (folded volatile (tree_at (trees_of from.now) id))) }
+    ensures own { IfOk result (λ r. AddsOwn nodes.old.items nodes.new.items (r ∷ [])) }
 {
     let node = node_at(from, id);
     match constant(sights, node) {
@@ -111,7 +130,8 @@ fn fold_rest(
     requires many { length sights.now ≡ length from.now }
     requires lower { are_below id.0 node.now.kids.items ≡ true }
     requires below { are_below (length from.now) node.now.kids.items ≡ true }
-    ensures { (volatile : ℕ → Bool) → AreSights volatile (trees_of from.now) sights.now → IfOk result (λ r. Adds (trees_of nodes.old.items) (trees_of nodes.new.items) r (unwrap_or (taken volatile node.now.kind (typ_of node.now.ty) node.now.cat (all_folded volatile (trees_at (trees_of from.now) node.now.kids.items))) (node_of node.now.kind (typ_of node.now.ty) node.now.cat node.now.at (all_folded volatile (trees_at (trees_of from.now) node.now.kids.items))))) }
+    ensures tree { (volatile : ℕ → Bool) → AreSights volatile (trees_of from.now) sights.now → IfOk result (λ r. Adds (trees_of nodes.old.items) (trees_of nodes.new.items) r (unwrap_or (taken volatile node.now.kind (typ_of node.now.ty) node.now.cat (all_folded volatile (trees_at (trees_of from.now) node.now.kids.items))) (node_of node.now.kind (typ_of node.now.ty) node.now.cat node.now.at (all_folded volatile (trees_at (trees_of from.now) node.now.kids.items))))) }
+    ensures own { IfOk result (λ r. AddsOwn nodes.old.items nodes.new.items (r ∷ [])) }
 {
     match taken(sights, node) {
         Some(kid) => fold_tree(alloc, from, sights, kid, nodes),
@@ -134,7 +154,8 @@ fn fold_node(
     requires many { length sights.now ≡ length from.now }
     requires lower { are_below id.0 node.now.kids.items ≡ true }
     requires below { are_below (length from.now) node.now.kids.items ≡ true }
-    ensures { (volatile : ℕ → Bool) → AreSights volatile (trees_of from.now) sights.now → IfOk result (λ r. Adds (trees_of nodes.old.items) (trees_of nodes.new.items) r (node_of node.now.kind (typ_of node.now.ty) node.now.cat node.now.at (all_folded volatile (trees_at (trees_of from.now) node.now.kids.items)))) }
+    ensures tree { (volatile : ℕ → Bool) → AreSights volatile (trees_of from.now) sights.now → IfOk result (λ r. Adds (trees_of nodes.old.items) (trees_of nodes.new.items) r (node_of node.now.kind (typ_of node.now.ty) node.now.cat node.now.at (all_folded volatile (trees_at (trees_of from.now) node.now.kids.items)))) }
+    ensures own { IfOk result (λ r. AddsOwn nodes.old.items nodes.new.items (r ∷ [])) }
 {
     let ids = node.kids.as_slice();
     let kids = fold_all(alloc, from, sights, id, ids, nodes)?;
@@ -155,7 +176,8 @@ fn fold_all(
     requires many { length sights.now ≡ length from.now }
     requires lower { are_below parent.0 ids.now ≡ true }
     requires below { are_below (length from.now) ids.now ≡ true }
-    ensures { (volatile : ℕ → Bool) → AreSights volatile (trees_of from.now) sights.now → IfOk result (λ r. Adding (trees_of nodes.old.items) (trees_of nodes.new.items) r.items none (all_folded volatile (trees_at (trees_of from.now) ids.now))) }
+    ensures trees { (volatile : ℕ → Bool) → AreSights volatile (trees_of from.now) sights.now → IfOk result (λ r. Adding (trees_of nodes.old.items) (trees_of nodes.new.items) r.items none (all_folded volatile (trees_at (trees_of from.now) ids.now))) }
+    ensures own { IfOk result (λ r. AddsOwn nodes.old.items nodes.new.items r.items) }
 {
     let mut list = Vec::new(alloc);
     for id in ids {

@@ -5,9 +5,11 @@ mod bare;
 mod copying;
 pub mod examples;
 pub mod laws;
+mod plain;
 mod program;
 pub mod sights;
 mod volatility;
 pub mod words;
 
-pub use program::fold;
+pub use plain::declares_plainly;
+pub use program::fold_bodies;

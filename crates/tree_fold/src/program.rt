@@ -7,21 +7,16 @@ ghost use Rattle.cpp_tree.specs.WellFormed.{WellFormed};
 ghost use Rattle.cpp_tree.specs.declared.program.TFunc.{TFunc};
 ghost use Rattle.cpp_tree.specs.declared.program.UnitTree.{UnitTree};
 ghost use Rattle.tx_unsafe.specs.Volatile.{marked};
-ghost use Rattle.tx_safety.specs.Answers.{checked_in};
-ghost use Rattle.tx_safety.specs.Marks.{HaveRoots, AreReadable};
-ghost use Rattle.tx_safety.specs.Safe.{IsSafe};
 ghost use Rattle.tree_fold.specs.Folding.{folded};
 ghost use Rattle.tree_fold.specs.Programs.{folded_func, folded_unit, folded_program};
 ghost use Rattle.tree_fold.specs.Sights.{AreSights};
-ghost use Rattle.tree_fold.specs.Bodies.{is_body_within, AddsBody, UnitFolded};
+ghost use Rattle.tree_fold.specs.Bodies.{is_body_within, AddsBody, HaveRootsFrom, ReadableFrom, UnitFolded};
+ghost use Rattle.tree_fold.specs.Forests.{AddsOwn, body_root, body_roots, HasOwnTrees, HaveOwnTrees};
 
 use crate::copying::fold_tree;
 use crate::sights::{Sight, sights_of};
 use cpp_tree::{Program, TFunc, TNode, TNodeId, UnitTree};
 use std::alloc::{AllocError, Global};
-use tree_check::is_well_formed;
-use tx_safety::laws::readable;
-use tx_safety::{SafeProgram, check};
 use tx_unsafe::volatile_classes;
 
 // The folded body of a function, in another list of nodes.
@@ -35,7 +30,8 @@ fn fold_body(
     requires ordered { IsOrdered from.now }
     requires many { length sights.now ≡ length from.now }
     requires within { is_body_within (length from.now) body ≡ true }
-    ensures { (volatile : ℕ → Bool) → AreSights volatile (trees_of from.now) sights.now → IfOk result (λ b. AddsBody (trees_of nodes.old.items) (trees_of nodes.new.items) b (option_map (folded volatile) (option_map (tree_at (trees_of from.now)) body))) }
+    ensures body { (volatile : ℕ → Bool) → AreSights volatile (trees_of from.now) sights.now → IfOk result (λ b. AddsBody (trees_of nodes.old.items) (trees_of nodes.new.items) b (option_map (folded volatile) (option_map (tree_at (trees_of from.now)) body))) }
+    ensures own { IfOk result (λ b. AddsOwn nodes.old.items nodes.new.items (body_root b)) }
 {
     match body {
         Some(root) => {
@@ -73,8 +69,9 @@ fn fold_funcs(
 ) -> Result<(), AllocError>
     requires ordered { IsOrdered from.now }
     requires many { length sights.now ≡ length from.now }
-    requires roots { HaveRoots from.now funcs.old.items }
-    ensures { (volatile : ℕ → Bool) → AreSights volatile (trees_of from.now) sights.now → OnOk result (map (func_of (trees_of nodes.new.items)) funcs.new.items ≡ map (folded_func volatile) (map (func_of (trees_of from.now)) funcs.old.items)) }
+    requires roots { HaveRootsFrom 0 from.now funcs.old.items }
+    ensures funcs { (volatile : ℕ → Bool) → AreSights volatile (trees_of from.now) sights.now → OnOk result (map (func_of (trees_of nodes.new.items)) funcs.new.items ≡ map (folded_func volatile) (map (func_of (trees_of from.now)) funcs.old.items)) }
+    ensures own { OnOk result (AddsOwn nodes.old.items nodes.new.items (body_roots funcs.new.items)) }
 {
     for i in 0..funcs.len() {
         let old = body_at(funcs.as_slice(), i);
@@ -87,8 +84,9 @@ fn fold_funcs(
 // The bodies of a unit are folded, and its nodes are those that they have then.
 fn fold_unit(alloc: Global, volatile: &[bool], unit: &mut UnitTree) -> Result<(), AllocError>
     requires ordered { IsOrdered unit.old.nodes.items }
-    requires roots { HaveRoots unit.old.nodes.items unit.old.funcs.items }
-    ensures { OnOk result (unit_of unit.new ≡ folded_unit (marked volatile.now) (unit_of unit.old)) }
+    requires roots { HaveRootsFrom 0 unit.old.nodes.items unit.old.funcs.items }
+    ensures unit { OnOk result (unit_of unit.new ≡ folded_unit (marked volatile.now) (unit_of unit.old)) }
+    ensures own { OnOk result (HasOwnTrees unit.new) }
 {
     let from = unit.nodes.as_slice();
     let sights = sights_of(alloc, from, volatile)?;
@@ -107,7 +105,7 @@ fn fold_unit_at(
 ) -> Result<(), AllocError>
     requires within { i < length units.old.items }
     requires ordered { (u : UnitTree) → slice_get units.old.items i ≡ Some u → IsOrdered u.nodes.items }
-    requires roots { (u : UnitTree) → slice_get units.old.items i ≡ Some u → HaveRoots u.nodes.items u.funcs.items }
+    requires roots { (u : UnitTree) → slice_get units.old.items i ≡ Some u → HaveRootsFrom 0 u.nodes.items u.funcs.items }
     ensures { (u : UnitTree) → slice_get units.old.items i ≡ Some u → OnOk result (UnitFolded (marked volatile.now) i units.old.items units.new.items u) }
 {
     let unit = &mut units[i];
@@ -115,8 +113,9 @@ fn fold_unit_at(
 }
 
 fn fold_units(alloc: Global, volatile: &[bool], units: &mut Vec<UnitTree>) -> Result<(), AllocError>
-    requires { AreReadable units.old.items }
-    ensures { OnOk result (map unit_of units.new.items ≡ map (folded_unit (marked volatile.now)) (map unit_of units.old.items)) }
+    requires { ReadableFrom 0 units.old.items }
+    ensures units { OnOk result (map unit_of units.new.items ≡ map (folded_unit (marked volatile.now)) (map unit_of units.old.items)) }
+    ensures own { OnOk result (HaveOwnTrees units.new.items) }
 {
     for i in 0..units.len() {
         fold_unit_at(alloc, volatile, units, i)?;
@@ -124,35 +123,15 @@ fn fold_units(alloc: Global, volatile: &[bool], units: &mut Vec<UnitTree>) -> Re
     Ok(())
 }
 
-// A folded program is checked again. It is well formed and safe as the unfolded one was; one that were not would count
-// as want of memory.
-fn checked(alloc: Global, program: Program) -> Result<SafeProgram, AllocError>
-    ensures program { IfOk result (λ r. checked_in r ≡ program) }
-    ensures well_formed { IfOk result (λ r. WellFormed (checked_in r)) }
-    ensures safe { IfOk result (λ r. IsSafe (program_of (checked_in r))) }
-{
-    if !is_well_formed(alloc, &program)? {
-        return Err(AllocError);
-    }
-    readable();
-    match check(alloc, program) {
-        Ok(safe) => Ok(safe),
-        Err(_) => Err(AllocError),
-    }
-}
-
 /// Folds the bodies of a program: what has a value before the run gets it, and of a conditional whose condition is known the operand that is
-/// not run is dropped where nothing is lost with it. All else stays. It needs of the program that kids have lower ids and that bodies stand in
-/// their lists, as in each well-formed one. The work is linear in the program, but for the checks of the folded one. The program is given up
-/// where memory is wanting.
-pub fn fold(alloc: Global, safe: SafeProgram) -> Result<SafeProgram, AllocError>
-    requires { AreReadable (checked_in safe).units.items }
-    ensures program { IfOk result (λ r. program_of (checked_in r) ≡ folded_program (program_of (checked_in safe))) }
-    ensures well_formed { IfOk result (λ r. WellFormed (checked_in r)) }
-    ensures safe { IfOk result (λ r. IsSafe (program_of (checked_in r))) }
+/// not run is dropped where nothing is lost with it. All else stays. The work is linear in the program. The program is given up where memory
+/// is wanting.
+pub fn fold_bodies(alloc: Global, mut program: Program) -> Result<Program, AllocError>
+    requires { WellFormed program }
+    ensures program { IfOk result (λ r. program_of r ≡ folded_program (program_of program)) }
+    ensures own { IfOk result (λ r. HaveOwnTrees r.units.items) }
 {
-    let mut program = safe.into_program();
     let volatile = volatile_classes(alloc, &program.classes)?;
     fold_units(alloc, volatile.as_slice(), &mut program.units)?;
-    checked(alloc, program)
+    Ok(program)
 }

@@ -2,6 +2,7 @@ use Rattle.std.proofs.Common.{◌+◌, ◌*◌, ℕ, Bool, drop}
 use Rattle.cpp_tree.specs.Arena.{trees_of, trees_at}
 use Rattle.tree_fold.specs.Folding.{all_folded}
 use Rattle.tree_fold.specs.Sights.{AreSights, Adding}
+use Rattle.tree_fold.specs.Forests.{AddsOwn}
 use Rattle.tree_fold.proofs.copying.+folds.Given as goal
 
 abbrev pub decreases-fold_tree : goal.decreases-fold_tree
@@ -18,6 +19,9 @@ decreases-fold_all l = l.parent.0 * 4
 
 -- the folded trees of the kids that are left are still to be added
 abbrev pub invariant-fold_all-loop-id : goal.invariant-fold_all-loop-id
-invariant-fold_all-loop-id l = (volatile : ℕ → Bool) → AreSights volatile (trees_of l.from) l.sights
-    → Adding (trees_of l.fn.nodes.items) (trees_of l.nodes.items) l.list.items (all_folded volatile (trees_at (trees_of l.from) (drop l.id-index l.ids)))
-    (all_folded volatile (trees_at (trees_of l.from) l.ids))
+invariant-fold_all-loop-id l = record {
+  trees : (volatile : ℕ → Bool) → AreSights volatile (trees_of l.from) l.sights
+      → Adding (trees_of l.fn.nodes.items) (trees_of l.nodes.items) l.list.items (all_folded volatile (trees_at (trees_of l.from) (drop l.id-index l.ids)))
+      (all_folded volatile (trees_at (trees_of l.from) l.ids));
+  own : AddsOwn l.fn.nodes.items l.nodes.items l.list.items;
+}

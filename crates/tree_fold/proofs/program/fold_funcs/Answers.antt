@@ -1,11 +1,12 @@
 use Rattle.std.proofs.Common.{◌≡◌, ◌<◌, List, length, slice_get, arith, refl, ap, ◌∙◌}
 use Rattle.cpp_tree.specs.Arena.{trees_of}
 use Rattle.cpp_tree.specs.declared.program.TFunc.{TFunc}
-use Rattle.tree_fold.proofs.ProgramParts.{found, no_funcs_yet, all_funcs, body_is_within, first_roots, next_roots, set_long, next_func_at}
+use Rattle.tree_fold.proofs.ProgramParts.{found, no_funcs_yet, all_funcs, body_is_within, next_roots, set_long, next_func_at}
+use Rattle.tree_fold.proofs.Forests.{adds_none, next_root, all_roots}
 use Rattle.tree_fold.proofs.program.fold_funcs.Goals as goal
 
 pub loop-i-init : goal.loop-i-init
-loop-i-init c = record { long = refl; roots = first_roots _ _ c.requires.roots; folded = λ v s. no_funcs_yet v _ _ _ }
+loop-i-init c = record { long = refl; roots = c.requires.roots; folded = λ v s. no_funcs_yet v _ _ _; own = adds_none c.args.nodes.now.items }
 
 pub fold_body-requires : goal.fold_body-requires
 fold_body-requires c =
@@ -32,11 +33,19 @@ loop-i-preserved c =
       folded = λ v s. next_func_at v (trees_of c.args.from.now) (trees_of c.loop-i.nodes.items)
           (trees_of c.fold_body.new.nodes.items) c.loop-i.i c.args.funcs.now.items c.loop-i.funcs.items c.set_body.new.funcs.items f.0 c.body_at-old.result
           c.in_ok-body.body
-          (c.loop-i.invariant.folded v s) h f.1 old (c.in_ok-body.ensures v s) e;
+          (c.loop-i.invariant.folded v s) h f.1 old (c.in_ok-body.ensures.body v s) e;
+      own = next_root c.args.nodes.now.items c.loop-i.nodes.items c.fold_body.new.nodes.items c.loop-i.i c.loop-i.funcs.items c.set_body.new.funcs.items f.0
+          c.in_ok-body.body c.loop-i.invariant.own h c.in_ok-body.ensures.own e;
     }
 
-pub returns : goal.returns
-returns c =
+pub returns-clause-funcs : goal.returns-clause-funcs
+returns-clause-funcs c =
     let n : c.len-i-end.result ≡ length c.args.funcs.now.items = c.len-i-end.ensures ∙ c.args.funcs.now.ok.0 in
     λ v s. all_funcs v (trees_of c.args.from.now) (trees_of c.loop-i.nodes.items) c.loop-i.i c.args.funcs.now.items c.loop-i.funcs.items
     (c.loop-i.invariant.folded v s) (omega (arith, c.loop-i-test.false, n, c.loop-i.invariant.long))
+
+pub returns-clause-own : goal.returns-clause-own
+returns-clause-own c =
+    let n : c.len-i-end.result ≡ length c.args.funcs.now.items = c.len-i-end.ensures ∙ c.args.funcs.now.ok.0 in
+    all_roots c.args.nodes.now.items c.loop-i.nodes.items c.loop-i.i c.loop-i.funcs.items c.loop-i.invariant.own
+    (omega (arith, c.loop-i-test.false, n, c.loop-i.invariant.long))

@@ -1,0 +1,10 @@
+mod Types
+mod Words
+mod Heads
+mod Rows
+mod Nodes
+mod Zeros
+mod Trees
+mod Places
+mod Bodies
+mod Programs

@@ -1,0 +1,4 @@
+//! Folding keeps programs well formed.
+#![tactic(auto)]
+
+pub mod laws;
