@@ -10,14 +10,13 @@ use Rattle.elab_rules.specs.cpp_types.declared.classes.At.{At}
 use Rattle.elab_rules.specs.cpp_types.declared.ranks.Cat.{Cat}
 use Rattle.elab_rules.specs.cpp_types.declared.ranks.Cat.TheVariants.{Lvalue, Prvalue}
 use Rattle.elab_rules.specs.cpp_tree.declared.kinds.TKind.TheVariants as forms
-use Rattle.elab_rules.specs.cpp_tree.declared.roles.Position.{Position}
 use Rattle.elab_rules.specs.cpp_tree.declared.roles.Role.TheVariants.{Value, Initialiser, Zero, BlockItem, Destruction}
-use Rattle.elab_rules.specs.cpp_tree.Trees.{Tree, node, Trees, none, more, one, two, kind_of}
+use Rattle.elab_rules.specs.cpp_tree.Trees.{Tree, node, Trees, none, more, one, two}
 use Rattle.elab_rules.specs.cpp_tree.Notation.{plain}
 use Rattle.elab_rules.specs.cpp_tree.Typing.{head_of, is_prvalue, builds, is_word_of}
 use Rattle.elab_rules.specs.cpp_tree.Roles.{only, and_any}
 use Rattle.elab_rules.specs.cpp_tree.Rows.{Setting, are_destructions}
-use Rattle.elab_rules.specs.cpp_tree.WellFormed.{fits, heads_of, is_kid}
+use Rattle.elab_rules.specs.cpp_tree.WellFormed.{fits, heads_of}
 use Rattle.elab_rules.specs.elab_ctx.Ctx.{Ctx}
 use Rattle.elab_rules.specs.Objects.{destroys}
 use Rattle.elab_rules.specs.Names.{this_pointer}
@@ -25,7 +24,7 @@ use Rattle.elab_rules.specs.Values.{number, part_at, size_type}
 use Rattle.elab_rules.specs.Members.{own_this, own_part, own_base, part_init, pointer_stored}
 use Rattle.elab_fits.specs.Objects.{DestroysOne}
 use Rattle.elab_fits.proofs.Equal.{typ_refl}
-use Rattle.elab_fits.proofs.Nodes.{both, or_left, head_typ, head_cat, node_fits, two_values}
+use Rattle.elab_fits.proofs.Nodes.{both, or_left, head_typ, head_cat, node_fits, two_values, initial_kid}
 use Rattle.elab_fits_statements.specs.Anywhere.{FitsAnywhere, BuildsAnywhere, Serves, AllServe}
 use Rattle.elab_fits_statements.proofs.Forms.{value_kid, value_serves, as_item, all_kids, from_two, two_enough}
 use Rattle.elab_fits_statements.proofs.Variables.{local_fits, destructions_serve}
@@ -62,10 +61,6 @@ base_stands s n at b h = record {
 }
 
 -- Initialised parts
-
-initial_kid : (s : Setting) (p : Position) (e : Tree) → fits s p Initialiser e ≡ true → is_kid (kind_of e) ≡ true
-initial_kid s p (node (forms.Block b) t cat at kids) h = absurd cc
-initial_kid s p (node kind t cat at kids) h = refl
 
 pub part_serves : (s : Setting) (c : Ctx) (at p : At) (t : Typ) (object e : Tree) → IsObjectOf s t object → BuildsAnywhere s t e
     → DestroysOne s t (destroys c at t) → Serves s false false BlockItem (part_init c at p t object e)

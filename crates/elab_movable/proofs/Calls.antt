@@ -24,9 +24,10 @@ use Rattle.elab_rules.specs.Operators
 use Rattle.elab_rules.specs.Names.{is_free, is_method}
 use Rattle.elab_rules.specs.Calls
 use Rattle.elab_rules.specs.Casts
+use Rattle.elab_fits.specs.Standing.{On}
+use Rattle.elab_fits.proofs.Steps.{bind, skip, either_way as either, choose}
 use Rattle.elab_movable.specs.Movable.{Sought, held, all_held}
 use Rattle.elab_movable.proofs.Counting.{operands_held, Gives, GiveAll, HoldsAtMost, same}
-use Rattle.elab_movable.proofs.Steps.{On, bind, skip, either, choose}
 use Rattle.elab_movable.proofs.Parts as parts
 use Rattle.elab_movable.proofs.Values as values
 use Rattle.elab_movable.proofs.Initials as initials

@@ -21,9 +21,10 @@ use Rattle.elab_rules.specs.Initialising
 use Rattle.elab_rules.specs.Members.{in_object}
 use Rattle.elab_rules.specs.Statements
 use Rattle.elab_rules.specs.Statements.{State, Full, Lambdas, with_work}
+use Rattle.elab_fits.specs.Standing.{On}
+use Rattle.elab_fits.proofs.Steps.{bind, skip, either_way as either, answered as held_by}
 use Rattle.elab_movable.specs.Movable.{Sought, held, all_held, OnlyThis, LeavesThis, KeepsThis, ExpressionsMove, CopiesMove, StringsMove}
 use Rattle.elab_movable.proofs.Counting.{Gives, none_held, some_left}
-use Rattle.elab_movable.proofs.Steps.{On, bind, skip, either, held_by}
 use Rattle.elab_movable.proofs.Parts as parts
 use Rattle.elab_movable.proofs.Initials as initials
 use Rattle.elab_movable.proofs.Names as names

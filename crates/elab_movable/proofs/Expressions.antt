@@ -28,9 +28,10 @@ use Rattle.elab_rules.specs.Calls
 use Rattle.elab_rules.specs.Casts
 use Rattle.elab_rules.specs.Values
 use Rattle.elab_rules.specs.Expressions
+use Rattle.elab_fits.specs.Standing.{On}
+use Rattle.elab_fits.proofs.Steps.{bind, skip, either_way as either}
 use Rattle.elab_movable.specs.Movable.{Sought, held, OnlyThis}
 use Rattle.elab_movable.proofs.Counting.{operands_held, used, Gives, GiveAll, HoldsAtMost, same}
-use Rattle.elab_movable.proofs.Steps.{On, bind, skip, either}
 use Rattle.elab_movable.proofs.Parts as parts
 use Rattle.elab_movable.proofs.Values as values
 use Rattle.elab_movable.proofs.Initials as initials

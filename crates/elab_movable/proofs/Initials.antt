@@ -22,9 +22,10 @@ use Rattle.elab_rules.specs.Objects
 use Rattle.elab_rules.specs.Objects.{parts_of, traits_at}
 use Rattle.elab_rules.specs.Values
 use Rattle.elab_rules.specs.Initialising
+use Rattle.elab_fits.specs.Standing.{On}
+use Rattle.elab_fits.proofs.Steps.{bind, skip, either_way as either, choose, weaken as turn}
 use Rattle.elab_movable.specs.Movable.{Sought, held, all_held}
 use Rattle.elab_movable.proofs.Counting.{operands_held, used, item_fits, Gives, GiveAll, same}
-use Rattle.elab_movable.proofs.Steps.{On, bind, skip, either, choose, turn}
 use Rattle.elab_movable.proofs.Parts as parts
 use Rattle.elab_movable.proofs.Values as values
 

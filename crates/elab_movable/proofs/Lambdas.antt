@@ -19,8 +19,9 @@ use Rattle.elab_rules.specs.Functions
 use Rattle.elab_rules.specs.Lambdas
 use Rattle.elab_rules.specs.Lambdas.{Written, lambda_entered, declared_closure, lambdas_of}
 use Rattle.elab_rules.specs.Statements.{State, statement}
+use Rattle.elab_fits.specs.Standing.{On}
+use Rattle.elab_fits.proofs.Steps.{bind, skip, weaken as turn, answered as held_by}
 use Rattle.elab_movable.specs.Movable.{LeavesThis, KeepsThis}
-use Rattle.elab_movable.proofs.Steps.{On, bind, skip, turn, held_by}
 
 same : (st : State) → LeavesThis st st
 same st = record { variables = refl; lambda = refl; this = refl; frame = refl }

@@ -8,5 +8,4 @@ pub mod Lambdas
 pub mod Names
 pub mod Operators
 pub mod Parts
-pub mod Steps
 pub mod Values

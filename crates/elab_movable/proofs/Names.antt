@@ -27,9 +27,10 @@ use Rattle.elab_rules.specs.Initialising.{func_at, places_from}
 use Rattle.elab_rules.specs.Names
 use Rattle.elab_rules.specs.Names.{Found, field, methods}
 use Rattle.elab_rules.proofs.cpp_types.EqualTests.{typ_eq_is}
+use Rattle.elab_fits.specs.Standing.{On}
+use Rattle.elab_fits.proofs.Steps.{bind, skip, either_way as either}
 use Rattle.elab_movable.specs.Movable.{Sought, one_if, held, IsFirst, OnlyThis}
 use Rattle.elab_movable.proofs.Counting.{Gives, HoldsAtMost, same}
-use Rattle.elab_movable.proofs.Steps.{On, bind, skip, either}
 use Rattle.elab_movable.proofs.Initials as initials
 
 typ_refl : (t : Typ) → typ_eq t t ≡ true

@@ -27,9 +27,10 @@ use Rattle.elab_rules.specs.Objects
 use Rattle.elab_rules.specs.Values
 use Rattle.elab_rules.specs.Initialising
 use Rattle.elab_rules.specs.Operators
+use Rattle.elab_fits.specs.Standing.{On}
+use Rattle.elab_fits.proofs.Steps.{bind, skip, either_way as either, choose}
 use Rattle.elab_movable.specs.Movable.{Sought, held}
 use Rattle.elab_movable.proofs.Counting.{Gives, HoldsAtMost, same}
-use Rattle.elab_movable.proofs.Steps.{On, bind, skip, either, choose}
 use Rattle.elab_movable.proofs.Parts as parts
 use Rattle.elab_movable.proofs.Values as values
 use Rattle.elab_movable.proofs.Initials as initials

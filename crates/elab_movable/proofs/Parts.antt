@@ -15,10 +15,11 @@ use Rattle.elab_rules.specs.Objects
 use Rattle.elab_rules.specs.Objects.{Part, Leaf, parts_of, element_of, is_array}
 use Rattle.elab_rules.specs.Values
 use Rattle.elab_rules.specs.Initialising
+use Rattle.elab_fits.specs.Standing.{On}
+use Rattle.elab_fits.proofs.Steps.{skip, choose}
 use Rattle.std.proofs.lemmas.Bool.{and_from}
 use Rattle.elab_fits_braces.specs.Qualified.{is_made, are_made}
 use Rattle.elab_movable.specs.Movable.{Sought, one_if, is_named_class, held, all_held}
-use Rattle.elab_movable.proofs.Steps.{On, skip, choose}
 
 module _ (g : Sought) where
   pub followed : (ts us : Trees) → all_held g (Objects.followed_by ts us) ≡ all_held g ts + all_held g us

@@ -15,9 +15,9 @@ use Rattle.elab_rules.specs.cpp_tree.Typing.{form_in, kind_in, unqualified, is_v
 use Rattle.elab_rules.specs.elab_ctx.Ctx.{Ctx}
 use Rattle.elab_rules.specs.Values
 use Rattle.elab_rules.specs.Initialising
+use Rattle.elab_fits.proofs.Steps.{choose}
 use Rattle.elab_movable.specs.Movable.{Sought, one_if, held, all_held}
 use Rattle.elab_movable.proofs.Counting.{HoldsAtMost, same}
-use Rattle.elab_movable.proofs.Steps.{choose}
 use Rattle.elab_movable.proofs.Parts as parts
 
 flag_most : (b : Bool) (n : ℕ) → one_if b ≤ 1 + n
