@@ -22,7 +22,8 @@ use Rattle.elab_rules.specs.Lambdas.{lambdas_of, lambdas_among, lambda_of, lambd
 use Rattle.elab_rules.specs.Lambdas.{no_lambda, first_lambda, lambda_entered, declared_closure, inside, body_statements, signature_in, result_of, kids_of, has_mutable}
 use Rattle.elab_rules.specs.Lambdas.{explicit_captures, default_in, parameters_among, not_dynamic, result_among, default_captures, used_in, place_of_tree, closing}
 use Rattle.elab_fits.specs.Standing.{On}
-use Rattle.elab_contexts.proofs.Walking.{Leaves, naming, stays, after, bind, skip, follow, of_state, of_done, Ends, one_step}
+use Rattle.elab_fits.proofs.Steps.{bind, skip}
+use Rattle.elab_contexts.proofs.Walking.{Leaves, naming, stays, after, follow, of_state, of_done, Ends, one_step}
 use Rattle.elab_contexts.proofs.Items.{Lawful}
 use Rattle.elab_contexts.proofs.Owned.{overriders_added}
 use Rattle.elab_contexts.proofs.Statements.{statements_kept, parameters_kept}

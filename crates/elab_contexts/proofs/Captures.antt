@@ -10,7 +10,6 @@ use Rattle.elab_rules.specs.cpp_lex.Tokens.{Lexeme}
 use Rattle.elab_rules.specs.cpp_ast.declared.kinds.NodeKind.TheVariants as k
 use Rattle.elab_rules.specs.cpp_ast.Trees as syntax
 use Rattle.elab_rules.specs.cpp_tree.declared.faults.ElabFault.{ElabFault}
-use Rattle.elab_rules.specs.cpp_tree.declared.faults.IllRule.{IllRule}
 use Rattle.elab_rules.specs.cpp_tree.declared.faults.IllRule.TheVariants.{OutOfProfile, Incomplete, NoCopy, Capture as CaptureRule}
 use Rattle.elab_rules.specs.cpp_tree.Typing.{form_in}
 use Rattle.elab_rules.specs.elab_ctx.Ctx.{Ctx, Capture}
@@ -24,17 +23,11 @@ use Rattle.elab_rules.specs.Lambdas.{Otherwise, nothing, by_copy, by_reference, 
 use Rattle.elab_rules.specs.Lambdas.{copies_elements, capture_this, explicit_variable, named_variable, explicit_capture, explicit_captures, capture_used}
 use Rattle.elab_rules.specs.Lambdas.{captured_uses, default_captures, is_captured, adds}
 use Rattle.elab_fits.specs.Standing.{On}
+use Rattle.elab_fits.proofs.Steps.{bind, skip, either_way as either, checked}
 use Rattle.elab_contexts.specs.Steps.{IsWhole}
 use Rattle.elab_contexts.proofs.Lists.{one_more}
-use Rattle.elab_contexts.proofs.Walking.{bind, skip, either}
 
--- a test that is asked for
-pub checked : {B : Type 0} (Q : B → Type 0) (at : At) (rule : IllRule) (b : Bool) (f : Bool → Result B ElabFault) → (b ≡ true → On Q (f true))
-    → On Q (and_then (check at rule b) f)
-checked Q at rule true f h = h refl
-checked Q at rule false f h = tt
-
--- the same of a size
+-- a size that is asked for
 pub within_size : {B : Type 0} (Q : B → Type 0) (at : At) (n : ℕ) (f : Bool → Result B ElabFault) → (nat_le n GREATEST_SIZE ≡ true → On Q (f true))
     → On Q (and_then (sized at n) f)
 within_size Q at n f h = by (nat_le n GREATEST_SIZE) refl

@@ -37,6 +37,7 @@ use Rattle.elab_rules.specs.Classes.{as_written, member_func}
 use Rattle.elab_rules.specs.Members.{declared_only, class_with, class_defined, all_defaults, all_late}
 use Rattle.std.specs.Prelude.{slice_get}
 use Rattle.elab_fits.specs.Standing.{On}
+use Rattle.elab_fits.proofs.Steps.{bind, skip, weaken, checked, expected}
 use Rattle.elab_contexts.proofs.Items.{Lawful}
 use Rattle.elab_contexts.proofs.Members.{each_holds, defaults_kept, all_late_kept}
 use Rattle.elab_rules.specs.cpp_tree.Typing.{is_reference}
@@ -46,9 +47,9 @@ use Rattle.elab_contexts.specs.Steps.{class_begun as begun_step, class_completed
 use Rattle.elab_contexts.specs.Texts.{is_no_name}
 use Rattle.elab_contexts.specs.Holding.{HasTypeNames}
 use Rattle.elab_contexts.proofs.Found.{at_the_end}
-use Rattle.elab_contexts.proofs.Names.{Listed, ListedDeclared, named_listed, called_listed, specifiers_listed, declared_listed, expected}
+use Rattle.elab_contexts.proofs.Names.{Listed, ListedDeclared, named_listed, called_listed, specifiers_listed, declared_listed}
 use Rattle.elab_contexts.proofs.Going.{From, begin, since, from_on, from_from, names_still, leaves_from, name_added, name_at_end}
-use Rattle.elab_contexts.proofs.Walking.{Leaves, naming, bind, skip, follow, of_state, one_step, weaken}
+use Rattle.elab_contexts.proofs.Walking.{Leaves, naming, follow, of_state, one_step}
 use Rattle.elab_contexts.proofs.Makers.{closing}
 use Rattle.elab_contexts.proofs.Owned.{overriders_closed}
 use Rattle.elab_contexts.proofs.Lists.{one_more}
@@ -59,7 +60,7 @@ use Rattle.elab_rules.specs.elab_ctx.Steps.{spelling, token_place}
 use Rattle.elab_rules.specs.Classes.{based_on, base_class, keeps, is_final_class}
 use Rattle.elab_rules.specs.cpp_tree.declared.faults.IllRule.TheVariants.{UnknownName}
 use Rattle.elab_rules.specs.cpp_tree.declared.faults.OverrideRule.TheVariants.{BaseFinal}
-use Rattle.elab_contexts.proofs.Captures.{is_whole, checked}
+use Rattle.elab_contexts.proofs.Captures.{is_whole}
 use Rattle.elab_contexts.specs.Steps.{is_same_declared}
 
 -- Up to the name

@@ -38,8 +38,9 @@ use Rattle.elab_rules.specs.Globals.{added_global, defined_global, global_object
 use Rattle.elab_rules.specs.Statements.{copy_initialised, default_object, directly_initialised}
 use Rattle.elab_rules.specs.Strings.{string_bytes}
 use Rattle.elab_fits.specs.Standing.{On}
+use Rattle.elab_fits.proofs.Steps.{bind, skip, checked}
 use Rattle.elab_contexts.proofs.Works.{same, made_after}
-use Rattle.elab_contexts.proofs.Walking.{Leaves, stays, bind, skip, behind, of_state}
+use Rattle.elab_contexts.proofs.Walking.{Leaves, stays, behind, of_state}
 use Rattle.elab_contexts.proofs.Works.{Grows, Mades, Types, TypesAll, operand_grows, operands_grow, copy_grows, directly_grows, item_grows}
 use Rattle.elab_contexts.proofs.Members.{each_leaves}
 use Rattle.elab_contexts.proofs.Defined.{further_leaves}
@@ -62,7 +63,6 @@ use Rattle.elab_contexts.specs.Steps.{is_written}
 use Rattle.elab_contexts.proofs.Names.{named_listed, type_id_listed}
 use Rattle.elab_contexts.proofs.Lists.{one_more, with_first}
 use Rattle.elab_contexts.proofs.Going.{From}
-use Rattle.elab_contexts.proofs.Captures.{checked}
 
 -- Variables
 

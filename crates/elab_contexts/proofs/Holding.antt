@@ -26,6 +26,7 @@ use Rattle.elab_rules.specs.Statements.{State, Done, Full, full_operand, stateme
 use Rattle.elab_rules.specs.Units.{start, builtins, file_declaration, alias_of, defined_with, declarations_of, unit_from}
 use Rattle.elab_fits.specs.Standing.{On}
 use Rattle.elab_fits.specs.Objects.{IsDestructorOf}
+use Rattle.elab_fits.proofs.Steps.{weaken}
 use Rattle.elab_fits_objects.specs.Contexts.{IsCopyOf, IsDefaultOf}
 use Rattle.elab_contexts.specs.Steps.{view, Steps, IsOpen}
 use Rattle.elab_contexts.specs.Holding.{IsKnown, IsOfClass, IsRecorded, of_unit, of_another, UnitHolds, StateHolds, HasEnumerators, HasTypeNames, StartsHold}
@@ -37,7 +38,7 @@ use Rattle.elab_rules.specs.cpp_tree.Units.{SlotFunc}
 use Rattle.elab_rules.specs.cpp_types.Class.{completion_of}
 use Rattle.elab_contexts.specs.Overriders.{HasOverridersBy, Overrides, StartsOverride, LambdasOverride, OperandsOverride, StatementsOverride, VariablesOverride, FunctionsOverride}
 use Rattle.elab_contexts.specs.Overriders.{OutsideOverride, ClassesOverride, MemberDefaultsOverride, MethodsOverride, ImpliedOverride}
-use Rattle.elab_contexts.proofs.Walking.{Leaves, Ends, weaken, kept_by_steps}
+use Rattle.elab_contexts.proofs.Walking.{Leaves, Ends, kept_by_steps}
 use Rattle.elab_contexts.proofs.Found.{At}
 use Rattle.elab_contexts.proofs.Makers.{IsDestructor, IsCopy, IsDefault, Proper, AllProper, closing}
 use Rattle.elab_contexts.proofs.Kept.{Makes, makes_nothing, traits_in, Holds, each_kept}

@@ -20,8 +20,9 @@ use Rattle.elab_rules.specs.Members.{as_base_of, in_object, parts_built, constru
 use Rattle.elab_rules.specs.Implicit.{own_operand, part_copied, part_of_source, members_copied, base_copied, parts_copied, with_source, source_object, source_const}
 use Rattle.elab_rules.specs.Implicit.{constructor_implied, body_implied, implied_of, implied, implied_below, with_implied, is_referred}
 use Rattle.elab_fits.specs.Standing.{On}
+use Rattle.elab_fits.proofs.Steps.{bind, either_way as either}
 use Rattle.elab_contexts.proofs.Works.{same}
-use Rattle.elab_contexts.proofs.Walking.{Leaves, stays, after, bind, either, follow, of_state, of_done, Ends}
+use Rattle.elab_contexts.proofs.Walking.{Leaves, stays, after, follow, of_state, of_done, Ends}
 use Rattle.elab_contexts.proofs.Items.{work_kept, item_kept}
 use Rattle.elab_contexts.proofs.Works.{Mades, class_grows}
 use Rattle.elab_contexts.proofs.Bodies.{made_kept}

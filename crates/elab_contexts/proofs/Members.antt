@@ -8,7 +8,7 @@ use Rattle.elab_rules.specs.cpp_lex.Tokens.{Lexeme}
 use Rattle.elab_rules.specs.cpp_ast.declared.kinds.NodeKind.TheVariants as k
 use Rattle.elab_rules.specs.cpp_ast.Trees as syntax
 use Rattle.elab_rules.specs.cpp_tree.declared.faults.ElabFault.{ElabFault}
-use Rattle.elab_rules.specs.cpp_tree.declared.faults.IllRule.TheVariants.{UnknownName, Redeclared, NoMember, OutOfProfile, TypeDiffers}
+use Rattle.elab_rules.specs.cpp_tree.declared.faults.IllRule.TheVariants.{UnknownName, Redeclared, NoMember, OutOfProfile}
 use Rattle.elab_rules.specs.cpp_tree.declared.program.FuncKind.{FuncKind}
 use Rattle.elab_rules.specs.cpp_tree.declared.program.FuncKind.TheVariants.{Plain, Constructor, Destructor}
 use Rattle.elab_rules.specs.cpp_tree.Notation.{plain}
@@ -23,8 +23,7 @@ use Rattle.elab_rules.specs.Braces.{default_at, string_object, string_token, syn
 use Rattle.elab_rules.specs.Expressions.{operands_of}
 use Rattle.elab_rules.specs.Statements.{State, Lambdas, with_work, all_lambdas, default_object, directly_initialised, statements_of, full_operand, copy_initialised}
 use Rattle.elab_rules.specs.Functions.{Header, with_parameters, defines_well}
-use Rattle.elab_rules.specs.Initialising.{func_at, signature_result}
-use Rattle.elab_rules.specs.cpp_types.Equal.{typ_eq}
+use Rattle.elab_rules.specs.Initialising.{func_at}
 use Rattle.elab_contexts.proofs.Defined.{Further, further_leaves, definition_further}
 use Rattle.elab_rules.specs.Classes.{Method, method_of, body_in, last_token, token_end}
 use Rattle.elab_rules.specs.Members.{Given, Giving, member_index, member_type, given_part, given_base, is_named_class, is_base_type, given_for}
@@ -32,8 +31,9 @@ use Rattle.elab_rules.specs.Members.{for_part, given_by, all_given, default_buil
 use Rattle.elab_rules.specs.Members.{this_type, constructor_body, destructor_body, body_by_kind, method_body, default_value, default_made, default_for, default_of, defaults_of}
 use Rattle.elab_rules.specs.Members.{all_defaults, initialiser_in, place_of_header, late_agrees, late_kept, late_method, late_function, late_of, all_late}
 use Rattle.elab_fits.specs.Standing.{On}
+use Rattle.elab_fits.proofs.Steps.{bind, skip}
 use Rattle.elab_contexts.proofs.Works.{same}
-use Rattle.elab_contexts.proofs.Walking.{Leaves, stays, after, bind, skip, behind, follow, of_state, of_done, of_full, Ends}
+use Rattle.elab_contexts.proofs.Walking.{Leaves, stays, after, behind, follow, of_state, of_done, of_full, Ends}
 use Rattle.elab_contexts.proofs.Items.{Lawful, work_kept}
 use Rattle.elab_contexts.proofs.Works.{Mades, TypesAll, grown, items_added, operands_grow, directly_grows, copy_grows}
 use Rattle.elab_contexts.proofs.Statements.{statements_kept, parameters_kept, all_lambdas_kept, full_kept}

@@ -1,5 +1,5 @@
 -- What a declarator declares is of a type that can be written.
-use Rattle.std.proofs.Common.{◌≡◌, refl, ◌∙◌, subst, ℕ, zero, suc, Bool, true, false, ◌==◌, nat_le, nat_lt, pos, List, [], ◌∷◌, Option, Some, None, Result}
+use Rattle.std.proofs.Common.{◌≡◌, refl, ◌∙◌, subst, ℕ, zero, suc, Bool, true, false, ◌==◌, nat_le, nat_lt, pos, List, [], ◌∷◌, Option, Some, None}
 use Rattle.std.specs.Prelude.{if◌then◌else◌, not, ◌&&◌, codes, int_lt}
 use Rattle.std.specs.Str.{bytes_eq}
 use Rattle.std.proofs.lemmas.Option.{same_Some}
@@ -13,8 +13,6 @@ use Rattle.elab_rules.specs.cpp_lex.Tokens.{Lexeme}
 use Rattle.elab_rules.specs.cpp_ast.declared.kinds.NodeKind.TheVariants as k
 use Rattle.elab_rules.specs.cpp_ast.Trees as syntax
 use Rattle.elab_rules.specs.cpp_layout.declared.extents.TheConstants.{GREATEST_SIZE}
-use Rattle.elab_rules.specs.cpp_tree.declared.faults.ElabFault.{ElabFault}
-use Rattle.elab_rules.specs.cpp_tree.declared.faults.IllRule.{IllRule}
 use Rattle.elab_rules.specs.cpp_tree.declared.faults.IllRule.TheVariants.{UnknownName, BadDeclaration, OutOfProfile, NotTriviallyCopyable, NotConstant, AbstractObject}
 use Rattle.elab_rules.specs.cpp_tree.Notation.{plain}
 use Rattle.elab_rules.specs.cpp_tree.Trees.{typ_in}
@@ -31,9 +29,9 @@ use Rattle.elab_rules.specs.Types.{is_declared_safe, qualifiers_of, is_name, is_
 use Rattle.elab_rules.specs.Expressions.{specified_with, all_specified_with, specifiers_with, type_id_with, declared_with, pointed_with, bounded, bound_kind}
 use Rattle.elab_rules.specs.Expressions.{expression_with, chosen_operand, parameters_in_with}
 use Rattle.elab_fits.specs.Standing.{On}
+use Rattle.elab_fits.proofs.Steps.{bind, skip, either_way as either, expected}
 use Rattle.elab_contexts.specs.Holding.{HasTypeNames}
 use Rattle.elab_contexts.specs.Steps.{is_written}
-use Rattle.elab_contexts.proofs.Walking.{bind, skip, either}
 
 -- Names
 
@@ -123,12 +121,6 @@ words_listed c (Some f) h t e = subst (Listed c) (same_Some (plain f) t e) (h f 
 base_listed : (c : Ctx) (o : Option Typ) (ws : List (List ℕ)) → ((t : Typ) → o ≡ Some t → Listed c t) → (t : Typ) → base_type o ws ≡ Some t → Listed c t
 base_listed c (Some u) ws h t e = h t e
 base_listed c None ws h t e = words_listed c (word_form ws) (words_no_class c ws) t e
-
--- what is there is as it is said to be
-pub expected : {A B : Type 0} (Q : B → Type 0) (at : At) (rule : IllRule) (o : Option A) (f : A → Result B ElabFault)
-    → ((a : A) → o ≡ Some a → On Q (f a)) → On Q (and_then (expect at rule o) f)
-expected Q at rule (Some a) f h = h a refl
-expected Q at rule None f h = tt
 
 specified_listed : (c : Ctx) (at : At) (d : Specifiers) → ListedNamed c d → On (Listed c) (specified_type at d)
 specified_listed c at d h = expected (Listed c) at BadDeclaration (base_type d.named d.words) _

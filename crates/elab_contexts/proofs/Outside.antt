@@ -20,7 +20,8 @@ use Rattle.elab_rules.specs.Classes.{Method, Started, started_from, body_in, las
 use Rattle.elab_rules.specs.Members.{outside_linkage, outside_text, linked_definition, outside_defined, outside_body, outside_words, is_member_named}
 use Rattle.elab_rules.specs.Members.{outside_agrees, outside_method, outside_with, member_defined, method_body}
 use Rattle.elab_fits.specs.Standing.{On}
-use Rattle.elab_contexts.proofs.Walking.{Leaves, bind, skip, behind, one_step}
+use Rattle.elab_fits.proofs.Steps.{bind, skip}
+use Rattle.elab_contexts.proofs.Walking.{Leaves, behind, one_step}
 use Rattle.elab_contexts.proofs.Items.{Lawful}
 use Rattle.elab_contexts.proofs.Members.{method_kept}
 use Rattle.elab_rules.specs.cpp_tree.declared.program.FuncKind.TheVariants.{Plain}

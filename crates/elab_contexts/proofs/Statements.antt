@@ -31,7 +31,8 @@ use Rattle.elab_rules.specs.Statements.{statements_of, handlers_of, case_fits, c
 use Rattle.elab_rules.specs.Statements.{only_expression, same_deduction, switched_type, class_returned, full, result_of, return_node, block, statement, the_tree}
 use Rattle.std.specs.Prelude.{if◌then◌else◌}
 use Rattle.elab_fits.specs.Standing.{On}
-use Rattle.elab_contexts.proofs.Walking.{Leaves, bind, skip, either, stays, after, of_state, of_done, of_full, Ends, behind, follow}
+use Rattle.elab_fits.proofs.Steps.{bind, skip, either_way as either}
+use Rattle.elab_contexts.proofs.Walking.{Leaves, stays, after, of_state, of_done, of_full, Ends, behind, follow}
 use Rattle.elab_contexts.proofs.Items.{Lawful, work_kept, placed_kept, item_kept, out}
 use Rattle.elab_contexts.proofs.Works.{same}
 use Rattle.elab_contexts.proofs.Works.{Grows, grown, operand_grows, operands_grow, dropped_grows, copy_grows, directly_grows, class_grows, initial_grows, item_grows}

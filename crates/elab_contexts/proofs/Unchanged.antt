@@ -21,8 +21,8 @@ use Rattle.elab_rules.specs.Classes.{Begun, begun, begun_in, begun_by}
 use Rattle.elab_rules.specs.Globals.{Enumerating, type_agrees, with_type, named_enumerator, enumerator_made, enumerator_value, enumerator_declared}
 use Rattle.elab_rules.specs.Globals.{enumerators_declared, enum_with}
 use Rattle.elab_fits.specs.Standing.{On}
+use Rattle.elab_fits.proofs.Steps.{bind, skip}
 use Rattle.elab_contexts.specs.Overriders.{HasOverridersBy, Overrides, AliasesOverride, EnumsOverride, NamesOverride}
-use Rattle.elab_contexts.proofs.Walking.{bind, skip}
 
 pub aliases_override : AliasesOverride
 aliases_override s st at name syntax.none = tt

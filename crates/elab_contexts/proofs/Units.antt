@@ -21,11 +21,12 @@ use Rattle.elab_rules.specs.Lambdas.{lambdas_of}
 use Rattle.elab_rules.specs.Units.{header_of, definition_text, closing_offset, is_qualified, defined_with, defined_by, function_defined, is_c, declaration_of}
 use Rattle.elab_rules.specs.Units.{declarations_of, unit_from}
 use Rattle.elab_fits.specs.Standing.{On}
+use Rattle.elab_fits.proofs.Steps.{bind, skip, weaken}
 use Rattle.elab_contexts.proofs.Bodies.{function_kept, lambdas_lawful}
 use Rattle.elab_contexts.proofs.Declared.{declaration_kept, aliases_from, enum_kept}
 use Rattle.elab_contexts.proofs.Implied.{implied_kept}
 use Rattle.elab_contexts.specs.Walks.{DeclarationsWalk, UnitsWalk, Walks}
-use Rattle.elab_contexts.proofs.Walking.{Leaves, bind, skip, behind, of_state, weaken}
+use Rattle.elab_contexts.proofs.Walking.{Leaves, behind, of_state}
 use Rattle.elab_contexts.proofs.Going.{From, begin, leaves_from, from_from}
 use Rattle.elab_contexts.proofs.Defined.{definition_further, further_on, further_leaves}
 use Rattle.elab_contexts.proofs.Outside.{Placing, function_further, outside_kept}

@@ -1,6 +1,5 @@
 -- The steps of a unit, one behind the other.
-use Rattle.std.proofs.Common.{◌≡◌, refl, ◌∙◌, Bool, true, false, List, Result, Ok, Err, ℕ}
-use Rattle.std.specs.Prelude.{if◌then◌else◌}
+use Rattle.std.proofs.Common.{◌≡◌, refl, ◌∙◌, Bool, List, Result, Ok, Err, ℕ}
 use Rattle.elab_rules.specs.cpp_tree.declared.faults.ElabFault.{ElabFault}
 use Rattle.elab_rules.specs.elab_ctx.Ctx.{Ctx, Enumerator}
 use Rattle.elab_rules.specs.elab_ctx.Types.{Named}
@@ -52,26 +51,6 @@ stays st = record { walk = none_yet; same = refl; overrides = λ w h. h }
 
 pub after : (a b c : State) → Leaves a b → Leaves b c → Leaves a c
 after a b c g h = record { walk = joined g.walk h.walk; same = h.same ∙ g.same; overrides = λ w o. h.overrides w (g.overrides w o) }
-
--- Answers
-
-pub bind : {A B : Type 0} (P : A → Type 0) (Q : B → Type 0) (x : Result A ElabFault) (f : A → Result B ElabFault) → On P x → ((a : A) → P a → On Q (f a))
-    → On Q (and_then x f)
-bind P Q (Ok a) f h g = g a h
-bind P Q (Err e) f h g = tt
-
--- a step of which nothing is asked
-pub skip : {A B : Type 0} (Q : B → Type 0) (x : Result A ElabFault) (f : A → Result B ElabFault) → ((a : A) → On Q (f a)) → On Q (and_then x f)
-skip Q (Ok a) f g = g a
-skip Q (Err e) f g = tt
-
-pub either : {A : Type 0} (P : A → Type 0) (b : Bool) (x y : Result A ElabFault) → On P x → On P y → On P (if b then x else y)
-either P true x y h k = h
-either P false x y h k = k
-
-pub weaken : {A : Type 0} (P Q : A → Type 0) (r : Result A ElabFault) → ((a : A) → P a → Q a) → On P r → On Q r
-weaken P Q (Ok a) f h = f a h
-weaken P Q (Err e) f h = tt
 
 -- Steps, one behind the other
 

@@ -31,12 +31,12 @@ use Rattle.elab_rules.specs.Statements.{State, Full, Lambdas, full, whole_if, th
 use Rattle.elab_fits.specs.Standing.{BuildsOne, IsSetting, On}
 use Rattle.elab_fits.proofs.Nodes.{both, or_right}
 use Rattle.elab_fits.proofs.AreZeros.{are_zero_law}
-use Rattle.elab_fits.proofs.Steps.{bind, skip}
+use Rattle.elab_fits.proofs.Steps.{bind, skip, either_way as either, answered as held_by}
 use Rattle.elab_fits_statements.specs.Variables.{BuildsWhole}
 use Rattle.elab_fits_statements.proofs.Wholes.{whole_object}
 use Rattle.elab_fits_expressions.specs.Growing.{Behind}
 use Rattle.elab_fits_expressions.proofs.Behind as growing
-use Rattle.elab_fits_expressions.proofs.Behind.{made, after, behind, either}
+use Rattle.elab_fits_expressions.proofs.Behind.{made}
 use Rattle.elab_fits_expressions.proofs.Growing.{chosen, expression}
 use Rattle.elab_fits_braces.specs.Moving.{DefaultFits, is_movable, is_outermost, alone}
 use Rattle.elab_fits_braces.specs.Qualified.{is_made, are_made, is_pliable}
@@ -50,10 +50,6 @@ use Rattle.elab_fits_defaults.proofs.Pliable.{copy_pliable}
 abbrev this_of : ℕ → Typ
 this_of n = plain (ptr (plain (class n)))
 
--- an answer of which something holds
-pub held_by : {A : Type 0} (P : A → Type 0) (r : Result A ElabFault) (a : A) → On P r → r ≡ Ok a → P a
-held_by {A} P r a h e = subst (λ (z : Result A ElabFault). On P z) e h
-
 -- `this` stays the first item
 
 first_kept : (u : Typ) (frame : List Typ) → slice_get frame 0 ≡ Some u → frame ≡ u ∷ drop 1 frame
@@ -64,7 +60,7 @@ copied_by : (c : Ctx) (w : Work) (t : Typ) (o : Operand) → On (made w) (if is_
 copied_by c w t o = either (made w) (is_class_typ t) _ _ (growing.class_from c w t o.at o) (growing.scalar_from c w t o)
 
 copied_grows : (c : Ctx) (w : Work) (t : Typ) (o : Operand) → On (made w) (copy_initialised c w t o)
-copied_grows c w (typ (ref u) d v) o = behind (made w) (check o.at OutOfProfile _) _ (λ y. growing.scalar_from c w (typ (ref u) d v) o)
+copied_grows c w (typ (ref u) d v) o = skip (made w) (check o.at OutOfProfile _) _ (λ y. growing.scalar_from c w (typ (ref u) d v) o)
 copied_grows c w (typ (array e n) d v) o = tt
 copied_grows c w (typ void d v) o = copied_by c w (typ void d v) o
 copied_grows c w (typ (int k) d v) o = copied_by c w (typ (int k) d v) o

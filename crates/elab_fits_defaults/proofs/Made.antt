@@ -13,13 +13,13 @@ use Rattle.elab_rules.specs.Strings.{string_bytes}
 use Rattle.elab_rules.specs.Members.{in_object, default_value, default_made, first_tree}
 use Rattle.elab_rules.specs.Statements.{State, Done, Full, Lambdas, full, full_operand, copy_initialised, with_work}
 use Rattle.elab_fits.specs.Standing.{On}
-use Rattle.elab_fits.proofs.Steps.{bind}
+use Rattle.elab_fits.proofs.Steps.{bind, answered as held_by}
 use Rattle.elab_fits_expressions.proofs.Behind.{one_more}
 use Rattle.elab_fits_braces.specs.Defaults.{IsDefault, AllDefaultsFit}
 use Rattle.elab_fits_braces.specs.Moving.{DefaultFits}
 use Rattle.elab_movable.specs.Movable.{KeepsThis}
 use Rattle.elab_fits_defaults.specs.Kept.{kept, is_member_typ, IsMemberOf, ValuesBuild, DefaultsMade}
-use Rattle.elab_fits_defaults.proofs.Kept.{held_by, copies_kept, string_fits}
+use Rattle.elab_fits_defaults.proofs.Kept.{copies_kept, string_fits}
 
 module _ (lams : Lambdas) (keeps : KeepsThis lams) (lexemes : List Lexeme) (s : Setting) (st : State) (n i : ℕ) (t : Typ) (e : syntax.Tree)
     (mt : is_member_typ t ≡ true) (m : IsMemberOf s n i t) (b : ValuesBuild lams lexemes s st n t e) where

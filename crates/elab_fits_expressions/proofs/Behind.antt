@@ -12,7 +12,6 @@ use Rattle.elab_fits.specs.Standing.{On}
 use Rattle.elab_fits_forms.specs.Types.{is_target}
 use Rattle.elab_fits.proofs.Growing as growing
 use Rattle.elab_fits_expressions.specs.Growing.{Behind}
-pub use Rattle.elab_fits.proofs.Steps.{bind as passes, skip as behind, either_way as either}
 
 pub found_before : {A : Type 0} (xs ys : List A) (i : ℕ) (x : A) → slice_get xs i ≡ Some x → slice_get (xs ++ ys) i ≡ Some x
 found_before {A} [] ys i x h = absurd cc

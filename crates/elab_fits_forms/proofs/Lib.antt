@@ -15,7 +15,6 @@ pub mod ObjectThrows
 pub mod Operators
 pub mod Places
 pub mod Proper
-pub mod Readiness
 pub mod References
 pub mod Rows
 pub mod Settled

@@ -27,7 +27,7 @@ use Rattle.elab_rules.specs.Braces.{item_in, item_expression, item_of, items_of,
 use Rattle.elab_rules.specs.Braces.{is_aggregate_class, is_object_of, not_narrowed, is_not_narrowed, syntax_place, tree_place}
 use Rattle.elab_fits.specs.Standing.{FitsAs, BuildsOne, Reaches, On}
 use Rattle.elab_fits.proofs.Objects.{sized_from}
-use Rattle.elab_fits.proofs.Steps.{bind, skip, expected}
+use Rattle.elab_fits.proofs.Steps.{bind, skip, expected, either_way as either}
 use Rattle.elab_fits.proofs.Steps as steps
 use Rattle.elab_fits_objects.specs.Making.{Makes}
 use Rattle.elab_fits_objects.proofs.Items.{items_build}
@@ -39,7 +39,7 @@ use Rattle.elab_fits_forms.proofs.Proper.{part_fits}
 use Rattle.elab_fits_forms.proofs.Sources.{source_of}
 use Rattle.elab_fits_expressions.specs.Growing.{Behind}
 use Rattle.elab_fits_expressions.proofs.Behind as growing
-use Rattle.elab_fits_expressions.proofs.Behind.{same, after, made, passes, behind, either}
+use Rattle.elab_fits_expressions.proofs.Behind.{same, after, made}
 use Rattle.elab_fits_expressions.proofs.Growing.{chosen, expression}
 use Rattle.elab_fits_expressions.proofs.Expressions.{chosen_law}
 use Rattle.elab_fits_expressions.proofs.Holding.{held, reached}
@@ -54,8 +54,8 @@ use Rattle.elab_fits_items.proofs.Rest.{AllBuilt, piece_made, rest_made}
 scalar_grows : (c : Ctx) (w : Work) (t : Typ) (o : Operand) → On (made w) (if is_class_typ t then class_from c w t o.at o else
     and_then (scalar_from c w t o) (not_narrowed w t o))
 scalar_grows c w t o = either (made w) (is_class_typ t) _ _ (growing.class_from c w t o.at o)
-    (passes (made w) (made w) (scalar_from c w t o) (not_narrowed w t o) (growing.scalar_from c w t o)
-    (λ m g. behind (made w) (check o.at Narrowing (is_not_narrowed w t o)) _ (λ y. g)))
+    (bind (made w) (made w) (scalar_from c w t o) (not_narrowed w t o) (growing.scalar_from c w t o)
+    (λ m g. skip (made w) (check o.at Narrowing (is_not_narrowed w t o)) _ (λ y. g)))
 
 item_grows : (c : Ctx) (w : Work) (t : Typ) (f : Form) (o : Operand) → On (made w) (item_in c w t f o)
 item_grows c w t (array e n) o = tt

@@ -34,7 +34,8 @@ use Rattle.elab_fits.proofs.Objects.{laid_from, sized_class_is, size_is}
 use Rattle.elab_fits.proofs.Sizes.{small_word}
 use Rattle.elab_fits.proofs.Steps.{checked}
 use Rattle.elab_fits.proofs.Wholes.{qualified_none}
-use Rattle.elab_fits_objects.proofs.Fits.{object_kids, at_least_one, any_many}
+use Rattle.elab_fits.proofs.Pieces.{any_many}
+use Rattle.elab_fits_objects.proofs.Fits.{object_kids, at_least_one}
 use Rattle.elab_fits_forms.specs.Types.{is_lambda}
 use Rattle.elab_fits_forms.specs.Context.{Holds}
 use Rattle.elab_fits_items.specs.Items.{MembersSingle}

@@ -22,9 +22,9 @@ use Rattle.elab_fits.proofs.Wholes.{qualified_none}
 use Rattle.elab_fits.proofs.Destructions.{destructions_law}
 use Rattle.elab_fits_objects.specs.Contexts.{IsObjectTyp, IsInitialised}
 use Rattle.elab_fits_objects.proofs.Captures.{qualified_ready, qualified_single}
+use Rattle.elab_fits_objects.proofs.Types.{ready_more}
 use Rattle.elab_fits_forms.specs.Types.{is_target, is_parameter, is_lambda}
 use Rattle.elab_fits_forms.specs.Context.{Holds}
-use Rattle.elab_fits_forms.proofs.Readiness.{any_ready}
 use Rattle.elab_fits_forms.proofs.Sources.{sorted_typ, parameter_is}
 use Rattle.elab_fits_forms.proofs.Types.{target_sound, declared_target, qualified_target}
 use Rattle.elab_fits_forms.proofs.Wholes.{exception_whole}
@@ -251,7 +251,7 @@ module _ (s : Setting) (c : Ctx) (w : Work) (h : Holds s c w) where
           item = record {
             target = qualified_target c.classes q v m.typ (declared_target c.classes m.typ f.declared (no_reference (is_plain c.classes) m.typ r));
             sized = qualified_sized c.classes q v m.typ z;
-            ready = qualified_ready (class_ready (length c.classes) c.classes true) true q v m.typ (any_ready c.classes false m.typ y);
+            ready = qualified_ready (class_ready (length c.classes) c.classes true) true q v m.typ (ready_more c.classes false m.typ y);
             single = qualified_single q v m.typ (single n i a.owner m a.found e a.named);
           };
           plain = y;

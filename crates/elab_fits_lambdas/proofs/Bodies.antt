@@ -10,9 +10,11 @@ use Rattle.elab_rules.specs.elab_ctx.Ctx.{Func, known}
 use Rattle.elab_rules.specs.Operators.{is_complete}
 use Rattle.elab_rules.specs.Statements.{State, Done, Body}
 use Rattle.elab_rules.specs.Lambdas.{call_func, call_record, body_statements, with_written}
+use Rattle.elab_fits.proofs.Steps.{answered}
 use Rattle.elab_fits_bodies.specs.Functions.{IsBody, IsResult}
 use Rattle.elab_fits_bodies.proofs.Ends.{function_fits}
 use Rattle.elab_sound_types.proofs.Growth.{kept_joined}
+use Rattle.elab_sound_types.proofs.Bodies.{lambda_kept}
 use Rattle.state_growth.specs.Settings.{shown, HasDeclared}
 use Rattle.state_growth.proofs.Steps.{Ends}
 use Rattle.elab_fits_states.specs.States.{AreTexts, setting, IsGood}
@@ -24,9 +26,7 @@ use Rattle.elab_fits_lambdas.specs.Lambdas.{IsCall}
 use Rattle.elab_contexts.proofs.Lists.{one_more}
 use Rattle.elab_fits_lambdas.proofs.Closures.{body_kept}
 use Rattle.elab_fits_lambdas.proofs.Entered.{IsDone, result_same, statements_fit}
-use Rattle.elab_fits_states.proofs.Reading.{answered}
 use Rattle.elab_fits_lambdas.proofs.Results.{complete_kept, result_fits}
-use Rattle.elab_fits_lambdas.proofs.Types.{lambda_kept}
 
 module _ (f : UnitFunc) (s : List Lexeme) (st : State) (ts : syntax.Trees) (y : State) (g : IsGood f st) (t : AreTexts s ts)
     (h : IsLambda s st ts y) where

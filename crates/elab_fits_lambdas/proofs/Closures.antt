@@ -15,6 +15,7 @@ use Rattle.elab_rules.specs.Functions.{with_parameters}
 use Rattle.elab_rules.specs.Lambdas.{Written, no_lambda, body_statements, capture_members, declared_closure, with_written}
 use Rattle.elab_rules.specs.Lambdas.{default_in, used_in}
 use Rattle.elab_fits.specs.Standing.{On}
+use Rattle.elab_fits.proofs.Steps.{answered}
 use Rattle.elab_fits_forms.specs.Types.{is_empty, is_lambda}
 use Rattle.elab_fits_forms.specs.Expressions.{IsCapture, IsClosure, ClosuresHold}
 use Rattle.setting_growth.specs.Growth.{ClassesGrow}
@@ -27,7 +28,6 @@ use Rattle.elab_fits_lambdas.specs.Captured.{AreCaptures}
 use Rattle.elab_fits_lambdas.specs.Made.{lambda_inside, call_signature, lambda_block, lambda_left, IsWritten, IsKnown, AreComplete, OneAtHand}
 use Rattle.elab_contexts.proofs.Lists.{one_more}
 use Rattle.elab_fits_lambdas.proofs.Captured.{explicit_all, default_all}
-use Rattle.elab_fits_states.proofs.Reading.{answered}
 
 -- The types of the parts of a class
 

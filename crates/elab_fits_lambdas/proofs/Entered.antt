@@ -17,6 +17,7 @@ use Rattle.elab_rules.specs.Lambdas.{declared_closure, body_statements, no_lambd
 use Rattle.elab_rules.specs.Statements.{State, Done, statements_of, is_direct_label}
 use Rattle.elab_fits.specs.Standing.{On}
 use Rattle.elab_fits.proofs.Equal.{typ_refl}
+use Rattle.elab_fits.proofs.Steps.{told, answered}
 use Rattle.elab_contexts.specs.Holding.{UnitHolds}
 use Rattle.elab_contexts.specs.Overriders.{is_overrider_by, HasOverriders}
 use Rattle.elab_contexts.proofs.Statements.{parameters_kept}
@@ -50,8 +51,7 @@ use Rattle.elab_fits_states.proofs.Spelled.{all_spelled}
 use Rattle.elab_fits_lambdas.specs.Made.{lambda_inside, call_signature, HasParts, three, two, IsLambda}
 use Rattle.elab_fits_lambdas.specs.Lambdas.{IsCall, BodiesBegin}
 use Rattle.elab_contexts.proofs.Lists.{one_more}
-use Rattle.elab_fits_statements.proofs.States.{told, mapped}
-use Rattle.elab_fits_states.proofs.Reading.{answered}
+use Rattle.elab_fits_statements.proofs.States.{mapped}
 use Rattle.elab_fits_lambdas.proofs.Parameters.{OnlyNames, only_names}
 use Rattle.elab_fits_lambdas.proofs.Types.{IsSoundEntry, entry_sound}
 use Rattle.elab_fits_lambdas.proofs.Units.{unit_left, unit_inside}

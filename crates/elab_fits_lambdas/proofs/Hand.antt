@@ -8,7 +8,7 @@ use Rattle.elab_rules.specs.elab_ctx.Steps.{at_of}
 use Rattle.elab_rules.specs.Lambdas.{lambdas_of, lambdas_among, lambda_of, with_written}
 use Rattle.elab_rules.specs.Statements.{State}
 use Rattle.elab_fits.specs.Standing.{On}
-use Rattle.elab_fits.proofs.Steps.{bind}
+use Rattle.elab_fits.proofs.Steps.{bind, answered}
 use Rattle.elab_contexts.specs.Holding.{UnitHolds, StateHolds}
 use Rattle.elab_contexts.specs.Texts.{is_no_name}
 use Rattle.elab_contexts.proofs.Holding.{lambdas_law}
@@ -18,7 +18,6 @@ use Rattle.elab_sound_types.proofs.States.{on_all}
 use Rattle.elab_fits_lambdas.specs.Made.{IsLambda, AreComplete, AllAtHand}
 use Rattle.elab_fits_lambdas.proofs.Closures.{one_at_hand}
 use Rattle.elab_fits_statements.proofs.States.{mapped}
-use Rattle.elab_fits_states.proofs.Reading.{answered}
 use Rattle.elab_fits_lambdas.proofs.Made.{lambdas_are_made}
 
 empty_is : (name : List ℕ) → is_empty name ≡ true → is_no_name name ≡ true

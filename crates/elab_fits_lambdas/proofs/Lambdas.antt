@@ -11,7 +11,7 @@ use Rattle.elab_rules.specs.elab_ctx.Steps.{at_of}
 use Rattle.elab_rules.specs.Lambdas.{lambdas_of, lambdas_among, lambda_of}
 use Rattle.elab_rules.specs.Statements.{State}
 use Rattle.elab_fits.specs.Standing.{On}
-use Rattle.elab_fits.proofs.Steps.{bind}
+use Rattle.elab_fits.proofs.Steps.{bind, answered}
 use Rattle.elab_contexts.specs.Holding.{StateHolds}
 use Rattle.elab_contexts.specs.Overriders.{HasOverriders}
 use Rattle.elab_contexts.proofs.Holding as units
@@ -32,7 +32,6 @@ use Rattle.elab_fits_lambdas.specs.Lambdas.{LambdasAreGood}
 use Rattle.elab_fits_lambdas.proofs.Bodies.{done, behind, behind_is, bodies_behind}
 use Rattle.elab_fits_lambdas.proofs.Closures.{one_at_hand}
 use Rattle.elab_fits_lambdas.proofs.Hand.{are_complete}
-use Rattle.elab_fits_states.proofs.Reading.{answered}
 use Rattle.elab_fits_lambdas.proofs.Made.{lambdas_are_made}
 
 none_around : (A : Type 0) (o : Option Lambda) → ((l : Lambda) → o ≡ Some l → A) → (A → ⊥) → o ≡ None

@@ -19,9 +19,8 @@ use Rattle.elab_rules.specs.Lambdas.{Written, lambda_written, lambda_made, lambd
 use Rattle.elab_rules.specs.Lambdas.{result_of, body_statements, kids_of, explicit_captures, default_captures, default_in, used_in, parameters_among}
 use Rattle.elab_rules.specs.Lambdas.{not_dynamic, result_among, has_mutable, place_of_tree, closing}
 use Rattle.elab_fits.specs.Standing.{On}
-use Rattle.elab_fits.proofs.Steps.{bind, checked, skip}
-use Rattle.elab_fits_statements.proofs.States.{told, mapped}
-use Rattle.elab_fits_states.proofs.Reading.{answered}
+use Rattle.elab_fits.proofs.Steps.{bind, checked, skip, told, answered}
+use Rattle.elab_fits_statements.proofs.States.{mapped}
 use Rattle.elab_fits_lambdas.specs.Made.{lambda_inside, call_signature, IsKnown, IsMade, HasParts, three, two, IsLambda, LambdasAreMade}
 
 -- the type of its call

@@ -8,11 +8,11 @@ use Rattle.elab_rules.specs.cpp_tree.Rows.{result_of}
 use Rattle.elab_rules.specs.elab_ctx.Ctx.{Ctx}
 use Rattle.elab_rules.specs.Operators.{is_complete}
 use Rattle.elab_rules.specs.Statements.{State}
+use Rattle.elab_fits_objects.proofs.Types.{ready_more}
 use Rattle.elab_fits.specs.Objects.{is_closure}
 use Rattle.elab_fits.specs.Scalars.{is_scalar}
 use Rattle.elab_fits_bodies.specs.Functions.{IsResult}
 use Rattle.elab_fits_forms.specs.Types as forms
-use Rattle.elab_fits_forms.proofs.Readiness.{any_ready}
 use Rattle.elab_fits_forms.proofs.Wholes.{class_whole}
 use Rattle.elab_sound_types.specs.Types.{is_sound, result}
 use Rattle.elab_sound_types.specs.States.{Kept}
@@ -54,6 +54,6 @@ module _ (f : UnitFunc) (st : State) (g : IsGood f st) where
     typed = refl;
     formed = formed st.ctx.classes (result_of f) g.typed;
     sized = λ e. (whole (result_of f) g.typed k e).sized;
-    ready = λ e. any_ready st.ctx.classes (is_closure (form_in (result_of f))) (result_of f) (whole (result_of f) g.typed k e).ready;
+    ready = λ e. ready_more st.ctx.classes (is_closure (form_in (result_of f))) (result_of f) (whole (result_of f) g.typed k e).ready;
     place = g.result;
   }

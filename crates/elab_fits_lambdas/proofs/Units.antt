@@ -11,6 +11,7 @@ use Rattle.elab_rules.specs.elab_ctx.Ctx.{known}
 use Rattle.elab_rules.specs.Sizes.{sized}
 use Rattle.elab_rules.specs.Lambdas.{Written, declared_closure, call_record, default_in, used_in}
 use Rattle.elab_rules.specs.Statements.{State}
+use Rattle.elab_fits.proofs.Steps.{answered}
 use Rattle.elab_contexts.specs.Holding.{UnitHolds}
 use Rattle.elab_contexts.specs.Steps.{view, ClosureAdded, closure_added}
 use Rattle.elab_contexts.proofs.Captures.{AllWhole, explicit_all, default_all}
@@ -19,7 +20,6 @@ use Rattle.elab_contexts.proofs.Holding.{shown, taken}
 use Rattle.elab_contexts.proofs.Kept.{Holds, each_kept}
 use Rattle.elab_contexts.proofs.Walking.{Leaves, kept_by_steps, one_step}
 use Rattle.elab_fits_lambdas.specs.Made.{lambda_inside, call_signature, IsWritten, IsLambda}
-use Rattle.elab_fits_states.proofs.Reading.{answered}
 
 -- a unit that goes on by steps
 unit_gone : (st y : State) → UnitHolds st.ctx → From st y → UnitHolds y.ctx

@@ -20,7 +20,6 @@ use Rattle.elab_fits.specs.Standing.{FitsAs, BuildsOne}
 use Rattle.elab_fits.specs.Objects.{CopiesOne, AllFit}
 use Rattle.elab_fits.proofs.Equal.{typ_refl}
 use Rattle.elab_fits.proofs.Nodes.{both, or_left, node_fits, value_kid, word_kid, initial_kid, copy_kid, destruction_kid}
-pub use Rattle.elab_fits.proofs.Pieces.{any_many}
 
 -- a position inside of a full-expression
 pub within : Position

@@ -9,6 +9,7 @@ use Rattle.elab_rules.specs.Expressions.{operands_of}
 use Rattle.elab_rules.specs.Members.{as_base_of}
 use Rattle.elab_rules.specs.Statements.{State, all_lambdas, directly_initialised}
 use Rattle.elab_fits.specs.Standing.{Reaches}
+use Rattle.elab_fits.proofs.Steps.{answered}
 use Rattle.elab_growth.proofs.Growth.{Behind, after}
 use Rattle.elab_fits_objects.specs.Contexts.{IsSource, AreSources, IsInitialised}
 use Rattle.elab_fits_objects.specs.Making.{Makes}
@@ -34,7 +35,7 @@ use Rattle.elab_fits_states.specs.Premises.{GoesWell}
 use Rattle.elab_fits_states.proofs.Discipline.{all_well, worked, all_made, object_here}
 use Rattle.elab_fits_states.proofs.Good.{holds_of}
 use Rattle.elab_fits_states.proofs.Making.{direct_made}
-use Rattle.elab_fits_states.proofs.Reading.{answered, comes_on, later}
+use Rattle.elab_fits_states.proofs.Reading.{comes_on, later}
 use Rattle.elab_fits_states.proofs.Spelled.{all_spelled}
 use Rattle.elab_fits_parts.specs.Bases.{BasesBuild}
 

@@ -16,10 +16,11 @@ use Rattle.elab_rules.specs.Members.{base_named, members_among, declared_only, d
 use Rattle.elab_rules.specs.Statements.{State, Done, Full, full_operand, statements_of}
 use Rattle.elab_rules.specs.Units.{builtins, file_declaration, alias_of, defined_with, declarations_of, unit_from}
 use Rattle.elab_fits.specs.Standing.{On}
+use Rattle.elab_fits.proofs.Steps.{weaken}
 use Rattle.elab_contexts.specs.Steps.{view, Steps, IsOpen}
 use Rattle.elab_contexts.specs.Texts.{is_no_name}
 use Rattle.elab_contexts.specs.Walks.{Walks}
-use Rattle.elab_contexts.proofs.Walking.{Leaves, Ends, weaken, joined}
+use Rattle.elab_contexts.proofs.Walking.{Leaves, Ends, joined}
 use Rattle.elab_contexts.proofs.Going.{From}
 use Rattle.elab_contexts.proofs.Statements.{statements_kept, full_kept}
 use Rattle.elab_contexts.proofs.Bodies.{lambdas_lawful}

@@ -12,7 +12,6 @@ use Rattle.elab_fits_statements.specs.Anywhere.{FitsAnywhere, Serves, AllServe}
 use Rattle.elab_fits_statements.specs.Forms.{IsCondition, IsSwitched}
 use Rattle.elab_fits_statements.specs.Variables.{BuildsWhole}
 use Rattle.elab_fits_statements.specs.Discipline.{StandsAs, Words, Goes, Discipline}
-pub use Rattle.elab_fits.proofs.Steps.{told}
 
 pub mapped : {A : Type 0} (P Q : A → Type 0) (x : Result A ElabFault) → On P x → ((a : A) → P a → Q a) → On Q x
 mapped P Q (Ok a) h f = f a h

@@ -37,7 +37,7 @@ use Rattle.elab_fits.specs.Standing.{On, FitsAs, BuildsOne, Reaches}
 use Rattle.elab_fits.specs.Objects.{DestroysOne}
 use Rattle.elab_fits.specs.Scalars.{Initialises}
 use Rattle.elab_fits.proofs.Destructions.{destructions_law}
-use Rattle.elab_fits.proofs.Steps.{skip}
+use Rattle.elab_fits.proofs.Steps.{skip, told, answered}
 use Rattle.elab_growth.proofs.Growth.{Behind, after}
 use Rattle.elab_fits_objects.specs.Contexts.{IsSource}
 use Rattle.elab_fits_objects.specs.Making.{Makes}
@@ -52,7 +52,7 @@ use Rattle.elab_fits_statements.specs.Anywhere.{FitsAnywhere}
 use Rattle.elab_fits_statements.specs.Variables.{HasItem, BuildsWhole}
 use Rattle.elab_fits_statements.specs.Discipline.{Discipline, Gains, BuildsAll, Places}
 use Rattle.elab_fits_statements.specs.Discipline as discipline
-use Rattle.elab_fits_statements.proofs.States.{told, mapped, stands_then, stands_still}
+use Rattle.elab_fits_statements.proofs.States.{mapped, stands_then, stands_still}
 use Rattle.setting_growth.proofs.Trees.{fits_law}
 use Rattle.state_growth.specs.Settings.{setting_at}
 use Rattle.state_growth.proofs.Settings.{stand_law, reached_law, states_law, works_law}
@@ -86,7 +86,7 @@ use Rattle.elab_fits_states.proofs.Good.{holds_of, earlier_of, comes_still, unit
 use Rattle.elab_fits_states.proofs.Good.{good_placed, good_auto, leads_worked, leads_placed, leads_auto, item_there}
 use Rattle.elab_fits_states.proofs.Making
 use Rattle.elab_fits_states.proofs.Making.{result_parameter, initial_made, copy_made, direct_made, default_made}
-use Rattle.elab_fits_states.proofs.Reading.{answered, comes_on, later, operand_later, has_read, is_constant}
+use Rattle.elab_fits_states.proofs.Reading.{comes_on, later, operand_later, has_read, is_constant}
 use Rattle.elab_fits_states.proofs.Texts
 use Rattle.elab_holds.proofs.Sound.{result_sound as result_is}
 use Rattle.elab_fits_states.proofs.Spelled.{all_spelled}

@@ -20,7 +20,7 @@ use Rattle.elab_rules.specs.Lambdas.{explicit_captures, default_in, parameters_a
 use Rattle.elab_rules.specs.Lambdas.{kids_of, place_of_tree, closing}
 use Rattle.elab_rules.specs.Statements.{State}
 use Rattle.elab_fits.specs.Standing.{On}
-use Rattle.elab_fits.proofs.Steps.{bind, skip}
+use Rattle.elab_fits.proofs.Steps.{bind, skip, answered}
 use Rattle.elab_rules.specs.cpp_tree.Units.{Func as UnitFunc}
 use Rattle.elab_contexts.specs.Holding.{StateHolds}
 use Rattle.elab_contexts.proofs.Holding.{lambdas_law as units_behind}
@@ -35,7 +35,6 @@ use Rattle.elab_fits_states.specs.Lambdas.{IsLeft, NoLambdasKeep, LambdasKeep}
 use Rattle.elab_fits_states.specs.Premises.{GoesWell}
 use Rattle.elab_fits_states.specs.States.{IsText, Comes, IsGood}
 use Rattle.elab_fits_states.proofs.Good.{carried, comes_still}
-use Rattle.elab_fits_states.proofs.Reading.{answered}
 use Rattle.elab_fits_states.proofs.Spelled.{spelled}
 
 refused_same : (st : State) (o : Option At) → On (λ (x : State). st ≡ x) (refused_at st o)

@@ -1,8 +1,7 @@
 -- Operands that are read, and what holds of them where more is made.
-use Rattle.std.proofs.Common.{◌≡◌, refl, sym, ap, ◌∙◌, subst, List, [], Result, Ok}
+use Rattle.std.proofs.Common.{◌≡◌, refl, sym, ap, ◌∙◌, subst, List, [], Ok}
 use Rattle.elab_rules.specs.cpp_lex.Tokens.{Lexeme}
 use Rattle.elab_rules.specs.cpp_ast.Trees as syntax
-use Rattle.elab_rules.specs.cpp_tree.declared.faults.ElabFault.{ElabFault}
 use Rattle.elab_rules.specs.cpp_tree.Trees.{Tree}
 use Rattle.elab_rules.specs.cpp_tree.Units.{Func as UnitFunc}
 use Rattle.elab_rules.specs.cpp_tree.Rows.{Setting}
@@ -14,6 +13,7 @@ use Rattle.elab_rules.specs.Expressions.{expression_of, chosen_operand}
 use Rattle.elab_rules.specs.Statements.{State, Lambdas, Full, full_operand, with_work}
 use Rattle.elab_fits.specs.Standing.{Reaches, On, IsSetting}
 use Rattle.elab_fits.specs.Scalars.{IsZero}
+use Rattle.elab_fits.proofs.Steps.{told, answered}
 use Rattle.elab_growth.proofs.Growth.{Behind}
 use Rattle.elab_fits_forms.specs.Meaning.{Proper, ProperOperand, MeansOperand}
 use Rattle.elab_fits_forms.specs.Context.{Holds}
@@ -21,7 +21,7 @@ use Rattle.elab_fits_forms.specs.Names.{TypedMeans}
 use Rattle.elab_fits_forms.proofs.Names.{resolved_stand}
 use Rattle.elab_fits_expressions.proofs.Expressions.{of_expression}
 use Rattle.elab_fits_statements.specs.Discipline.{HasRead, StandsSomewhere}
-use Rattle.elab_fits_statements.proofs.States.{told, stands_then}
+use Rattle.elab_fits_statements.proofs.States.{stands_then}
 use Rattle.elab_fits_forms.proofs.Dropped.{operand_is}
 use Rattle.setting_growth.proofs.Trees.{order_law}
 use Rattle.state_growth.specs.Settings.{setting_at}
@@ -37,10 +37,6 @@ use Rattle.elab_sound_types.proofs.Growth.{kept_joined}
 use Rattle.elab_throws_apart.proofs.Expressions.{chosen_law}
 use Rattle.elab_fits_states.proofs.Good.{holds_of, good_worked, leads_worked}
 use Rattle.elab_fits_states.proofs.Spelled.{spelled}
-
--- what is said of an answer, of the answer that is given
-pub answered : {A : Type 0} (P : A → Type 0) (r : Result A ElabFault) (x : A) → On P r → r ≡ Ok x → P x
-answered P r x h e = subst (λ (z : Result _ ElabFault). On P z) e h
 
 pub comes_on : (a b c : State) → Comes a b → Comes b c → Comes a c
 comes_on a b c h k = record {

@@ -32,9 +32,9 @@ use Rattle.elab_rules.specs.Statements.{State, declarable, closed_bound, bound_b
 use Rattle.elab_fits.specs.Objects.{is_ready, is_closure, has_lambdas}
 use Rattle.elab_fits.proofs.Nodes.{both, clash}
 use Rattle.elab_fits_objects.specs.Contexts.{IsParameter, IsInitialised, IsObjectTyp, refers}
+use Rattle.elab_fits_objects.proofs.Types.{ready_more}
 use Rattle.elab_fits_forms.specs.Context.{Holds}
 use Rattle.elab_fits_forms.specs.Types as forms
-use Rattle.elab_fits_forms.proofs.Readiness.{any_ready}
 use Rattle.elab_fits_forms.proofs.Sources as sources
 use Rattle.elab_fits_forms.proofs.Types.{target_no_void}
 use Rattle.elab_fits_forms.proofs.Wholes.{exception_whole}
@@ -157,7 +157,7 @@ module _ (s : Setting) (c : Ctx) (w : Work) (h : Holds s c w) where
       value = λ e. sources.parameter_is s c w t h p;
       object = λ e. sources.object_typ_is s c w t h (typ_sound c.classes variable t i) k;
     };
-    ready = any_ready c.classes (is_closure (form_in t)) t o.ready;
+    ready = ready_more c.classes (is_closure (form_in t)) t o.ready;
     single = n;
   }
 
@@ -192,7 +192,7 @@ module _ (s : Setting) (c : Ctx) (w : Work) (h : Holds s c w) where
           value = λ e. absurd cc;
           object = λ e. record { sorted = refl; whole = λ x. both z r; complete = λ x. k };
         };
-        ready = any_ready c.classes false (typ (array (typ f d y) n) q v) r;
+        ready = ready_more c.classes false (typ (array (typ f d y) n) q v) r;
         single = single_typ c.classes variable (typ (array (typ f d y) n) q v) i;
       }
   declares (typ (class n) q v) i z = let x = form_sound c.classes variable (q || v) (class n) i in

@@ -25,6 +25,7 @@ use Rattle.elab_rules.specs.Statements.{State, Done, Body, statement, statements
 use Rattle.elab_rules.specs.Functions.{Header, entered, with_parameters, leaving, within_frame, body_made, function_body, end_of}
 use Rattle.elab_rules.specs.Lambdas.{lambdas_of}
 use Rattle.elab_fits.specs.Standing.{On}
+use Rattle.elab_fits.proofs.Steps.{skip, checked, told, bind}
 use Rattle.elab_sound_types.specs.Types.{is_sound, result as a_result}
 use Rattle.elab_sound_types.specs.Contexts.{is_sound_parameter}
 use Rattle.elab_sound_types.specs.States.{is_sound_object}
@@ -42,11 +43,9 @@ use Rattle.elab_fits_units.specs.Definitions.{IsDefinition}
 use Rattle.elab_fits_units.specs.Good.{UnitGood}
 use Rattle.elab_fits_units.proofs.Entering.{Begins, begins, over_same}
 use Rattle.elab_fits_units.proofs.Growing.{Over, over_then, held_earlier, one_more}
-use Rattle.elab_fits_units.proofs.Headers.{skip, checked}
 use Rattle.elab_fits_units.proofs.Results.{holds, is_result, result_kept, complete_over, sound_result}
 use Rattle.elab_fits_units.specs.Steps.{NoCall}
 use Rattle.elab_fits_units.proofs.Texts.{kids_texts}
-use Rattle.elab_fits_units.proofs.Walk.{told, bind}
 
 -- behind a body
 pub record Left (st y : State) : Type 0 where

@@ -9,6 +9,7 @@ use Rattle.elab_rules.specs.Types.{is_nothing, type_named}
 use Rattle.elab_rules.specs.Statements.{State}
 use Rattle.elab_rules.specs.Classes.{Home, Members, begun, member_of, members_of, completed, closed_class}
 use Rattle.elab_rules.specs.Members.{members_among}
+use Rattle.elab_fits.proofs.Steps.{answered}
 use Rattle.elab_contexts.specs.Overriders.{HasOverriders}
 use Rattle.elab_contexts.specs.Texts.{is_no_name}
 use Rattle.elab_contexts.proofs.Holding as holding
@@ -26,7 +27,6 @@ use Rattle.elab_fits_parts.proofs.Walks.{classes_law}
 use Rattle.elab_fits_units.specs.Good.{UnitGood}
 use Rattle.elab_fits_units.specs.Laws.{Leads}
 use Rattle.elab_fits_units.specs.Steps.{IsClosed}
-use Rattle.elab_fits_units.proofs.Headers.{answered}
 
 no_name : (xs : List ℕ) → is_nothing xs ≡ false → is_no_name xs ≡ false
 no_name [] h = absurd cc

@@ -30,6 +30,7 @@ use Rattle.elab_rules.specs.Lambdas.{lambdas_of}
 use Rattle.elab_rules.specs.Members.{Given, Giving, given_for, same_part, giving_more, for_part, for_base, as_base_of, given_part, is_named_class, is_base_type, given_base}
 use Rattle.elab_rules.specs.Members.{member_index, member_type, given_by, all_given}
 use Rattle.elab_fits.specs.Standing.{On}
+use Rattle.elab_fits.proofs.Steps.{answered, skip, checked, told}
 use Rattle.elab_sound_types.specs.Types.{is_sound, denoted}
 use Rattle.elab_fits_statements.specs.Anywhere.{BuildsAnywhere}
 use Rattle.elab_fits_statements.specs.Variables.{BuildsWhole}
@@ -41,15 +42,15 @@ use Rattle.state_growth.proofs.Statements.{all_lambdas_kept}
 use Rattle.state_growth.proofs.Bodies.{lambdas_lawful}
 use Rattle.elab_fits_bodies.specs.Built.{IsMember}
 use Rattle.elab_fits_states.specs.States.{setting, IsText, AreTexts, IsSettled, IsVariableType, Comes, words}
-use Rattle.elab_fits_parts.specs.Parts.{IsHome}
-use Rattle.elab_fits_units.specs.Below.{Below, ArePartsOf}
+use Rattle.elab_fits_parts.specs.Parts.{IsHome, ArePartsOf}
+use Rattle.elab_fits_units.specs.Below.{Below}
 use Rattle.elab_fits_units.proofs.Bodies.{came}
-use Rattle.elab_fits_units.proofs.Headers.{answered, skip, checked, expected}
+use Rattle.elab_fits_units.proofs.Headers.{expected}
 use Rattle.elab_fits_units.proofs.Results.{any_holds}
 use Rattle.elab_fits_units.proofs.Specials.{home_over, class_kept}
 use Rattle.elab_fits_units.proofs.Types.{variable_type, named_class, named_sound}
 use Rattle.elab_fits_units.specs.Steps.{NoCall}
-use Rattle.elab_fits_units.proofs.Walk.{told, each_holds}
+use Rattle.elab_fits_units.proofs.Walk.{each_holds}
 
 -- what is written for parts builds them
 pub record GivenFits (x : Setting) (c : Ctx) (n : ℕ) (gs : List Given) : Type 0 where

@@ -28,6 +28,7 @@ use Rattle.elab_rules.specs.Lambdas.{lambdas_of}
 use Rattle.elab_rules.specs.Members.{in_object, Given, Giving, given_for, all_given, default_built, member_built, members_built, base_built, parts_built, constructor_tree, constructor_block}
 use Rattle.elab_rules.specs.Members.{constructor_body}
 use Rattle.elab_fits.specs.Standing.{On, IsSetting}
+use Rattle.elab_fits.proofs.Steps.{answered, skip, told, bind}
 use Rattle.elab_sound_types.specs.Contexts.{is_sound_parameter}
 use Rattle.elab_sound_types.specs.States.{IsSoundState, IsSoundAfter}
 use Rattle.elab_fits_forms.specs.Context.{Holds}
@@ -44,20 +45,18 @@ use Rattle.state_growth.proofs.Steps.{Leaves, goes}
 use Rattle.state_growth.proofs.Members.{parts_kept}
 use Rattle.elab_fits_states.specs.States.{setting, IsText, AreTexts, IsSettled, Comes, words}
 use Rattle.elab_fits_states.specs.Bodies.{BodyFits, StandsAlone}
-use Rattle.elab_fits_parts.specs.Parts.{IsHome}
-use Rattle.elab_fits_units.specs.Below.{Below, ArePartsOf}
+use Rattle.elab_fits_parts.specs.Parts.{IsHome, ArePartsOf}
+use Rattle.elab_fits_units.specs.Below.{Below}
 use Rattle.elab_fits_units.specs.Definitions.{IsDefinition}
 use Rattle.elab_fits_units.specs.Good.{UnitGood}
 use Rattle.elab_fits_units.proofs.Bodies.{Left, made_left, came}
 use Rattle.elab_fits_units.proofs.Constructing.{Gives, GivenFits, all_by, givens_still}
 use Rattle.elab_fits_units.proofs.Entering.{Begins, begins, none_hold}
 use Rattle.elab_fits_units.proofs.Growing.{Over, over, over_then, held_earlier, bodies_over, defaults_over, unit_as}
-use Rattle.elab_fits_units.proofs.Headers.{answered, skip}
 use Rattle.elab_fits_units.proofs.Results.{any_holds, holds, no_result}
 use Rattle.elab_fits_units.proofs.Specials.{home_over, has_parts}
 use Rattle.elab_fits_units.specs.Steps.{NoCall}
 use Rattle.elab_fits_units.proofs.Texts.{kids_texts}
-use Rattle.elab_fits_units.proofs.Walk.{told, bind}
 
 pub constructed : Constructor ≡ ClosureCall → ⊥
 constructed e = absurd cc

@@ -20,6 +20,7 @@ use Rattle.elab_rules.specs.Statements.{State, Done, with_work, holds_temporary}
 use Rattle.elab_rules.specs.Members.{as_base_of}
 use Rattle.elab_rules.specs.Implicit.{own_operand, part_copied, part_of_source, members_copied, base_copied, parts_copied}
 use Rattle.elab_fits.specs.Standing.{On, IsSetting}
+use Rattle.elab_fits.proofs.Steps.{answered, skip}
 use Rattle.elab_sound_types.specs.States.{IsSoundState, IsSoundAfter}
 use Rattle.elab_fits_forms.specs.Types.{is_lambda}
 use Rattle.elab_fits_forms.specs.Context.{Holds}
@@ -34,10 +35,9 @@ use Rattle.state_growth.proofs.Steps.{Leaves, goes, stays, after, bind, either, 
 use Rattle.state_growth.proofs.Works.{Mades, class_grows}
 use Rattle.elab_growth.proofs.Growth.{same}
 use Rattle.elab_fits_states.specs.States.{setting, IsSettled}
-use Rattle.elab_fits_parts.specs.Parts.{IsHome}
-use Rattle.elab_fits_units.specs.Below.{Below, ArePartsOf}
+use Rattle.elab_fits_parts.specs.Parts.{IsHome, ArePartsOf}
+use Rattle.elab_fits_units.specs.Below.{Below}
 use Rattle.elab_fits_units.proofs.Constructors.{Same, Works, PartsStand, settled_with, settled_same, first_kept}
-use Rattle.elab_fits_units.proofs.Headers.{answered, skip}
 use Rattle.elab_fits_units.proofs.Results.{any_holds, holds}
 use Rattle.elab_fits_units.proofs.Specials.{has_parts}
 

@@ -23,6 +23,7 @@ use Rattle.elab_rules.specs.Statements.{State, Done, Full, with_work, full, full
 use Rattle.elab_rules.specs.Members.{in_object, default_value, default_made, first_tree, with_default_member, member_index, member_type}
 use Rattle.elab_rules.specs.Lambdas.{lambdas_of}
 use Rattle.elab_fits.specs.Standing.{On, BuildsOne, IsSetting}
+use Rattle.elab_fits.proofs.Steps.{answered, told}
 use Rattle.elab_sound_types.specs.Types.{is_sound, object}
 use Rattle.elab_fits_statements.specs.Variables.{BuildsWhole}
 use Rattle.elab_fits_braces.specs.Defaults.{AllDefaultsFit}
@@ -33,8 +34,8 @@ use Rattle.state_growth.proofs.Judgements.{built_law}
 use Rattle.state_growth.proofs.Settings.{funcs_grow}
 use Rattle.elab_fits_states.specs.States.{setting, IsText, IsSettled, Comes}
 use Rattle.elab_fits_states.specs.Made.{AllBodiesFit}
-use Rattle.elab_fits_parts.specs.Parts.{IsHome}
-use Rattle.elab_fits_units.specs.Below.{Below, ArePartsOf}
+use Rattle.elab_fits_parts.specs.Parts.{IsHome, ArePartsOf}
+use Rattle.elab_fits_units.specs.Below.{Below}
 use Rattle.elab_fits_units.specs.Good.{UnitGood, unit_words}
 use Rattle.elab_fits_units.specs.Laws.{Leads, Laws}
 use Rattle.elab_fits_units.specs.Steps.{Follows}
@@ -43,12 +44,11 @@ use Rattle.elab_fits_units.proofs.Constructors.{constructed}
 use Rattle.elab_fits_units.proofs.Constructing.{member_found}
 use Rattle.elab_fits_units.proofs.Entering.{Begins, begins, over_same}
 use Rattle.elab_fits_units.proofs.Growing.{Over, held_earlier, bodies_over}
-use Rattle.elab_fits_units.proofs.Headers.{answered, split}
+use Rattle.elab_fits_units.proofs.Headers.{split}
 use Rattle.elab_fits_units.proofs.Leaves.{both_on, gone_over}
 use Rattle.elab_fits_units.proofs.Results.{holds, any_holds, no_result, complete_over}
 use Rattle.elab_fits_units.proofs.Specials.{home_over, class_kept}
 use Rattle.elab_fits_units.proofs.Types.{variable_type}
-use Rattle.elab_fits_units.proofs.Walk.{told}
 
 -- Types of members
 

@@ -21,6 +21,7 @@ use Rattle.elab_rules.specs.Functions.{entered, result_items, this_items, this_a
 use Rattle.elab_fits.specs.Standing.{On}
 use Rattle.elab_fits.proofs.Equal.{typ_refl}
 use Rattle.elab_fits.proofs.Nodes.{both}
+use Rattle.elab_fits.proofs.Steps.{answered, skip, bind}
 use Rattle.elab_contexts.specs.Holding.{UnitHolds}
 use Rattle.elab_contexts.specs.Overriders.{HasOverriders}
 use Rattle.elab_holds.specs.Locals.{LocalsHold}
@@ -38,8 +39,6 @@ use Rattle.elab_fits_states.specs.Made.{AllBodiesFit}
 use Rattle.elab_fits_units.specs.Below.{Below}
 use Rattle.elab_fits_units.specs.Good.{UnitGood}
 use Rattle.elab_fits_units.proofs.Growing.{bare, Over, over, held_earlier, bodies_over, defaults_over, unit_as}
-use Rattle.elab_fits_units.proofs.Headers.{answered, skip}
-use Rattle.elab_fits_units.proofs.Walk.{bind}
 
 -- Types and lists
 

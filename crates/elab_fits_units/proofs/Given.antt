@@ -22,21 +22,22 @@ use Rattle.elab_holds.proofs.Sound.{typ_sound}
 use Rattle.elab_movable.proofs.Lambdas.{lambdas_keep}
 use Rattle.elab_sound_types.proofs.Growth.{sound_more}
 use Rattle.elab_sound_units.proofs.Steps.{parts_law, copies_law}
-use Rattle.elab_fits_units.specs.Below.{Below, PointersAreWords}
+use Rattle.elab_fits_parts.proofs.Bases.{bases_law}
+use Rattle.elab_fits_parts.proofs.Objects.{objects_law}
+use Rattle.elab_fits_parts.proofs.Parts.{parts_law}
+use Rattle.elab_fits_units.specs.Below.{Below}
 use Rattle.elab_fits_units.specs.Steps.{NoCall}
-use Rattle.elab_fits_units.proofs.Bases.{base_values}
-use Rattle.elab_fits_units.proofs.Parts.{home_parts, object_typ}
 
-pub below_is : ((f : UnitFunc) (s : List Lexeme) → NoCall f.kind → KeepsGood f lambdas_of s) → PointersAreWords → (s : List Lexeme) → Below s
-below_is lambdas pointers s = record {
+pub below_is : ((f : UnitFunc) (s : List Lexeme) → NoCall f.kind → KeepsGood f lambdas_of s) → (s : List Lexeme) → Below s
+below_is lambdas s = record {
   contexts = λ f c w u o h l. contexts_law f c w u (slots_law c w u h o) h l;
   enters = entered_law;
   parameters = parameters_law;
   sound_is = typ_sound;
-  parts = λ c w n u h k home. home_parts c w n u h home k (pointers c w n u h home.complete);
-  objects = object_typ;
+  parts = λ c w n u h k home. parts_law c w n u h home;
+  objects = λ s c w t u h k o z. objects_law s c w t k o (λ q. z);
   types = λ before now way t k h. sound_more before now k way t h;
-  bases = λ f a x n t p q es xs m free g. base_values f s (lambdas f s free) a x n t p q es xs m g;
+  bases = λ f a x n t p q es xs m free. bases_law f lambdas_of s (lambdas f s free) a x n t p q es xs m;
   defaults = defaults_stay;
   own = own_build;
   moves = lambdas_keep;

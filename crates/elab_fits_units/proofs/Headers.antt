@@ -25,22 +25,10 @@ use Rattle.elab_rules.specs.Classes.{token_end}
 use Rattle.elab_rules.specs.Members.{late_agrees, late_kept, outside_linkage, outside_text, linked_definition, with_noexcept}
 use Rattle.elab_fits.specs.Standing.{On}
 use Rattle.elab_fits.proofs.Equal.{typ_same}
+use Rattle.elab_fits.proofs.Steps.{told, answered, skip, checked}
 use Rattle.elab_fits_units.specs.Definitions.{IsDefinition, DeclaredAreDefined, MethodsAreDefined, OutsideAreDefined}
-use Rattle.elab_fits_units.proofs.Walk.{told}
 
 -- Answers
-
--- what is said of an answer, of the answer that is given
-pub answered : {A : Type 0} (P : A → Type 0) (r : Result A ElabFault) (x : A) → On P r → r ≡ Ok x → P x
-answered P r x h e = subst (λ (z : Result _ ElabFault). On P z) e h
-
-pub skip : {A B : Type 0} (Q : B → Type 0) (x : Result A ElabFault) (f : A → Result B ElabFault) → ((a : A) → On Q (f a)) → On Q (and_then x f)
-skip Q x f g = told Q x f (λ a e. g a)
-
-pub checked : {B : Type 0} (Q : B → Type 0) (at : At) (rule : IllRule) (b : Bool) (f : Bool → Result B ElabFault) → (b ≡ true → On Q (f true))
-    → On Q (and_then (check at rule b) f)
-checked Q at rule true f h = h refl
-checked Q at rule false f h = tt
 
 -- a step that is told with what is behind it
 pub record Split {A B : Type 0} (r : Result A ElabFault) (f : A → Result B ElabFault) (q : B) : Type 0 where

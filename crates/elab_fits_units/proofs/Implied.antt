@@ -25,6 +25,7 @@ use Rattle.elab_rules.specs.Implicit.{with_source, constructor_made, constructor
 use Rattle.elab_fits.specs.Standing.{On}
 use Rattle.elab_fits.proofs.Equal.{typ_refl}
 use Rattle.elab_fits.proofs.Nodes.{clash}
+use Rattle.elab_fits.proofs.Steps.{told}
 use Rattle.elab_sound_types.specs.States.{IsSoundState}
 use Rattle.state_growth.specs.Settings.{shown}
 use Rattle.state_growth.proofs.Items.{work_kept}
@@ -47,7 +48,6 @@ use Rattle.elab_fits_units.proofs.Headers.{at_func}
 use Rattle.elab_fits_units.proofs.Leaves.{Ended, good_on}
 use Rattle.elab_fits_units.proofs.Results.{holds, no_result}
 use Rattle.elab_fits_units.proofs.Specials.{has_parts}
-use Rattle.elab_fits_units.proofs.Walk.{told}
 
 source_at : (frame : List Typ) (t : Typ) → slice_get frame 1 ≡ Some t → at_place frame 1 t ≡ true
 source_at frame t h = ap (passes (typ_eq t)) h ∙ typ_refl t

@@ -3,17 +3,14 @@ use Rattle.std.proofs.Common.{◌≡◌, refl, sym, ap, ◌∙◌, ℕ, true, fa
 use Rattle.std.proofs.lemmas.Bool.{and_parts}
 use Rattle.elab_rules.specs.cpp_types.Typ.{Typ, typ, func, Signature}
 use Rattle.elab_rules.specs.cpp_types.Class.{Class}
-use Rattle.elab_rules.specs.cpp_types.Equal.{typ_eq}
 use Rattle.elab_rules.specs.cpp_types.declared.classes.At.{At}
 use Rattle.elab_rules.specs.cpp_lex.Tokens.{Lexeme}
 use Rattle.elab_rules.specs.cpp_ast.Trees as syntax
 use Rattle.elab_rules.specs.cpp_tree.Typing.{form_in}
 use Rattle.elab_rules.specs.cpp_tree.declared.faults.ElabFault.{ElabFault}
-use Rattle.elab_rules.specs.cpp_tree.declared.faults.IllRule.TheVariants.{TypeDiffers}
 use Rattle.elab_rules.specs.cpp_tree.declared.program.FuncKind.{FuncKind}
 use Rattle.elab_rules.specs.elab_ctx.Ctx.{Ctx}
-use Rattle.elab_rules.specs.elab_ctx.Steps.{check}
-use Rattle.elab_rules.specs.Initialising.{func_at, signature_result}
+use Rattle.elab_rules.specs.Initialising.{func_at}
 use Rattle.elab_rules.specs.Types.{Declared, is_nothing}
 use Rattle.elab_rules.specs.Expressions.{type_of_specifiers, declared_by}
 use Rattle.elab_rules.specs.Statements.{State}
@@ -25,6 +22,7 @@ use Rattle.elab_rules.specs.Lambdas.{lambdas_of}
 use Rattle.elab_rules.specs.Units.{file_declaration, alias_of, header_of, defined_with}
 use Rattle.elab_rules.specs.Globals.{enum_declared}
 use Rattle.elab_fits.specs.Standing.{On}
+use Rattle.elab_fits.proofs.Steps.{answered, skip, weaken}
 use Rattle.elab_contexts.specs.Holding.{UnitHolds, StateHolds}
 use Rattle.elab_contexts.specs.Overriders.{Overrides}
 use Rattle.elab_contexts.specs.Steps.{view, Steps as Goes}
@@ -67,13 +65,8 @@ use Rattle.elab_fits_states.proofs.Spelled.{spelled as one_spelled, all_spelled}
 use Rattle.elab_fits_parts.specs.Parts.{IsHome}
 use Rattle.elab_fits_units.specs.Good.{UnitGood}
 use Rattle.elab_fits_units.specs.Laws.{Leads}
-use Rattle.elab_fits_units.proofs.Headers.{answered, skip}
 
 -- Answers
-
-weaken : {A : Type 0} (P Q : A → Type 0) (r : Result A ElabFault) → ((a : A) → P a → Q a) → On P r → On Q r
-weaken P Q (Ok a) f h = f a h
-weaken P Q (Err e) f h = tt
 
 abbrev Walks : State → State → Type 0
 Walks a b = Goes (view a.ctx) (view b.ctx)

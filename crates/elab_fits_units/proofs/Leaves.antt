@@ -4,7 +4,6 @@ use Rattle.std.proofs.lemmas.Option.{same_Some}
 use Rattle.std.proofs.lemmas.Bool.{and_parts}
 use Rattle.elab_rules.specs.cpp_types.Typ.{Typ, Form, func}
 use Rattle.elab_rules.specs.cpp_types.Class.{Class, completion_of}
-use Rattle.elab_rules.specs.cpp_types.Equal.{typ_eq}
 use Rattle.elab_rules.specs.cpp_types.declared.classes.At.{At}
 use Rattle.elab_rules.specs.cpp_lex.Tokens.{Lexeme}
 use Rattle.elab_rules.specs.cpp_ast.Trees as syntax
@@ -15,7 +14,7 @@ use Rattle.elab_rules.specs.cpp_tree.declared.program.FuncKind.{FuncKind}
 use Rattle.elab_rules.specs.cpp_tree.declared.program.FuncKind.TheVariants.{Plain, Constructor, Destructor, ClosureCall}
 use Rattle.elab_rules.specs.elab_ctx.Ctx.{Ctx}
 use Rattle.elab_rules.specs.elab_ctx.Steps.{check, expect}
-use Rattle.elab_rules.specs.Initialising.{func_at, signature_result}
+use Rattle.elab_rules.specs.Initialising.{func_at}
 use Rattle.elab_rules.specs.Types.{Declared, Parameter}
 use Rattle.elab_rules.specs.Expressions.{type_of_specifiers, declared_by}
 use Rattle.elab_rules.specs.Statements.{State}
@@ -33,6 +32,7 @@ use Rattle.elab_sound_types.specs.Types.{parameter as a_parameter, target, is_cl
 use Rattle.elab_sound_types.specs.Contexts.{is_sound_parameter}
 use Rattle.elab_sound_types.specs.States.{Kept, TypesStay}
 use Rattle.elab_fits.specs.Standing.{On}
+use Rattle.elab_fits.proofs.Steps.{answered, skip, told}
 use Rattle.elab_sound_units.specs.Headers.{IsRead, IsOutside}
 use Rattle.state_growth.specs.States.{Gone}
 use Rattle.elab_fits_states.specs.States.{IsText, AreTexts}
@@ -45,13 +45,12 @@ use Rattle.elab_fits_units.specs.Steps.{NoCall, Follows}
 use Rattle.elab_fits_units.proofs.Bodies.{Left, function_left}
 use Rattle.elab_fits_units.proofs.Constructors.{constructor_left}
 use Rattle.elab_fits_units.proofs.Growing.{Over, bodies_over, defaults_over, held_earlier}
-use Rattle.elab_fits_units.proofs.Headers.{answered, skip, declared_law, methods_law, outside_law}
+use Rattle.elab_fits_units.proofs.Headers.{declared_law, methods_law, outside_law}
 use Rattle.elab_fits_units.proofs.Methods.{IsMethod, method_is, outside_is}
 use Rattle.elab_fits_units.proofs.Owners.{IsOwned, outside_owned}
 use Rattle.elab_fits_units.proofs.Quiet.{Quiet, Placing, function_quiet}
 use Rattle.elab_fits_units.proofs.Specials.{destructor_left, home_over}
 use Rattle.elab_fits_units.proofs.Texts.{rest_texts}
-use Rattle.elab_fits_units.proofs.Walk.{told}
 
 -- Answers
 

@@ -1,5 +1,4 @@
 pub use Rattle.elab_rules.proofs as elab_rules
-pub mod Bases
 pub mod Beginning
 pub mod Bodies
 pub mod Closing
@@ -17,7 +16,6 @@ pub mod Leaves
 pub mod Methods
 pub mod Named
 pub mod Owners
-pub mod Parts
 pub mod Programs
 pub mod Quiet
 pub mod Results

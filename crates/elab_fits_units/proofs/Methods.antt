@@ -19,8 +19,7 @@ use Rattle.elab_rules.specs.Functions.{Storage, Header, no_storage, with_specifi
 use Rattle.elab_rules.specs.Classes.{Method, Started, started_from, header_in, plain_method, special_name, is_special, special_header, special_method, method_started, method_of}
 use Rattle.elab_rules.specs.Members.{owner_named, outside_plain, outside_special, outside_method, name_of_class}
 use Rattle.elab_fits.specs.Standing.{On}
-use Rattle.elab_fits_units.proofs.Headers.{skip}
-use Rattle.elab_fits_units.proofs.Walk.{bind}
+use Rattle.elab_fits.proofs.Steps.{skip, bind}
 use Rattle.std.specs.Prelude.{slice_get}
 
 abbrev pub OfKind : FuncKind → Header → Type 0

@@ -19,6 +19,7 @@ use Rattle.elab_rules.specs.Globals.{enum_declared}
 use Rattle.elab_rules.specs.Units.{file_declaration, alias_of, defined_with}
 use Rattle.elab_rules.specs.cpp_tree.Typing.{form_in}
 use Rattle.elab_fits.specs.Standing.{On}
+use Rattle.elab_fits.proofs.Steps.{answered, skip}
 use Rattle.elab_contexts.specs.Overriders.{HasOverridersBy, HasOverriders, Overrides}
 use Rattle.elab_contexts.proofs.Holding as holding
 use Rattle.elab_contexts.proofs.Unchanged as unchanged
@@ -28,7 +29,6 @@ use Rattle.elab_fits_units.specs.Laws.{Lasting}
 use Rattle.elab_fits_units.specs.Named.{AreNamedTexts, IsTitle}
 use Rattle.elab_fits_units.specs.Steps.{IsClosed}
 use Rattle.elab_fits_units.proofs.Beginning.{by_any}
-use Rattle.elab_fits_units.proofs.Headers.{answered, skip}
 
 -- a class that begins leaves the functions
 abbrev SameFuncs : Ctx → Begun → Type 0

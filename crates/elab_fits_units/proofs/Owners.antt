@@ -22,8 +22,7 @@ use Rattle.elab_rules.specs.Functions.{Storage, Header}
 use Rattle.elab_rules.specs.Classes.{Method, header_in, special_name, is_special, special_header}
 use Rattle.elab_rules.specs.Members.{owner_class, owner_named, outside_plain, outside_special, outside_method, name_of_class}
 use Rattle.elab_fits.specs.Standing.{On}
-use Rattle.elab_fits_units.proofs.Headers.{skip, checked}
-use Rattle.elab_fits_units.proofs.Walk.{bind}
+use Rattle.elab_fits.proofs.Steps.{skip, checked, bind}
 
 abbrev Complete : Ctx → ℕ → Type 0
 Complete c n = is_some (completion_of c.classes n) ≡ true

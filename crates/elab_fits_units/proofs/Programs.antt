@@ -12,6 +12,7 @@ use Rattle.elab_rules.specs.elab_ctx.Ctx.{Func, Traits}
 use Rattle.elab_rules.specs.Statements.{State, Body}
 use Rattle.elab_rules.specs.Programs.{is_body_of, body_of, tree_in, typed_func, typed_funcs, unit_shown, Source, start_behind, with_unit, program_from, program_of}
 use Rattle.elab_rules.specs.Units.{unit_from}
+use Rattle.elab_fits.proofs.Steps.{answered}
 use Rattle.setting_growth.specs.Growth.{Grows, HeldEarlier}
 use Rattle.setting_growth.proofs.Trees.{fits_law}
 use Rattle.state_growth.specs.Programs.{unit_setting, ProgramGrows}
@@ -25,7 +26,7 @@ use Rattle.elab_fits_units.specs.Good.{UnitGood}
 use Rattle.elab_fits_units.specs.Laws.{Laws, Lasting}
 use Rattle.elab_fits_units.specs.Programs.{AreSources, UnitFits, AllUnitsFit}
 use Rattle.elab_fits_units.proofs.Growing.{held_earlier}
-use Rattle.elab_fits_units.proofs.Headers.{answered, split}
+use Rattle.elab_fits_units.proofs.Headers.{split}
 use Rattle.elab_fits_units.proofs.Units.{unit_keeps}
 
 -- The functions that a unit shows

@@ -43,9 +43,8 @@ use Rattle.elab_rules.specs.Classes.{closed_class}
 use Rattle.elab_rules.specs.Members.{declared_only, members_among}
 use Rattle.elab_rules.specs.Units.{header_of, declared_of_type, file_declarator, file_declarators, file_declaration, alias_of}
 use Rattle.elab_fits.specs.Standing.{On}
+use Rattle.elab_fits.proofs.Steps.{answered, skip, bind}
 use Rattle.elab_fits_units.specs.Steps.{IsClosed}
-use Rattle.elab_fits_units.proofs.Headers.{answered, skip}
-use Rattle.elab_fits_units.proofs.Walk.{bind}
 
 pub record Quiet (a b : State) : Type 0 where
   pub bodies : b.bodies ≡ a.bodies

@@ -21,7 +21,6 @@ use Rattle.elab_sound_types.specs.Contexts.{is_sound_function}
 use Rattle.elab_fits_forms.specs.Types.{IsWhole}
 use Rattle.elab_fits_forms.specs.Context.{Holds}
 use Rattle.elab_fits_forms.proofs.Wholes.{class_whole}
-use Rattle.elab_fits_forms.proofs.Readiness.{any_ready}
 use Rattle.elab_fits.specs.Objects.{is_closure}
 use Rattle.elab_fits_bodies.specs.Functions.{IsResult}
 use Rattle.setting_growth.specs.Growth.{ClassesGrow}
@@ -29,6 +28,7 @@ use Rattle.elab_fits_states.specs.States.{setting, IsGood}
 use Rattle.elab_fits_units.specs.Below.{Below}
 use Rattle.elab_fits_units.proofs.Growing.{Over}
 use Rattle.elab_rules.specs.cpp_lex.Tokens.{Lexeme}
+use Rattle.elab_fits_objects.proofs.Types.{ready_more}
 
 -- nothing, an object of a class, a reference or a scalar
 formed : (classes : List Class) (t : Typ) → is_sound classes a_result t ≡ true
@@ -79,7 +79,7 @@ module _ (s : List Lexeme) (b : Below s) (f : UnitFunc) (st : State) (g : IsGood
     typed = refl;
     formed = formed st.ctx.classes (result_of f) g.typed;
     sized = λ k. (whole k).sized;
-    ready = λ k. any_ready st.ctx.classes (is_closure (form_in (result_of f))) (result_of f) (whole k).ready;
+    ready = λ k. ready_more st.ctx.classes (is_closure (form_in (result_of f))) (result_of f) (whole k).ready;
     place = g.result;
   }
 

@@ -23,14 +23,15 @@ use Rattle.elab_rules.specs.Functions.{Header}
 use Rattle.elab_rules.specs.Lambdas.{lambdas_of}
 use Rattle.elab_rules.specs.Members.{in_object, destructor_tree, destructor_body}
 use Rattle.elab_fits.specs.Standing.{On}
+use Rattle.elab_fits.proofs.Steps.{bind}
 use Rattle.elab_fits_bodies.specs.Parts.{HasParts}
 use Rattle.elab_fits_forms.specs.Context.{Holds}
 use Rattle.elab_sound_types.specs.Types.{is_class, is_lambda}
 use Rattle.state_growth.specs.Settings.{shown}
 use Rattle.elab_fits_states.specs.States.{setting, IsText, IsGood}
 use Rattle.elab_fits_states.specs.Bodies.{BodyFits}
-use Rattle.elab_fits_parts.specs.Parts.{IsHome}
-use Rattle.elab_fits_units.specs.Below.{Below, ArePartsOf}
+use Rattle.elab_fits_parts.specs.Parts.{IsHome, ArePartsOf}
+use Rattle.elab_fits_units.specs.Below.{Below}
 use Rattle.elab_fits_units.specs.Definitions.{IsDefinition}
 use Rattle.elab_fits_units.specs.Good.{UnitGood}
 use Rattle.elab_fits_units.proofs.Bodies.{Left, made_left, came}
@@ -38,7 +39,6 @@ use Rattle.elab_fits_units.proofs.Entering.{Begins, begins}
 use Rattle.elab_fits_units.proofs.Growing.{Over, over_then}
 use Rattle.elab_fits_units.proofs.Results.{holds, any_holds, no_result, complete_over}
 use Rattle.elab_fits_units.proofs.Texts.{kids_texts}
-use Rattle.elab_fits_units.proofs.Walk.{bind}
 
 -- a class has its name where the unit has grown
 pub within : {A : Type 0} (xs : List A) (n : ℕ) (x : A) → slice_get xs n ≡ Some x → nat_lt n (length xs) ≡ true

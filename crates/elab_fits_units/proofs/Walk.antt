@@ -26,19 +26,10 @@ use Rattle.elab_rules.specs.Implicit.{implied, implied_below}
 use Rattle.elab_rules.specs.Lambdas.{lambdas_of}
 use Rattle.elab_rules.specs.Units.{is_qualified, defined_by, function_defined, is_c, declaration_of, declarations_of, unit_from}
 use Rattle.elab_fits.specs.Standing.{On}
+use Rattle.elab_fits.proofs.Steps.{told, bind}
 use Rattle.elab_fits_units.specs.Steps.{NoCall, Words, Follows, Steps}
 
 -- Answers
-
--- a step whose answer is told
-pub told : {A B : Type 0} (Q : B → Type 0) (x : Result A ElabFault) (f : A → Result B ElabFault) → ((a : A) → x ≡ Ok a → On Q (f a)) → On Q (and_then x f)
-told Q (Ok a) f g = g a refl
-told Q (Err e) f g = tt
-
-pub bind : {A B : Type 0} (P : A → Type 0) (Q : B → Type 0) (x : Result A ElabFault) (f : A → Result B ElabFault) → On P x → ((a : A) → P a → On Q (f a))
-    → On Q (and_then x f)
-bind P Q (Ok a) f h g = g a h
-bind P Q (Err e) f h g = tt
 
 pub each_holds : {R : Type 0} (P : R → Type 0) (T : syntax.Trees → Type 0) (f : R → syntax.Tree → Result R ElabFault) (r : R) (ts : syntax.Trees) → P r → T ts
     → ((x : R) (t : syntax.Tree) (us : syntax.Trees) → P x → T (syntax.more t us) → On P (f x t) × T us) → On P (each_of f r ts)

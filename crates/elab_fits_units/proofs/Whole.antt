@@ -3,7 +3,6 @@ use Rattle.std.proofs.Common.{List}
 use Rattle.elab_rules.specs.cpp_lex.Tokens.{Lexeme}
 use Rattle.elab_fits_lambdas.proofs.Lambdas.{lambdas_are_good}
 use Rattle.elab_fits_parts.proofs.Implicit.{steps_law}
-use Rattle.elab_fits_parts.proofs.Parts.{pointers_law}
 use Rattle.elab_fits_units.specs.Laws.{Laws}
 use Rattle.elab_fits_units.specs.Programs.{ProgramsFit}
 use Rattle.elab_fits_units.proofs.Beginning.{start_good, later_good}
@@ -35,4 +34,4 @@ laws_are s = record {
 }
 
 pub programs_fit : ProgramsFit
-programs_fit xs p t e = program_fits (below_is lambdas_are_good pointers_law) laws_are By names_beside later_good (start_good 0) xs p t e
+programs_fit xs p t e = program_fits (below_is lambdas_are_good) laws_are By names_beside later_good (start_good 0) xs p t e

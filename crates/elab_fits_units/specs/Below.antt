@@ -1,21 +1,16 @@
 -- What crates beside this one prove of the states of elaboration.
-use Rattle.std.specs.Prelude.{◌≡◌, ℕ, true, List, Some, Ok, is_some, slice_get}
-use Rattle.elab_rules.specs.tx_ints.declared.kinds.IntKind.TheVariants.{ULong}
-use Rattle.elab_rules.specs.cpp_types.Class.{Class, Member, completion_of}
-use Rattle.elab_rules.specs.cpp_types.Typ.{Typ, class}
-use Rattle.elab_rules.specs.cpp_tree.Notation.{plain}
-use Rattle.elab_rules.specs.cpp_tree.Typing.{is_word_of}
+use Rattle.std.specs.Prelude.{◌≡◌, ℕ, true, List, Ok, is_some}
+use Rattle.elab_rules.specs.cpp_types.Class.{Class}
+use Rattle.elab_rules.specs.cpp_types.Typ.{Typ}
 use Rattle.elab_rules.specs.cpp_tree.Parts.{size_in}
 use Rattle.elab_rules.specs.cpp_tree.Rows.{Setting}
-use Rattle.elab_rules.specs.Calls.{pointer_offset, base_of_class}
-use Rattle.elab_fits.specs.Objects.{IsElementType}
 use Rattle.elab_fits_objects.specs.Contexts.{IsObjectTyp}
 use Rattle.elab_fits_forms.specs.Context.{Holds}
 use Rattle.elab_fits_forms.specs.Types.{is_lambda}
 use Rattle.elab_sound_types.specs.Contexts.{HasSoundTypes}
 use Rattle.elab_sound_types.specs.States.{TypesStay}
-use Rattle.elab_fits_bodies.specs.Built.{IsMember, PartsBuild}
-use Rattle.elab_fits_bodies.specs.Copied.{IsCopied, PartsCopied, SourcesStand}
+use Rattle.elab_fits_bodies.specs.Built.{PartsBuild}
+use Rattle.elab_fits_bodies.specs.Copied.{PartsCopied, SourcesStand}
 use Rattle.elab_rules.specs.cpp_lex.Tokens.{Lexeme}
 use Rattle.elab_rules.specs.cpp_ast.Trees as syntax
 use Rattle.elab_rules.specs.cpp_tree.Units.{Func as UnitFunc}
@@ -45,21 +40,8 @@ use Rattle.elab_fits_statements.specs.Discipline.{Discipline, BuildsAll}
 use Rattle.elab_fits_states.specs.States.{AreTexts, IsSettled, IsVariableType, words}
 use Rattle.state_growth.specs.Settings.{setting_at}
 use Rattle.elab_fits_states.specs.Bodies.{BodyFits, StandsAlone}
-use Rattle.elab_fits_parts.specs.Parts.{IsHome}
+use Rattle.elab_fits_parts.specs.Parts.{IsHome, ArePartsOf}
 use Rattle.elab_fits_units.specs.Steps.{NoCall}
-
--- the parts of a class lie at words, and each has a type of which objects can be made, copied and destroyed
-pub record ArePartsOf (c : Ctx) (n : ℕ) : Type 0 where
-  pub pointer : (o : ℕ) → pointer_offset c.classes n ≡ Some o → is_word_of ULong o ≡ true
-  pub base : (b : ℕ) → base_of_class (slice_get c.classes n) ≡ Some b → IsElementType c.classes true (plain (class b))
-  pub based : (b : ℕ) → base_of_class (slice_get c.classes n) ≡ Some b → is_sound c.classes object (plain (class b)) ≡ true
-  pub members : (i : ℕ) (m : Member) → IsMember c n i m → IsCopied c (is_lambda c.classes) m.typ
-  pub typed : (i : ℕ) (m : Member) → IsMember c n i m → is_sound c.classes object m.typ ≡ true
-
--- the pointer of a class stands at a word
-abbrev pub PointersAreWords : Type 0
-PointersAreWords = (c : Ctx) (w : Work) (n : ℕ) → UnitHolds c → HasSoundTypes c w → is_some (completion_of c.classes n) ≡ true → (o : ℕ)
-    → pointer_offset c.classes n ≡ Some o → is_word_of ULong o ≡ true
 
 pub record Below (s : List Lexeme) : Type 0 where
   pub contexts : (f : UnitFunc) (c : Ctx) (w : Work) → UnitHolds c → HasOverriders c.funcs → HasSoundTypes c w → LocalsHold c w → Holds (setting_at f c w) c w

@@ -20,9 +20,9 @@ use Rattle.elab_rules.specs.Lambdas.{Written, capture_members, call_record}
 use Rattle.elab_rules.specs.Functions.{result_items, this_items, this_at, word_item, parameter_named}
 use Rattle.elab_fits.specs.Standing.{On}
 use Rattle.elab_fits.proofs.Equal.{typ_refl}
+use Rattle.elab_fits.proofs.Steps.{bind, skip}
 use Rattle.elab_fits_forms.specs.Context.{is_item_of}
 use Rattle.setting_growth.specs.Growth.{ClassesGrow}
-use Rattle.elab_contexts.proofs.Walking.{bind, skip}
 use Rattle.elab_contexts.proofs.Lists.{one_more_at}
 use Rattle.elab_contexts.proofs.Found.{before_it, at_the_end}
 use Rattle.elab_holds.specs.Locals.{Locals, locals, HoldIn, HasItemOf, LocalsHold, LocalsStay, FunctionsEntered, ObjectsEntered, ParametersPlaced}

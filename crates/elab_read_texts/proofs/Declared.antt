@@ -13,7 +13,7 @@ use Rattle.elab_rules.specs.Types.{Declared, Parameter, Qualifiers, is_name, poi
 use Rattle.elab_rules.specs.Types.{is_declared_safe}
 use Rattle.elab_rules.specs.Expressions.{declared_with, pointed_with, parameters_in_with, expression_with, chosen_operand, bounded}
 use Rattle.elab_fits.specs.Standing.{On}
-use Rattle.elab_contexts.proofs.Walking.{bind, skip}
+use Rattle.elab_fits.proofs.Steps.{bind, skip}
 use Rattle.elab_read_texts.specs.Names.{is_plain_token, declares_plainly, declare_plainly}
 use Rattle.elab_read_texts.specs.Overriding.{DeclaratorsNamed}
 

@@ -22,8 +22,8 @@ use Rattle.elab_rules.specs.Expressions.{declared_by, type_of_specifiers}
 use Rattle.elab_rules.specs.Classes.{Home, Method, started_from, header_in, plain_method, special_name, special_header, special_method, is_special}
 use Rattle.elab_rules.specs.Classes.{method_of}
 use Rattle.elab_fits.specs.Standing.{On}
+use Rattle.elab_fits.proofs.Steps.{bind, skip}
 use Rattle.elab_fits_forms.specs.Types.{is_empty}
-use Rattle.elab_contexts.proofs.Walking.{bind, skip}
 use Rattle.elab_read_texts.specs.Names.{is_type_name, is_class_name, is_plain_token, declares_plainly, declare_plainly}
 use Rattle.elab_read_texts.proofs.Declared.{declared_plainly}
 use Rattle.elab_read_texts.proofs.Overriding.{IsFit, plain, destructor, constructor}

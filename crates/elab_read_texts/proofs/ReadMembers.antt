@@ -25,7 +25,7 @@ use Rattle.elab_rules.specs.Classes.{declared_method, declared_member, member_de
 use Rattle.elab_rules.specs.Classes.{has_member, has_function, overridden, overrides_well, marks_fit, definition_sized, within_bounds, declarator_among, marks_from}
 use Rattle.elab_rules.specs.Classes.{no_marks, no_function_words, has_equal, has_initialiser, definition_between, last_token, body_in}
 use Rattle.elab_fits.specs.Standing.{On}
-use Rattle.elab_contexts.proofs.Walking.{bind, skip}
+use Rattle.elab_fits.proofs.Steps.{bind, skip}
 use Rattle.elab_read_texts.specs.Names.{is_class_name, is_plain_token, is_declarator, is_declared_plainly, declares_plainly, declare_plainly}
 use Rattle.elab_read_texts.specs.Names.{is_named, are_named}
 use Rattle.elab_contexts.specs.Overriders.{HasOverridersBy}

@@ -21,7 +21,7 @@ use Rattle.elab_rules.specs.Sizes.{typ_sized}
 use Rattle.elab_rules.specs.Types.{Parameter, is_declared_safe, function_of, qualifiers_from, no_qualifiers}
 use Rattle.elab_rules.specs.Expressions.{type_id_of}
 use Rattle.elab_rules.specs.Statements
-use Rattle.elab_rules.specs.Statements.{State, Done, is_fresh, statements_of}
+use Rattle.elab_rules.specs.Statements.{State, is_fresh, statements_of}
 use Rattle.elab_rules.specs.Functions as functions
 use Rattle.elab_rules.specs.Lambdas as lambdas
 use Rattle.elab_rules.specs.Lambdas.{Written, inside, lambda_entered, declared_closure, no_lambda}
@@ -84,27 +84,27 @@ with_parameters s st (p ∷ ps) h g =
 
 -- Bodies
 
-abbrev IsDeclared : List Class → Typ → Type 0
+abbrev pub IsDeclared : List Class → Typ → Type 0
 IsDeclared cs t = is_sound cs declared t ≡ true
 
 -- a lambda whose parts have sound types
-record IsSoundLambda (s : List Lexeme) (cs : List Class) (x : Written) : Type 0 where
-  captures : AreCaptures cs x.captures
-  params : AreParameters cs x.params
-  result : IfThere (IsDenoted cs) x.result
-  spelled : are_spelled s x.body ≡ true
+pub record IsSoundLambda (s : List Lexeme) (cs : List Class) (x : Written) : Type 0 where
+  pub captures : AreCaptures cs x.captures
+  pub params : AreParameters cs x.params
+  pub result : IfThere (IsDenoted cs) x.result
+  pub spelled : are_spelled s x.body ≡ true
 
 -- the classes with that of a lambda, and the same where its call is not known yet: which classes have names and are complete is the same
-abbrev with_lambda : State → Written → Signature → List Class
+abbrev pub with_lambda : State → Written → Signature → List Class
 with_lambda st x g = (declared_closure st x g).classes
 
-abbrev with_nothing : State → Written → List Class
+abbrev pub with_nothing : State → Written → List Class
 with_nothing st x = with_lambda st x (signature no_typs (plain void) false)
 
-lambda_kept : (st : State) (x : Written) (g : Signature) → Kept st.ctx.classes (with_lambda st x g)
+pub lambda_kept : (st : State) (x : Written) (g : Signature) → Kept st.ctx.classes (with_lambda st x g)
 lambda_kept st x g = one_kept st.ctx.classes _
 
-call_known : (st : State) (x : Written) (g f : Signature) → Kept (with_lambda st x g) (with_lambda st x f)
+pub call_known : (st : State) (x : Written) (g f : Signature) → Kept (with_lambda st x g) (with_lambda st x f)
 call_known st x g f = last_kept st.ctx.classes _ _ refl refl
 
 -- the context behind it
@@ -113,7 +113,7 @@ around : (s : List Lexeme) (st : State) (x : Written) (g : Signature) → IsSoun
 around s st x g h i j = with_closure st.ctx st.work x.captures (lambdas.call_record x.at g x.qualifiers x.is_mutable) x.params x.closed h.context i.captures
     (signature_more (with_nothing st x) (with_lambda st x g) (call_known st x (signature no_typs (plain void) false) g) g j)
 
-entered : (s : List Lexeme) (st : State) (x : Written) (rs : Returns) (r : Typ) (g : Signature) → IsSoundState st → IsSoundLambda s st.ctx.classes x
+pub entered : (s : List Lexeme) (st : State) (x : Written) (rs : Returns) (r : Typ) (g : Signature) → IsSoundState st → IsSoundLambda s st.ctx.classes x
     → is_sound_signature (with_nothing st x) g ≡ true → is_sound_return (with_lambda st x g) rs ≡ true
     → IsSoundState (inside st (lambda_entered st x rs r) (declared_closure st x g))
 entered s st x rs r g h i j k = record {
@@ -212,7 +212,7 @@ lambda_with s st x r g h i j = skip (Added st) (check x.at Incomplete (is_comple
     (λ z. same_added st (functions.leaving (record st { ctx = declared_closure st x g }) d.state) _
     (left_body s st x g d.state h i j k.grown.kept k.sound)))))
 
-signature_sound : (cs : List Class) (t : Typ) → is_sound cs denoted t ≡ true → is_sound_signature cs (lambdas.signature_in (form_in t)) ≡ true
+pub signature_sound : (cs : List Class) (t : Typ) → is_sound cs denoted t ≡ true → is_sound_signature cs (lambdas.signature_in (form_in t)) ≡ true
 signature_sound cs (typ (func g) c v) h = (and_parts (not (c || v)) (is_sound_signature cs g) h).1
 signature_sound cs (typ void c v) h = refl
 signature_sound cs (typ (int k) c v) h = refl
@@ -225,7 +225,7 @@ signature_sound cs (typ (class k) c v) h = refl
 signature_sound cs (typ (closure k) c v) h = refl
 signature_sound cs (typ (tx_ex t) c v) h = refl
 
-lambda_type : (s : List Lexeme) (st : State) (x : Written) (r : Typ) → IsSoundLambda s st.ctx.classes x → IsDeclared (with_nothing st x) r
+pub lambda_type : (s : List Lexeme) (st : State) (x : Written) (r : Typ) → IsSoundLambda s st.ctx.classes x → IsDeclared (with_nothing st x) r
     → On (IsDenoted (with_nothing st x)) (lambdas.lambda_type st.ctx x r)
 lambda_type s st x r i g = bind (IsDenoted cs) (IsDenoted cs) (function_of st.ctx x.at r x.params (is_declared_safe x.qualifiers)) _
     (written.function_of cs st.ctx x.at r x.params (is_declared_safe x.qualifiers) g
@@ -259,7 +259,7 @@ result_read s st x g h i j = skip (IsDeclared (with_nothing st x)) (lambdas.clos
     e : State
     e = inside st (lambda_entered st x (deduced None) (plain void)) (declared_closure st x g)
 
-result_of : (s : List Lexeme) (st : State) (x : Written) (o : Option Typ) → IsSoundState st → IsSoundLambda s st.ctx.classes x
+pub result_of : (s : List Lexeme) (st : State) (x : Written) (o : Option Typ) → IsSoundState st → IsSoundLambda s st.ctx.classes x
     → IfThere (IsDenoted st.ctx.classes) o → On (IsDeclared (with_nothing st x)) (lambdas.result_of s st x o)
 result_of s st x (Some r) h i j = sound_more st.ctx.classes (with_nothing st x) (lambda_kept st x (signature no_typs (plain void) false)) declared r
     (as_declared st.ctx.classes r j)
@@ -300,18 +300,18 @@ lambda_made s st x h i = bind (IsDeclared (with_nothing st x)) (After true st) (
 -- Its parts
 
 module _ (s : List Lexeme) where
-  parameters_among : (c : Ctx) (w : Work) (ts : syntax.Trees) → HasSoundTypes c w → On (AreParameters c.classes) (lambdas.parameters_among s c w ts)
+  pub parameters_among : (c : Ctx) (w : Work) (ts : syntax.Trees) → HasSoundTypes c w → On (AreParameters c.classes) (lambdas.parameters_among s c w ts)
   parameters_among c w (syntax.more (syntax.node k.ParameterDeclarationClause p token kids) ts) h =
       written.parameters_in s c w h c.closures w (syntax.node k.ParameterDeclarationClause p token kids)
   parameters_among c w ts h = refl
 
-  result_among : (c : Ctx) (w : Work) (ts : syntax.Trees) → HasSoundTypes c w → On (IfThere (IsDenoted c.classes)) (lambdas.result_among s c w ts)
+  pub result_among : (c : Ctx) (w : Work) (ts : syntax.Trees) → HasSoundTypes c w → On (IfThere (IsDenoted c.classes)) (lambdas.result_among s c w ts)
   result_among c w syntax.none h = tt
   result_among c w (syntax.more (syntax.node k.TrailingReturnType p token (syntax.more t syntax.none)) ts) h =
       bind (IsDenoted c.classes) (IfThere (IsDenoted c.classes)) (type_id_of s c w t) _ (written.type_id s c w h c.closures w t) (λ u i. i)
   result_among c w (syntax.more t ts) h = result_among c w ts h
 
-  kids_of_spelled : (t : syntax.Tree) → is_spelled s t ≡ true → are_spelled s (lambdas.kids_of t) ≡ true
+  pub kids_of_spelled : (t : syntax.Tree) → is_spelled s t ≡ true → are_spelled s (lambdas.kids_of t) ≡ true
   kids_of_spelled (syntax.node kind p token kids) h = kids_spelled s kind p token kids h
 
   lambda_written : (st : State) (at : At) (intro parts : syntax.Trees) (body : syntax.Tree) → IsSoundState st → is_spelled s body ≡ true

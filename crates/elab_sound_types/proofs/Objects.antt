@@ -30,7 +30,7 @@ use Rattle.elab_sound_types.specs.Types.{value, is_lambda, is_class, is_held, is
 use Rattle.elab_sound_types.proofs.Growth.{held_class}
 use Rattle.elab_sound_types.proofs.Trees.{tree_if, class_head}
 use Rattle.elab_sound_types.proofs.Initial.{made, object_sound}
-pub use Rattle.elab_fits.proofs.Steps.{either_way as either}
+use Rattle.elab_fits.proofs.Steps.{either_way as either}
 
 -- where it is an exception, it has the type of an expression; else it is the value that an exception is written with
 abbrev pub Writes : List Class → Tree → Type 0

@@ -22,10 +22,9 @@ use Rattle.elab_rules.specs.Implicit.{own_operand, part_copied, part_of_source, 
 use Rattle.elab_rules.specs.Implicit.{source_const}
 use Rattle.elab_rules.specs.Implicit.{constructor_implied, body_implied, implied_of, implied, implied_below, with_implied, is_referred}
 use Rattle.elab_fits.specs.Standing.{On}
-use Rattle.elab_fits.proofs.Steps.{bind, skip}
+use Rattle.elab_fits.proofs.Steps.{bind, skip, either_way as either}
 use Rattle.elab_sound_types.specs.Contexts.{HasSoundTypes}
 use Rattle.elab_sound_types.specs.States.{IsSoundState}
-use Rattle.elab_sound_types.proofs.Objects.{either}
 use Rattle.elab_sound_types.proofs.States.{nothing}
 use Rattle.elab_sound_types.proofs.Globals as globals
 use Rattle.elab_sound_units.proofs.Below.{MadeBehind, GlobalsStay, After}

@@ -26,8 +26,9 @@ use Rattle.elab_rules.specs.Lambdas.{lambdas_of}
 use Rattle.elab_rules.specs.Members.{Giving, given_for, for_base, for_part, given_part, given_by, all_given, is_named_class, is_base_type, member_index, member_type}
 use Rattle.elab_rules.specs.Members.{in_object, parts_built, constructor_tree, constructor_block, constructor_body, destructor_tree, destructor_body}
 use Rattle.elab_places.proofs.Steps.{On, bind, skip, held_by}
-use Rattle.elab_fits_statements.proofs.States.{told, goes_still}
+use Rattle.elab_fits_statements.proofs.States.{goes_still}
 use Rattle.elab_fits.proofs.Equal.{typ_refl}
+use Rattle.elab_fits.proofs.Steps.{told}
 use Rattle.elab_sound_types.specs.Contexts.{is_sound_parameter}
 use Rattle.state_growth.specs.Settings.{shown}
 use Rattle.state_growth.proofs.Statements.{parameters_kept}

@@ -20,8 +20,8 @@ use Rattle.elab_rules.specs.Strings.{string_bytes}
 use Rattle.elab_rules.specs.Statements.{State, Done, Full, full, with_work, full_operand, copy_initialised}
 use Rattle.elab_rules.specs.Members.{in_object, default_value, default_made}
 use Rattle.elab_rules.specs.Lambdas.{lambdas_of}
+use Rattle.elab_fits.proofs.Steps.{told}
 use Rattle.elab_places.proofs.Steps.{On, bind, skip, held_by}
-use Rattle.elab_fits_statements.proofs.States.{told}
 use Rattle.setting_growth.specs.Growth.{ClassesGrow}
 use Rattle.state_growth.specs.Settings.{shown}
 use Rattle.state_growth.proofs.Steps.{seen, kept_refl}

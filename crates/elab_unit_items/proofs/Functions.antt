@@ -16,8 +16,8 @@ use Rattle.elab_rules.specs.Operators.{is_complete}
 use Rattle.elab_rules.specs.Statements.{State, Done, statement}
 use Rattle.elab_rules.specs.Functions.{Header, entered, with_parameters, body_made, function_body, end_of}
 use Rattle.elab_rules.specs.Lambdas.{lambdas_of}
+use Rattle.elab_fits.proofs.Steps.{told}
 use Rattle.elab_places.proofs.Steps.{On, skip}
-use Rattle.elab_fits_statements.proofs.States.{told}
 use Rattle.elab_sound_types.specs.Types.{is_sound, result as a_result}
 use Rattle.elab_sound_types.specs.Contexts.{is_sound_parameter}
 use Rattle.elab_sound_types.specs.States.{is_sound_object}

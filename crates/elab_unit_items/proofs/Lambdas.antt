@@ -20,9 +20,9 @@ use Rattle.elab_rules.specs.Functions.{result_items, with_parameters}
 use Rattle.elab_rules.specs.Lambdas.{lambdas_of, lambdas_among, lambda_of, no_lambda, refused_at, first_lambda, kids_of}
 use Rattle.elab_rules.specs.Lambdas.{body_statements, call_func, call_record}
 use Rattle.elab_rules.specs.Statements.{State, Done, Body, is_direct_label}
+use Rattle.elab_fits.proofs.Steps.{told}
 use Rattle.elab_places.proofs.Steps.{On, held_by}
 use Rattle.elab_places.proofs.Declaring.{on}
-use Rattle.elab_fits_statements.proofs.States.{told}
 use Rattle.state_growth.specs.Settings.{shown}
 use Rattle.state_growth.proofs.Bodies.{classes_added}
 use Rattle.elab_fits_states.specs.Bodies.{StandsAlone}

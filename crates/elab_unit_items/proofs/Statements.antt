@@ -5,17 +5,16 @@ use Rattle.elab_rules.specs.cpp_ast.Trees as syntax
 use Rattle.elab_rules.specs.cpp_tree.declared.roles.Role.TheVariants.{BlockItem}
 use Rattle.elab_rules.specs.cpp_tree.Units.{Func as UnitFunc}
 use Rattle.elab_rules.specs.Statements.{State, Done, Lambdas, all_lambdas, statements_of}
+use Rattle.elab_fits.proofs.Steps.{told, answered}
 use Rattle.elab_places.proofs.Steps.{On, turn}
 use Rattle.elab_fits_statements.specs.Anywhere.{AllServe}
 use Rattle.elab_fits_statements.specs.Discipline as discipline
-use Rattle.elab_fits_statements.proofs.States.{told}
 use Rattle.elab_fits_statements.proofs.Statements.{body_serves}
 use Rattle.elab_fits_states.specs.Bodies.{StandsAlone}
 use Rattle.elab_fits_states.specs.Premises.{KeepsGood, GoesWell}
 use Rattle.elab_fits_states.specs.States.{IsText, AreTexts, IsGood, IsSettled, setting, words}
 use Rattle.elab_fits_states.proofs.Discipline.{a_discipline, all_well}
 use Rattle.elab_fits_states.proofs.Good.{comes_still}
-use Rattle.elab_fits_states.proofs.Reading.{answered}
 use Rattle.elab_fits_states.proofs.Texts
 use Rattle.elab_fits_states.proofs.Variables.{sized_complete}
 use Rattle.elab_frame_items.specs.Frames.{IsWholeState}

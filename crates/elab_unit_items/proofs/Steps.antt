@@ -26,8 +26,8 @@ use Rattle.elab_rules.specs.Implicit.{implied}
 use Rattle.elab_rules.specs.Lambdas.{lambdas_of}
 use Rattle.elab_rules.specs.Names.{members_in}
 use Rattle.elab_rules.specs.Units.{header_of, definition_text, closing_offset, defined_with, file_declaration, alias_of}
+use Rattle.elab_fits.proofs.Steps.{told}
 use Rattle.elab_places.proofs.Steps.{On, skip, held_by}
-use Rattle.elab_fits_statements.proofs.States.{told}
 use Rattle.elab_sound_types.specs.Types.{is_class}
 use Rattle.elab_sound_units.specs.Headers.{IsRead, IsOutside}
 use Rattle.elab_fits_states.specs.States.{IsText, AreTexts}

@@ -1,8 +1,9 @@
 use Rattle.elab_rules.specs.Lambdas.{lambdas_of}
 use Rattle.elab_rules.specs.Statements.{Done, Full, full_operand, statements_of}
 use Rattle.elab_rules.specs.Functions.{function_body}
+use Rattle.elab_fits.proofs.Steps.{weaken}
 use Rattle.elab_contexts.specs.Walks.{Walks}
-use Rattle.elab_contexts.proofs.Walking.{weaken, Leaves}
+use Rattle.elab_contexts.proofs.Walking.{Leaves}
 use Rattle.elab_contexts.proofs.Bodies.{lambdas_lawful, function_kept}
 use Rattle.elab_contexts.proofs.Statements.{full_kept, statements_kept}
 use Rattle.elab_contexts.proofs.Units.{declarations_walk, units_walk}
