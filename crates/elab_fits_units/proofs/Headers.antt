@@ -1,5 +1,5 @@
 -- The function that a definition is for stands in its place, with what its header says.
-use Rattle.std.proofs.Common.{◌≡◌, refl, ap, ◌∙◌, subst, ℕ, zero, suc, ◌+◌, Bool, true, false, not, ◌&&◌, ◌||◌, List, [], ◌∷◌, ◌++◌, length, slice_get, arith}
+use Rattle.std.proofs.Common.{◌≡◌, refl, ap, ◌∙◌, subst, ℕ, zero, suc, ◌+◌, ◌==◌, Bool, true, false, not, ◌&&◌, ◌||◌, List, [], ◌∷◌, ◌++◌, length, slice_get, arith}
 use Rattle.std.proofs.Common.{Option, Some, None, is_some, unwrap_or, Result, Ok, Err, eqb-true}
 use Rattle.std.specs.Prelude.{slice_set, if◌then◌else◌}
 use Rattle.std.specs.Str.{bytes_eq}
@@ -25,7 +25,7 @@ use Rattle.elab_rules.specs.Classes.{token_end}
 use Rattle.elab_rules.specs.Members.{late_agrees, late_kept, outside_linkage, outside_text, linked_definition, with_noexcept}
 use Rattle.elab_fits.specs.Standing.{On}
 use Rattle.elab_fits.proofs.Equal.{typ_same}
-use Rattle.elab_fits.proofs.Steps.{told, answered, skip, checked}
+use Rattle.elab_fits.proofs.Steps.{told, answered, bind, skip, checked}
 use Rattle.elab_fits_units.specs.Definitions.{IsDefinition, DeclaredAreDefined, MethodsAreDefined, OutsideAreDefined}
 
 -- Answers
