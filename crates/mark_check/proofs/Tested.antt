@@ -1,11 +1,10 @@
 -- The test of all functions says what the marks are.
-use Rattle.std.proofs.Common.{◌≡◌, ◌∙◌, ◌<◌, ℕ, zero, suc, ◌+◌, nat_le, Bool, true, false, not, ◌&&◌, ◌||◌, IsTrue, IfOk, ◌↔◌, List, [], ◌∷◌, Option, Some}
-use Rattle.std.proofs.Common.{None, Result, Ok, Err, slice_get, get_or, length, map, take, ap, sym, arith, refl}
+use Rattle.std.proofs.Common.{◌≡◌, ◌∙◌, ℕ, zero, suc, ◌+◌, nat_le, Bool, true, false, not, ◌||◌, IsTrue, IfOk, ◌↔◌, List, [], ◌∷◌, Option, Some}
+use Rattle.std.proofs.Common.{None, Result, Ok, Err, slice_get, map, take, ap, sym, arith, refl}
 use Rattle.std.specs.declared.alloc.AllocError.{AllocError}
 use Rattle.std.specs.Prelude.{option_and_then}
 use Rattle.std.specs.List.{list_all}
 use Rattle.std.proofs.lemmas.Bool.{and_parts, and_from}
-use Rattle.std.proofs.lemmas.Option.{slice_get_read}
 use Rattle.std.proofs.lemmas.List.{take-map}
 use Rattle.cpp_tree.specs.cpp_types.declared.types.Ty.{Ty}
 use Rattle.cpp_tree.specs.cpp_types.Typ.{Typ, typ_of}

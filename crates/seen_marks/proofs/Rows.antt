@@ -1,41 +1,39 @@
 -- What builds an object in a node at which the check finds nothing, is seen by itself or has no volatile part.
-use Rattle.std.proofs.Common.{◌≡◌, ◌∙◌, sym, subst, ap, refl, ℕ, zero, suc, Bool, true, false, not, ◌&&◌, ◌||◌, cond, List, [], ◌∷◌, slice_get, Option, Some}
+use Rattle.std.proofs.Common.{◌≡◌, ◌∙◌, sym, ap, refl, ℕ, zero, suc, Bool, true, false, not, ◌&&◌, ◌||◌, cond, List, [], ◌∷◌, slice_get, Option, Some}
 use Rattle.std.proofs.Common.{None, length}
 use Rattle.std.specs.Prelude.{unwrap_or, ◌==◌}
 use Rattle.std.specs.List.{list_all}
 use Rattle.std.specs.Option.{option_or}
 use Rattle.std.proofs.lemmas.Bool.{false≢true, and_parts, and_from}
-use Rattle.cpp_types.specs.Typ.{Typ, typ, Form, class, closure, tx_ex}
-use Rattle.cpp_types.specs.Class.{Class}
+use Rattle.cpp_types.specs.Typ.{Typ, typ, class, closure, tx_ex}
 use Rattle.cpp_types.specs.Conversion.{is_object_form}
-use Rattle.cpp_types.specs.Equal.{typ_eq, form_eq}
+use Rattle.cpp_types.specs.Equal.{typ_eq}
 use Rattle.cpp_types.specs.declared.ranks.Cat.{Cat}
 use Rattle.cpp_types.specs.declared.ranks.Cat.TheVariants.{Lvalue, Prvalue}
 use Rattle.cpp_tree.specs.declared.kinds.TKind.{TKind}
 use Rattle.cpp_tree.specs.declared.kinds.TKind.TheVariants.{Conditional, Comma, CopyAssign, Materialize, FullExpression, Call, VirtualCall, PointerCall}
 use Rattle.cpp_tree.specs.declared.kinds.TKind.TheVariants.{Store, CopyScalar, Construct, CopyFrom, Pieces, Piece, Elements, Init}
 use Rattle.cpp_tree.specs.declared.roles.Role.{Role}
-use Rattle.cpp_tree.specs.declared.roles.Role.TheVariants.{Value, Word, Initialiser, CopyInit, Zero, Statement, BlockItem, SwitchItem, Step, Part, CopiedPart}
-use Rattle.cpp_tree.specs.declared.roles.Role.TheVariants.{Catch, Destruction, Scalar}
-use Rattle.cpp_tree.specs.Trees.{Tree, node, Trees, none, more, kind_of, typ_in, rest}
+use Rattle.cpp_tree.specs.declared.roles.Role.TheVariants.{Value, Word, Initialiser, CopyInit, Zero, Step, Part, CopiedPart}
+use Rattle.cpp_tree.specs.declared.roles.Role.TheVariants.{Destruction}
+use Rattle.cpp_tree.specs.Trees.{node, Trees, none, more}
 use Rattle.cpp_tree.specs.Typing.{Head, head_of, passes, form_in, is_void, is_class_typ, builds, is_class_prvalue, is_argument, is_prvalue, is_lvalue_of}
 use Rattle.cpp_tree.specs.Typing.{is_result}
-use Rattle.cpp_tree.specs.Typing.{Word as WordOf, object, passed, is_word, are_words, is_class, initialises, is_statement_typ}
+use Rattle.cpp_tree.specs.Typing.{Word as WordOf, object, passed, is_word, are_words, initialises, is_statement_typ}
 use Rattle.cpp_types.specs.Conversion.{is_lvalue}
 use Rattle.cpp_types.specs.Typ.{Signature}
 use Rattle.cpp_tree.specs.declared.program.FuncKind.TheVariants.{Plain}
-use Rattle.cpp_tree.specs.Parts.{are_elements}
-use Rattle.cpp_tree.specs.Roles.{is_throw, Kids, only, and_any, kids_for, role_at, serves, way_fits, may_build, branch_role, result_role, part_role}
+use Rattle.cpp_tree.specs.Roles.{is_throw, Kids, only, and_any, role_at, serves, way_fits, may_build, branch_role, result_role, part_role}
 use Rattle.cpp_tree.specs.Roles.{object_role}
-use Rattle.cpp_tree.specs.Rows.{Setting, row_fits, kid, same_value, is_branch, words_of, signature_words, result_in, called_in, is_loaded, are_destructions}
+use Rattle.cpp_tree.specs.Rows.{Setting, row_fits, words_of, signature_words, result_in, called_in, is_loaded, are_destructions}
 use Rattle.cpp_tree.specs.Units.{Func}
-use Rattle.cpp_tree.specs.WellFormed.{heads_of, kids_in, no_object}
-use Rattle.tx_unsafe.specs.Volatile.{is_volatile_object, is_volatile_class, is_class_object}
-use Rattle.tx_unsafe.specs.Unsafe.{first_of, is_local, is_declared, builds_object, is_made}
+use Rattle.cpp_tree.specs.WellFormed.{heads_of, kids_in}
+use Rattle.tx_unsafe.specs.Volatile.{is_volatile_object, is_class_object}
+use Rattle.tx_unsafe.specs.Unsafe.{first_of, is_local, builds_object, is_made}
 use Rattle.seen_marks.specs.Marks.{is_marked_store}
-use Rattle.seen_marks.proofs.Types.{Marks, Dull, AllDull, IsClosed, is_calm, is_plain_class, class_object, calm_class, calm_dull, built, built_class, or_two}
+use Rattle.seen_marks.proofs.Types.{Marks, Dull, AllDull, IsClosed, is_calm, class_object, calm_class, built, built_class}
 use Rattle.seen_marks.proofs.Types.{branch_calm, value_equal}
-use Rattle.seen_marks.proofs.Types.{equal_class, equal_object, same_volatile, object_same, pieces_dull, elements_calm, plain_mark, seen_or_dull, not_false}
+use Rattle.seen_marks.proofs.Types.{equal_class, equal_object, same_volatile, pieces_dull, elements_calm, plain_mark, seen_or_dull, not_false}
 use Rattle.seen_marks.proofs.Findings.{Unfound}
 
 -- What a role asks of a node that serves in it

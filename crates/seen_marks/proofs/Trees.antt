@@ -1,8 +1,6 @@
 -- Whole trees.
-use Rattle.std.proofs.Common.{◌≡◌, ◌∙◌, sym, ap, refl, ℕ, zero, suc, Bool, true, false, not, ◌&&◌, ◌||◌, cond, List, [], ◌∷◌, ◌++◌, Option, Some, None}
-use Rattle.std.specs.Prelude.{unwrap_or, is_some}
-use Rattle.std.proofs.lemmas.Bool.{false≢true, and_parts, and_from, or_right}
-use Rattle.cpp_types.specs.Class.{Class}
+use Rattle.std.proofs.Common.{◌≡◌, ap, refl, ℕ, suc, Bool, true, false, not, ◌||◌, cond, [], ◌∷◌}
+use Rattle.std.proofs.lemmas.Bool.{and_parts, and_from, or_right}
 use Rattle.cpp_types.specs.declared.classes.At.{At}
 use Rattle.cpp_types.specs.declared.ranks.Cat.{Cat}
 use Rattle.cpp_types.specs.Typ.{Typ}
@@ -10,14 +8,14 @@ use Rattle.cpp_tree.specs.declared.kinds.TKind.{TKind}
 use Rattle.cpp_tree.specs.declared.kinds.TKind.TheVariants.{Atomic}
 use Rattle.cpp_tree.specs.declared.roles.Position.{Position}
 use Rattle.cpp_tree.specs.declared.roles.Role.{Role}
-use Rattle.cpp_tree.specs.declared.roles.Role.TheVariants.{Value, Statement}
+use Rattle.cpp_tree.specs.declared.roles.Role.TheVariants.{Statement}
 use Rattle.cpp_tree.specs.Trees.{Tree, node, Trees, none, more, rest}
 use Rattle.cpp_tree.specs.Typing.{head_of}
-use Rattle.cpp_tree.specs.Roles.{Kids, only, role_at}
+use Rattle.cpp_tree.specs.Roles.{Kids, only}
 use Rattle.cpp_tree.specs.Rows.{Setting, result_of}
 use Rattle.cpp_tree.specs.WellFormed.{heads_of, kids_in, inside, outermost, is_zero_role, fits, kids_fit, zeroes}
 use Rattle.tx_unsafe.specs.Volatile.{has_volatile_part}
-use Rattle.tx_unsafe.specs.Unsafe.{first_of, own, own_in, own_in_all, is_atomic}
+use Rattle.tx_unsafe.specs.Unsafe.{first_of, own, own_in, own_in_all}
 use Rattle.seen_marks.specs.Marks.{is_marked_store, is_unmarked, are_unmarked, BodiesAreUnmarked}
 use Rattle.seen_marks.proofs.Types.{Marks, IsClosed}
 use Rattle.seen_marks.proofs.Classes.{no_part}

@@ -1,23 +1,22 @@
 -- Types of objects that have no volatile part, and of what builds them.
-use Rattle.std.proofs.Common.{◌≡◌, ◌∙◌, ℕ, zero, suc, ◌+◌, ◌*◌, ◌-◌, ◌==◌, nat_lt, nat_le, Bool, true, false, not, ◌&&◌, ◌||◌, List, [], ◌∷◌, Option, Some}
+use Rattle.std.proofs.Common.{◌≡◌, ◌∙◌, ℕ, zero, suc, ◌*◌, ◌-◌, ◌==◌, nat_lt, nat_le, Bool, true, false, not, ◌&&◌, ◌||◌, List, [], ◌∷◌, Option, Some}
 use Rattle.std.proofs.Common.{None}
 use Rattle.std.proofs.Common.{slice_get, ap, sym, subst, refl, eqb-true, cond}
 use Rattle.std.specs.Prelude.{option_map, option_and_then, is_some}
-use Rattle.std.specs.List.{list_any, list_all}
+use Rattle.std.specs.List.{list_any}
 use Rattle.std.proofs.lemmas.Bool.{false≢true, and_parts, or_parts}
 use Rattle.cpp_types.specs.Typ.{Typ, typ, Form, void, int, enum, null, ptr, ref, array, func, class, closure, tx_ex}
 use Rattle.cpp_types.specs.Class.{Class, Member}
 use Rattle.cpp_types.specs.Conversion.{is_object_form}
 use Rattle.cpp_types.specs.Equal.{flag_eq, typ_eq, form_eq}
 use Rattle.cpp_tree.specs.tx_ints.declared.kinds.IntKind.{IntKind}
-use Rattle.cpp_tree.specs.Typing.{Head, passes, form_in, is_volatile_typ, is_class_typ, is_void, qualified, without_exception, same_shape, builds, is_prvalue}
-use Rattle.cpp_tree.specs.Typing.{is_prvalue_of, is_lvalue_of, is_class_prvalue, scalar_of, goes_both_ways}
+use Rattle.cpp_tree.specs.Typing.{Head, passes, form_in, is_class_typ, is_void, qualified, without_exception, same_shape, builds, is_prvalue}
+use Rattle.cpp_tree.specs.Typing.{is_prvalue_of, is_class_prvalue, scalar_of, goes_both_ways}
 use Rattle.cpp_tree.specs.Parts.{Part, part_of, part_in, part_behind, member_part, sized_class, size_in, is_at, is_piece_at, is_piece_of, are_part_pieces}
 use Rattle.cpp_tree.specs.Parts.{are_class_pieces, are_element_pieces, are_pieces, are_elements, has_size, is_last}
 use Rattle.cpp_tree.specs.cpp_layout.Measured.{member_offset}
 use Rattle.cpp_tree.specs.Roles.{is_throw}
 use Rattle.cpp_tree.specs.Rows.{is_access, is_branch, same_value}
-use Rattle.cpp_tree.specs.declared.kinds.TKind.{TKind}
 use Rattle.cpp_types.specs.declared.ranks.Cat.{Cat}
 use Rattle.cpp_types.specs.declared.ranks.Cat.TheVariants.{Lvalue, Prvalue}
 use Rattle.tx_unsafe.specs.Volatile.{is_volatile_object, is_volatile_form, is_class_object, is_class_form, is_volatile_class, is_volatile_member}

@@ -1,18 +1,16 @@
 -- The zeros of a result, whose trees have no types: each marked one is found.
-use Rattle.std.proofs.Common.{◌≡◌, ◌∙◌, sym, ap, refl, ℕ, zero, suc, Bool, true, false, not, ◌&&◌, ◌||◌, List, [], ◌∷◌, ◌++◌, Option, Some, None}
+use Rattle.std.proofs.Common.{◌≡◌, ap, refl, ℕ, suc, Bool, true, false, not, ◌&&◌, ◌||◌, List, [], ◌++◌, Option}
 use Rattle.std.proofs.lemmas.Bool.{false≢true, and_parts, and_from, or_right}
 use Rattle.cpp_types.specs.Typ.{Typ, typ, Form, void}
 use Rattle.cpp_types.specs.Class.{Class}
-use Rattle.cpp_types.specs.Equal.{typ_eq}
 use Rattle.cpp_types.specs.declared.ranks.Cat.{Cat}
 use Rattle.cpp_types.specs.declared.ranks.Cat.TheVariants.{Lvalue, Prvalue}
-use Rattle.cpp_tree.specs.declared.kinds.TKind.{TKind}
 use Rattle.cpp_tree.specs.declared.kinds.TKind.TheVariants.{Literal, Store, Pieces, Piece, Elements}
 use Rattle.cpp_tree.specs.Trees.{Tree, node, Trees, none, more, rest}
 use Rattle.cpp_tree.specs.Typing.{is_void, is_statement_typ}
 use Rattle.cpp_tree.specs.Parts.{Part, part_of}
 use Rattle.cpp_tree.specs.WellFormed.{zeroes, zero_parts, zero_part, is_zero_of}
-use Rattle.tx_unsafe.specs.Unsafe.{first_of, own, own_in, own_in_all, writes_volatile}
+use Rattle.tx_unsafe.specs.Unsafe.{first_of, own_in, own_in_all}
 use Rattle.seen_marks.specs.Marks.{is_unmarked, are_unmarked}
 use Rattle.seen_marks.proofs.Findings.{nothing_left, nothing_right, unfound}
 
