@@ -77,7 +77,14 @@ fits_known s p role kind t cat at kids e =
     let place = and_parts (a && b) c branches.0 in
     let way = and_parts a b place.0 in
     record {
-      serves = way.0; way = way.1; place = place.1; branches = branches.1; row = row.1; many = many.1; labels = labels.1; below = all.1;
+      serves = way.0;
+      way = way.1;
+      place = place.1;
+      branches = branches.1;
+      row = row.1;
+      many = many.1;
+      labels = labels.1;
+      below = all.1;
     }
 
 pub fits_from : (s : Setting) (p : Position) (role : Role) (kind : TKind) (t : Typ) (cat : Cat) (at : At) (kids : Trees)
@@ -162,7 +169,14 @@ literal_kids role t u = refl
 int_fits : (s : Setting) (p : Position) (role : Role) (k : IntKind) (at : At) (w : ℕ) → is_word_of k w ≡ true → serves role (Literal w) ≡ true
     → fits s p role (node (Literal w) (typ (int k) false false) Prvalue at none) ≡ true
 int_fits s p role k at w e f = fits_from s p role (Literal w) (typ (int k) false false) Prvalue at none (record {
-  serves = f; way = literal_way role k w f; place = refl; branches = refl; row = e; many = refl; labels = refl; below = refl;
+  serves = f;
+  way = literal_way role k w f;
+  place = refl;
+  branches = refl;
+  row = e;
+  many = refl;
+  labels = refl;
+  below = refl;
 })
 
 literal_fits : (s : Setting) (p : Position) (role : Role) (t : Typ) (cat : Cat) (at : At) (w : ℕ) → IsWord t cat w → serves role (Literal w) ≡ true

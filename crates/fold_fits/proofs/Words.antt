@@ -98,7 +98,9 @@ integer_known t cat o w e =
 pub word_typ : (t : Typ) (cat : Cat) (k : IntKind) (w : ℕ) → is_integer t ≡ true → cat ≡ Prvalue → is_scalar_value t ≡ true → scalar_of k t ≡ true
     → is_word_of k w ≡ true → IsWord t cat w
 word_typ (typ (int j) false false) cat k w i c s o e = record {
-  kind = j; typ = refl; prvalue = c;
+  kind = j;
+  typ = refl;
+  prvalue = c;
   word = ap (λ z. is_word_of z w) (kind_same j k o) ∙ e;
 }
 word_typ (typ (int j) true v) cat k w i c s o e = absurd cc

@@ -15,7 +15,7 @@ returns-then-not-names_object t c =
 pub is_tree_plain-requires : goal.is_tree_plain-requires
 is_tree_plain-requires t c =
     let k = kid_lower c.args.id.0 c.node_at-node.result.now c.as_slice-kids.result.now c.loop-kid.kid-index (record { 0 = 0 }) c.node_at-node.ensures.lower
-      c.as_slice-kids.ensures.value c.loop-kid-test.true in
+    c.as_slice-kids.ensures.value c.loop-kid-test.true in
     let w = c.requires.within in
     (omega arith, (c.requires.ordered, omega arith))
 
