@@ -1,9 +1,9 @@
 -- What `run`, `selftest` and `build` come to.
 use Rattle.std.specs.Prelude.{◌≡◌, ◌≤◌, ◌<◌, ℕ, Bool, false, List, [], ◌∷◌, ◌++◌, take, length, Option, None, codes, map, string_bytes}
 use Rattle.std.specs.Option.{option_map}
-use Rattle.command_io.specs.Reads.{Wanted, wanted_each, wanted_given, bytes_of}
+use Rattle.command_io.specs.Reads.{Wanted, wanted, limit_of, wanted_each, wanted_given, bytes_of}
 use Rattle.command_io.specs.Writes.{Written, to_file}
-use Rattle.command_io.specs.declared.files.FileKind.TheVariants.{Source, Input, Schedule}
+use Rattle.command_io.specs.declared.files.FileKind.TheVariants.{Source, Input, Schedule, Object}
 use Rattle.cpp_tree.specs.declared.program.Program.{Program}
 use Rattle.cpp_tree.specs.Units.{program_of}
 use Rattle.exec_command.specs.Exec.{schedule_name, bad_schedule_line}
@@ -13,7 +13,7 @@ use Rattle.prog_gen.specs.Program.{program as program_text}
 use Rattle.run_command.specs.Runs.{Compiled, DecidesTexts}
 use Rattle.schedules.specs.Text.{Spells as Says, IsFirstBad, most_entries}
 use Rattle.source_verdict.specs.Verdict.{Accepts, RefusesTexts}
-use Rattle.tx_answers.specs.Ends.{Ends, Refuses, bare}
+use Rattle.tx_answers.specs.Ends.{Ends, Refuses, IsLimited, bare}
 use Rattle.tx_answers.specs.declared.answer.Answer.{Answer}
 use Rattle.tx_answers.specs.declared.answer.Status.TheVariants.{Done, Limit, BadSchedule}
 use Rattle.tx_code.specs.Objects.{ObjectView}
@@ -71,10 +71,10 @@ pub data Runs (r : Run) (old new : HostState) (a : Answer) : Type 0 where
 
 -- ---- build
 
--- the bytes of an object are written to the file
-pub record Puts (to : List ℕ) (object : ObjectView) (a : Answer) (writes : List Written) : Type 0 where
-  pub answer : a ≡ bare Done
-  pub writes_are : writes ≡ to_file to (object_bytes object) ∷ []
+-- the bytes of an object are written to the file, unless they are more than an object has that is read
+pub data Puts (to : List ℕ) (object : ObjectView) (a : Answer) (writes : List Written) : Type 0 where
+  puts : length (object_bytes object) ≤ limit_of Object → a ≡ bare Done → writes ≡ to_file to (object_bytes object) ∷ [] → Puts to object a writes
+  too_large : limit_of Object < length (object_bytes object) → IsLimited (wanted Object to) a writes → Puts to object a writes
 
 -- it is the object of the first unit, and has exactly its entries; what code its bodies have is not told
 pub record PutsUnit (p : Program) (name to : List ℕ) (a : Answer) (writes : List Written) : Type 0 where

@@ -18,19 +18,22 @@ use command_io::{FileKind, Write, read_file};
 use object_bytes::write;
 use source_verdict::{Verdict, verdict_of};
 use std::alloc::{AllocError, Global};
-use tx_answers::{Answer, Decision, Status, bare, halt, settle};
+use tx_answers::{Answer, Decision, Status, bare, halt, over_limit, settle};
 use tx_code::Object;
 use tx_host::Host;
 use tx_safety::SafeProgram;
 use unit_objects::unit_object;
 
-// The bytes of the object are written to this file.
+// The bytes of the object are written to this file. One that has more than may be read is refused.
 fn put(alloc: Global, to: &str, object: &Object) -> Result<Decision, AllocError>
     requires { IsObject (object_view object.now) }
     ensures { IfOk result (λ d. Puts to.now (object_view object.now) d.answer (map written_of d.writes.items)) }
 {
-    let name = String::from_str(alloc, to)?;
     let bytes = write(alloc, object)?;
+    if bytes.len() as u64 > FileKind::Object.limit() {
+        return over_limit(alloc, to, FileKind::Object);
+    }
+    let name = String::from_str(alloc, to)?;
     let writes = vec![in alloc; Write::File { name, bytes }]?;
     Ok(Decision {
         answer: bare(Status::Done),
@@ -107,7 +110,8 @@ fn decided(
     }
 }
 
-/// Reads the source of the command, and writes the object that it is compiled to, with `fold` that of its folded program; or the first refusal of the source. Nothing is linked.
+/// Reads the source of the command, and writes the object that it is compiled to, with `fold` that of its folded program; or the first refusal of the source.
+/// An object of more than 16,777,216 bytes, which no command reads, is refused too. Nothing is linked.
 pub fn build<H: Host>(alloc: Global, fold: bool, name: &str, to: &str, host: &mut H) -> Answer
     ensures { Ends (wanted kind.Source name.now ∷ []) (on_one (DecidesBuild fold name.now to.now)) (H.state host.old) (H.state host.new) result }
 {
