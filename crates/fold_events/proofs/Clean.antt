@@ -24,7 +24,7 @@ use Rattle.cpp_tree.specs.cpp_types.declared.ranks.Cat.TheVariants.{Prvalue}
 use Rattle.cpp_tree.specs.Trees.{Tree, node, Trees, none, more, kind_of, typ_in, first, rest}
 use Rattle.cpp_tree.specs.Typing.{is_void}
 use Rattle.tx_unsafe.specs.Volatile.{is_volatile_object, is_class_object, is_volatile_class}
-use Rattle.tx_unsafe.specs.Unsafe.{own, own_in, own_in_all, calls_in, calls_in_all, counted, called, sites, is_atomic, is_local, first_of, place_of, where_so}
+use Rattle.tx_unsafe.specs.Unsafe.{own, own_in, own_in_all, is_exception, calls_in, calls_in_all, counted, called, sites, is_atomic, is_local, first_of, place_of, where_so}
 use Rattle.tx_unsafe.specs.declared.finding.Finding.{Finding}
 use Rattle.tx_unsafe.specs.declared.finding.CallSite.{CallSite}
 use Rattle.tx_safety.specs.Safe.{is_empty}
@@ -57,6 +57,10 @@ false_of false e = refl
 
 -- Bare trees
 
+not_made : (b : Bool) (xs : List Finding) → is_empty (cond (b && false) xs [] ++ []) ≡ true
+not_made true xs = refl
+not_made false xs = refl
+
 module _ (v : ℕ → Bool) where
   bare_own : (kind : TKind) (t : Typ) (cat : Cat) (at : At) (a b : Option Tree) → is_bare_node v kind t ≡ true → is_empty (own v kind t cat at a b) ≡ true
   bare_own (Literal w) t cat at a b e = refl
@@ -74,7 +78,7 @@ module _ (v : ℕ → Bool) where
   bare_own (Update op stored operation true old) t cat at a b e = absurd cc
   bare_own (Update op stored operation false old) t cat at a b e = refl
   bare_own CopyAssign t cat at a b e = rw (false_of (is_volatile_class v t) (first_true (not (is_volatile_class v t)) (not (is_closure t)) e)) refl
-  bare_own (Materialize place true) t cat at a b e = refl
+  bare_own (Materialize place true) t cat at a b e = rw (false_of (is_volatile_object v t) e) not_made (is_exception t) _
   bare_own (Materialize place false) t cat at a b e = rw (false_of (is_volatile_object v t) e) refl
   bare_own FullExpression t cat at a b e = refl
   bare_own Throw t cat at a b e = refl

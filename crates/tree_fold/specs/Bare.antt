@@ -1,6 +1,6 @@
 -- Operands that may be dropped where they are not run: they are not unsafe (the TS, [dcl.fct.def.tx]), and have in them no call, no lambda, and no name of
 -- a function or a global, strings included. So what a program refers to, what is unsafe in it and whom it calls stay.
-use Rattle.std.specs.Prelude.{ℕ, Bool, true, false, not, ◌&&◌, ◌||◌}
+use Rattle.std.specs.Prelude.{ℕ, Bool, true, false, not, ◌&&◌}
 use Rattle.cpp_tree.specs.cpp_types.Typ.{Typ, typ, closure}
 use Rattle.cpp_tree.specs.declared.kinds.TKind.{TKind}
 use Rattle.cpp_tree.specs.declared.kinds.TKind.TheVariants.{Literal, Local, ClassTable, Load, Convert, Retype, Binary, Conditional, Comma, Assign, Update}
@@ -33,7 +33,7 @@ is_bare_node volatile Comma t = true
 is_bare_node volatile (Assign kind marked) t = not marked
 is_bare_node volatile (Update op stored operation marked old) t = not marked
 is_bare_node volatile CopyAssign t = is_bare_object volatile t
-is_bare_node volatile (Materialize place argument) t = argument || not (is_volatile_object volatile t)
+is_bare_node volatile (Materialize place argument) t = not (is_volatile_object volatile t)
 is_bare_node volatile FullExpression t = true
 is_bare_node volatile Throw t = true
 is_bare_node volatile Rethrow t = true

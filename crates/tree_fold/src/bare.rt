@@ -56,7 +56,7 @@ pub(crate) fn is_bare_node(kind: TKind, ty: &Ty, volatile: &[bool]) -> bool
         TKind::Load { volatile, .. }
         | TKind::Assign { volatile, .. }
         | TKind::Update { volatile, .. } => !volatile,
-        TKind::Materialize { argument, .. } => argument || !has_volatile(ty, volatile),
+        TKind::Materialize { .. } => !has_volatile(ty, volatile),
         TKind::Store {
             volatile: marked,
             ..
