@@ -78,7 +78,7 @@ module _ (v : ℕ → Bool) where
   bare_own (Update op stored operation true old) t cat at a b e = absurd cc
   bare_own (Update op stored operation false old) t cat at a b e = refl
   bare_own CopyAssign t cat at a b e = rw (false_of (is_volatile_class v t) (first_true (not (is_volatile_class v t)) (not (is_closure t)) e)) refl
-  bare_own (Materialize place true) t cat at a b e = rw (false_of (is_volatile_object v t) e) not_made (is_exception t) _
+  bare_own (Materialize place true) t cat at a b e = rw (false_of (is_volatile_object v t) e) (not_made (is_exception t) _)
   bare_own (Materialize place false) t cat at a b e = rw (false_of (is_volatile_object v t) e) refl
   bare_own FullExpression t cat at a b e = refl
   bare_own Throw t cat at a b e = refl

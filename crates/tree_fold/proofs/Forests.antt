@@ -1,8 +1,6 @@
 -- Trees of their own are added one by one.
-use Rattle.std.proofs.Common.{◌≡◌, ◌≤◌, ◌<◌, ℕ, zero, suc, ◌+◌, nat_lt, nat_eq, ◌==◌, Bool, true, false, ◌&&◌, List, [], ◌∷◌, ◌++◌, length, take, set, slice_get}
-use Rattle.std.proofs.Common.{refl, sym, ◌∙◌, ap, subst, arith, eqb-true, length-append, append-nil, add-one, Option, Some, None, cond, Result, Ok, Err, IfOk, OnOk}
-use Rattle.std.specs.declared.alloc.AllocError.{AllocError}
-use Rattle.std.specs.List.{list_all, sum_by, count_by}
+use Rattle.std.proofs.Common.{◌≡◌, ◌≤◌, ◌<◌, ℕ, zero, suc, ◌+◌, nat_lt, nat_eq, Bool, true, false, List, [], ◌∷◌, ◌++◌, length, take, set, slice_get}
+use Rattle.std.proofs.Common.{refl, sym, ◌∙◌, ap, subst, arith, eqb-true, length-append, append-nil, add-one, Option, Some, None, cond}
 use Rattle.std.proofs.lemmas.Bool.{ltb-true, ltb-false, lt-ltb, and_parts, and_from}
 use Rattle.std.proofs.lemmas.List.Sums.{sum_by-append, sum_by-cons}
 use Rattle.std.proofs.lemmas.Option.{slice_get_within}
@@ -10,12 +8,12 @@ use Rattle.cpp_tree.specs.declared.arena.TNode.{TNode}
 use Rattle.cpp_tree.specs.declared.arena.TNodeId.{TNodeId}
 use Rattle.cpp_tree.specs.declared.program.TFunc.{TFunc}
 use Rattle.cpp_tree.specs.declared.program.UnitTree.{UnitTree}
-use Rattle.cpp_tree.specs.Arena.{IsOrdered, IsForest, are_below, times_in, times_a_kid}
+use Rattle.cpp_tree.specs.Arena.{IsOrdered, are_below, times_in, times_a_kid}
 use Rattle.cpp_tree.specs.Typing.{passes}
 use Rattle.cpp_tree.specs.WellFormed.{is_root, times_a_body}
-use Rattle.cpp_tree.proofs.Shown.{no_nodes, no_kids, ordered_more}
+use Rattle.cpp_tree.proofs.Shown.{no_nodes, ordered_more}
 use Rattle.tree_fold.specs.Forests.{stands, AddsOwn, body_root, body_roots, HasOwnTrees, OwnUpTo, HaveOwnTrees}
-use Rattle.tree_fold.proofs.ProgramParts.{take_set_next, get_set_other}
+use Rattle.tree_fold.proofs.ProgramParts.{take_set_next}
 
 -- Counts
 

@@ -1,7 +1,6 @@
 -- The test of all declarations says what they name.
-use Rattle.std.proofs.Common.{◌≡◌, ◌∙◌, ◌<◌, ◌≤◌, ◌+◌, ◌&&◌, ℕ, zero, suc, Bool, true, false, not, List, [], ◌∷◌, length, get_or, drop, map, slice_get, ap, sym, refl, arith, subst}
+use Rattle.std.proofs.Common.{◌≡◌, ◌∙◌, ◌<◌, ◌≤◌, ◌+◌, ◌&&◌, ℕ, zero, suc, Bool, true, false, not, List, [], ◌∷◌, length, get_or, drop, slice_get, ap, sym, refl, arith}
 use Rattle.std.proofs.Common.{Option, Some, None, IsTrue, ◌↔◌}
-use Rattle.std.specs.Prelude.{option_map}
 use Rattle.std.specs.List.{list_all}
 use Rattle.std.proofs.lemmas.Bool.{and_parts, and_from}
 use Rattle.std.proofs.lemmas.List.{drop_more, drop_all}
@@ -11,11 +10,11 @@ use Rattle.cpp_tree.specs.declared.arena.TNodeId.{TNodeId}
 use Rattle.cpp_tree.specs.declared.program.TFunc.{TFunc}
 use Rattle.cpp_tree.specs.declared.program.UnitTree.{UnitTree}
 use Rattle.cpp_tree.specs.Trees.{Tree, kind_of, first}
-use Rattle.cpp_tree.specs.Arena.{IsOrdered, are_below, trees_at, tree_at, tree_of}
-use Rattle.cpp_tree.specs.Units.{Func, Unit as TypedUnit, TypedProgram, unit_of}
+use Rattle.cpp_tree.specs.Arena.{are_below, trees_at, tree_at, tree_of}
+use Rattle.cpp_tree.specs.Units.{Func, TypedProgram}
 use Rattle.tx_unsafe.proofs.Nodes.{below_at}
 use Rattle.tree_fold.specs.Declaring.{is_init, is_choice, declares_plainly, all_declare_plainly, is_body_plain, is_unit_plain, DeclaresPlainly}
-use Rattle.tree_fold.specs.Bodies.{is_body_within, HaveRootsFrom, ReadableFrom}
+use Rattle.tree_fold.specs.Bodies.{is_body_within, HaveRootsFrom}
 use Rattle.tree_fold.proofs.ProgramParts.{body_is_within}
 
 -- One node: `own` tells whether it names what it declares, and `ids` are its kids

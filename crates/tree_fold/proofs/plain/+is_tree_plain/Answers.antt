@@ -1,4 +1,4 @@
-use Rattle.std.proofs.Common.{◌≡◌, ◌∙◌, ◌<◌, true, false, sym, ap, length, List, arith, rules, get_or}
+use Rattle.std.proofs.Common.{◌≡◌, ◌∙◌, true, false, sym, ap, length, arith, rules}
 use Rattle.cpp_tree.specs.Arena.{trees_of, are_below}
 use Rattle.tree_fold.proofs.PlainTrees.{kid_lower, refused_here, refused_below, accepted}
 use Rattle.tree_fold.proofs.plain.+is_tree_plain.Goals as goal

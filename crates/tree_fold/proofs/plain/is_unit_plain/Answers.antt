@@ -1,4 +1,3 @@
-use Rattle.std.proofs.Common.{◌∙◌, ap}
 use Rattle.cpp_tree.specs.declared.arena.TNode.{TNode}
 use Rattle.tree_fold.specs.Bodies.{HaveRootsFrom}
 use Rattle.std.proofs.Common.{List, sym, subst}
