@@ -1,5 +1,5 @@
 -- The words of calls, in the frames of the functions of a program.
-use Rattle.std.proofs.Common.{◌≡◌, refl, sym, ap, ◌∙◌, subst, ℕ, zero, suc, ◌+◌, Bool, true, false, List, [], ◌∷◌, ◌++◌, map, take, length, slice_get}
+use Rattle.std.proofs.Common.{◌≡◌, refl, sym, ap, ◌∙◌, subst, ℕ, suc, Bool, true, false, List, [], ◌∷◌, ◌++◌, map, take, length, slice_get}
 use Rattle.std.proofs.Common.{Option, Some, None, arith, length-append}
 use Rattle.std.specs.Prelude.{◌≤◌, is_some, if◌then◌else◌}
 use Rattle.std.proofs.lemmas.List.{length-map}
@@ -12,11 +12,10 @@ use Rattle.elab_rules.specs.cpp_tree.Units.{Param, Func as UnitFunc, Unit}
 use Rattle.elab_rules.specs.cpp_tree.Notation.{plain}
 use Rattle.elab_rules.specs.cpp_tree.Typing.{is_class_typ}
 use Rattle.elab_rules.specs.elab_ctx.Ctx.{Func}
-use Rattle.elab_rules.specs.Initialising.{signature_result}
 use Rattle.elab_rules.specs.Functions.{word_item, result_items, this_items}
 use Rattle.elab_rules.specs.Statements.{State, Body}
 use Rattle.elab_rules.specs.Programs.{typed_func, body_of, one_if, words_of, unit_shown}
-use Rattle.elab_bodies.specs.Bodies.{result_of, is_object_of, param_items, call_items, Begin, BeginsWithCall, WellSigned, IsBodyOf, BodiesFit, times_made}
+use Rattle.elab_bodies.specs.Bodies.{result_of, is_object_of, param_items, call_items, Begin, WellSigned, IsBodyOf, BodiesFit, times_made}
 use Rattle.elab_bodies.proofs.Shown.{shown_at, found}
 use Rattle.elab_program_bodies.specs.Units.{IsUnit}
 use Rattle.elab_program_bodies.proofs.Programs.{come_law}
