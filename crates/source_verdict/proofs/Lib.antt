@@ -3,4 +3,5 @@ mod Alike
 mod Meant
 mod OneProgram
 mod OneVerdict
+mod Unmarked
 mod WellFormed

@@ -8,7 +8,7 @@ use Rattle.cpp_tree.specs.declared.faults.UnsafeReason.{UnsafeReason}
 use Rattle.cpp_tree.specs.declared.program.Program.{Program}
 use Rattle.cpp_tree.specs.Units.{program_of}
 use Rattle.tx_safety.specs.Safe.{IsSafe, FirstUnsafe}
-use Rattle.safe_blocks.specs.UnsafeFree.{IsUnmarked}
+use Rattle.offset_bounds.specs.Fitting.{OffsetsFit}
 use Rattle.command_io.specs.Writes.{Written, written_of}
 use Rattle.tx_answers.specs.Ends.{Refuses}
 use Rattle.tx_answers.specs.declared.answer.Answer.{Answer}
@@ -57,14 +57,14 @@ pub data RefusesTexts (names texts : List (List ℕ)) (a : Answer) (writes : Lis
       → FirstUnsafe (program_of p) at reason
       → RefusesAt names texts at.source at.offset 4 (codes "Unsafe " ++ reason_name reason) Refused a writes → RefusesTexts names texts a writes
 
--- each text is a unit, and the program is theirs, well formed and safe, without a mark of `volatile` where the check does not look
+-- each text is a unit, and the program is theirs, well formed and safe; its offsets have 32 bits
 pub record Accepts (texts : List (List ℕ)) (p : Program) : Type 0 where
   pub units : List UnitRecord
   pub read : AreRead 0 texts units
   pub elaborated : HasProgram texts (program_of p)
   pub well_formed : WellFormed p
   pub safe : IsSafe (program_of p)
-  pub unmarked : IsUnmarked (program_of p)
+  pub offsets : OffsetsFit (program_of p)
 
 -- what the verdict says of the texts, whose files have these names
 abbrev pub Says : (names texts : List (List ℕ)) → VerdictOf → Type 0

@@ -13,7 +13,7 @@ use cpp_ast::Unit;
 use cpp_tree::Program;
 use elab_units::elaborate;
 use elab_well_formed::laws::programs;
-use mark_check::is_unmarked;
+use offset_bounds::offsets_fit;
 use std::alloc::{AllocError, Global};
 use tree_forests::laws::forests;
 use tx_answers::Decision;
@@ -30,8 +30,7 @@ pub enum Verdict {
     Refused(Decision),
 }
 
-// A program that is well formed is checked for safety. One that is safe is tested for marks of `volatile` where the check does not look: elaboration makes none,
-// so that one with such a mark counts as want of memory.
+// A program that is well formed is checked for safety.
 fn checked(
     alloc: Global,
     names: &[String],
@@ -48,11 +47,8 @@ fn checked(
     readable();
     match check(alloc, program) {
         Ok(safe) => {
-            if is_unmarked(&safe)? {
-                Ok(Verdict::Accepted(safe))
-            } else {
-                Err(AllocError)
-            }
+            offsets_fit(&safe);
+            Ok(Verdict::Accepted(safe))
         }
         Err(SafetyFault::Unsafe { at, reason }) => Ok(Verdict::Refused(refuse_unsafe(
             alloc, names, texts, at, reason,
