@@ -80,8 +80,8 @@ with_body st h k f e l (Some b) i = let r = found k st.bodies b i in
     subst (λ (z : Func). HasCallWords (typed_func st.ctx.classes z (Some b)))
     (same_Some x.func f (sym x.at ∙ ap (λ (n : ℕ). slice_get st.ctx.funcs n) r.func ∙ e)) (with_call st.ctx.classes x.func b x.signed x.fits)
 
-in_unit : (s : List Lexeme) (decls : syntax.Trees) (st : State) → IsUnit s decls st → (k : ℕ) (f : UnitFunc) → slice_get (unit_shown s decls st).funcs k ≡ Some f
-    → HasCallWords f
+in_unit : (s : List Lexeme) (decls : syntax.Trees) (st : State) → IsUnit s decls st → (k : ℕ) (f : UnitFunc)
+    → slice_get (unit_shown s decls st).funcs k ≡ Some f → HasCallWords f
 in_unit s decls st u k f e = let x = shown_at st 0 st.ctx.funcs k f k (omega arith) e in
     subst HasCallWords x.is (with_body st (hold_law s decls st u).stand.fit k x.func x.at (once_law s decls st u k) (body_of k st.bodies) refl)
 

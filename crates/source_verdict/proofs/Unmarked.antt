@@ -25,7 +25,7 @@ use Rattle.offset_bounds.specs.Fitting.{OffsetsFit}
 use Rattle.elab_well_formed.specs.Programs.{words_of_call, HasCallWords, ProgramsHaveCallWords}
 use Rattle.source_verdict.specs.Elaborated.{HasProgram}
 
-is_plain : Typ → Bool
+abbrev is_plain : Typ → Bool
 is_plain t = not (is_marked t)
 
 -- The words
