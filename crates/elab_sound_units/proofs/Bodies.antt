@@ -28,13 +28,13 @@ use Rattle.elab_rules.specs.Statements.{State, Done, Body, Lambdas, with_work, a
 use Rattle.elab_rules.specs.Statements.{copy_initialised}
 use Rattle.elab_rules.specs.Functions.{this_at, result_items}
 use Rattle.elab_rules.specs.Functions.{Header, entered, leaving, with_parameters, within_frame, body_made, defines_well, with_definition, defined_function}
-use Rattle.elab_rules.specs.Classes.{Method, method_of, body_in}
+use Rattle.elab_rules.specs.Classes.{Method, method_of, body_in, last_token, token_end}
 use Rattle.elab_rules.specs.Members.{Given, Giving, member_index, member_type, given_part, given_base, is_named_class, is_base_type, given_for}
 use Rattle.elab_rules.specs.Members.{for_part, given_by, all_given, default_built, base_built, member_built, members_built, parts_built, in_object}
 use Rattle.elab_rules.specs.Members.{with_default_member}
 use Rattle.elab_rules.specs.Members.{this_type, constructor_body, destructor_body, body_by_kind, method_body, default_value, default_made, default_for}
 use Rattle.elab_rules.specs.Members.{default_of}
-use Rattle.elab_rules.specs.Members.{defaults_of, all_defaults, initialiser_in, place_of_header, late_method, late_function, late_of, all_late}
+use Rattle.elab_rules.specs.Members.{defaults_of, all_defaults, initialiser_in, place_of_header, late_agrees, late_method, late_function, late_of, all_late}
 use Rattle.elab_fits.specs.Standing.{On}
 use Rattle.elab_fits.proofs.Steps.{bind, skip}
 use Rattle.elab_sound_types.specs.Types.{is_class}
@@ -395,8 +395,7 @@ module _ (lams : Lambdas) (s : List Lexeme) (keeps : KeepsSound true s lams) whe
   pub late_method_after : (st : State) (n : ℕ) (kind : FuncKind) (m : Method) (body : Option syntax.Tree) → IsSoundState st → is_class st.ctx.classes n ≡ true
       → IsRead s st.ctx.classes n m → SpelledIf s body → On (After st) (late_method lams s st n kind m body)
   late_method_after st n kind m (Some body) h c r j = skip (After st) (place_of_header st.ctx m.header) _
-      (λ place. with_late place (check m.header.at TypeDiffers
-      (typ_eq (signature_result (func_at st.ctx.funcs place).declared.signature) (signature_result m.header.signature))))
+      (λ place. with_late place (late_agrees m.header (token_end (slice_get s (last_token (Some body)))) (func_at st.ctx.funcs place)))
     where
       with_late : (place : ℕ) (o : Result Bool ElabFault) → On (After st) (and_then (and_then o (λ (y : Bool). Ok (with_definition st.ctx place m.header
           (func_at st.ctx.funcs place).text (func_at st.ctx.funcs place).closed_at)))
