@@ -21,7 +21,7 @@ use Rattle.elab_holds.proofs.Alone.{slots_law}
 use Rattle.elab_holds.proofs.Sound.{typ_sound}
 use Rattle.elab_movable.proofs.Lambdas.{lambdas_keep}
 use Rattle.elab_sound_types.proofs.Growth.{sound_more}
-use Rattle.elab_sound_units.proofs.Steps.{parts_law, copies_law}
+use Rattle.elab_sound_units.proofs.Steps.{parts_law as parts_made_law, copies_law}
 use Rattle.elab_fits_parts.proofs.Bases.{bases_law}
 use Rattle.elab_fits_parts.proofs.Objects.{objects_law}
 use Rattle.elab_fits_parts.proofs.Parts.{parts_law}
@@ -44,7 +44,7 @@ below_is lambdas s = record {
   made = defaults_made;
   strings = strings_build;
   builds = parts_build;
-  built = parts_law;
+  built = parts_made_law;
   copies = parts_copied_fit;
   copied = copies_law;
   sources = source_stands;
