@@ -16,6 +16,14 @@ MARKS = re.compile(r"(?:(?:abbrev|unfoldable|opaque|pub) )+")
 loaded = {}
 
 
+def own_name(module):
+    """The name of a module in its own crate: Rattle.A.specs.B.REST is what A passes on of crate B."""
+    parts = module.split(".")
+    while len(parts) > 4 and parts[2] == "specs" and CRATES.joinpath(parts[3]).is_dir():
+        parts = ["Rattle", parts[3], "specs", *parts[4:]]
+    return ".".join(parts)
+
+
 def module_named(name):
     if name not in loaded:
         loaded[name] = Module(name)
@@ -49,11 +57,11 @@ class Module:
         listed = re.match(r"(?:pub )?use ([\w.]+)\.\{(.*)\}", text)
         alias = re.match(r"(?:pub )?use ([\w.]+) as (\w+)", text)
         if alias:
-            self.aliases[alias[2]] = alias[1]
+            self.aliases[alias[2]] = own_name(alias[1])
         if listed:
             for entry in listed[2].split(","):
                 there, _, here = entry.strip().partition(" as ")
-                self.imports[here or there] = (listed[1], there)
+                self.imports[here or there] = (own_name(listed[1]), there)
 
     def read_constructors(self, lines):
         for line in lines:
@@ -87,9 +95,9 @@ def meaning_in(module, name):
 
 
 def constant_value(module, name):
-    """The value of a constant of the code: Rattle.CRATE.specs.declared.FILE.TheConstants stands for crates/CRATE/src/FILE.rt."""
+    """The value of a constant of the code: Rattle.CRATE.specs.declared.FILE.TheConstants stands for crates/CRATE/src/FILE.rt, with no FILE for lib.rt."""
     _, crate, _, _, *folders, _ = module.split(".")
-    text = CRATES.joinpath(crate, "src", *folders).with_suffix(".rt").read_text(encoding="utf-8")
+    text = CRATES.joinpath(crate, "src", *(folders or ["lib"])).with_suffix(".rt").read_text(encoding="utf-8")
     return int(re.search(rf"const {name}: \w+ = ([\d_]+);", text)[1])
 
 
