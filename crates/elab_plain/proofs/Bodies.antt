@@ -32,7 +32,7 @@ use Rattle.elab_places.proofs.Keeping as keeping
 use Rattle.tree_fold.specs.Declaring.{declares_plainly}
 use Rattle.elab_plain.specs.Plain.{RoundPlain, BodiesPlain}
 use Rattle.elab_plain.proofs.Counting.{choice, own_choosing, choosing, all_choosing, of_none, plainly, followed}
-use Rattle.elab_plain.proofs.Declaring.{StatePlain, Ends}
+use Rattle.elab_plain.proofs.Declaring.{StatePlain, KeepsPlain, Ends}
 use Rattle.elab_plain.proofs.Statements.{statements}
 
 -- The end of a body
@@ -92,7 +92,7 @@ made_plain old at func tree st own h e = skip StatePlain (Functions.within_frame
   bodies = one_body st.bodies (record { func = func; tree = tree; frame = st.work.frame }) h.bodies (plainly tree e);
 })
 
-module _ (lams : Lambdas) (keeps : (s : List Lexeme) (st : State) (t : syntax.Tree) → StatePlain st → On StatePlain (lams s st t)) (s : List Lexeme) where
+module _ (lams : Lambdas) (keeps : KeepsPlain lams) (s : List Lexeme) where
   pub function_plain : (st : State) (h : Header) (this : Option Typ) (func : ℕ) (t : syntax.Tree) → StatePlain st
       → On StatePlain (Functions.function_body lams s st h this func t)
   function_plain st h this func (syntax.node kind q token kids) own =

@@ -40,7 +40,7 @@ use Rattle.elab_places.proofs.Keeping as keeping
 use Rattle.elab_rules.specs.elab_ctx.Steps.{Made}
 use Rattle.elab_plain.specs.Plain.{RoundPlain}
 use Rattle.elab_plain.proofs.Counting.{choice, choosing, all_choosing, of_none, all_of_none, made, followed}
-use Rattle.elab_plain.proofs.Declaring.{StatePlain, Ends, full_plain, all_lambdas}
+use Rattle.elab_plain.proofs.Declaring.{StatePlain, KeepsPlain, Ends, full_plain, all_lambdas}
 use Rattle.elab_plain.proofs.Statements.{statements}
 use Rattle.elab_plain.proofs.Bodies.{made_plain}
 
@@ -68,7 +68,7 @@ record Gathers (x : Giving) : Type 0 where
   given : GivenPlain x.given
   own : StatePlain x.state
 
-module _ (lams : Lambdas) (keeps : (s : List Lexeme) (st : State) (t : syntax.Tree) → StatePlain st → On StatePlain (lams s st t)) (s : List Lexeme) (n : ℕ) where
+module _ (lams : Lambdas) (keeps : KeepsPlain lams) (s : List Lexeme) (n : ℕ) where
   given_values : (x : Giving) (st : State) (i : Option ℕ) (at : At) (t : Typ) (es : syntax.Trees) → Gathers x → StatePlain st
       → On Gathers (Members.given_values lams s n x st i at t es)
   given_values x st i at t es h j = bind (expressions.GivesOperands declaring 0 st.work) Gathers (operands_of s st.ctx st.work es) _
@@ -208,7 +208,7 @@ destructor_held c at q n ts =
 
 -- Bodies
 
-module _ (lams : Lambdas) (keeps : (s : List Lexeme) (st : State) (t : syntax.Tree) → StatePlain st → On StatePlain (lams s st t)) (s : List Lexeme) where
+module _ (lams : Lambdas) (keeps : KeepsPlain lams) (s : List Lexeme) where
   block_made : (st : State) (h : Header) (n func : ℕ) (parts : Done) (t : syntax.Tree) → StatePlain st → Ends parts
       → On StatePlain (Members.constructor_block lams s st h n func parts t)
   block_made st h n func parts (syntax.node kind q token kids) own i =

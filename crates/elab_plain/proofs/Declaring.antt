@@ -37,8 +37,13 @@ use Rattle.elab_places.proofs.Keeping as keeping
 use Rattle.elab_plain.specs.Plain.{RoundPlain}
 use Rattle.elab_plain.proofs.Counting.{choice, choosing, all_choosing, of_none, all_of_none, made, followed}
 
+-- in the bodies that are made so far no declaration has a choice as its address
 abbrev pub StatePlain : State → Type 0
 StatePlain st = RoundPlain (round_of st)
+
+-- so what makes lambdas leaves it
+abbrev pub KeepsPlain : Lambdas → Type 0
+KeepsPlain lams = (s : List Lexeme) (st : State) (t : syntax.Tree) → StatePlain st → On StatePlain (lams s st t)
 
 pub full_plain : (at : At) (e : Tree) → held declaring e ≡ 0 → choosing (Statements.full at e) ≡ 0
 full_plain at e h = of_none (Statements.full at e) (omega (arith, told.full declaring at e))
@@ -58,14 +63,14 @@ pub init_node : (st : State) (t : Typ) (at q : At) (variable e : Tree) → choic
 init_node st t at q variable e i j h = let a = full_plain q e h in
     let b = all_of_none (destroys st.ctx at t) (parts.destroys declaring st.ctx at t) in omega arith
 
-module _ (lams : Lambdas) (keeps : (s : List Lexeme) (st : State) (t : syntax.Tree) → StatePlain st → On (λ (x : State). StatePlain x) (lams s st t)) (s : List Lexeme) where
+module _ (lams : Lambdas) (keeps : KeepsPlain lams) (s : List Lexeme) where
   -- Full-expressions
 
-  pub all_lambdas : (st : State) (es : syntax.Trees) → StatePlain st → On (λ (x : State). StatePlain x) (Statements.all_lambdas lams s st es)
+  pub all_lambdas : (st : State) (es : syntax.Trees) → StatePlain st → On StatePlain (Statements.all_lambdas lams s st es)
   all_lambdas st es own = keeping.all_lambdas RoundPlain lams keeps s st es own
 
   pub full_operand : (st : State) (e : syntax.Tree) → StatePlain st → On FullEnds (Statements.full_operand lams s st e)
-  full_operand st e own = bind (λ (x : State). StatePlain x) FullEnds (lams s st e) _ (keeps s st e own)
+  full_operand st e own = bind StatePlain FullEnds (lams s st e) _ (keeps s st e own)
       (λ x h. bind (expressions.GivesTyped declaring 0 x.work) FullEnds (and_then (expression_of s x.ctx x.work e) (chosen_operand x.ctx)) _
       (expressions.chosen declaring 0 x.ctx x.work (expression_of s x.ctx x.work e)
       (expressions.expression declaring s x.ctx x.ctx.closures x.work e))
@@ -141,12 +146,12 @@ module _ (lams : Lambdas) (keeps : (s : List Lexeme) (st : State) (t : syntax.Tr
       (told.default_object declaring v.ctx t at)
       (λ e i. record { counted = let d = init_node v t at at (Statements.variable_tree st t at) e refl refl i in omega arith; own = h })
   with_initialiser st v t at (syntax.more (syntax.node k.ParenthesizedInitializer q token es) syntax.none) h =
-      bind (λ (x : State). StatePlain x) Ends (Statements.all_lambdas lams s v es) _ (all_lambdas v es h)
+      bind StatePlain Ends (Statements.all_lambdas lams s v es) _ (all_lambdas v es h)
       (λ x i. values_initialised st x t at (at_of q) (operands_of s x.ctx x.work es) i
       (expressions.operands declaring s x.ctx x.ctx.closures x.work es))
   with_initialiser st v t at (syntax.more (syntax.node k.EqualInitializer q token
       (syntax.more (syntax.node k.BracedInitList r brace items) syntax.none)) syntax.none) h =
-      bind (λ (x : State). StatePlain x) Ends (Statements.all_lambdas lams s v items) _ (all_lambdas v items h)
+      bind StatePlain Ends (Statements.all_lambdas lams s v items) _ (all_lambdas v items h)
       (λ x i. bind (Gives declaring 0 x.work) Ends
       (Braces.item_of s x.ctx x.work (Statements.variable_tree st t at) t (syntax.node k.BracedInitList r brace items)) _
       (braces.item declaring s x.ctx i.defaults x.work (Statements.variable_tree st t at) t (syntax.node k.BracedInitList r brace items) refl)

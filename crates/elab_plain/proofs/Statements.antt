@@ -35,7 +35,7 @@ use Rattle.elab_places.proofs.Operators as operators
 use Rattle.elab_places.proofs.Choices as choices
 use Rattle.elab_plain.proofs.Counting.{own_choosing, choosing, all_choosing, of_none, all_of_none, made, followed}
 use Rattle.elab_plain.proofs.Declaring as variables
-use Rattle.elab_plain.proofs.Declaring.{StatePlain, Ends, FullEnds, full_plain}
+use Rattle.elab_plain.proofs.Declaring.{StatePlain, KeepsPlain, Ends, FullEnds, full_plain}
 
 -- `return`
 
@@ -145,22 +145,22 @@ handler_type s st at t own = record { counted = omega arith; own = own }
 
 -- Parts of statements
 
-the_tree_held : (at : At) (ts : Trees) → choosing (the_tree at ts) ≤ all_choosing ts
-the_tree_held at none = omega arith
-the_tree_held at (more t none) = omega arith
-the_tree_held at (more t (more u us)) = omega arith
+the_tree_count : (at : At) (ts : Trees) → choosing (the_tree at ts) ≤ all_choosing ts
+the_tree_count at none = omega arith
+the_tree_count at (more t none) = omega arith
+the_tree_count at (more t (more u us)) = omega arith
 
 jump : (allowed : Bool) (kind : TKind) (st : State) (at : At) → StatePlain st → choosing (statement kind at none) ≡ 0
     → On Ends (Statements.jump allowed kind st at)
 jump allowed kind st at own h = skip Ends (check at BadBreak allowed) _ (λ y. nothing st (statement kind at none) own h)
 
-in_block_held : (b : Bool) (at : At) (ts : Trees) → all_choosing (Statements.in_block_if b at ts) ≤ all_choosing ts
-in_block_held true at ts = omega arith
-in_block_held false at ts = same (all_choosing ts)
+in_block_count : (b : Bool) (at : At) (ts : Trees) → all_choosing (Statements.in_block_if b at ts) ≤ all_choosing ts
+in_block_count true at ts = omega arith
+in_block_count false at ts = same (all_choosing ts)
 
-part : (s : List Lexeme) (t : syntax.Tree) (st : State) (r : Result Done ElabFault) → On Ends r → On Ends (and_then r (a_part s t))
-part s t st r h = bind Ends Ends r (a_part s t) h (λ d i. record {
-  counted = let a = i.counted in let b = in_block_held (Statements.is_declaration t) (Statements.beginning s t) d.trees in omega arith;
+part : (s : List Lexeme) (t : syntax.Tree) (r : Result Done ElabFault) → On Ends r → On Ends (and_then r (a_part s t))
+part s t r h = bind Ends Ends r (a_part s t) h (λ d i. record {
+  counted = let a = i.counted in let b = in_block_count (Statements.is_declaration t) (Statements.beginning s t) d.trees in omega arith;
   own = i.own;
 })
 
@@ -173,7 +173,7 @@ record Switches (v : Switched) : Type 0 where
   counted : choosing v.value ≡ 0
   own : StatePlain v.state
 
-module _ (lams : Lambdas) (keeps : (s : List Lexeme) (st : State) (t : syntax.Tree) → StatePlain st → On (λ (x : State). StatePlain x) (lams s st t)) (s : List Lexeme) where
+module _ (lams : Lambdas) (keeps : KeepsPlain lams) (s : List Lexeme) where
   returned : (st : State) (at : At) (ts : syntax.Trees) → StatePlain st → On Ends (Statements.returned lams s st at ts)
   returned st at syntax.none own = return_nothing st at st.ctx.returns own
   returned st at (syntax.more e ts) own = bind FullEnds Ends (Statements.full_operand lams s st e) _
@@ -201,42 +201,40 @@ module _ (lams : Lambdas) (keeps : (s : List Lexeme) (st : State) (t : syntax.Tr
   step st at t own = variables.expression_statement lams keeps s st t own
 
   -- one behind the other
-  joins : (st : State) (x y : Done) → Ends x → Ends y → Ends (Statements.joined x y)
-  joins st x y h i =
+  joins : (x y : Done) → Ends x → Ends y → Ends (Statements.joined x y)
+  joins x y h i =
       record { counted = let a = h.counted in let b = i.counted in let d = followed x.trees y.trees in omega arith; own = i.own }
 
   -- a test and a statement behind it
-  two_kids : (kind : TKind) (at : At) (st : State) (x y : Done) → ((ts : Trees) → own_choosing kind ts ≡ 0) → Ends x
-      → all_choosing y.trees ≡ 0 → StatePlain y.state
+  two_kids : (kind : TKind) (at : At) (x y : Done) → ((ts : Trees) → own_choosing kind ts ≡ 0) → Ends x → Ends y
       → Ends (record {
         trees = one (statement kind at (three (the_tree at x.trees) (the_tree at y.trees) (block at none)));
         state = outer x.state y.state;
       })
-  two_kids kind at st x y k h i own = record {
-    counted = let a = h.counted in let c = the_tree_held at x.trees in let d = the_tree_held at y.trees in
+  two_kids kind at x y k h i = record {
+    counted = let a = h.counted in let b = i.counted in let c = the_tree_count at x.trees in let d = the_tree_count at y.trees in
         let e = k (three (the_tree at x.trees) (the_tree at y.trees) (block at none)) in omega arith;
-    own = own;
+    own = i.own;
   }
 
-  three_kids : (at : At) (st : State) (x y z : Done) → Ends x
-      → all_choosing y.trees ≡ 0
-      → all_choosing z.trees ≡ 0 → StatePlain z.state
+  three_kids : (at : At) (x y z : Done) → Ends x → Ends y → Ends z
       → Ends (record {
         trees = one (statement forms.Conditional at (three (the_tree at x.trees) (the_tree at y.trees) (the_tree at z.trees)));
         state = outer x.state z.state;
       })
-  three_kids at st x y z h i j own = record {
-    counted = let a = h.counted in let c = the_tree_held at x.trees in let d = the_tree_held at y.trees in let e = the_tree_held at z.trees in omega arith;
-    own = own;
+  three_kids at x y z h i j = record {
+    counted = let a = h.counted in let b = i.counted in let g = j.counted in
+        let c = the_tree_count at x.trees in let d = the_tree_count at y.trees in let e = the_tree_count at z.trees in omega arith;
+    own = j.own;
   }
 
   -- a `for` with its parts
-  looped : (at : At) (st : State) (f x z y : Done) (body : Tree) → Ends f → Ends x → Ends z → Ends y
+  looped : (at : At) (f x z y : Done) (body : Tree) → Ends f → Ends x → Ends z → Ends y
       → choosing body ≤ all_choosing y.trees
       → all_choosing (one (block at (followed_by f.trees
       (one (statement (forms.Loop true) at (three (the_tree at x.trees) body (the_tree at z.trees))))))) ≡ 0
-  looped at st f x z y body a b c d e = let a1 = a.counted in let b1 = b.counted in let c1 = c.counted in let d1 = d.counted in
-      let u = the_tree_held at x.trees in let v = the_tree_held at z.trees in
+  looped at f x z y body a b c d e = let a1 = a.counted in let b1 = b.counted in let c1 = c.counted in let d1 = d.counted in
+      let u = the_tree_count at x.trees in let v = the_tree_count at z.trees in
       let w = followed f.trees (one (statement (forms.Loop true) at (three (the_tree at x.trees) body (the_tree at z.trees)))) in omega arith
 
   mutual
@@ -251,29 +249,29 @@ module _ (lams : Lambdas) (keeps : (s : List Lexeme) (st : State) (t : syntax.Tr
     one_statement st (syntax.node k.IfStatement q token (syntax.more e (syntax.more a syntax.none))) own =
         bind Ends Ends (condition lams s st e) _ (variables.condition lams keeps s st e own)
         (λ x h. bind Ends Ends (and_then (statement_of lams s (inner x.state) a) (a_part s a)) _
-        (part s a (inner x.state) (statement_of lams s (inner x.state) a) (one_statement (inner x.state) a h.own))
-        (λ y i. two_kids forms.Conditional (at_of q) st x y (λ ts. refl) h i.counted i.own))
+        (part s a (statement_of lams s (inner x.state) a) (one_statement (inner x.state) a h.own))
+        (λ y i. two_kids forms.Conditional (at_of q) x y (λ ts. refl) h i))
     one_statement st (syntax.node k.IfStatement q token (syntax.more e (syntax.more a (syntax.more b syntax.none)))) own =
         bind Ends Ends (condition lams s st e) _ (variables.condition lams keeps s st e own)
         (λ x h. bind Ends Ends (and_then (statement_of lams s (inner x.state) a) (a_part s a)) _
-        (part s a (inner x.state) (statement_of lams s (inner x.state) a) (one_statement (inner x.state) a h.own))
+        (part s a (statement_of lams s (inner x.state) a) (one_statement (inner x.state) a h.own))
         (λ y i. bind Ends Ends
         (and_then (statement_of lams s (inner (outer x.state y.state)) b) (a_part s b)) _
-        (part s b (inner (outer x.state y.state)) (statement_of lams s (inner (outer x.state y.state)) b)
+        (part s b (statement_of lams s (inner (outer x.state y.state)) b)
         (one_statement (inner (outer x.state y.state)) b i.own))
-        (λ z j. three_kids (at_of q) st x y z h i.counted j.counted j.own)))
+        (λ z j. three_kids (at_of q) x y z h i j)))
     one_statement st (syntax.node k.WhileStatement q token (syntax.more e (syntax.more a syntax.none))) own =
         bind Ends Ends (condition lams s st e) _ (variables.condition lams keeps s st e own)
         (λ x h. bind Ends Ends (and_then (statement_of lams s (in_loop x.state) a) (a_part s a)) _
-        (part s a (in_loop x.state) (statement_of lams s (in_loop x.state) a) (one_statement (in_loop x.state) a h.own))
-        (λ y i. two_kids (forms.Loop true) (at_of q) st x y (λ ts. refl) h i.counted i.own))
+        (part s a (statement_of lams s (in_loop x.state) a) (one_statement (in_loop x.state) a h.own))
+        (λ y i. two_kids (forms.Loop true) (at_of q) x y (λ ts. refl) h i))
     one_statement st (syntax.node k.DoStatement q token (syntax.more a (syntax.more e syntax.none))) own =
         bind Ends Ends (and_then (statement_of lams s (in_loop st) a) (a_part s a)) _
-        (part s a (in_loop st) (statement_of lams s (in_loop st) a) (one_statement (in_loop st) a own))
+        (part s a (statement_of lams s (in_loop st) a) (one_statement (in_loop st) a own))
         (λ y i. bind Ends Ends (condition lams s (outer st y.state) e) _
         (variables.condition lams keeps s (outer st y.state) e i.own)
         (λ x j. record {
-          counted = let a = i.counted in let b = j.counted in let c = the_tree_held (at_of q) x.trees in let d = the_tree_held (at_of q) y.trees in omega arith;
+          counted = let a = i.counted in let b = j.counted in let c = the_tree_count (at_of q) x.trees in let d = the_tree_count (at_of q) y.trees in omega arith;
           own = j.own;
         }))
     one_statement st (syntax.node k.ForStatement q token
@@ -283,7 +281,7 @@ module _ (lams : Lambdas) (keeps : (s : List Lexeme) (st : State) (t : syntax.Tr
         (λ x a2. bind Ends Ends (for_step lams s x.state (at_of q) n) _ (step x.state (at_of q) n a2.own)
         (λ z a3. bind Ends Ends (statements_of lams s z.state kids) _ (statements z.state kids a3.own)
         (λ y a4. record {
-          counted = looped (at_of q) st f x z y (block (at_of r) y.trees) a1 a2 a3 a4 (omega arith);
+          counted = looped (at_of q) f x z y (block (at_of r) y.trees) a1 a2 a3 a4 (omega arith);
           own = a4.own;
         }))))
     one_statement st (syntax.node k.ForStatement q token (syntax.more i (syntax.more e (syntax.more n (syntax.more a syntax.none))))) own =
@@ -293,9 +291,9 @@ module _ (lams : Lambdas) (keeps : (s : List Lexeme) (st : State) (t : syntax.Tr
         (λ z a3. bind Ends Ends (and_then (statement_of lams s z.state a) (a_part s a))
         (λ (y : Done). done (one (block (at_of q) (followed_by f.trees
         (one (statement (forms.Loop true) (at_of q) (three (the_tree (at_of q) x.trees) (the_tree (at_of q) y.trees) (the_tree (at_of q) z.trees)))))))
-        (outer st y.state)) (part s a z.state (statement_of lams s z.state a) (one_statement z.state a a3.own))
+        (outer st y.state)) (part s a (statement_of lams s z.state a) (one_statement z.state a a3.own))
         (λ y a4. record {
-          counted = looped (at_of q) st f x z y (the_tree (at_of q) y.trees) a1 a2 a3 a4 (the_tree_held (at_of q) y.trees);
+          counted = looped (at_of q) f x z y (the_tree (at_of q) y.trees) a1 a2 a3 a4 (the_tree_count (at_of q) y.trees);
           own = a4.own;
         }))))
     one_statement st (syntax.node k.SwitchStatement q token (syntax.more e (syntax.more (syntax.node kind r brace kids) syntax.none))) own =
@@ -305,10 +303,10 @@ module _ (lams : Lambdas) (keeps : (s : List Lexeme) (st : State) (t : syntax.Tr
         (λ d i. record { counted = let a = h.counted in let b = i.counted in omega arith; own = i.own }))
     one_statement st (syntax.node k.CaseStatement q token (syntax.more e (syntax.more a syntax.none))) own =
         bind Ends Ends (Statements.case_label s st (at_of q) e) _ (case_label s st (at_of q) e own)
-        (λ x h. bind Ends Ends (statement_of lams s x.state a) _ (one_statement x.state a h.own) (λ y i. joins st x y h i))
+        (λ x h. bind Ends Ends (statement_of lams s x.state a) _ (one_statement x.state a h.own) (λ y i. joins x y h i))
     one_statement st (syntax.node k.DefaultStatement q token (syntax.more a syntax.none)) own =
         bind Ends Ends (Statements.default_label st (at_of q)) _ (default_label st (at_of q) own)
-        (λ x h. bind Ends Ends (statement_of lams s x.state a) _ (one_statement x.state a h.own) (λ y i. joins st x y h i))
+        (λ x h. bind Ends Ends (statement_of lams s x.state a) _ (one_statement x.state a h.own) (λ y i. joins x y h i))
     one_statement st (syntax.node k.BreakStatement q token kids) own = jump st.ctx.breaks forms.Break st (at_of q) own refl
     one_statement st (syntax.node k.ContinueStatement q token kids) own = jump st.ctx.continues forms.Continue st (at_of q) own refl
     one_statement st (syntax.node k.ReturnStatement q token kids) own = returned st (at_of q) kids own
@@ -327,7 +325,7 @@ module _ (lams : Lambdas) (keeps : (s : List Lexeme) (st : State) (t : syntax.Tr
     pub statements : (st : State) (ts : syntax.Trees) → StatePlain st → On Ends (statements_of lams s st ts)
     statements st syntax.none own = no_trees st own
     statements st (syntax.more t ts) own = bind Ends Ends (statement_of lams s st t) _ (one_statement st t own)
-        (λ x h. bind Ends Ends (statements_of lams s x.state ts) _ (statements x.state ts h.own) (λ y i. joins st x y h i))
+        (λ x h. bind Ends Ends (statements_of lams s x.state ts) _ (statements x.state ts h.own) (λ y i. joins x y h i))
 
     pub handlers : (st : State) (hs : syntax.Trees) → StatePlain st → On Ends (handlers_of lams s st hs)
     handlers st syntax.none own = no_trees st own
