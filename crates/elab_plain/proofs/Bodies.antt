@@ -1,6 +1,6 @@
 -- Bodies of functions declare plainly.
-use Rattle.std.proofs.Common.{◌≡◌, refl, ap, ◌∙◌, ℕ, ◌+◌, ◌≤◌, Bool, true, false, List, [], ◌∷◌, ◌++◌, Option}
-use Rattle.std.proofs.Common.{Some, None, Result, Ok, Err, arith}
+use Rattle.std.proofs.Common.{◌≡◌, refl, ap, ℕ, ◌+◌, Bool, true, false, List, [], ◌∷◌, ◌++◌, Option}
+use Rattle.std.proofs.Common.{arith}
 use Rattle.std.specs.Prelude.{if◌then◌else◌}
 use Rattle.elab_rules.specs.cpp_types.Typ.{Typ, typ, ref}
 use Rattle.elab_rules.specs.cpp_types.Class.{held as held_class}
@@ -9,18 +9,16 @@ use Rattle.elab_rules.specs.cpp_lex.Tokens.{Lexeme}
 use Rattle.elab_rules.specs.cpp_ast.Trees as syntax
 use Rattle.elab_rules.specs.cpp_tree.declared.kinds.TKind.{TKind}
 use Rattle.elab_rules.specs.cpp_tree.declared.kinds.TKind.TheVariants as forms
-use Rattle.elab_rules.specs.cpp_tree.declared.faults.ElabFault.{ElabFault}
-use Rattle.elab_rules.specs.cpp_tree.declared.faults.IllRule.TheVariants.{Incomplete, Redeclared}
+use Rattle.elab_rules.specs.cpp_tree.declared.faults.IllRule.TheVariants.{Incomplete}
 use Rattle.elab_rules.specs.cpp_tree.Trees.{Tree, node, Trees, none, more, one, kind_of}
 use Rattle.elab_rules.specs.cpp_tree.Typing.{is_void, is_class_typ}
 use Rattle.elab_rules.specs.elab_ctx.Ctx.{Ctx}
-use Rattle.elab_rules.specs.elab_ctx.Steps.{check, at_of, spelling}
+use Rattle.elab_rules.specs.elab_ctx.Steps.{check, at_of}
 use Rattle.elab_rules.specs.Objects
 use Rattle.elab_rules.specs.Objects.{followed_by}
 use Rattle.elab_rules.specs.Initialising.{signature_result}
 use Rattle.elab_rules.specs.Operators.{is_complete}
-use Rattle.elab_rules.specs.Types.{Parameter}
-use Rattle.elab_rules.specs.Statements.{State, Done, Lambdas, statement, statements_of, is_fresh}
+use Rattle.elab_rules.specs.Statements.{State, Done, Lambdas, statement, statements_of}
 use Rattle.elab_rules.specs.Functions
 use Rattle.elab_rules.specs.Functions.{Header, result_items, this_items, word_item, body_made, entered, with_parameters}
 use Rattle.elab_rules.specs.Statements.{Body}

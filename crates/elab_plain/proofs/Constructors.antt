@@ -1,7 +1,7 @@
 -- Bodies of constructors and destructors, and the initialisers of members and bases, declare plainly: parts are told by their offset in the object at hand.
-use Rattle.std.proofs.Common.{◌≡◌, refl, ap, ℕ, suc, ◌+◌, ◌≤◌, Bool, true, false, leb, List, [], ◌∷◌, ◌++◌, length, Option, Some, None}
-use Rattle.std.proofs.Common.{is_none, slice_get, arith, eqb-true, le-leb, leb-true}
-use Rattle.std.specs.Prelude.{if◌then◌else◌, not, nat_eq}
+use Rattle.std.proofs.Common.{◌≡◌, refl, ℕ, suc, ◌+◌, false, List, [], ◌∷◌, ◌++◌, length, Option, Some, None}
+use Rattle.std.proofs.Common.{is_none, slice_get, arith}
+use Rattle.std.specs.Prelude.{not}
 use Rattle.elab_rules.specs.cpp_types.Typ.{Typ, class}
 use Rattle.elab_rules.specs.cpp_types.Class.{Member}
 use Rattle.elab_rules.specs.cpp_types.declared.classes.At.{At}

@@ -1,5 +1,5 @@
 -- How many nodes of a tree declare an object that a `?:` tells. Where nothing is declared there are none.
-use Rattle.std.proofs.Common.{◌≡◌, refl, ap, ◌∙◌, ℕ, ◌+◌, ◌≤◌, Bool, true, false, length, arith}
+use Rattle.std.proofs.Common.{◌≡◌, refl, ℕ, ◌+◌, ◌≤◌, true, length, arith}
 use Rattle.std.proofs.lemmas.Bool.{and_from}
 use Rattle.std.specs.Prelude.{not, ◌&&◌}
 use Rattle.elab_rules.specs.cpp_tree.declared.kinds.TKind.{TKind}

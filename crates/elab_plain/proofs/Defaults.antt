@@ -1,33 +1,19 @@
 -- Initialisers that are kept for members declare nothing, and the lambdas in them declare plainly.
-use Rattle.std.proofs.Common.{◌≡◌, ap, ℕ, suc, ◌+◌, Bool, List, [], ◌∷◌, length, Option, Some, None, is_none, not, slice_get, arith, true, false, Ok}
-use Rattle.elab_rules.specs.cpp_types.Typ.{Typ, class, Typs, none as no_typs, more as and_typ}
-use Rattle.elab_rules.specs.cpp_types.Class.{Member}
-use Rattle.elab_rules.specs.cpp_types.declared.classes.At.{At}
+use Rattle.std.proofs.Common.{ℕ, Bool, List, Option, Some, None, slice_get, true, false, Ok}
+use Rattle.elab_rules.specs.cpp_types.Typ.{Typ}
 use Rattle.elab_rules.specs.cpp_lex.Tokens.{Lexeme}
 use Rattle.elab_rules.specs.cpp_ast.declared.kinds.NodeKind.TheVariants as k
 use Rattle.elab_rules.specs.cpp_ast.Trees as syntax
-use Rattle.elab_rules.specs.cpp_tree.declared.program.FuncKind.{FuncKind}
-use Rattle.elab_rules.specs.cpp_tree.declared.program.FuncKind.TheVariants.{Destructor}
-use Rattle.elab_rules.specs.cpp_tree.declared.faults.IllRule.TheVariants.{Redeclared, NoMember, UnknownName, OutOfProfile}
-use Rattle.elab_rules.specs.cpp_tree.Trees.{Tree, none, one}
-use Rattle.elab_rules.specs.cpp_tree.Notation.{plain}
-use Rattle.elab_rules.specs.cpp_tree.Typing.{unqualified}
-use Rattle.elab_rules.specs.elab_ctx.Steps.{and_then, expect, check, at_of, spelling, Made, TypedAll}
-use Rattle.elab_rules.specs.Initialising
+use Rattle.elab_rules.specs.cpp_tree.Trees.{one}
+use Rattle.elab_rules.specs.elab_ctx.Steps.{and_then, spelling, Made}
 use Rattle.elab_rules.specs.Names.{members_in}
-use Rattle.elab_rules.specs.Calls.{base_of_class}
-use Rattle.elab_rules.specs.Types.{type_named}
 use Rattle.elab_rules.specs.Strings.{string_bytes}
-use Rattle.elab_rules.specs.Braces.{default_at, string_object, string_token, is_char_array, syntax_place}
-use Rattle.elab_rules.specs.Expressions.{operands_of}
+use Rattle.elab_rules.specs.Braces.{string_object, string_token, is_char_array, syntax_place}
 use Rattle.elab_rules.specs.Statements
 use Rattle.elab_rules.specs.Statements.{State, Done, Lambdas, statements_of, with_work}
-use Rattle.elab_rules.specs.Functions.{Header, with_parameters}
 use Rattle.elab_rules.specs.Lambdas.{lambdas_of}
 use Rattle.elab_rules.specs.Members
 use Rattle.elab_rules.specs.Members.{Given, Giving, in_object, as_base_of}
-use Rattle.elab_rules.specs.Implicit
-use Rattle.elab_rules.specs.Implicit.{own_operand, with_source}
 use Rattle.elab_places.specs.Bodies.{DefaultsOwn}
 use Rattle.elab_places.proofs.Steps.{On, bind, skip, turn}
 use Rattle.elab_places.proofs.Keeping as keeping

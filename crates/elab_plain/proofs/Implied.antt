@@ -1,5 +1,5 @@
 -- Bodies of implicit members declare plainly.
-use Rattle.std.proofs.Common.{◌≡◌, refl, ap, ℕ, suc, ◌+◌, Bool, List, [], ◌∷◌, Option, Some, None}
+use Rattle.std.proofs.Common.{◌≡◌, refl, ℕ, suc, Bool, List, [], ◌∷◌, Option, Some, None}
 use Rattle.std.proofs.Common.{slice_get, arith}
 use Rattle.elab_rules.specs.cpp_types.Typ.{Typ, typ, ref, class, Typs, none as no_typs, more as and_typ}
 use Rattle.elab_rules.specs.cpp_types.Class.{Member}
@@ -20,13 +20,12 @@ use Rattle.elab_rules.specs.Members
 use Rattle.elab_rules.specs.Members.{in_object, own_part, own_base, as_base_of}
 use Rattle.elab_rules.specs.Implicit
 use Rattle.elab_rules.specs.Implicit.{own_operand, with_source}
-use Rattle.elab_rules.specs.cpp_tree.Trees.{kind_of}
 use Rattle.elab_places.proofs.Counting.{declaring, held, Gives}
 use Rattle.elab_places.proofs.Steps.{On, bind, either}
 use Rattle.elab_places.proofs.Parts as parts
 use Rattle.elab_places.proofs.Values as values
 use Rattle.elab_places.proofs.Initials as initials
-use Rattle.elab_plain.proofs.Counting.{all_choosing, of_none, made, followed}
+use Rattle.elab_plain.proofs.Counting.{of_none, made, followed}
 use Rattle.elab_plain.proofs.Declaring.{StatePlain, Ends}
 use Rattle.elab_plain.proofs.Bodies.{made_plain}
 use Rattle.elab_plain.proofs.Constructors.{part_init, pointer_stored, parts_built, constructor_held, destructor_held}

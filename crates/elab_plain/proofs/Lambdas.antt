@@ -1,5 +1,5 @@
 -- Bodies of lambdas declare plainly, and what makes lambdas leaves what does.
-use Rattle.std.proofs.Common.{◌≡◌, refl, ◌∙◌, ℕ, ◌+◌, false, List, length, length-append, Option, Some, None}
+use Rattle.std.proofs.Common.{false, List, length, Option, Some, None}
 use Rattle.std.proofs.Common.{Result, Ok, Err}
 use Rattle.elab_rules.specs.cpp_types.Typ.{Typ, Signature}
 use Rattle.elab_rules.specs.cpp_types.Class.{held as held_class}
@@ -10,9 +10,8 @@ use Rattle.elab_rules.specs.cpp_ast.Trees as syntax
 use Rattle.elab_rules.specs.cpp_tree.declared.kinds.TKind.TheVariants as forms
 use Rattle.elab_rules.specs.cpp_tree.declared.faults.ElabFault.{ElabFault}
 use Rattle.elab_rules.specs.cpp_tree.declared.faults.IllRule.TheVariants.{Incomplete}
-use Rattle.elab_rules.specs.cpp_tree.Trees.{Tree}
 use Rattle.elab_rules.specs.cpp_tree.Typing.{form_in}
-use Rattle.elab_rules.specs.elab_ctx.Ctx.{Ctx, Returns, known}
+use Rattle.elab_rules.specs.elab_ctx.Ctx.{known}
 use Rattle.elab_rules.specs.elab_ctx.Steps.{and_then, check, at_of}
 use Rattle.elab_rules.specs.Objects.{followed_by}
 use Rattle.elab_rules.specs.Operators.{is_complete}
@@ -22,7 +21,6 @@ use Rattle.elab_rules.specs.Functions
 use Rattle.elab_rules.specs.Functions.{result_items, with_parameters}
 use Rattle.elab_rules.specs.Lambdas
 use Rattle.elab_rules.specs.Lambdas.{Written, no_lambda, first_lambda, lambda_entered, declared_closure}
-use Rattle.std.specs.Prelude.{[], ◌∷◌}
 use Rattle.elab_rules.specs.Lambdas.{lambdas_of}
 use Rattle.elab_places.proofs.Steps.{On, bind, skip}
 use Rattle.elab_places.proofs.Keeping as keeping

@@ -8,7 +8,7 @@ use Rattle.elab_rules.specs.cpp_tree.Units.{Unit}
 use Rattle.elab_rules.specs.cpp_tree.Units.{Func as UnitFunc}
 use Rattle.elab_rules.specs.Statements.{State, Body}
 use Rattle.elab_rules.specs.Units.{unit_from}
-use Rattle.elab_rules.specs.Programs.{start_behind, typed_func, body_of, tree_in, unit_shown}
+use Rattle.elab_rules.specs.Programs.{start_behind, body_of, tree_in, unit_shown}
 use Rattle.elab_bodies.proofs.Shown.{shown_at, found}
 use Rattle.elab_places.proofs.Steps.{held_by}
 use Rattle.elab_program_bodies.specs.Units.{IsUnit}

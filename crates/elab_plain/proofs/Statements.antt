@@ -1,5 +1,5 @@
 -- Each form of a statement declares plainly.
-use Rattle.std.proofs.Common.{◌≡◌, refl, ℕ, ◌+◌, ◌≤◌, Bool, true, false, not, List, Option, Some, None, Result, arith}
+use Rattle.std.proofs.Common.{◌≡◌, refl, ℕ, ◌≤◌, Bool, true, false, not, List, Option, Some, None, Result, arith}
 use Rattle.std.specs.Prelude.{if◌then◌else◌, ◌==◌}
 use Rattle.std.specs.List.{list_any}
 use Rattle.elab_rules.specs.cpp_types.Typ.{Typ, typ, void, int, ref}

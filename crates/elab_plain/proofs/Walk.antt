@@ -1,27 +1,20 @@
 -- Each declaration, with its bodies and lambdas and with implicit members, declares plainly.
-use Rattle.std.proofs.Common.{sym, subst, ℕ, ◌+◌, Bool, true, false, not, ◌&&◌, ◌||◌, List, Option, Some, None}
+use Rattle.std.proofs.Common.{ℕ, true, ◌&&◌, List, Option, Some, None}
 use Rattle.std.proofs.Common.{slice_get}
 use Rattle.std.specs.List.{list_any}
-use Rattle.elab_rules.specs.cpp_types.Typ.{Typ, Form, func}
-use Rattle.elab_rules.specs.cpp_types.Class.{Member}
+use Rattle.elab_rules.specs.cpp_types.Typ.{Form, func}
 use Rattle.elab_rules.specs.cpp_types.declared.classes.At.{At}
 use Rattle.elab_rules.specs.cpp_lex.Tokens.{Lexeme}
 use Rattle.elab_rules.specs.cpp_ast.declared.kinds.NodeKind.TheVariants as k
 use Rattle.elab_rules.specs.cpp_ast.Trees as syntax
 use Rattle.elab_rules.specs.cpp_tree.declared.program.FuncKind.{FuncKind}
 use Rattle.elab_rules.specs.cpp_tree.declared.program.FuncKind.TheVariants.{Plain, Constructor, Destructor}
-use Rattle.elab_rules.specs.cpp_tree.declared.faults.IllRule.TheVariants.{Redeclared, TypeDiffers, BadDeclaration, OutOfProfile, NoMember}
-use Rattle.elab_rules.specs.cpp_names.Names.{innermost_of}
-use Rattle.elab_rules.specs.cpp_names.declared.entity.Entity.{Entity}
-use Rattle.elab_rules.specs.cpp_tree.declared.faults.ElabFault.{ElabFault}
-use Rattle.std.proofs.Common.{Result}
+use Rattle.elab_rules.specs.cpp_tree.declared.faults.IllRule.TheVariants.{TypeDiffers, BadDeclaration, NoMember}
 use Rattle.elab_rules.specs.elab_ctx.Ctx.{Ctx, Func}
-use Rattle.elab_rules.specs.elab_ctx.Steps.{expect, check, at_of, spelling}
-use Rattle.elab_rules.specs.Objects.{traits_at}
-use Rattle.elab_rules.specs.Initialising.{func_at, signature_parameters, signature_result, places_from, is_constructor}
-use Rattle.elab_rules.specs.Names.{members_in}
+use Rattle.elab_rules.specs.elab_ctx.Steps.{expect, check, at_of}
+use Rattle.elab_rules.specs.Initialising.{func_at, signature_parameters}
 use Rattle.elab_rules.specs.Types.{Declared}
-use Rattle.elab_rules.specs.Statements.{State, Lambdas, is_trivial}
+use Rattle.elab_rules.specs.Statements.{State}
 use Rattle.elab_rules.specs.Functions
 use Rattle.elab_rules.specs.Functions.{Storage, Header, Placed}
 use Rattle.elab_rules.specs.Classes
