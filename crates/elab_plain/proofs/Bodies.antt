@@ -1,6 +1,5 @@
 -- Bodies of functions declare plainly.
-use Rattle.std.proofs.Common.{◌≡◌, refl, ap, ℕ, ◌+◌, Bool, true, false, List, [], ◌∷◌, ◌++◌, Option}
-use Rattle.std.proofs.Common.{arith}
+use Rattle.std.proofs.Common.{◌≡◌, refl, ap, ℕ, ◌+◌, Bool, true, false, List, [], ◌∷◌, ◌++◌, Option, arith}
 use Rattle.std.specs.Prelude.{if◌then◌else◌}
 use Rattle.elab_rules.specs.cpp_types.Typ.{Typ, typ, ref}
 use Rattle.elab_rules.specs.cpp_types.Class.{held as held_class}
@@ -18,10 +17,9 @@ use Rattle.elab_rules.specs.Objects
 use Rattle.elab_rules.specs.Objects.{followed_by}
 use Rattle.elab_rules.specs.Initialising.{signature_result}
 use Rattle.elab_rules.specs.Operators.{is_complete}
-use Rattle.elab_rules.specs.Statements.{State, Done, Lambdas, statement, statements_of}
+use Rattle.elab_rules.specs.Statements.{State, Done, Lambdas, statement, statements_of, Body}
 use Rattle.elab_rules.specs.Functions
-use Rattle.elab_rules.specs.Functions.{Header, result_items, this_items, word_item, body_made, entered, with_parameters}
-use Rattle.elab_rules.specs.Statements.{Body}
+use Rattle.elab_rules.specs.Functions.{Header, body_made, entered, with_parameters}
 use Rattle.elab_places.specs.Bodies.{DefaultsOwn}
 use Rattle.elab_places.proofs.Counting.{declaring}
 use Rattle.elab_places.proofs.Steps.{On, bind, skip}
@@ -96,7 +94,8 @@ module _ (lams : Lambdas) (keeps : KeepsPlain lams) (s : List Lexeme) where
   function_plain st h this func (syntax.node kind q token kids) own =
       skip StatePlain (check h.at Incomplete (is_complete st.ctx (held_class (signature_result h.signature)))) _
       (λ x. bind StatePlain StatePlain (with_parameters s (entered st (signature_result h.signature) this h.class) h.params) _
-      (keeping.parameters RoundPlain s (entered st (signature_result h.signature) this h.class) h.params (record { defaults = own.defaults; bodies = own.bodies }))
+      (keeping.parameters RoundPlain s (entered st (signature_result h.signature) this h.class) h.params
+      (record { defaults = own.defaults; bodies = own.bodies }))
       (λ e i. bind Ends StatePlain (statements_of lams s e kids) _ (statements lams keeps s e kids i)
       (λ d j. made_plain st h.at func
       (statement (forms.Block false) (at_of q) (followed_by d.trees (Functions.end_of d.state.ctx (signature_result h.signature) (at_of q)))) d.state

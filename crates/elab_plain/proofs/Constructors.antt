@@ -1,6 +1,5 @@
 -- Bodies of constructors and destructors, and the initialisers of members and bases, declare plainly: parts are told by their offset in the object at hand.
-use Rattle.std.proofs.Common.{◌≡◌, refl, ℕ, suc, ◌+◌, false, List, [], ◌∷◌, ◌++◌, length, Option, Some, None}
-use Rattle.std.proofs.Common.{is_none, slice_get, arith}
+use Rattle.std.proofs.Common.{◌≡◌, refl, ℕ, suc, ◌+◌, false, List, [], ◌∷◌, ◌++◌, length, Option, Some, None, is_none, slice_get, arith}
 use Rattle.std.specs.Prelude.{not}
 use Rattle.elab_rules.specs.cpp_types.Typ.{Typ, class}
 use Rattle.elab_rules.specs.cpp_types.Class.{Member}
@@ -14,7 +13,7 @@ use Rattle.elab_rules.specs.cpp_tree.Trees.{Tree, Trees, none, more, one, kind_o
 use Rattle.elab_rules.specs.cpp_tree.Notation.{plain}
 use Rattle.elab_rules.specs.cpp_tree.Typing.{unqualified}
 use Rattle.elab_rules.specs.elab_ctx.Ctx.{Ctx, Default}
-use Rattle.elab_rules.specs.elab_ctx.Steps.{expect, check, at_of, spelling}
+use Rattle.elab_rules.specs.elab_ctx.Steps.{expect, check, at_of, spelling, Made}
 use Rattle.elab_rules.specs.Objects
 use Rattle.elab_rules.specs.Objects.{followed_by}
 use Rattle.elab_rules.specs.Names.{this_pointer, members_in, offset_at}
@@ -23,7 +22,7 @@ use Rattle.elab_rules.specs.Types.{type_named}
 use Rattle.elab_rules.specs.Braces.{default_at, default_whole}
 use Rattle.elab_rules.specs.Expressions.{operands_of}
 use Rattle.elab_rules.specs.Statements
-use Rattle.elab_rules.specs.Statements.{State, Done, Lambdas, statement, statements_of, with_work}
+use Rattle.elab_rules.specs.Statements.{State, Done, Lambdas, statement, statements_of}
 use Rattle.elab_rules.specs.Functions.{Header, with_parameters}
 use Rattle.elab_rules.specs.Members
 use Rattle.elab_rules.specs.Members.{Given, Giving, in_object, own_this, own_part, own_base}
@@ -37,7 +36,6 @@ use Rattle.elab_places.proofs.Relocated as relocated
 use Rattle.elab_places.proofs.Braces.{FoundOwns, default_found}
 use Rattle.elab_places.proofs.Declaring as told
 use Rattle.elab_places.proofs.Keeping as keeping
-use Rattle.elab_rules.specs.elab_ctx.Steps.{Made}
 use Rattle.elab_plain.specs.Plain.{RoundPlain}
 use Rattle.elab_plain.proofs.Counting.{choice, choosing, all_choosing, of_none, all_of_none, made, followed}
 use Rattle.elab_plain.proofs.Declaring.{StatePlain, KeepsPlain, Ends, full_plain, all_lambdas}
@@ -137,7 +135,8 @@ default_built st at t (Some d) h = of_none (default_whole st.work (λ q. this_po
 default_built st at t None h = bind (names.Bare declaring) MadePlain (Statements.default_object st.ctx t at) _
     (told.default_object declaring st.ctx t at) (λ e i. of_none e i)
 
-member_built : (st : State) (at : At) (n i : ℕ) (t : Typ) (o : Option Given) → StatePlain st → FoundPlain o → On Ends (Members.member_built st at n i t o)
+member_built : (st : State) (at : At) (n i : ℕ) (t : Typ) (o : Option Given) → StatePlain st → FoundPlain o
+    → On Ends (Members.member_built st at n i t o)
 member_built st at n i t (Some x) own f = record {
   counted = let h = part_init st.ctx at x.at t (own_part st.ctx.classes n x.at (offset_at st.ctx.classes n i) t) x.tree refl refl f in omega arith;
   own = own;
@@ -225,7 +224,8 @@ module _ (lams : Lambdas) (keeps : KeepsPlain lams) (s : List Lexeme) where
       (λ x j. bind Ends StatePlain (Members.parts_built x.state h.at n x.given) _ (parts_built x.state h.at n x.given j.given j.own)
       (λ d l. block_made st h n func d t own l)))
 
-  pub destructor_plain : (st : State) (h : Header) (n func : ℕ) (t : syntax.Tree) → StatePlain st → On StatePlain (Members.destructor_body lams s st h n func t)
+  pub destructor_plain : (st : State) (h : Header) (n func : ℕ) (t : syntax.Tree) → StatePlain st
+      → On StatePlain (Members.destructor_body lams s st h n func t)
   destructor_plain st h n func (syntax.node kind q token kids) own =
       bind Ends StatePlain (statements_of lams s (in_object st n) kids) _
       (statements lams keeps s (in_object st n) kids (record { defaults = own.defaults; bodies = own.bodies }))

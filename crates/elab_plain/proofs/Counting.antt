@@ -8,9 +8,9 @@ use Rattle.elab_rules.specs.cpp_tree.Trees.{Tree, node, Trees, none, more, kind_
 use Rattle.elab_rules.specs.elab_ctx.Ctx.{Work}
 use Rattle.elab_rules.specs.elab_ctx.Steps.{Made}
 use Rattle.elab_rules.specs.Objects.{followed_by}
-use Rattle.tree_fold.specs.Declaring.{is_init, is_choice, declares_plainly, all_declare_plainly}
 use Rattle.elab_places.proofs.Counting.{declaring, declared, own_count, held, all_held, Gives}
 use Rattle.elab_places.proofs.Owned.{no_room}
+use Rattle.tree_fold.specs.Declaring.{is_init, is_choice, declares_plainly, all_declare_plainly}
 
 abbrev pub choice : TKind → ℕ
 choice Conditional = 1

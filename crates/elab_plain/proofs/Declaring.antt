@@ -1,6 +1,5 @@
 -- Full-expressions declare nothing, and the variables of a block are told by their places in the frame.
-use Rattle.std.proofs.Common.{◌≡◌, refl, ℕ, Bool, true, false, List, length, Option}
-use Rattle.std.proofs.Common.{Some, None, Result, Ok, arith}
+use Rattle.std.proofs.Common.{◌≡◌, refl, ℕ, Bool, true, false, List, length, Option, Some, None, Result, Ok, arith}
 use Rattle.elab_rules.specs.cpp_types.Typ.{Typ}
 use Rattle.elab_rules.specs.cpp_types.declared.classes.At.{At}
 use Rattle.elab_rules.specs.cpp_lex.Tokens.{Lexeme}
@@ -57,7 +56,8 @@ pub record FullEnds (f : Full) : Type 0 where
   pub none : held declaring f.operand.tree ≡ 0
   pub own : StatePlain f.state
 
-pub init_node : (st : State) (t : Typ) (at q : At) (variable e : Tree) → choice (kind_of variable) ≡ 0 → choosing variable ≡ 0 → held declaring e ≡ 0
+pub init_node : (st : State) (t : Typ) (at q : At) (variable e : Tree) → choice (kind_of variable) ≡ 0 → choosing variable ≡ 0
+    → held declaring e ≡ 0
     → choosing (Statements.init_node st t at q variable e) ≡ 0
 init_node st t at q variable e i j h = let a = full_plain q e h in
     let b = all_of_none (destroys st.ctx at t) (parts.destroys declaring st.ctx at t) in omega arith

@@ -10,10 +10,10 @@ use Rattle.elab_rules.specs.Names.{members_in}
 use Rattle.elab_rules.specs.Strings.{string_bytes}
 use Rattle.elab_rules.specs.Braces.{string_object, string_token, is_char_array, syntax_place}
 use Rattle.elab_rules.specs.Statements
-use Rattle.elab_rules.specs.Statements.{State, Done, Lambdas, statements_of, with_work}
+use Rattle.elab_rules.specs.Statements.{State, with_work}
 use Rattle.elab_rules.specs.Lambdas.{lambdas_of}
 use Rattle.elab_rules.specs.Members
-use Rattle.elab_rules.specs.Members.{Given, Giving, in_object, as_base_of}
+use Rattle.elab_rules.specs.Members.{in_object}
 use Rattle.elab_places.specs.Bodies.{DefaultsOwn}
 use Rattle.elab_places.proofs.Steps.{On, bind, skip, turn}
 use Rattle.elab_places.proofs.Keeping as keeping
@@ -42,7 +42,8 @@ value_keeps s st t e false o h = whole_value s st t e h
 abbrev Bodied : State → Type 0
 Bodied x = BodiesPlain x.bodies
 
-one_default : (s : List Lexeme) (st : State) (n i : ℕ) (t : Typ) (e : syntax.Tree) → StatePlain st → On StatePlain (Members.default_made lambdas_of s st n i t e)
+one_default : (s : List Lexeme) (st : State) (n i : ℕ) (t : Typ) (e : syntax.Tree) → StatePlain st
+    → On StatePlain (Members.default_made lambdas_of s st n i t e)
 one_default s st n i t e h = turn (λ (x : State). DefaultsOwn x.ctx.defaults × Bodied x) StatePlain (Members.default_made lambdas_of s st n i t e)
     (λ x j. record { defaults = j.0; bodies = j.1 })
     (both (λ (x : State). DefaultsOwn x.ctx.defaults) Bodied (Members.default_made lambdas_of s st n i t e)
@@ -51,7 +52,8 @@ one_default s st n i t e h = turn (λ (x : State). DefaultsOwn x.ctx.defaults ×
     (value_keeps s (in_object st n) t e (is_char_array t) (string_token e) (record { defaults = h.defaults; bodies = h.bodies }))
     (λ d j. j.bodies)))
 
-default_for : (s : List Lexeme) (st : State) (n : ℕ) (i : Option ℕ) (e : Option syntax.Tree) → StatePlain st → On StatePlain (Members.default_for lambdas_of s st n i e)
+default_for : (s : List Lexeme) (st : State) (n : ℕ) (i : Option ℕ) (e : Option syntax.Tree) → StatePlain st
+    → On StatePlain (Members.default_for lambdas_of s st n i e)
 default_for s st n (Some i) (Some e) h = one_default s st n i (Members.member_type (slice_get (members_in (slice_get st.ctx.classes n)) i)) e h
 default_for s st n (Some i) None h = h
 default_for s st n None e h = h
@@ -62,8 +64,10 @@ default_of s n st (syntax.node k.MemberDeclarator p (Some t) kids) h =
 default_of s n st t h = h
 
 defaults_of : (s : List Lexeme) (n : ℕ) (st : State) (t : syntax.Tree) → StatePlain st → On StatePlain (Members.defaults_of lambdas_of s n st t)
-defaults_of s n st (syntax.node k.MemberDeclaration p token kids) h = each_keeps StatePlain (Members.default_of lambdas_of s n) (λ x t i. default_of s n x t i) st kids h
+defaults_of s n st (syntax.node k.MemberDeclaration p token kids) h =
+    each_keeps StatePlain (Members.default_of lambdas_of s n) (λ x t i. default_of s n x t i) st kids h
 defaults_of s n st t h = h
 
-pub defaults_plain : (s : List Lexeme) (n : ℕ) (st : State) (ts : syntax.Trees) → StatePlain st → On StatePlain (Members.all_defaults lambdas_of s n st ts)
+pub defaults_plain : (s : List Lexeme) (n : ℕ) (st : State) (ts : syntax.Trees) → StatePlain st
+    → On StatePlain (Members.all_defaults lambdas_of s n st ts)
 defaults_plain s n st ts h = each_keeps StatePlain (Members.defaults_of lambdas_of s n) (λ y t i. defaults_of s n y t i) st ts h

@@ -1,6 +1,5 @@
 -- Bodies of implicit members declare plainly.
-use Rattle.std.proofs.Common.{◌≡◌, refl, ℕ, suc, Bool, List, [], ◌∷◌, Option, Some, None}
-use Rattle.std.proofs.Common.{slice_get, arith}
+use Rattle.std.proofs.Common.{◌≡◌, refl, ℕ, suc, Bool, List, [], ◌∷◌, Option, Some, None, slice_get, arith}
 use Rattle.elab_rules.specs.cpp_types.Typ.{Typ, typ, ref, class, Typs, none as no_typs, more as and_typ}
 use Rattle.elab_rules.specs.cpp_types.Class.{Member}
 use Rattle.elab_rules.specs.cpp_types.declared.classes.At.{At}
@@ -105,7 +104,8 @@ constructor_implied st at func n no_typs own = bind Ends StatePlain (Members.par
     (parts_built (in_object st n) at n [] tt (record { defaults = own.defaults; bodies = own.bodies }))
     (λ d i. parts_made st at func d own i)
 
-pub implied_plain : (st : State) (at : At) (func n : ℕ) (kind : FuncKind) (ps : Typs) → StatePlain st → On StatePlain (Implicit.body_implied st at func n kind ps)
+pub implied_plain : (st : State) (at : At) (func n : ℕ) (kind : FuncKind) (ps : Typs) → StatePlain st
+    → On StatePlain (Implicit.body_implied st at func n kind ps)
 implied_plain st at func n Destructor ps own =
     made_plain st at func (Members.destructor_tree st.ctx at at n none) (in_object st n) own.defaults (record { defaults = own.defaults; bodies = own.bodies })
     (let i = destructor_held st.ctx at at n none in omega arith)

@@ -1,6 +1,5 @@
 -- Bodies of lambdas declare plainly, and what makes lambdas leaves what does.
-use Rattle.std.proofs.Common.{false, List, length, Option, Some, None}
-use Rattle.std.proofs.Common.{Result, Ok, Err}
+use Rattle.std.proofs.Common.{false, List, length, Option, Some, None, Result, Ok, Err}
 use Rattle.elab_rules.specs.cpp_types.Typ.{Typ, Signature}
 use Rattle.elab_rules.specs.cpp_types.Class.{held as held_class}
 use Rattle.elab_rules.specs.cpp_types.declared.classes.At.{At}
@@ -18,10 +17,9 @@ use Rattle.elab_rules.specs.Operators.{is_complete}
 use Rattle.elab_rules.specs.Types.{no_qualifiers, qualifiers_from}
 use Rattle.elab_rules.specs.Statements.{State, Done, statement, statements_of}
 use Rattle.elab_rules.specs.Functions
-use Rattle.elab_rules.specs.Functions.{result_items, with_parameters}
+use Rattle.elab_rules.specs.Functions.{with_parameters}
 use Rattle.elab_rules.specs.Lambdas
-use Rattle.elab_rules.specs.Lambdas.{Written, no_lambda, first_lambda, lambda_entered, declared_closure}
-use Rattle.elab_rules.specs.Lambdas.{lambdas_of}
+use Rattle.elab_rules.specs.Lambdas.{Written, no_lambda, first_lambda, lambda_entered, declared_closure, lambdas_of}
 use Rattle.elab_places.proofs.Steps.{On, bind, skip}
 use Rattle.elab_places.proofs.Keeping as keeping
 use Rattle.elab_plain.specs.Plain.{RoundPlain}
@@ -40,7 +38,8 @@ none_plain s st t h = kept (first_lambda t)
 
 -- Bodies
 
-lambda_with_plain : (s : List Lexeme) (st : State) (w : Written) (r : Typ) (sig : Signature) → StatePlain st → On StatePlain (Lambdas.lambda_with s st w r sig)
+lambda_with_plain : (s : List Lexeme) (st : State) (w : Written) (r : Typ) (sig : Signature) → StatePlain st
+    → On StatePlain (Lambdas.lambda_with s st w r sig)
 lambda_with_plain s st w r sig own = skip StatePlain (check w.at Incomplete (is_complete st.ctx (held_class r))) _
     (λ y. skip StatePlain (Lambdas.closure_sized st w sig) _ (λ z. behind (with_parameters s into w.params)
     (keeping.parameters RoundPlain s into w.params (record { defaults = own.defaults; bodies = own.bodies }))))
@@ -90,7 +89,8 @@ written_lambda s st at intro ts body own =
     }) own)))))
 
 one_lambda : (s : List Lexeme) (st : State) (at : At) (kids : syntax.Trees) → StatePlain st → On StatePlain (Lambdas.lambda_of s st at kids)
-one_lambda s st at (syntax.more intro (syntax.more ts (syntax.more body syntax.none))) own = written_lambda s st at (Lambdas.kids_of intro) (Lambdas.kids_of ts) body own
+one_lambda s st at (syntax.more intro (syntax.more ts (syntax.more body syntax.none))) own =
+    written_lambda s st at (Lambdas.kids_of intro) (Lambdas.kids_of ts) body own
 one_lambda s st at (syntax.more intro (syntax.more body syntax.none)) own = written_lambda s st at (Lambdas.kids_of intro) syntax.none body own
 one_lambda s st at kids own = tt
 

@@ -4,8 +4,7 @@ use Rattle.std.proofs.lemmas.Option.{same_Some}
 use Rattle.elab_rules.specs.cpp_lex.Tokens.{Lexeme}
 use Rattle.elab_rules.specs.cpp_ast.Trees as syntax
 use Rattle.elab_rules.specs.cpp_tree.Trees.{Tree}
-use Rattle.elab_rules.specs.cpp_tree.Units.{Unit}
-use Rattle.elab_rules.specs.cpp_tree.Units.{Func as UnitFunc}
+use Rattle.elab_rules.specs.cpp_tree.Units.{Unit, Func as UnitFunc}
 use Rattle.elab_rules.specs.Statements.{State, Body}
 use Rattle.elab_rules.specs.Units.{unit_from}
 use Rattle.elab_rules.specs.Programs.{start_behind, body_of, tree_in, unit_shown}
@@ -27,7 +26,8 @@ one_plain [] h i b e = absurd cc
 one_plain (c ∷ bs) h zero b e = subst (λ (z : Body). declares_plainly z.tree ≡ true) (same_Some c b e) h.0
 one_plain (c ∷ bs) h (suc i) b e = one_plain bs h.1 i b e
 
-body_plain : (bodies : List Body) → BodiesPlain bodies → (k : ℕ) (o : Option Body) → body_of k bodies ≡ o → (tree : Tree) → tree_in o ≡ Some tree
+body_plain : (bodies : List Body) → BodiesPlain bodies → (k : ℕ) (o : Option Body) → body_of k bodies ≡ o → (tree : Tree)
+    → tree_in o ≡ Some tree
     → declares_plainly tree ≡ true
 body_plain bodies h k None e tree g = absurd cc
 body_plain bodies h k (Some b) e tree g = let r = found k bodies b e in

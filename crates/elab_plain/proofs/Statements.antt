@@ -271,7 +271,8 @@ module _ (lams : Lambdas) (keeps : KeepsPlain lams) (s : List Lexeme) where
         (λ y i. bind Ends Ends (condition lams s (outer st y.state) e) _
         (variables.condition lams keeps s (outer st y.state) e i.own)
         (λ x j. record {
-          counted = let a = i.counted in let b = j.counted in let c = the_tree_count (at_of q) x.trees in let d = the_tree_count (at_of q) y.trees in omega arith;
+          counted = let a = i.counted in let b = j.counted in
+              let c = the_tree_count (at_of q) x.trees in let d = the_tree_count (at_of q) y.trees in omega arith;
           own = j.own;
         }))
     one_statement st (syntax.node k.ForStatement q token

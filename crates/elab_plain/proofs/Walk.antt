@@ -1,6 +1,5 @@
 -- Each declaration, with its bodies and lambdas and with implicit members, declares plainly.
-use Rattle.std.proofs.Common.{ℕ, true, ◌&&◌, List, Option, Some, None}
-use Rattle.std.proofs.Common.{slice_get}
+use Rattle.std.proofs.Common.{ℕ, true, ◌&&◌, List, Option, Some, None, slice_get}
 use Rattle.std.specs.List.{list_any}
 use Rattle.elab_rules.specs.cpp_types.Typ.{Form, func}
 use Rattle.elab_rules.specs.cpp_types.declared.classes.At.{At}
@@ -18,7 +17,7 @@ use Rattle.elab_rules.specs.Statements.{State}
 use Rattle.elab_rules.specs.Functions
 use Rattle.elab_rules.specs.Functions.{Storage, Header, Placed}
 use Rattle.elab_rules.specs.Classes
-use Rattle.elab_rules.specs.Classes.{Home, Begun, Method, Started, Specials, Marks, Definition}
+use Rattle.elab_rules.specs.Classes.{Method, Started}
 use Rattle.elab_rules.specs.Members
 use Rattle.elab_rules.specs.Implicit
 use Rattle.elab_rules.specs.Lambdas.{lambdas_of}
@@ -101,7 +100,8 @@ outside_body s st n kind first m body own =
     (λ x. skip StatePlain (expect m.header.at TypeDiffers (Functions.first_from (Functions.is_same_function m.header) 0 st.ctx.funcs)) _
     (λ f. skip StatePlain (Members.outside_agrees m.header (func_at st.ctx.funcs f)) _
     (λ y. method_body s
-    (record st { ctx = Members.outside_defined s st.ctx f m.header first (Classes.last_token (Some body)) }) n f kind m body (record { defaults = own.defaults; bodies = own.bodies }))))))
+    (record st { ctx = Members.outside_defined s st.ctx f m.header first (Classes.last_token (Some body)) }) n f kind m body
+    (record { defaults = own.defaults; bodies = own.bodies }))))))
 
 outside_with : (s : List Lexeme) (st : State) (at : At) (kind : FuncKind) (first : ℕ) (m : Method)
     (o : Option syntax.Tree) → StatePlain st → On StatePlain (Members.outside_with lambdas_of s st at kind first m o)
