@@ -1,0 +1,4 @@
+//! Each declaration that elaboration makes tells its object by an address that is no `?:`.
+#![tactic(auto)]
+
+pub mod laws;
