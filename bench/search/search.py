@@ -1,4 +1,4 @@
-"""Looks for programs that txcc neither accepts nor refuses: it answers 8, that memory ran out, where a typed program is not well formed.
+"""Looks for programs that txcc neither accepts nor refuses: it answers 8, that memory ran out, though there is memory to spare.
 
 Usage: search.py TXCC FIRST LAST [FOLDER]   makes a program from each number, and writes those that TXCC check answers with 8 into FOLDER
 

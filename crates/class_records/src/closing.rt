@@ -1,16 +1,16 @@
 // The closing brace: the class is complete (C++14 9.2, 3.9).
 
-ghost use Rattle.std.specs.Prelude.{◌≡◌, ◌≤◌, Some, IfOk, OnOk, map, count_by, if◌then◌else◌, slice_get, slice_set};
+ghost use Rattle.std.specs.Prelude.{◌≡◌, Some, IfOk, OnOk, map, slice_get, slice_set};
 ghost use Rattle.std.specs.List.{list_any};
 ghost use Rattle.cpp_types.specs.Class.{classes_of, class_of, member_of, function_of};
 ghost use Rattle.cpp_types.specs.Trivial.{hinders, is_plain as is_plain_of};
 ghost use Rattle.elab_init.specs.cpp_tree.Units.{slot_of, SlotFunc};
 ghost use Rattle.elab_init.specs.elab_ctx.Ctx.{ctx_of, traits_of as traits_shown, special_of};
-ghost use Rattle.elab_init.specs.elab_rules.Classes.{class_named, is_completed, is_pure as is_pure_of, slot_function as slot_function_of, with_record, with_traits, with_specials, completed as completed_of, closed_class as closed_class_of, base_slots as base_slots_of};
+ghost use Rattle.elab_init.specs.elab_rules.Classes.{class_named, is_pure as is_pure_of, slot_function as slot_function_of, with_record, with_traits, with_specials, completed as completed_of, closed_class as closed_class_of, base_slots as base_slots_of};
 ghost use Rattle.class_members.specs.Shown.{home_of, Answers};
 ghost use Rattle.class_records.specs.Traits.{about_parts, traits_by};
 
-use crate::renewing::put_class;
+use crate::renewing::{next_completion, put_class};
 use crate::slots::{own_functions, slots_of};
 use class_members::overriding::{base_slots, is_destructor_name, slot_function};
 use class_members::records::Home;
@@ -21,7 +21,7 @@ use class_specials::specials::{
 };
 use cpp_types::{At, ClassRec, FuncRec, MemberRec, Shape, Ty};
 use elab_init::below::{
-    ElabFault, Env, LimitKind, SlotRec, Special, Traits, class_at, completion, size_align,
+    ElabFault, Env, LimitKind, SlotRec, Special, Traits, class_at, completion, measured,
 };
 use std::alloc::{AllocError, Global};
 
@@ -60,24 +60,6 @@ fn part_facts(
         is_volatile,
         copied_by_bytes,
     })
-}
-
-fn one_if_complete(found: &ClassRec) -> usize
-    ensures one { result ≡ (if is_completed (class_of found.now) then 1 else 0) }
-    ensures most { result ≤ 1 }
-{
-    if found.complete.is_some() { 1 } else { 0 }
-}
-
-// How many classes are complete.
-fn count_complete(classes: &[ClassRec]) -> usize
-    ensures { result ≡ count_by is_completed (map class_of classes.now) }
-{
-    let mut count: usize = 0;
-    for found in classes {
-        count += one_if_complete(found);
-    }
-    count
 }
 
 fn complete_record(
@@ -132,11 +114,9 @@ fn put_record(
 {
     let functions = own_functions(alloc, env, home.number)?;
     let slots = slots_of(alloc, env, home, &functions)?;
-    let Ok(number) = u32::try_from(count_complete(&env.classes)) else {
-        return Err(AllocError);
-    };
+    let number = next_completion(env);
     let made = complete_record(alloc, home, members, functions, number)?;
-    put_class(env, home.number, number, made)?;
+    put_class(alloc, env, home.number, number, made)?;
     put_slots(env, home.number, slots)?;
     Ok(())
 }
@@ -277,9 +257,9 @@ pub fn closed_class(env: &Env, at: At, class: u32) -> Result<(), ElabFault>
         is_const: false,
         is_volatile: false,
     };
-    match size_align(&ty, &env.classes) {
-        Ok(_) => Ok(()),
-        Err(_) => Err(ElabFault::Limit {
+    match measured(env, &ty) {
+        Some(_) => Ok(()),
+        None => Err(ElabFault::Limit {
             at,
             which: LimitKind::Size,
         }),

@@ -9,5 +9,5 @@ mod within;
 
 pub use beginning::{begun, no_traits};
 pub use closing::{closed_class, completed};
-pub use renewing::push_class;
+pub use renewing::{next_completion, push_class};
 pub use slots::slots_of;

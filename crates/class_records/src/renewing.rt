@@ -1,18 +1,26 @@
 // Classes that are begun, and classes that are completed: the list of them stays in order.
 
-ghost use Rattle.std.specs.Prelude.{◌≡◌, ◌++◌, ◌∷◌, ◌+◌, [], Some, None, false, OnOk, slice_set, length};
+ghost use Rattle.std.specs.Prelude.{◌≡◌, ◌++◌, ◌∷◌, ◌+◌, [], Some, None, false, OnOk, count_by, slice_set, length};
 ghost use Rattle.cpp_types.specs.Typ.{typ_of};
 ghost use Rattle.cpp_types.specs.Class.{classes_of, class_of};
 ghost use Rattle.cpp_types.specs.Order.{each_passes, holds_earlier};
 ghost use Rattle.elab_init.specs.elab_ctx.Ctx.{ctx_of, traits_of};
 ghost use Rattle.elab_init.specs.elab_rules.Globals.{with_type};
-ghost use Rattle.elab_init.specs.elab_rules.Classes.{class_named};
+ghost use Rattle.elab_init.specs.elab_rules.Classes.{class_named, is_completed};
 ghost use Rattle.class_records.specs.Within.{may_stand as may_stand_of, may_follow as may_follow_of};
 
 use crate::within::{is_after_parts, is_class_below};
+use class_layouts::{one_if_complete, push_laid_out, put_laid_out};
 use cpp_types::{ClassRec, Ty};
 use elab_init::below::{Env, Traits, completion};
 use std::alloc::{AllocError, Global};
+
+/// The number of the next class that is complete.
+pub fn next_completion(env: &Env) -> u32
+    ensures { result ≡ count_by is_completed (ctx_of env.now).classes }
+{
+    env.completed
+}
 
 // Whether a class may stand, complete, in the place of one that is only declared.
 fn may_stand(env: &Env, class: u32, number: u32, class_record: &ClassRec) -> bool
@@ -27,6 +35,7 @@ fn may_stand(env: &Env, class: u32, number: u32, class_record: &ClassRec) -> boo
 /// Puts the record of a complete class in its place. What is held before it is complete is refused where it is declared;
 /// here it counts as want of memory.
 pub fn put_class(
+    alloc: Global,
     env: &mut Env,
     class: u32,
     number: u32,
@@ -38,7 +47,17 @@ pub fn put_class(
     if !may_stand(env, class, number, &class_record) {
         return Err(AllocError);
     }
-    env.classes[class as usize] = class_record;
+    let Some(completed) = env.completed.checked_add(1) else {
+        return Err(AllocError);
+    };
+    put_laid_out(
+        alloc,
+        &mut env.classes,
+        &mut env.layouts,
+        class,
+        class_record,
+    )?;
+    env.completed = completed;
     Ok(())
 }
 
@@ -61,13 +80,17 @@ fn may_follow(env: &Env, class_record: &ClassRec) -> bool
 
 /// One more class, behind the others. What is held before it is complete is refused where it is declared; here it counts
 /// as want of memory.
-pub fn push_class(env: &mut Env, class_record: ClassRec) -> Result<(), AllocError>
+pub fn push_class(alloc: Global, env: &mut Env, class_record: ClassRec) -> Result<(), AllocError>
     ensures { OnOk result (ctx_of env.new ≡ record (ctx_of env.old) { classes = (ctx_of env.old).classes ++ class_of class_record ∷ [] }) }
 {
     if !may_follow(env, &class_record) {
         return Err(AllocError);
     }
-    env.classes.push(class_record)?;
+    let Some(completed) = env.completed.checked_add(one_if_complete(&class_record)) else {
+        return Err(AllocError);
+    };
+    push_laid_out(alloc, &mut env.classes, &mut env.layouts, class_record)?;
+    env.completed = completed;
     Ok(())
 }
 
@@ -90,7 +113,7 @@ pub fn add_class(alloc: Global, env: &mut Env, name: Vec<u8>) -> Result<(), Allo
     ensures { OnOk result (ctx_of env.new ≡ record (ctx_of env.old) { classes = (ctx_of env.old).classes ++ class_named name.items None false [] [] None ∷ [] }) }
 {
     let begun = declared_class(alloc, name);
-    env.classes.push(begun)?;
+    push_laid_out(alloc, &mut env.classes, &mut env.layouts, begun)?;
     Ok(())
 }
 

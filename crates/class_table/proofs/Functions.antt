@@ -114,3 +114,23 @@ module _ (s : List Lexeme) (st : State) (n : ℕ) (class_name : List ℕ) (at : 
   method_special Constructor h = ap (method_started s st n class_name at Constructor) e
   method_special Destructor h = ap (method_started s st n class_name at Destructor) e
   method_special ClosureCall h = ap (method_started s st n class_name at ClosureCall) e
+
+-- From a type and a declarator, of which the first leaves the work at hand as it was
+
+module _ (s : List Lexeme) (c : Ctx) (v w : Work) (n : ℕ) (at : At) (x : Storage) (base d : Tree) (t : Typ) (typed : type_of_specifiers s c v base ≡ Ok t)
+    (same : w ≡ v) where
+  header_then : plain_header s c v n at x base d
+      ≡ and_then (declared_by s c w at t d) (λ (r : Declared). header_in n x Plain at (name_of s r.name) r (form_in r.typ))
+  header_then =
+      let head : Declared → Result Header ElabFault = λ (r : Declared). header_in n x Plain at (name_of s r.name) r (form_in r.typ) in
+      ap (λ (z : Result Typ ElabFault). and_then z (λ (u : Typ). and_then (declared_by s c v at u d) head)) typed
+      ∙ ap (λ (z : Work). and_then (declared_by s c z at t d) head) (sym same)
+
+  pub header_undeclared : (e : ElabFault) → Faults e (declared_by s c w at t d) → Faults e (plain_header s c v n at x base d)
+  header_undeclared e f = subst (Faults e) (sym header_then) (faults_then e (declared_by s c w at t d) _ f)
+
+  pub header_says : (y : Declared) (name : List ℕ) (r : Result HeaderRec ElabFault) → declared_by s c w at t d ≡ Ok y → name ≡ name_of s y.name
+      → Says header_of r (header_in n x Plain at name y (form_in y.typ)) → Says header_of r (plain_header s c v n at x base d)
+  header_says y name r e q h = says_same header_of r (header_in n x Plain at name y (form_in y.typ)) (plain_header s c v n at x base d)
+      (header_then ∙ ap (λ (z : Result Declared ElabFault). and_then z (λ (u : Declared). header_in n x Plain at (name_of s u.name) u (form_in u.typ))) e
+      ∙ ap (λ (z : List ℕ). header_in n x Plain at z y (form_in y.typ)) (sym q)) h

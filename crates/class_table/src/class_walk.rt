@@ -12,6 +12,7 @@ ghost use Rattle.elab_expr.specs.elab_rules.Classes.{begun as begun_of};
 ghost use Rattle.elab_expr.specs.elab_rules.Statements.{Body};
 ghost use Rattle.elab_expr.specs.elab_rules.Members.{is_final_word as is_final_word_of, has_final as has_final_of, base_named as base_named_of, members_among as members_among_of};
 ghost use Rattle.elab_expr.specs.elab_types.Syntax.{syntax_of, trees_at};
+ghost use Rattle.elab_expr.specs.Unmoved.{Unmoved};
 ghost use Rattle.class_members.specs.Shown.{home_of, Begins};
 ghost use Rattle.class_table.specs.Written.{class_read as class_read_of, read_members as read_members_of, named_base, at_hand, Reads, StandsRead};
 
@@ -154,10 +155,11 @@ fn members_read(
     home: &Home,
     at: At,
     ids: &[NodeId],
-    work: &Work,
+    work: &mut Work,
 ) -> Result<(), ElabFault>
     requires { are_below (length nodes.now) ids.now ≡ true }
-    ensures { (bodies : List Body) → StandsRead (at_hand (ctx_of env.new) (work_of work.now) bodies) (home_of home.now) result (read_members_of (lexemes_of tokens.now) (at_hand (ctx_of env.old) (work_of work.now) bodies) at (home_of home.now) (trees_at (syntax_of nodes.now) ids.now)) }
+    ensures read { (bodies : List Body) → StandsRead (at_hand (ctx_of env.new) (work_of work.old) bodies) (home_of home.now) result (read_members_of (lexemes_of tokens.now) (at_hand (ctx_of env.old) (work_of work.old) bodies) at (home_of home.now) (trees_at (syntax_of nodes.now) ids.now)) }
+    ensures kept { IfOk result (λ u. Unmoved work.old work.new) }
 {
     let mut read = no_members(alloc);
     members_of(alloc, env, tokens, nodes, home, &mut read, ids, work)?;
@@ -176,10 +178,11 @@ pub fn class_read(
     at: At,
     name: &[u8],
     kids: &[NodeId],
-    work: &Work,
+    work: &mut Work,
 ) -> Result<Home, ElabFault>
     requires { are_below (length nodes.now) kids.now ≡ true }
-    ensures { (bodies : List Body) → Reads (at_hand (ctx_of env.new) (work_of work.now) bodies) result (class_read_of (lexemes_of tokens.now) (at_hand (ctx_of env.old) (work_of work.now) bodies) at name.now (trees_at (syntax_of nodes.now) kids.now)) }
+    ensures read { (bodies : List Body) → Reads (at_hand (ctx_of env.new) (work_of work.old) bodies) result (class_read_of (lexemes_of tokens.now) (at_hand (ctx_of env.old) (work_of work.old) bodies) at name.now (trees_at (syntax_of nodes.now) kids.now)) }
+    ensures kept { IfOk result (λ u. Unmoved work.old work.new) }
 {
     let text = class_text(alloc, tokens, nodes, kids)?;
     text_sized(at, &text)?;

@@ -1,6 +1,6 @@
 // The members of a class, in the order of the text (C++14 9.2).
 
-ghost use Rattle.std.specs.Prelude.{◌≡◌, ◌<◌, length, true, List, option_map};
+ghost use Rattle.std.specs.Prelude.{◌≡◌, ◌<◌, length, true, List, option_map, IfOk};
 ghost use Rattle.elab_expr.specs.cpp_lex.Tokens.{lexemes_of};
 ghost use Rattle.elab_expr.specs.cpp_types.Typ.{typ_of};
 ghost use Rattle.elab_expr.specs.cpp_ast.Orders.{are_below};
@@ -12,6 +12,7 @@ ghost use Rattle.elab_expr.specs.elab_rules.Classes.{declared_method as declared
 ghost use Rattle.elab_expr.specs.elab_rules.Functions.{no_storage as no_storage_of};
 ghost use Rattle.elab_expr.specs.elab_types.Syntax.{syntax_of, tree_at, trees_at};
 ghost use Rattle.elab_expr.specs.elab_types.Shown.{declared_of};
+ghost use Rattle.elab_expr.specs.Unmoved.{Unmoved};
 ghost use Rattle.class_members.specs.Shown.{home_of, reading, Answers, definition_of, storage_of, marks_of};
 ghost use Rattle.class_table.specs.Written.{defined_method as defined_method_of, is_function_form, function_declared as function_declared_of, data_declared as data_declared_of, member_declared};
 
@@ -41,10 +42,11 @@ fn declared_method(
     at: At,
     definition: Option<Definition>,
     kids: &[NodeId],
-    work: &Work,
+    work: &mut Work,
 ) -> Result<(), ElabFault>
     requires { are_below (length nodes.now) kids.now ≡ true }
-    ensures { (bodies : List Body) → Answers (reading (ctx_of env.new) (work_of work.now) bodies members.now) result (declared_method_of (lexemes_of tokens.now) (home_of home.now) (reading (ctx_of env.old) (work_of work.now) bodies members.now) kind at (option_map definition_of definition) (trees_at (syntax_of nodes.now) kids.now)) }
+    ensures members { (bodies : List Body) → Answers (reading (ctx_of env.new) (work_of work.old) bodies members.now) result (declared_method_of (lexemes_of tokens.now) (home_of home.now) (reading (ctx_of env.old) (work_of work.old) bodies members.now) kind at (option_map definition_of definition) (trees_at (syntax_of nodes.now) kids.now)) }
+    ensures kept { IfOk result (λ u. Unmoved work.old work.new) }
 {
     within_bounds(declarator_among(tokens, nodes, env, home.number, members, kids))?;
     let method = method_of(
@@ -75,10 +77,11 @@ fn defined_method(
     at: At,
     token: Option<u32>,
     kids: &[NodeId],
-    work: &Work,
+    work: &mut Work,
 ) -> Result<(), ElabFault>
     requires { are_below (length nodes.now) kids.now ≡ true }
-    ensures { (bodies : List Body) → Answers (reading (ctx_of env.new) (work_of work.now) bodies members.now) result (defined_method_of (lexemes_of tokens.now) (home_of home.now) (reading (ctx_of env.old) (work_of work.now) bodies members.now) kind at token (trees_at (syntax_of nodes.now) kids.now)) }
+    ensures members { (bodies : List Body) → Answers (reading (ctx_of env.new) (work_of work.old) bodies members.now) result (defined_method_of (lexemes_of tokens.now) (home_of home.now) (reading (ctx_of env.old) (work_of work.old) bodies members.now) kind at token (trees_at (syntax_of nodes.now) kids.now)) }
+    ensures kept { IfOk result (λ u. Unmoved work.old work.new) }
 {
     let Some(first) = token else {
         return Err(ill(at, IllRule::OutOfProfile));
@@ -225,10 +228,11 @@ fn member_declarator(
     storage: Storage,
     ty: &Ty,
     id: NodeId,
-    work: &Work,
+    work: &mut Work,
 ) -> Result<(), ElabFault>
     requires { id.0 < length nodes.now }
-    ensures { (bodies : List Body) → Answers (reading (ctx_of env.new) (work_of work.now) bodies members.new) result (member_declarator_of (lexemes_of tokens.now) (home_of home.now) (storage_of storage) (typ_of ty.now) (reading (ctx_of env.old) (work_of work.now) bodies members.old) (tree_at (syntax_of nodes.now) id)) }
+    ensures members { (bodies : List Body) → Answers (reading (ctx_of env.new) (work_of work.old) bodies members.new) result (member_declarator_of (lexemes_of tokens.now) (home_of home.now) (storage_of storage) (typ_of ty.now) (reading (ctx_of env.old) (work_of work.old) bodies members.old) (tree_at (syntax_of nodes.now) id)) }
+    ensures kept { IfOk result (λ u. Unmoved work.old work.new) }
 {
     let node = node_at(nodes, id);
     let at = place(node.at);
@@ -265,10 +269,11 @@ fn member_declarators(
     storage: Storage,
     ty: &Ty,
     ids: &[NodeId],
-    work: &Work,
+    work: &mut Work,
 ) -> Result<(), ElabFault>
     requires { are_below (length nodes.now) ids.now ≡ true }
-    ensures { (bodies : List Body) → Answers (reading (ctx_of env.new) (work_of work.now) bodies members.new) result (each_of (member_declarator_of (lexemes_of tokens.now) (home_of home.now) (storage_of storage) (typ_of ty.now)) (reading (ctx_of env.old) (work_of work.now) bodies members.old) (trees_at (syntax_of nodes.now) ids.now)) }
+    ensures members { (bodies : List Body) → Answers (reading (ctx_of env.new) (work_of work.old) bodies members.new) result (each_of (member_declarator_of (lexemes_of tokens.now) (home_of home.now) (storage_of storage) (typ_of ty.now)) (reading (ctx_of env.old) (work_of work.old) bodies members.old) (trees_at (syntax_of nodes.now) ids.now)) }
+    ensures kept { IfOk result (λ u. Unmoved work.old work.new) }
 {
     for id in ids {
         member_declarator(
@@ -287,10 +292,11 @@ fn member_declaration(
     members: &mut Members,
     at: At,
     kids: &[NodeId],
-    work: &Work,
+    work: &mut Work,
 ) -> Result<(), ElabFault>
     requires { are_below (length nodes.now) kids.now ≡ true }
-    ensures { (bodies : List Body) → Answers (reading (ctx_of env.new) (work_of work.now) bodies members.new) result (member_declaration_of (lexemes_of tokens.now) (home_of home.now) (reading (ctx_of env.old) (work_of work.now) bodies members.old) at (started_from_of (lexemes_of tokens.now) no_storage_of (trees_at (syntax_of nodes.now) kids.now))) }
+    ensures members { (bodies : List Body) → Answers (reading (ctx_of env.new) (work_of work.old) bodies members.new) result (member_declaration_of (lexemes_of tokens.now) (home_of home.now) (reading (ctx_of env.old) (work_of work.old) bodies members.old) at (started_from_of (lexemes_of tokens.now) no_storage_of (trees_at (syntax_of nodes.now) kids.now))) }
+    ensures kept { IfOk result (λ u. Unmoved work.old work.new) }
 {
     let started = started_from(tokens, nodes, no_storage(), kids);
     let storage = started.storage;
@@ -313,10 +319,11 @@ pub fn member_of(
     home: &Home,
     members: &mut Members,
     id: NodeId,
-    work: &Work,
+    work: &mut Work,
 ) -> Result<(), ElabFault>
     requires { id.0 < length nodes.now }
-    ensures { (bodies : List Body) → Answers (reading (ctx_of env.new) (work_of work.now) bodies members.new) result (member_of_of (lexemes_of tokens.now) (home_of home.now) (reading (ctx_of env.old) (work_of work.now) bodies members.old) (tree_at (syntax_of nodes.now) id)) }
+    ensures members { (bodies : List Body) → Answers (reading (ctx_of env.new) (work_of work.old) bodies members.new) result (member_of_of (lexemes_of tokens.now) (home_of home.now) (reading (ctx_of env.old) (work_of work.old) bodies members.old) (tree_at (syntax_of nodes.now) id)) }
+    ensures kept { IfOk result (λ u. Unmoved work.old work.new) }
 {
     let node = node_at(nodes, id);
     let at = place(node.at);
@@ -405,10 +412,11 @@ pub fn members_of(
     home: &Home,
     members: &mut Members,
     ids: &[NodeId],
-    work: &Work,
+    work: &mut Work,
 ) -> Result<(), ElabFault>
     requires { are_below (length nodes.now) ids.now ≡ true }
-    ensures { (bodies : List Body) → Answers (reading (ctx_of env.new) (work_of work.now) bodies members.new) result (members_of_of (lexemes_of tokens.now) (home_of home.now) (reading (ctx_of env.old) (work_of work.now) bodies members.old) (trees_at (syntax_of nodes.now) ids.now)) }
+    ensures members { (bodies : List Body) → Answers (reading (ctx_of env.new) (work_of work.old) bodies members.new) result (members_of_of (lexemes_of tokens.now) (home_of home.now) (reading (ctx_of env.old) (work_of work.old) bodies members.old) (trees_at (syntax_of nodes.now) ids.now)) }
+    ensures kept { IfOk result (λ u. Unmoved work.old work.new) }
 {
     for id in ids {
         member_of(alloc, env, tokens, nodes, home, members, *id, work)?;

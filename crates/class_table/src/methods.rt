@@ -10,6 +10,7 @@ ghost use Rattle.elab_expr.specs.elab_rules.Statements.{Body};
 ghost use Rattle.elab_expr.specs.elab_rules.Classes.{plain_method as plain_method_of, special_method as special_method_of, method_of as method_of_of};
 ghost use Rattle.elab_expr.specs.elab_types.Syntax.{syntax_of, tree_at, trees_at};
 ghost use Rattle.elab_expr.specs.elab_types.Shown.{Says, declared_of};
+ghost use Rattle.elab_expr.specs.Unmoved.{Unmoved};
 ghost use Rattle.class_members.specs.Shown.{header_of, storage_of};
 ghost use Rattle.class_table.specs.Written.{plain_header as plain_header_of, special_declared as special_declared_of, method_shown, at_hand, is_plain_kind};
 
@@ -31,22 +32,23 @@ pub struct Method {
     pub count: usize,
 }
 
-/// The type that specifiers of the class give.
+/// The type that specifiers of the class give. Nothing stays of what is made on the way.
 pub fn type_written(
     alloc: Global,
     env: &Env,
     tokens: &Tokens,
     nodes: &Nodes,
     id: NodeId,
-    work: &Work,
+    work: &mut Work,
 ) -> Result<Ty, ElabFault>
     requires { id.0 < length nodes.now }
-    ensures { Says typ_of result (type_of_specifiers_of (lexemes_of tokens.now) (ctx_of env.now) (work_of work.now) (tree_at (syntax_of nodes.now) id)) }
+    ensures says { Says typ_of result (type_of_specifiers_of (lexemes_of tokens.now) (ctx_of env.now) (work_of work.old) (tree_at (syntax_of nodes.now) id)) }
+    ensures kept { IfOk result (λ t. Unmoved work.old work.new) }
 {
     type_of_specifiers(alloc, env, &env.closures, tokens, nodes, id, work)
 }
 
-/// What a declarator of the class declares of a type.
+/// What a declarator of the class declares of a type. Nothing stays of what is made on the way.
 pub fn declared_written(
     alloc: Global,
     env: &Env,
@@ -55,10 +57,11 @@ pub fn declared_written(
     at: At,
     ty: &Ty,
     id: NodeId,
-    work: &Work,
+    work: &mut Work,
 ) -> Result<Declared, ElabFault>
     requires { id.0 < length nodes.now }
-    ensures { Says declared_of result (declared_by (lexemes_of tokens.now) (ctx_of env.now) (work_of work.now) at (typ_of ty.now) (tree_at (syntax_of nodes.now) id)) }
+    ensures says { Says declared_of result (declared_by (lexemes_of tokens.now) (ctx_of env.now) (work_of work.old) at (typ_of ty.now) (tree_at (syntax_of nodes.now) id)) }
+    ensures kept { IfOk result (λ d. Unmoved work.old work.new) }
 {
     declared(alloc, env, &env.closures, tokens, nodes, at, ty, id, work)
 }
@@ -73,11 +76,12 @@ fn plain_header(
     storage: Storage,
     base: NodeId,
     declarator: NodeId,
-    work: &Work,
+    work: &mut Work,
 ) -> Result<Header, ElabFault>
     requires base { base.0 < length nodes.now }
     requires declarator { declarator.0 < length nodes.now }
-    ensures { Says header_of result (plain_header_of (lexemes_of tokens.now) (ctx_of env.now) (work_of work.now) class at (storage_of storage) (tree_at (syntax_of nodes.now) base) (tree_at (syntax_of nodes.now) declarator)) }
+    ensures says { Says header_of result (plain_header_of (lexemes_of tokens.now) (ctx_of env.now) (work_of work.old) class at (storage_of storage) (tree_at (syntax_of nodes.now) base) (tree_at (syntax_of nodes.now) declarator)) }
+    ensures kept { IfOk result (λ h. Unmoved work.old work.new) }
 {
     let ty = type_written(alloc, env, tokens, nodes, base, work)?;
     let found = declared_written(alloc, env, tokens, nodes, at, &ty, declarator, work)?;
@@ -96,10 +100,11 @@ fn special_declared(
     storage: Storage,
     kind: FuncKind,
     declarator: NodeId,
-    work: &Work,
+    work: &mut Work,
 ) -> Result<Header, ElabFault>
     requires { declarator.0 < length nodes.now }
-    ensures { Says header_of result (special_declared_of (lexemes_of tokens.now) (ctx_of env.now) (work_of work.now) class class_name.now at (storage_of storage) kind (tree_at (syntax_of nodes.now) declarator)) }
+    ensures says { Says header_of result (special_declared_of (lexemes_of tokens.now) (ctx_of env.now) (work_of work.old) class class_name.now at (storage_of storage) kind (tree_at (syntax_of nodes.now) declarator)) }
+    ensures kept { IfOk result (λ h. Unmoved work.old work.new) }
 {
     let void = Ty {
         shape: Shape::Void,
@@ -122,11 +127,12 @@ fn plain_method(
     storage: Storage,
     kids: &[NodeId],
     start: usize,
-    work: &Work,
+    work: &mut Work,
 ) -> Result<Method, ElabFault>
     requires { are_below (length nodes.now) kids.now ≡ true }
-    ensures method { (bodies : List Body) → Says (method_shown (syntax_of nodes.now) kids.now) result (plain_method_of (lexemes_of tokens.now) (at_hand (ctx_of env.now) (work_of work.now) bodies) class at (storage_of storage) (trees_at (syntax_of nodes.now) (drop start kids.now))) }
+    ensures method { (bodies : List Body) → Says (method_shown (syntax_of nodes.now) kids.now) result (plain_method_of (lexemes_of tokens.now) (at_hand (ctx_of env.now) (work_of work.old) bodies) class at (storage_of storage) (trees_at (syntax_of nodes.now) (drop start kids.now))) }
     ensures within { IfOk result (λ m. m.count ≤ length kids.now) }
+    ensures kept { IfOk result (λ m. Unmoved work.old work.new) }
 {
     let Some(base) = kid_at(kids, start) else {
         return Err(ill(at, IllRule::OutOfProfile));
@@ -156,11 +162,12 @@ fn special_method(
     kind: FuncKind,
     kids: &[NodeId],
     start: usize,
-    work: &Work,
+    work: &mut Work,
 ) -> Result<Method, ElabFault>
     requires { are_below (length nodes.now) kids.now ≡ true }
-    ensures method { (bodies : List Body) → Says (method_shown (syntax_of nodes.now) kids.now) result (special_method_of (lexemes_of tokens.now) (at_hand (ctx_of env.now) (work_of work.now) bodies) class class_name.now at (storage_of storage) kind (trees_at (syntax_of nodes.now) (drop start kids.now))) }
+    ensures method { (bodies : List Body) → Says (method_shown (syntax_of nodes.now) kids.now) result (special_method_of (lexemes_of tokens.now) (at_hand (ctx_of env.now) (work_of work.old) bodies) class class_name.now at (storage_of storage) kind (trees_at (syntax_of nodes.now) (drop start kids.now))) }
     ensures within { IfOk result (λ m. m.count ≤ length kids.now) }
+    ensures kept { IfOk result (λ m. Unmoved work.old work.new) }
 {
     let Some(declarator) = kid_at(kids, start) else {
         return Err(ill(at, IllRule::OutOfProfile));
@@ -196,11 +203,12 @@ pub fn method_of(
     at: At,
     kind: FuncKind,
     kids: &[NodeId],
-    work: &Work,
+    work: &mut Work,
 ) -> Result<Method, ElabFault>
     requires { are_below (length nodes.now) kids.now ≡ true }
-    ensures method { (bodies : List Body) → Says (method_shown (syntax_of nodes.now) kids.now) result (method_of_of (lexemes_of tokens.now) (at_hand (ctx_of env.now) (work_of work.now) bodies) class class_name.now at kind (trees_at (syntax_of nodes.now) kids.now)) }
+    ensures method { (bodies : List Body) → Says (method_shown (syntax_of nodes.now) kids.now) result (method_of_of (lexemes_of tokens.now) (at_hand (ctx_of env.now) (work_of work.old) bodies) class class_name.now at kind (trees_at (syntax_of nodes.now) kids.now)) }
     ensures within { IfOk result (λ m. m.count ≤ length kids.now) }
+    ensures kept { IfOk result (λ m. Unmoved work.old work.new) }
 {
     let started = started_from(tokens, nodes, no_storage(), kids);
     let storage = started.storage;

@@ -6,14 +6,14 @@ ghost use Rattle.cpp_layout.specs.Measured.{Measured, InBounds, Follows, shown};
 
 use crate::extents::{GREATEST_SIZE, SizeAlign};
 
-// How far items reach, in bytes, and their greatest alignment.
+/// How far items reach, in bytes, and their greatest alignment.
 #[derive(Clone, Copy)]
 pub struct LayoutCursor {
     pub end: u32,
     pub align: u32,
 }
 
-// No items.
+/// No items.
 pub fn no_items() -> LayoutCursor
     ensures start { result ≡ record { end = 0; align = 1 } }
     ensures bounds { InBounds result }
@@ -21,7 +21,7 @@ pub fn no_items() -> LayoutCursor
     LayoutCursor { end: 0, align: 1 }
 }
 
-// The least multiple of `align` that is not below `offset`.
+/// The least multiple of `align` that is not below `offset`.
 pub fn aligned_up(offset: u32, align: u32) -> u32
     requires offset { offset ≤ GREATEST_SIZE }
     requires low { 1 ≤ align }
@@ -32,7 +32,7 @@ pub fn aligned_up(offset: u32, align: u32) -> u32
     (offset + (align - 1)) / align * align
 }
 
-// The cursor with one more item; `None` where it ends past the greatest size.
+/// The cursor with one more item; `None` where it ends past the greatest size.
 pub fn append(cursor: LayoutCursor, item: SizeAlign) -> Option<LayoutCursor>
     requires bounds { InBounds cursor }
     requires item { Measured (shown item) item }
@@ -48,7 +48,7 @@ pub fn append(cursor: LayoutCursor, item: SizeAlign) -> Option<LayoutCursor>
     })
 }
 
-// What a class takes whose items are the cursor; `None` where its size passes the greatest.
+/// What a class takes whose items are the cursor; `None` where its size passes the greatest.
 pub fn whole_of(cursor: LayoutCursor) -> Option<SizeAlign>
     requires { InBounds cursor }
     ensures { let e : Extent = record { size = max 1 (next_multiple cursor.end cursor.align); align = cursor.align } in MatchOption result (GREATEST_SIZE < e.size) (λ s. Measured e s) }

@@ -18,14 +18,14 @@ pub struct SizeAlign {
     pub align: u32,
 }
 
-// Aligned to its size.
+/// Aligned to its size.
 pub fn scalar_of(size: u32) -> SizeAlign
     ensures { result ≡ record { size = size; align = size } }
 {
     SizeAlign { size, align: size }
 }
 
-// The size of an integer.
+/// The size of an integer.
 pub fn int_size(kind: IntKind) -> u32
     ensures value { result ≡ kind_size kind }
     ensures low { 1 ≤ result }
@@ -39,7 +39,7 @@ pub fn int_size(kind: IntKind) -> u32
     }
 }
 
-// Whether a value of the shape is an array of no elements, or holds only such arrays.
+/// Whether a value of the shape is an array of no elements, or holds only such arrays.
 pub fn has_no_elements(shape: &Shape) -> bool
     ensures { result ≡ is_vacant (shape_form shape.now) }
 {
@@ -58,8 +58,8 @@ pub fn has_no_elements(shape: &Shape) -> bool
     }
 }
 
-// The extent of a shape whose values hold no class but `part`; `None` where its size passes the
-// greatest.
+/// The extent of a shape whose values hold no class but `part`; `None` where its size passes the
+/// greatest.
 pub fn scaled(shape: &Shape, part: SizeAlign) -> Option<SizeAlign>
     requires part { Measured (shown part) part }
     requires elements { is_vacant (shape_form shape.now) ≡ false }

@@ -4,13 +4,13 @@
 pub mod addresses;
 mod alignments;
 pub mod below;
-mod cursor;
+pub mod cursor;
 pub mod extents;
 pub mod frames;
 pub mod laws;
 mod measures;
 pub mod objects;
-mod pointers;
+pub mod pointers;
 
 pub use addresses::{fn_addr, vtable_addr};
 pub use extents::SizeAlign;

@@ -83,8 +83,8 @@ pub fn has_pointer(classes: &[ClassRec], class: u32) -> bool
     }
 }
 
-// The cursor with the class pointer after it, where the class has one; `None` where it ends after
-// the greatest size.
+/// The cursor with the class pointer after it, where the class has one; `None` where it ends after
+/// the greatest size.
 pub fn with_pointer(cursor: LayoutCursor, classes: &[ClassRec], class: u32) -> Option<LayoutCursor>
     requires { InBounds cursor }
     ensures { MatchOption result (GREATEST_SIZE < end_from cursor.end (pointer_items (has_class_pointer (classes_of classes.now) class))) (λ r. Follows cursor (pointer_items (has_class_pointer (classes_of classes.now) class)) r) }
@@ -96,7 +96,7 @@ pub fn with_pointer(cursor: LayoutCursor, classes: &[ClassRec], class: u32) -> O
     }
 }
 
-// The alignment of the class pointer, and 1 where the class has none.
+/// The alignment of the class pointer, and 1 where the class has none.
 pub fn pointer_align(classes: &[ClassRec], class: u32) -> u32
     ensures value { result ≡ greatest_align (pointer_items (has_class_pointer (classes_of classes.now) class)) }
     ensures low { 1 ≤ result }

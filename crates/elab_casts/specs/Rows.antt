@@ -25,7 +25,7 @@ value_cast c w at t v zero = if is_numeric (form_in (typ_in v)) && is_numeric (f
 
 -- an object of class type as an expression, from values in parentheses
 abbrev pub class_made : Ctx → Work → At → Typ → List Operand → Result Made ElabFault
-class_made c w at t os = and_then (from_values c w (unqualified t) at os) (λ (m : Made). Ok (with_tree (as_expression at (unqualified t)) m))
+class_made c w at t os = and_then (from_values c w t at os) (λ (m : Made). Ok (with_tree (as_expression at t) m))
 
 -- `T()` of a type that is no class
 abbrev pub zero_made : Work → At → Typ → Result Made ElabFault

@@ -256,9 +256,8 @@ fn class_made(
     requires { are_in (length (trees_of work.old.nodes.items)) os.now ≡ true }
     ensures { Makes (trees_of work.old.nodes.items) (trees_of work.new.nodes.items) (work_of work.new) result (class_made (ctx_of env.now) (work_of work.old) at (typ_of ty.now) (operands_in (trees_of work.old.nodes.items) os.now)) }
 {
-    let bare = unqualified_type(alloc, ty)?;
-    let init = from_values(alloc, env, work, &bare, at, os)?;
-    let made = as_expression(alloc, &mut work.nodes, at, &bare, init)?;
+    let init = from_values(alloc, env, work, ty, at, os)?;
+    let made = as_expression(alloc, &mut work.nodes, at, ty, init)?;
     Ok(made)
 }
 

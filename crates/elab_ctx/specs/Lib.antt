@@ -8,6 +8,7 @@ pub use Rattle.cpp_tree.specs.tx_events as tx_events
 pub use Rattle.cpp_tree.specs.tx_ints as tx_ints
 pub mod Ctx
 pub mod Indexed
+pub mod Layouts
 pub mod Operands
 pub mod Places
 pub mod Says

@@ -6,8 +6,8 @@ pub use cpp_names::{Entity, EntityKind, NameFault, Scopes};
 pub use cpp_tree::below::{
     At, BinOp, BlockKind, Cat, ClassRec, EXCEPTION_SIZE, FnTy, GREATEST_FRAME, GREATEST_SIZE,
     IntKind, MemberRec, Shape, SizeAlign, Step, Ty, apply, conversion_between, convert, copy,
-    copy_function, equal_kinds, equal_shapes, equal_types, has_pointer, held_class, offset,
-    promote, same, size_align, usual, value_of_word, word_of,
+    copy_function, equal_kinds, equal_shapes, equal_types, has_pointer, held_class, promote, same,
+    size_align, usual, value_of_word, word_of,
 };
 pub use cpp_tree::{
     Builtin, CellKind, ClassDef, ElabFault, FuncKind, IllRule, InitCell, LimitKind, Linkage,

@@ -1,9 +1,11 @@
 // What is declared where a form stands, and what is made there.
 
-ghost use Rattle.std.specs.Prelude.{◌≡◌, true};
+ghost use Rattle.std.specs.Prelude.{◌≡◌, true, map};
 ghost use Rattle.cpp_tree.specs.cpp_types.Class.{classes_of};
 ghost use Rattle.cpp_tree.specs.cpp_types.Order.{all_consistent};
+ghost use Rattle.elab_ctx.specs.Layouts.{completed_in, layout_of, layouts_of};
 
+use crate::class_layout::ClassLayout;
 use crate::functions::Functions;
 use crate::type_names::TypeNames;
 use cpp_names::Scopes;
@@ -163,6 +165,10 @@ pub struct Env {
     pub scopes: Scopes,
     pub types: TypeNames,
     pub classes: Vec<ClassRec>,
+    /// How many of the classes are complete.
+    pub completed: u32,
+    /// For each class how its objects are laid out.
+    pub layouts: Vec<ClassLayout>,
     /// For each class what holds of it once it is complete.
     pub traits: Vec<Traits>,
     /// For each class the final overriders of its slots.
@@ -186,6 +192,8 @@ pub struct Env {
     pub closures: Vec<Closure>,
     /// The classes are in order, so that their objects have sizes.
     pub ghost in_order: { all_consistent (classes_of classes.items) ≡ true },
+    pub ghost counted: { completed ≡ completed_in (classes_of classes.items) },
+    pub ghost laid_out: { map layout_of layouts.items ≡ layouts_of (classes_of classes.items) },
 }
 
 /// What is made: typed nodes, the frame of the function at hand, and the globals of the unit, strings among them.

@@ -9,7 +9,8 @@ ghost use Rattle.elab_ctx.specs.Ctx.{ctx_of, func_of, traits_of};
 ghost use Rattle.elab_ctx.specs.Sized.{is_whole};
 
 use crate::env::{Env, FuncDecl, Traits};
-use cpp_tree::below::{ClassRec, SizeAlign, Ty, held_class, size_align};
+use crate::layouts::measured;
+use cpp_tree::below::{ClassRec, SizeAlign, Ty, held_class};
 use std::alloc::AllocError;
 
 /// The function with a number.
@@ -60,9 +61,9 @@ pub fn extent(env: &Env, ty: &Ty) -> Result<SizeAlign, AllocError>
     if !is_sized(env, ty) {
         return Err(AllocError);
     }
-    match size_align(ty, &env.classes) {
-        Ok(found) => Ok(found),
-        Err(_) => Err(AllocError),
+    match measured(env, ty) {
+        Some(found) => Ok(found),
+        None => Err(AllocError),
     }
 }
 

@@ -88,17 +88,21 @@ pub specifiers_are : (s : List Lexeme) (c : Ctx) (l : List Closure) (w : Work) (
     ≡ and_then (all_specified_with s c l w no_specifiers kids) (λ (d : Specifiers). specified_type (at_of p) d)
 specifiers_are s c l w t kind p token kids n = ap (specifiers_with s c l w) n
 
-pub next_specified : (s : List Lexeme) (c : Ctx) (l : List Closure) (w : Work) (d e : Specifiers) (t : Tree) (left ts : Trees)
-    (total : Result Specifiers ElabFault) → total ≡ all_specified_with s c l w d left → left ≡ more t ts → specified_with s c l w d t ≡ Ok e
+pub next_specified : (s : List Lexeme) (c : Ctx) (l : List Closure) (w v : Work) (d e : Specifiers) (t : Tree) (left ts : Trees)
+    (total : Result Specifiers ElabFault) → v ≡ w → total ≡ all_specified_with s c l w d left → left ≡ more t ts → specified_with s c l v d t ≡ Ok e
     → total ≡ all_specified_with s c l w e ts
-next_specified s c l w d e t left ts total h g q = h ∙ ap (all_specified_with s c l w d) g
-    ∙ then_known (specified_with s c l w d t) e (λ (x : Specifiers). all_specified_with s c l w x ts) q
+next_specified s c l w v d e t left ts total m h g q = h ∙ ap (all_specified_with s c l w d) g
+    ∙ then_known (specified_with s c l w d t) e (λ (x : Specifiers). all_specified_with s c l w x ts)
+    (subst (λ (z : Work). specified_with s c l z d t ≡ Ok e) m q)
 
-pub specified_fault : (s : List Lexeme) (c : Ctx) (l : List Closure) (w : Work) (d : Specifiers) (t : Tree) (left ts : Trees)
-    (total : Result Specifiers ElabFault) (f : ElabFault) → total ≡ all_specified_with s c l w d left → left ≡ more t ts → Faults f (specified_with s c l w d t)
-    → Faults f total
-specified_fault s c l w d t left ts total f h g q = faults_same f (all_specified_with s c l w d (more t ts)) total (h ∙ ap (all_specified_with s c l w d) g)
-    (first_fault f (specified_with s c l w d t) (λ (x : Specifiers). all_specified_with s c l w x ts) q)
+pub specified_fault : (s : List Lexeme) (c : Ctx) (l : List Closure) (w v : Work) (at : At) (d : Specifiers) (t : Tree) (left ts all : Trees) (f : ElabFault)
+    → v ≡ w → all_specified_with s c l w no_specifiers all ≡ all_specified_with s c l w d left → left ≡ more t ts → Faults f (specified_with s c l v d t)
+    → Faults f (and_then (all_specified_with s c l w no_specifiers all) (λ (x : Specifiers). specified_type at x))
+specified_fault s c l w v at d t left ts all f m h g q =
+    first_fault f (all_specified_with s c l w no_specifiers all) (λ (x : Specifiers). specified_type at x)
+    (faults_same f (all_specified_with s c l w d (more t ts)) (all_specified_with s c l w no_specifiers all) (h ∙ ap (all_specified_with s c l w d) g)
+    (first_fault f (specified_with s c l w d t) (λ (x : Specifiers). all_specified_with s c l w x ts)
+    (subst (λ (z : Work). Faults f (specified_with s c l z d t)) m q)))
 
 pub specifiers_done : (s : List Lexeme) (c : Ctx) (l : List Closure) (w : Work) (at : At) (d : Specifiers) (left all : Trees)
     → all_specified_with s c l w no_specifiers all ≡ all_specified_with s c l w d left → left ≡ none
@@ -115,22 +119,22 @@ pub type_id_is : (s : List Lexeme) (c : Ctx) (l : List Closure) (w : Work) (t ba
     → t ≡ node kind p token kids → kids ≡ more base (more d none) → type_id_with s c l w t ≡ type_by s c l w (at_of p) base d
 type_id_is s c l w t base d kind p token kids n g = rw (n, g) refl
 
-pub type_made : (s : List Lexeme) (c : Ctx) (l : List Closure) (w : Work) (at : At) (base d : Tree) (t : Typ) (r : Declared)
-    → specifiers_with s c l w base ≡ Ok t → declared_with s c l w at t d ≡ Ok r → type_by s c l w at base d ≡ Ok r.typ
-type_made s c l w at base d t r h g = then_known (specifiers_with s c l w base) t
+pub type_made : (s : List Lexeme) (c : Ctx) (l : List Closure) (w v : Work) (at : At) (base d : Tree) (t : Typ) (r : Declared)
+    → v ≡ w → specifiers_with s c l w base ≡ Ok t → declared_with s c l v at t d ≡ Ok r → type_by s c l w at base d ≡ Ok r.typ
+type_made s c l w v at base d t r e h g = then_known (specifiers_with s c l w base) t
     (λ (u : Typ). and_then (declared_with s c l w at u d) (λ (x : Declared). Ok x.typ)) h
-    ∙ then_known (declared_with s c l w at t d) r (λ (x : Declared). Ok x.typ) g
+    ∙ then_known (declared_with s c l w at t d) r (λ (x : Declared). Ok x.typ) (subst (λ (z : Work). declared_with s c l z at t d ≡ Ok r) e g)
 
 pub type_base_fault : (s : List Lexeme) (c : Ctx) (l : List Closure) (w : Work) (at : At) (base d : Tree) (e : ElabFault)
     → Faults e (specifiers_with s c l w base) → Faults e (type_by s c l w at base d)
 type_base_fault s c l w at base d e h = first_fault e (specifiers_with s c l w base)
     (λ (u : Typ). and_then (declared_with s c l w at u d) (λ (x : Declared). Ok x.typ)) h
 
-pub type_declared_fault : (s : List Lexeme) (c : Ctx) (l : List Closure) (w : Work) (at : At) (base d : Tree) (t : Typ) (e : ElabFault)
-    → specifiers_with s c l w base ≡ Ok t → Faults e (declared_with s c l w at t d) → Faults e (type_by s c l w at base d)
-type_declared_fault s c l w at base d t e h g = later_fault e (specifiers_with s c l w base) t
+pub type_declared_fault : (s : List Lexeme) (c : Ctx) (l : List Closure) (w v : Work) (at : At) (base d : Tree) (t : Typ) (e : ElabFault)
+    → v ≡ w → specifiers_with s c l w base ≡ Ok t → Faults e (declared_with s c l v at t d) → Faults e (type_by s c l w at base d)
+type_declared_fault s c l w v at base d t e m h g = later_fault e (specifiers_with s c l w base) t
     (λ (u : Typ). and_then (declared_with s c l w at u d) (λ (x : Declared). Ok x.typ)) h
-    (first_fault e (declared_with s c l w at t d) (λ (x : Declared). Ok x.typ) g)
+    (first_fault e (declared_with s c l w at t d) (λ (x : Declared). Ok x.typ) (subst (λ (z : Work). Faults e (declared_with s c l z at t d)) m g))
 
 abbrev pub parameter_by : List Lexeme → Ctx → List Closure → Work → At → Tree → Tree → Result Parameter ElabFault
 parameter_by s c l w at base d = and_then (specifiers_with s c l w base) (λ (t : Typ). and_then (declared_with s c l w at t d) (parameter_declared c at))
@@ -139,23 +143,23 @@ pub parameter_is : (s : List Lexeme) (c : Ctx) (l : List Closure) (w : Work) (t 
     (kids : Trees) → t ≡ node kind p token kids → kids ≡ more base (more d none) → parameter_with s c l w t ≡ parameter_by s c l w (at_of p) base d
 parameter_is s c l w t base d kind p token kids n g = rw (n, g) refl
 
-pub parameter_says : {A : Type 0} (show : A → Parameter) (q : Result A ElabFault) (s : List Lexeme) (c : Ctx) (l : List Closure) (w : Work) (at : At)
-    (base d : Tree) (t : Typ) (r : Declared) → specifiers_with s c l w base ≡ Ok t → declared_with s c l w at t d ≡ Ok r
+pub parameter_says : {A : Type 0} (show : A → Parameter) (q : Result A ElabFault) (s : List Lexeme) (c : Ctx) (l : List Closure) (w v : Work) (at : At)
+    (base d : Tree) (t : Typ) (r : Declared) → v ≡ w → specifiers_with s c l w base ≡ Ok t → declared_with s c l v at t d ≡ Ok r
     → Says show q (parameter_declared c at r) → Says show q (parameter_by s c l w at base d)
-parameter_says show q s c l w at base d t r h g m = says_same show q (parameter_declared c at r) (parameter_by s c l w at base d)
+parameter_says show q s c l w v at base d t r e h g m = says_same show q (parameter_declared c at r) (parameter_by s c l w at base d)
     (then_known (specifiers_with s c l w base) t (λ (u : Typ). and_then (declared_with s c l w at u d) (parameter_declared c at)) h
-    ∙ then_known (declared_with s c l w at t d) r (parameter_declared c at) g) m
+    ∙ then_known (declared_with s c l w at t d) r (parameter_declared c at) (subst (λ (z : Work). declared_with s c l z at t d ≡ Ok r) e g)) m
 
 pub parameter_base_fault : (s : List Lexeme) (c : Ctx) (l : List Closure) (w : Work) (at : At) (base d : Tree) (e : ElabFault)
     → Faults e (specifiers_with s c l w base) → Faults e (parameter_by s c l w at base d)
 parameter_base_fault s c l w at base d e h = first_fault e (specifiers_with s c l w base)
     (λ (u : Typ). and_then (declared_with s c l w at u d) (parameter_declared c at)) h
 
-pub parameter_declared_fault : (s : List Lexeme) (c : Ctx) (l : List Closure) (w : Work) (at : At) (base d : Tree) (t : Typ) (e : ElabFault)
-    → specifiers_with s c l w base ≡ Ok t → Faults e (declared_with s c l w at t d) → Faults e (parameter_by s c l w at base d)
-parameter_declared_fault s c l w at base d t e h g = later_fault e (specifiers_with s c l w base) t
+pub parameter_declared_fault : (s : List Lexeme) (c : Ctx) (l : List Closure) (w v : Work) (at : At) (base d : Tree) (t : Typ) (e : ElabFault)
+    → v ≡ w → specifiers_with s c l w base ≡ Ok t → Faults e (declared_with s c l v at t d) → Faults e (parameter_by s c l w at base d)
+parameter_declared_fault s c l w v at base d t e m h g = later_fault e (specifiers_with s c l w base) t
     (λ (u : Typ). and_then (declared_with s c l w at u d) (parameter_declared c at)) h
-    (first_fault e (declared_with s c l w at t d) (parameter_declared c at) g)
+    (first_fault e (declared_with s c l w at t d) (parameter_declared c at) (subst (λ (z : Work). Faults e (declared_with s c l z at t d)) m g))
 
 -- Declarators
 
@@ -249,20 +253,20 @@ pub array_is : (s : List Lexeme) (c : Ctx) (l : List Closure) (w : Work) (at : A
     → declared_with s c l w at t tree ≡ array_by s c l w at t d e
 array_is s c l w at t tree d e kind p token kids n h g = rw (n, kind_is tree kind _ p token kids n h, g) refl
 
--- what is made for a bound is not kept
+-- what is made for the bound is cut off again, so that `v` and `n2` are what stood there
 pub bound_says : {A : Type 0} (show : A → Typ) (r : Result A ElabFault) (s : List Lexeme) (c : Ctx) (l : List Closure) (w v w1 : Work) (at : At) (t : Typ)
-    (e : Tree) (n0 n1 : List TypedTree) (o : OperandRec) → v ≡ w → TypedAt n0 n1 w1 o (and_then (expression_with s c l v e) (chosen_operand c))
-    → Says show r (bounded c w at t (operand_in n1 o)) → Says show r (bound_of s c l w at t e)
-bound_says show r s c l w v w1 at t e n0 n1 o h m q =
+    (e : Tree) (n0 n1 n2 : List TypedTree) (o : OperandRec) → v ≡ w → n2 ≡ n1 → TypedAt n0 n1 w1 o (and_then (expression_with s c l w e) (chosen_operand c))
+    → Says show r (bounded c v at t (operand_in n2 o)) → Says show r (bound_of s c l w at t e)
+bound_says show r s c l w v w1 at t e n0 n1 n2 o h g m q =
     says_same show r (bounded c w at t (operand_in n1 o)) (bound_of s c l w at t e)
-    (ap (λ (z : Work). and_then (and_then (expression_with s c l z e) (chosen_operand c)) (λ (x : Typed). bounded c w at t x.operand)) (sym h)
-    ∙ then_known (and_then (expression_with s c l v e) (chosen_operand c)) (record { operand = operand_in n1 o; work = w1 })
-    (λ (x : Typed). bounded c w at t x.operand) m.is) q
+    (then_known (and_then (expression_with s c l w e) (chosen_operand c)) (record { operand = operand_in n1 o; work = w1 })
+    (λ (x : Typed). bounded c w at t x.operand) m.is)
+    (subst (λ (z : List TypedTree). Says show r (bounded c w at t (operand_in z o))) g
+    (subst (λ (z : Work). Says show r (bounded c z at t (operand_in n2 o))) h q))
 
-pub bound_fault : (s : List Lexeme) (c : Ctx) (l : List Closure) (w v : Work) (at : At) (t : Typ) (e : Tree) (f : ElabFault) → v ≡ w
-    → Faults f (and_then (expression_with s c l v e) (chosen_operand c)) → Faults f (bound_of s c l w at t e)
-bound_fault s c l w v at t e f h g = first_fault f (and_then (expression_with s c l w e) (chosen_operand c)) (λ (x : Typed). bounded c w at t x.operand)
-    (subst (λ (z : Work). Faults f (and_then (expression_with s c l z e) (chosen_operand c))) h g)
+pub bound_fault : (s : List Lexeme) (c : Ctx) (l : List Closure) (w : Work) (at : At) (t : Typ) (e : Tree) (f : ElabFault)
+    → Faults f (and_then (expression_with s c l w e) (chosen_operand c)) → Faults f (bound_of s c l w at t e)
+bound_fault s c l w at t e f h = first_fault f (and_then (expression_with s c l w e) (chosen_operand c)) (λ (x : Typed). bounded c w at t x.operand) h
 
 then_again : {A B C : Type 0} (x : Result A ElabFault) (f : A → Result B ElabFault) (g : B → Result C ElabFault)
     → and_then x (λ a. and_then (f a) g) ≡ and_then (and_then x f) g
@@ -274,9 +278,10 @@ array_then : (s : List Lexeme) (c : Ctx) (l : List Closure) (w : Work) (at : At)
 array_then s c l w at t d e = then_again (and_then (expression_with s c l w e) (chosen_operand c)) (λ (x : Typed). bounded c w at t x.operand)
     (λ (u : Typ). declared_with s c l w at u d)
 
-pub array_made : (s : List Lexeme) (c : Ctx) (l : List Closure) (w : Work) (at : At) (t u : Typ) (d e : Tree) → bound_of s c l w at t e ≡ Ok u
-    → array_by s c l w at t d e ≡ declared_with s c l w at u d
-array_made s c l w at t u d e h = array_then s c l w at t d e ∙ then_known (bound_of s c l w at t e) u (λ (z : Typ). declared_with s c l w at z d) h
+pub array_made : (s : List Lexeme) (c : Ctx) (l : List Closure) (w v : Work) (at : At) (t u : Typ) (d e : Tree) → v ≡ w → bound_of s c l w at t e ≡ Ok u
+    → array_by s c l w at t d e ≡ declared_with s c l v at u d
+array_made s c l w v at t u d e m h = array_then s c l w at t d e ∙ then_known (bound_of s c l w at t e) u (λ (z : Typ). declared_with s c l w at z d) h
+    ∙ ap (λ (z : Work). declared_with s c l z at u d) (sym m)
 
 pub array_fault : (s : List Lexeme) (c : Ctx) (l : List Closure) (w : Work) (at : At) (t : Typ) (d e : Tree) (f : ElabFault)
     → Faults f (bound_of s c l w at t e) → Faults f (array_by s c l w at t d e)
@@ -341,15 +346,16 @@ pub function_is : (s : List Lexeme) (c : Ctx) (l : List Closure) (w : Work) (at 
     → declared_with s c l w at t tree ≡ function_by s c l w at t d ps q
 function_is s c l w at t tree d ps q kind p token kids n h g = rw (n, kind_is tree kind _ p token kids n h, g) refl
 
-pub function_made : (s : List Lexeme) (c : Ctx) (l : List Closure) (w : Work) (at : At) (t u : Typ) (d ps q : Tree) (xs : List Parameter) (qs : Qualifiers)
-    (r : Declared) → qs ≡ qualifiers_of s q → parameters_in_with s c l w ps ≡ Ok xs → function_of c at t xs (is_declared_safe qs) ≡ Ok u
-    → declared_with s c l w at u d ≡ Ok r → function_by s c l w at t d ps q ≡ with_function at (is_name d) xs qs r
-function_made s c l w at t u d ps q xs qs r e h g m =
+pub function_made : (s : List Lexeme) (c : Ctx) (l : List Closure) (w v : Work) (at : At) (t u : Typ) (d ps q : Tree) (xs : List Parameter) (qs : Qualifiers)
+    (r : Declared) → v ≡ w → qs ≡ qualifiers_of s q → parameters_in_with s c l w ps ≡ Ok xs → function_of c at t xs (is_declared_safe qs) ≡ Ok u
+    → declared_with s c l v at u d ≡ Ok r → function_by s c l w at t d ps q ≡ with_function at (is_name d) xs qs r
+function_made s c l w v at t u d ps q xs qs r i e h g m =
     ap (λ (z : Qualifiers). and_then (parameters_in_with s c l w ps) (function_then s c l w at t d z)) (sym e)
     ∙ then_known (parameters_in_with s c l w ps) xs (function_then s c l w at t d qs) h
     ∙ then_known (function_of c at t xs (is_declared_safe qs)) u
     (λ (z : Typ). and_then (declared_with s c l w at z d) (λ (y : Declared). with_function at (is_name d) xs qs y)) g
-    ∙ then_known (declared_with s c l w at u d) r (λ (y : Declared). with_function at (is_name d) xs qs y) m
+    ∙ then_known (declared_with s c l w at u d) r (λ (y : Declared). with_function at (is_name d) xs qs y)
+    (subst (λ (z : Work). declared_with s c l z at u d ≡ Ok r) i m)
 
 -- the same parameters and safety by other names
 pub function_safe : (c : Ctx) (at : At) (t u : Typ) (xs ys : List Parameter) (safe : Bool) (qs : Qualifiers) → ys ≡ xs → safe ≡ is_declared_safe qs
@@ -374,15 +380,16 @@ function_fault s c l w at t d ps q xs qs e g h m =
     (first_fault e (function_of c at t xs (is_declared_safe qs))
     (λ (z : Typ). and_then (declared_with s c l w at z d) (λ (y : Declared). with_function at (is_name d) xs qs y)) m))
 
-pub inner_fault : (s : List Lexeme) (c : Ctx) (l : List Closure) (w : Work) (at : At) (t u : Typ) (d ps q : Tree) (xs : List Parameter) (qs : Qualifiers)
-    (e : ElabFault) → qs ≡ qualifiers_of s q → parameters_in_with s c l w ps ≡ Ok xs → function_of c at t xs (is_declared_safe qs) ≡ Ok u
-    → Faults e (declared_with s c l w at u d) → Faults e (function_by s c l w at t d ps q)
-inner_fault s c l w at t u d ps q xs qs e g h n m =
+pub inner_fault : (s : List Lexeme) (c : Ctx) (l : List Closure) (w v : Work) (at : At) (t u : Typ) (d ps q : Tree) (xs : List Parameter) (qs : Qualifiers)
+    (e : ElabFault) → v ≡ w → qs ≡ qualifiers_of s q → parameters_in_with s c l w ps ≡ Ok xs → function_of c at t xs (is_declared_safe qs) ≡ Ok u
+    → Faults e (declared_with s c l v at u d) → Faults e (function_by s c l w at t d ps q)
+inner_fault s c l w v at t u d ps q xs qs e i g h n m =
     later_fault e (parameters_in_with s c l w ps) xs (function_then s c l w at t d (qualifiers_of s q)) h
     (subst (λ (z : Qualifiers). Faults e (function_then s c l w at t d z xs)) g
     (later_fault e (function_of c at t xs (is_declared_safe qs)) u
     (λ (z : Typ). and_then (declared_with s c l w at z d) (λ (y : Declared). with_function at (is_name d) xs qs y)) n
-    (first_fault e (declared_with s c l w at u d) (λ (y : Declared). with_function at (is_name d) xs qs y) m)))
+    (first_fault e (declared_with s c l w at u d) (λ (y : Declared). with_function at (is_name d) xs qs y)
+    (subst (λ (z : Work). Faults e (declared_with s c l z at u d)) i m))))
 
 -- Parameters
 
@@ -405,23 +412,25 @@ after_one : (head : List Parameter) (x : Parameter) (y : Result (List Parameter)
 after_one head x (Ok xs) = ap (λ (z : List Parameter). Ok z) (sym (append_assoc head (x ∷ []) xs))
 after_one head x (Err e) = refl
 
-pub next_parameter : (s : List Lexeme) (c : Ctx) (l : List Closure) (w : Work) (head next : List Parameter) (x : Parameter) (t : Tree) (left ts : Trees)
-    (total : Result (List Parameter) ElabFault) → total ≡ after head (parameters_with s c l w left) → left ≡ more t ts → parameter_with s c l w t ≡ Ok x
-    → next ≡ head ++ x ∷ [] → total ≡ after next (parameters_with s c l w ts)
-next_parameter s c l w head next x t left ts total h g q e =
+pub next_parameter : (s : List Lexeme) (c : Ctx) (l : List Closure) (w v : Work) (head next : List Parameter) (x : Parameter) (t : Tree) (left ts : Trees)
+    (total : Result (List Parameter) ElabFault) → v ≡ w → total ≡ after head (parameters_with s c l w left) → left ≡ more t ts
+    → parameter_with s c l v t ≡ Ok x → next ≡ head ++ x ∷ [] → total ≡ after next (parameters_with s c l w ts)
+next_parameter s c l w v head next x t left ts total m h g q e =
     h ∙ ap (λ (z : Trees). after head (parameters_with s c l w z)) g
     ∙ ap (after head) (then_known (parameter_with s c l w t) x
-    (λ (y : Parameter). and_then (parameters_with s c l w ts) (λ (xs : List Parameter). Ok (y ∷ xs))) q)
+    (λ (y : Parameter). and_then (parameters_with s c l w ts) (λ (xs : List Parameter). Ok (y ∷ xs)))
+    (subst (λ (z : Work). parameter_with s c l z t ≡ Ok x) m q))
     ∙ after_one head x (parameters_with s c l w ts)
     ∙ ap (λ (z : List Parameter). after z (parameters_with s c l w ts)) (sym e)
 
-pub parameter_fault : (s : List Lexeme) (c : Ctx) (l : List Closure) (w : Work) (head : List Parameter) (t : Tree) (left ts : Trees)
-    (total : Result (List Parameter) ElabFault) (f : ElabFault) → total ≡ after head (parameters_with s c l w left) → left ≡ more t ts
-    → Faults f (parameter_with s c l w t) → Faults f total
-parameter_fault s c l w head t left ts total f h g q =
+pub parameter_fault : (s : List Lexeme) (c : Ctx) (l : List Closure) (w v : Work) (head : List Parameter) (t : Tree) (left ts : Trees)
+    (total : Result (List Parameter) ElabFault) (f : ElabFault) → v ≡ w → total ≡ after head (parameters_with s c l w left) → left ≡ more t ts
+    → Faults f (parameter_with s c l v t) → Faults f total
+parameter_fault s c l w v head t left ts total f m h g q =
     faults_same f (after head (parameters_with s c l w (more t ts))) total (h ∙ ap (λ (z : Trees). after head (parameters_with s c l w z)) g)
     (first_fault f (parameters_with s c l w (more t ts)) (λ (xs : List Parameter). Ok (head ++ xs))
-    (first_fault f (parameter_with s c l w t) (λ (y : Parameter). and_then (parameters_with s c l w ts) (λ (xs : List Parameter). Ok (y ∷ xs))) q))
+    (first_fault f (parameter_with s c l w t) (λ (y : Parameter). and_then (parameters_with s c l w ts) (λ (xs : List Parameter). Ok (y ∷ xs)))
+    (subst (λ (z : Work). Faults f (parameter_with s c l z t)) m q)))
 
 pub parameters_done : (s : List Lexeme) (c : Ctx) (l : List Closure) (w : Work) (head : List Parameter) (left : Trees)
     (total : Result (List Parameter) ElabFault) → total ≡ after head (parameters_with s c l w left) → left ≡ none → total ≡ Ok head

@@ -17,7 +17,8 @@ use Rattle.elab_rows.specs.elab_ctx.Steps.{and_then, at_of, spelling, Typed, Typ
 use Rattle.elab_rows.specs.elab_rules.Calls.{call}
 use Rattle.elab_rows.specs.elab_rules.Casts.{cast, functional, size_literal}
 use Rattle.elab_rows.specs.elab_rules.Types.{Specifiers, no_specifiers, specified_type}
-use Rattle.elab_rows.specs.elab_rules.Expressions.{expression_with, operands_with, specified_with, type_id_with, chosen_operand, an_operand, a_tree, written_type}
+use Rattle.elab_rows.specs.elab_rules.Expressions.{expression_with, operands_with, specified_with, type_id_with, chosen_operand, an_operand, a_tree}
+use Rattle.elab_rows.specs.elab_rules.Expressions.{written_type}
 use Rattle.elab_rows.specs.elab_rules.Expressions.{leaf_or_row, row_of, closure_object, qualified_name}
 use Rattle.elab_rows.specs.elab_types.Syntax.{trees_at}
 use Rattle.elab_expr.specs.Forms.{is_over_operands, is_cast}

@@ -10,3 +10,4 @@ pub mod FormRows
 pub mod LiteralBounds
 pub mod Several
 pub mod Stages
+pub mod Unmoved

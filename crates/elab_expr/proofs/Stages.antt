@@ -1,17 +1,19 @@
 -- Steps of expressions, one behind the other.
-use Rattle.std.proofs.Common.{◌≡◌, ◌<◌, ℕ, true, nat_lt, lt-ltb, List, [], ◌∷◌, length, Result, Ok, Err, refl, sym, ap, ◌∙◌, subst}
+use Rattle.std.proofs.Common.{◌≡◌, ◌<◌, ℕ, true, nat_lt, lt-ltb, List, [], ◌∷◌, length, take, vec_len, Result, Ok, Err, refl, sym, ap, ◌∙◌, subst}
 use Rattle.std.proofs.lemmas.Bool.{and_parts, ltb-true}
 use Rattle.std.specs.Prelude.{Vec}
 use Rattle.std.specs.declared.alloc.Global.{Global}
 use Rattle.elab_rows.specs.cpp_lex.Tokens.{Lexeme}
-use Rattle.elab_rows.specs.cpp_types.Typ.{Typ}
+use Rattle.elab_rows.specs.cpp_types.Typ.{Typ, typ_of}
 use Rattle.elab_rows.specs.cpp_types.declared.classes.At.{At}
 use Rattle.elab_rows.specs.cpp_ast.declared.kinds.NodeKind.{NodeKind}
 use Rattle.elab_rows.specs.cpp_ast.Trees as syntax
 use Rattle.elab_rows.specs.cpp_tree.declared.faults.ElabFault.{ElabFault}
 use Rattle.elab_rows.specs.cpp_tree.Trees.{Tree, typ_in}
+use Rattle.elab_rows.specs.cpp_tree.Units.{global_of}
 use Rattle.elab_rows.specs.cpp_tree.Arena.{tree_at, Grows}
-use Rattle.elab_rows.specs.elab_ctx.Ctx.{Ctx, Work, Closure}
+use Rattle.elab_rows.specs.elab_ctx.Ctx.{Ctx, Work, Closure, work_of}
+use Rattle.elab_rows.specs.elab_ctx.declared.env.Work.{Work as WorkRec}
 use Rattle.elab_rows.specs.elab_ctx.Steps.{and_then, Operand, Typed, TypedAll}
 use Rattle.elab_rows.specs.elab_ctx.Operands.{operand_in, operands_in, are_in}
 use Rattle.elab_rows.specs.elab_ctx.Says.{Faults}
@@ -21,8 +23,10 @@ use Rattle.elab_rows.proofs.elab_ctx.Making.{faults_in, faults_same}
 use Rattle.elab_rows.specs.elab_rules.Calls.{call}
 use Rattle.elab_rows.specs.elab_rules.Casts.{cast, functional, size_literal}
 use Rattle.elab_rows.specs.elab_rules.Types.{Specifiers, no_specifiers, specified_type}
-use Rattle.elab_rows.specs.elab_rules.Expressions.{expression_with, operands_with, specified_with, type_id_with, chosen_operand, an_operand, a_tree, row_of, written_type}
+use Rattle.elab_rows.specs.elab_rules.Expressions.{expression_with, operands_with, specified_with, type_id_with, chosen_operand, an_operand, a_tree, row_of}
+use Rattle.elab_rows.specs.elab_rules.Expressions.{written_type}
 use Rattle.elab_rows.specs.Typed.{TypedAt, Types, AllTyped, TypesAll}
+use Rattle.elab_growth.proofs.Kept.{chosen_follows, cut_again, shown_length}
 use Rattle.elab_expr.proofs.FormRows.{over_row, wrapped, call_row_of, values_row, functional_row_of, value_row, cast_row_of, size_row, type_row}
 
 -- Answers
@@ -145,18 +149,22 @@ argument_fault s c l w w1 at f es n0 n1 o e m h =
 
 -- a type and values in parentheses
 functional_by : (s : List Lexeme) (c : Ctx) (l : List Closure) (w : Work) (at : At) (base : syntax.Tree) (es : syntax.Trees) (d : Specifiers) (t : Typ)
-    → specified_with s c l w no_specifiers base ≡ Ok d → and_then (specified_type at d) (written_type at) ≡ Ok t → functional_row_of s c l w at base es ≡ values_row s c l w at t es
+    → specified_with s c l w no_specifiers base ≡ Ok d → and_then (specified_type at d) (written_type at) ≡ Ok t
+    → functional_row_of s c l w at base es ≡ values_row s c l w at t es
 functional_by s c l w at base es d t h g = ap (λ (z : Result Specifiers ElabFault). and_then z
     (λ (y : Specifiers). and_then (and_then (specified_type at y) (written_type at)) (λ (u : Typ). values_row s c l w at u es))) h
     ∙ ap (λ (z : Result Typ ElabFault). and_then z (λ (u : Typ). values_row s c l w at u es)) g
 
-pub functional_typed : (s : List Lexeme) (c : Ctx) (l : List Closure) (w w1 w2 : Work) (at : At) (base : syntax.Tree) (es : syntax.Trees) (d : Specifiers)
-    (t : Typ) (n0 n1 n2 : List Tree) (os : List OperandRec) (r : Result OperandRec ElabFault) → specified_with s c l w no_specifiers base ≡ Ok d
-    → and_then (specified_type at d) (written_type at) ≡ Ok t → AllTyped n0 n1 w1 os (operands_with s c l w es) → Types n1 n2 w2 r (an_operand at (functional c w1 at t (operands_in n1 os)))
+pub functional_typed : (s : List Lexeme) (c : Ctx) (l : List Closure) (w v w1 w2 : Work) (at : At) (base : syntax.Tree) (es : syntax.Trees) (d : Specifiers)
+    (t : Typ) (n0 n n1 n2 : List Tree) (os : List OperandRec) (r : Result OperandRec ElabFault) → v ≡ w → n ≡ n0
+    → specified_with s c l w no_specifiers base ≡ Ok d → and_then (specified_type at d) (written_type at) ≡ Ok t
+    → AllTyped n n1 w1 os (operands_with s c l v es) → Types n1 n2 w2 r (an_operand at (functional c w1 at t (operands_in n1 os)))
     → Types n0 n2 w2 r (functional_row_of s c l w at base es)
-functional_typed s c l w w1 w2 at base es d t n0 n1 n2 os r h g m q =
+functional_typed s c l w v w1 w2 at base es d t n0 n n1 n2 os r k a h g m q =
     types_same n0 n2 w2 r (values_row s c l w at t es) (functional_row_of s c l w at base es) (functional_by s c l w at base es d t h g)
-    (all_after n0 n1 n2 w1 w2 os r (operands_with s c l w es) (λ (xs : TypedAll). an_operand at (functional c xs.work at t xs.operands)) m q)
+    (all_after n0 n1 n2 w1 w2 os r (operands_with s c l w es) (λ (xs : TypedAll). an_operand at (functional c xs.work at t xs.operands))
+    (subst (λ (z : Work). AllTyped n0 n1 w1 os (operands_with s c l z es)) k
+    (subst (λ (z : List Tree). AllTyped z n1 w1 os (operands_with s c l v es)) a m)) q)
 
 pub base_fault : (s : List Lexeme) (c : Ctx) (l : List Closure) (w : Work) (at : At) (base : syntax.Tree) (es : syntax.Trees) (e : ElabFault)
     → Faults e (specified_with s c l w no_specifiers base) → Faults e (functional_row_of s c l w at base es)
@@ -164,59 +172,77 @@ base_fault s c l w at base es e h = first_fault e (specified_with s c l w no_spe
     (λ (y : Specifiers). and_then (and_then (specified_type at y) (written_type at)) (λ (u : Typ). values_row s c l w at u es)) h
 
 pub made_type_fault : (s : List Lexeme) (c : Ctx) (l : List Closure) (w : Work) (at : At) (base : syntax.Tree) (es : syntax.Trees) (d : Specifiers)
-    (e : ElabFault) → specified_with s c l w no_specifiers base ≡ Ok d → Faults e (and_then (specified_type at d) (written_type at)) → Faults e (functional_row_of s c l w at base es)
+    (e : ElabFault) → specified_with s c l w no_specifiers base ≡ Ok d → Faults e (and_then (specified_type at d) (written_type at))
+    → Faults e (functional_row_of s c l w at base es)
 made_type_fault s c l w at base es d e h g =
-    later_fault e (specified_with s c l w no_specifiers base) d (λ (y : Specifiers). and_then (and_then (specified_type at y) (written_type at)) (λ (u : Typ). values_row s c l w at u es)) h
+    later_fault e (specified_with s c l w no_specifiers base) d
+    (λ (y : Specifiers). and_then (and_then (specified_type at y) (written_type at)) (λ (u : Typ). values_row s c l w at u es)) h
     (first_fault e (and_then (specified_type at d) (written_type at)) (λ (u : Typ). values_row s c l w at u es) g)
 
-pub value_fault : (s : List Lexeme) (c : Ctx) (l : List Closure) (w : Work) (at : At) (base : syntax.Tree) (es : syntax.Trees) (d : Specifiers) (t : Typ)
-    (e : ElabFault) → specified_with s c l w no_specifiers base ≡ Ok d → and_then (specified_type at d) (written_type at) ≡ Ok t → Faults e (operands_with s c l w es)
-    → Faults e (functional_row_of s c l w at base es)
-value_fault s c l w at base es d t e h g q =
+pub value_fault : (s : List Lexeme) (c : Ctx) (l : List Closure) (w v : Work) (at : At) (base : syntax.Tree) (es : syntax.Trees) (d : Specifiers) (t : Typ)
+    (e : ElabFault) → v ≡ w → specified_with s c l w no_specifiers base ≡ Ok d → and_then (specified_type at d) (written_type at) ≡ Ok t
+    → Faults e (operands_with s c l v es) → Faults e (functional_row_of s c l w at base es)
+value_fault s c l w v at base es d t e k h g q =
     faults_same e (values_row s c l w at t es) (functional_row_of s c l w at base es) (functional_by s c l w at base es d t h g)
-    (first_fault e (operands_with s c l w es) (λ (xs : TypedAll). an_operand at (functional c xs.work at t xs.operands)) q)
+    (first_fault e (operands_with s c l w es) (λ (xs : TypedAll). an_operand at (functional c xs.work at t xs.operands))
+    (subst (λ (z : Work). Faults e (operands_with s c l z es)) k q))
 
 -- casts
-pub cast_typed : (s : List Lexeme) (c : Ctx) (l : List Closure) (w w1 w2 : Work) (at : At) (t e : syntax.Tree) (u : Typ) (n0 n1 n2 : List Tree) (o : OperandRec)
-    (r : Result OperandRec ElabFault) → and_then (type_id_with s c l w t) (written_type at) ≡ Ok u → TypedAt n0 n1 w1 o (and_then (expression_with s c l w e) (chosen_operand c))
+pub cast_typed : (s : List Lexeme) (c : Ctx) (l : List Closure) (w v w1 w2 : Work) (at : At) (t e : syntax.Tree) (u : Typ) (n0 n n1 n2 : List Tree)
+    (o : OperandRec) (r : Result OperandRec ElabFault) → v ≡ w → n ≡ n0 → and_then (type_id_with s c l w t) (written_type at) ≡ Ok u
+    → TypedAt n n1 w1 o (and_then (expression_with s c l v e) (chosen_operand c))
     → Types n1 n2 w2 r (an_operand at (cast c w1 at u (operand_in n1 o))) → Types n0 n2 w2 r (cast_row_of s c l w at t e)
-cast_typed s c l w w1 w2 at t e u n0 n1 n2 o r h m q =
+cast_typed s c l w v w1 w2 at t e u n0 n n1 n2 o r k a h m q =
     types_same n0 n2 w2 r (value_row s c l w at u e) (cast_row_of s c l w at t e)
     (ap (λ (z : Result Typ ElabFault). and_then z (λ (y : Typ). value_row s c l w at y e)) h)
-    (typed_after n0 n1 n2 w1 w2 o r (and_then (expression_with s c l w e) (chosen_operand c)) (λ (x : Typed). an_operand at (cast c x.work at u x.operand)) m q)
+    (typed_after n0 n1 n2 w1 w2 o r (and_then (expression_with s c l w e) (chosen_operand c)) (λ (x : Typed). an_operand at (cast c x.work at u x.operand))
+    (subst (λ (z : Work). TypedAt n0 n1 w1 o (and_then (expression_with s c l z e) (chosen_operand c))) k
+    (subst (λ (z : List Tree). TypedAt z n1 w1 o (and_then (expression_with s c l v e) (chosen_operand c))) a m)) q)
 
 pub cast_type_fault : (s : List Lexeme) (c : Ctx) (l : List Closure) (w : Work) (at : At) (t e : syntax.Tree) (f : ElabFault)
     → Faults f (and_then (type_id_with s c l w t) (written_type at)) → Faults f (cast_row_of s c l w at t e)
 cast_type_fault s c l w at t e f h = first_fault f (and_then (type_id_with s c l w t) (written_type at)) (λ (y : Typ). value_row s c l w at y e) h
 
-pub cast_value_fault : (s : List Lexeme) (c : Ctx) (l : List Closure) (w : Work) (at : At) (t e : syntax.Tree) (u : Typ) (f : ElabFault)
-    → and_then (type_id_with s c l w t) (written_type at) ≡ Ok u → Faults f (and_then (expression_with s c l w e) (chosen_operand c)) → Faults f (cast_row_of s c l w at t e)
-cast_value_fault s c l w at t e u f g h =
+pub cast_value_fault : (s : List Lexeme) (c : Ctx) (l : List Closure) (w v : Work) (at : At) (t e : syntax.Tree) (u : Typ) (f : ElabFault)
+    → v ≡ w → and_then (type_id_with s c l w t) (written_type at) ≡ Ok u → Faults f (and_then (expression_with s c l v e) (chosen_operand c))
+    → Faults f (cast_row_of s c l w at t e)
+cast_value_fault s c l w v at t e u f k g h =
     later_fault f (and_then (type_id_with s c l w t) (written_type at)) u (λ (y : Typ). value_row s c l w at y e) g
-    (first_fault f (and_then (expression_with s c l w e) (chosen_operand c)) (λ (x : Typed). an_operand at (cast c x.work at u x.operand)) h)
+    (first_fault f (and_then (expression_with s c l w e) (chosen_operand c)) (λ (x : Typed). an_operand at (cast c x.work at u x.operand))
+    (subst (λ (z : Work). Faults f (and_then (expression_with s c l z e) (chosen_operand c))) k h))
 
--- sizes: what is made for the operand is not kept
-pub size_typed : (s : List Lexeme) (c : Ctx) (w v w1 w2 : Work) (at : At) (e : syntax.Tree) (u : Typ) (n0 n1 a b : List Tree) (o : OperandRec)
-    (r : Result OperandRec ElabFault) → v ≡ w → TypedAt n0 n1 w1 o (and_then (expression_with s c [] v e) (chosen_operand c)) → typ_in (tree_at n1 o.id) ≡ u
-    → Types a b w2 r (a_tree at w (size_literal c at o.at u)) → Types a b w2 r (size_row s c w at e)
-size_typed s c w v w1 w2 at e u n0 n1 a b o r h m q t =
+-- what is made for an operand is cut off again
+pub chosen_cut : (s : List Lexeme) (c : Ctx) (l : List Closure) (before made cut : WorkRec) (e : syntax.Tree) (n0 n1 : List Tree) (o : OperandRec) (n k : ℕ)
+    → TypedAt n0 n1 (work_of made) o (and_then (expression_with s c l (work_of before) e) (chosen_operand c)) → n ≡ vec_len before.frame
+    → k ≡ vec_len before.globals → work_of cut ≡ record { frame = take n (work_of made).frame; globals = take k (work_of made).globals }
+    → work_of cut ≡ work_of before
+chosen_cut s c l before made cut e n0 n1 o n k m p q h = cut_again (work_of before) (work_of made) (work_of cut) n k
+    (chosen_follows s c l (work_of before) e _ m.is) (shown_length typ_of before.frame n p) (shown_length global_of before.globals k q) h
+
+-- sizes
+pub size_typed : (s : List Lexeme) (c : Ctx) (w v w1 w2 : Work) (at : At) (e : syntax.Tree) (u : Typ) (n0 n1 a d b : List Tree) (o : OperandRec)
+    (r : Result OperandRec ElabFault) → v ≡ w → d ≡ a → TypedAt n0 n1 w1 o (and_then (expression_with s c [] w e) (chosen_operand c))
+    → typ_in (tree_at n1 o.id) ≡ u → Types d b w2 r (a_tree at v (size_literal c at o.at u)) → Types a b w2 r (size_row s c w at e)
+size_typed s c w v w1 w2 at e u n0 n1 a d b o r h g m q t =
     types_same a b w2 r (a_tree at w (size_literal c at o.at u)) (size_row s c w at e)
-    (ap (λ (z : Work). and_then (and_then (expression_with s c [] z e) (chosen_operand c))
-    (λ (x : Typed). a_tree at w (size_literal c at x.operand.at (typ_in x.operand.tree)))) (sym h)
-    ∙ ap (λ (z : Result Typed ElabFault). and_then z (λ (x : Typed). a_tree at w (size_literal c at x.operand.at (typ_in x.operand.tree)))) m.is
-    ∙ ap (λ (z : Typ). a_tree at w (size_literal c at o.at z)) q) t
+    (ap (λ (z : Result Typed ElabFault). and_then z (λ (x : Typed). a_tree at w (size_literal c at x.operand.at (typ_in x.operand.tree)))) m.is
+    ∙ ap (λ (z : Typ). a_tree at w (size_literal c at o.at z)) q)
+    (subst (λ (z : Work). Types a b w2 r (a_tree at z (size_literal c at o.at u))) h
+    (subst (λ (z : List Tree). Types z b w2 r (a_tree at v (size_literal c at o.at u))) g t))
 
-pub size_fault : (s : List Lexeme) (c : Ctx) (w v : Work) (at : At) (e : syntax.Tree) (f : ElabFault) → v ≡ w
-    → Faults f (and_then (expression_with s c [] v e) (chosen_operand c)) → Faults f (size_row s c w at e)
-size_fault s c w v at e f h g = first_fault f (and_then (expression_with s c [] w e) (chosen_operand c))
-    (λ (x : Typed). a_tree at w (size_literal c at x.operand.at (typ_in x.operand.tree)))
-    (subst (λ (z : Work). Faults f (and_then (expression_with s c [] z e) (chosen_operand c))) h g)
+pub size_fault : (s : List Lexeme) (c : Ctx) (w : Work) (at : At) (e : syntax.Tree) (f : ElabFault)
+    → Faults f (and_then (expression_with s c [] w e) (chosen_operand c)) → Faults f (size_row s c w at e)
+size_fault s c w at e f h = first_fault f (and_then (expression_with s c [] w e) (chosen_operand c))
+    (λ (x : Typed). a_tree at w (size_literal c at x.operand.at (typ_in x.operand.tree))) h
 
-pub type_typed : (s : List Lexeme) (c : Ctx) (w w2 : Work) (at : At) (t : syntax.Tree) (u : Typ) (a b : List Tree) (r : Result OperandRec ElabFault)
-    → and_then (type_id_with s c [] w t) (written_type at) ≡ Ok u → Types a b w2 r (a_tree at w (size_literal c at at u)) → Types a b w2 r (type_row s c w at t)
-type_typed s c w w2 at t u a b r h m = types_same a b w2 r (a_tree at w (size_literal c at at u)) (type_row s c w at t)
-    (ap (λ (z : Result Typ ElabFault). and_then z (λ (y : Typ). a_tree at w (size_literal c at at y))) h) m
+pub type_typed : (s : List Lexeme) (c : Ctx) (w v w2 : Work) (at : At) (t : syntax.Tree) (u : Typ) (a d b : List Tree) (r : Result OperandRec ElabFault)
+    → v ≡ w → d ≡ a → and_then (type_id_with s c [] w t) (written_type at) ≡ Ok u → Types d b w2 r (a_tree at v (size_literal c at at u))
+    → Types a b w2 r (type_row s c w at t)
+type_typed s c w v w2 at t u a d b r k n h m = types_same a b w2 r (a_tree at w (size_literal c at at u)) (type_row s c w at t)
+    (ap (λ (z : Result Typ ElabFault). and_then z (λ (y : Typ). a_tree at w (size_literal c at at y))) h)
+    (subst (λ (z : Work). Types a b w2 r (a_tree at z (size_literal c at at u))) k
+    (subst (λ (z : List Tree). Types z b w2 r (a_tree at v (size_literal c at at u))) n m))
 
-pub type_fault : (s : List Lexeme) (c : Ctx) (w : Work) (at : At) (t : syntax.Tree) (f : ElabFault) → Faults f (and_then (type_id_with s c [] w t) (written_type at))
-    → Faults f (type_row s c w at t)
+pub type_fault : (s : List Lexeme) (c : Ctx) (w : Work) (at : At) (t : syntax.Tree) (f : ElabFault)
+    → Faults f (and_then (type_id_with s c [] w t) (written_type at)) → Faults f (type_row s c w at t)
 type_fault s c w at t f h = first_fault f (and_then (type_id_with s c [] w t) (written_type at)) (λ (y : Typ). a_tree at w (size_literal c at at y)) h

@@ -11,3 +11,4 @@ pub use Rattle.elab_rows.specs.elab_rules as elab_rules
 pub use Rattle.elab_rows.specs.elab_types as elab_types
 pub use Rattle.elab_rows.specs.tx_ints as tx_ints
 pub mod Forms
+pub mod Unmoved

@@ -1,6 +1,7 @@
-// Types as they are written: specifiers, declarators, parameters (C++14 7.1.6, 8.1 to 8.3).
+// Types as they are written: specifiers, declarators, parameters (C++14 7.1.6, 8.1 to 8.3). What is made for a bound stands behind
+// what is there, and is cut off again.
 
-ghost use Rattle.std.specs.Prelude.{◌≡◌, ◌<◌, length, map, true, false};
+ghost use Rattle.std.specs.Prelude.{◌≡◌, ◌<◌, length, map, true, false, IfOk};
 ghost use Rattle.elab_rows.specs.cpp_lex.Tokens.{lexemes_of};
 ghost use Rattle.elab_rows.specs.cpp_types.Typ.{typ_of};
 ghost use Rattle.elab_rows.specs.cpp_ast.Trees.{kind_of};
@@ -12,11 +13,12 @@ ghost use Rattle.elab_rows.specs.elab_types.Syntax.{syntax_of, tree_at};
 ghost use Rattle.elab_rows.specs.elab_types.Shown.{Says, specifiers_of, declared_of, parameter_of as parameter_shown};
 ghost use Rattle.elab_rows.specs.Typed.{parameters_of};
 ghost use Rattle.elab_expr.specs.Forms.{is_exception as is_exception_of};
+ghost use Rattle.elab_expr.specs.Unmoved.{Unmoved};
 
 use crate::expressions::chosen_expression;
 use crate::forms::{all_qualified, is_exception, is_integer_literal, keep_parameter};
 use crate::literals::literal_bound;
-use crate::scratch::copy_work;
+use elab_growth::cut_back;
 use elab_rows::below::{
     At, Closure, Declared, ElabFault, Env, IllRule, Kids, NodeId, NodeKind, Nodes, Parameter,
     Specifiers, Tokens, Ty, Work, elab_types_is_name as is_name, elab_types_node_at as node_at,
@@ -27,6 +29,7 @@ use elab_rows::below::{
 };
 use elab_rows::bounded;
 use std::alloc::Global;
+use std::mem;
 
 /// The specifiers with one more.
 #[cycle(expressions)]
@@ -38,10 +41,11 @@ pub fn specified(
     nodes: &Nodes,
     specifiers: Specifiers,
     id: NodeId,
-    work: &Work,
+    work: &mut Work,
 ) -> Result<Specifiers, ElabFault>
     requires within { id.0 < length nodes.now }
-    ensures { Says (specifiers_of (lexemes_of tokens.now)) result (specified_with (lexemes_of tokens.now) (ctx_of env.now) (map closure_of closures.now) (work_of work.now) (specifiers_of (lexemes_of tokens.now) specifiers) (tree_at (syntax_of nodes.now) id)) }
+    ensures says { Says (specifiers_of (lexemes_of tokens.now)) result (specified_with (lexemes_of tokens.now) (ctx_of env.now) (map closure_of closures.now) (work_of work.old) (specifiers_of (lexemes_of tokens.now) specifiers) (tree_at (syntax_of nodes.now) id)) }
+    ensures kept { IfOk result (λ x. Unmoved work.old work.new) }
 {
     let node = node_at(nodes, id);
     if is_exception(node.kind) {
@@ -60,11 +64,12 @@ fn exception_specified(
     nodes: &Nodes,
     specifiers: Specifiers,
     id: NodeId,
-    work: &Work,
+    work: &mut Work,
 ) -> Result<Specifiers, ElabFault>
     requires within { id.0 < length nodes.now }
     requires kind { is_exception_of (kind_of (tree_at (syntax_of nodes.now) id)) ≡ true }
-    ensures { Says (specifiers_of (lexemes_of tokens.now)) result (specified_with (lexemes_of tokens.now) (ctx_of env.now) (map closure_of closures.now) (work_of work.now) (specifiers_of (lexemes_of tokens.now) specifiers) (tree_at (syntax_of nodes.now) id)) }
+    ensures says { Says (specifiers_of (lexemes_of tokens.now)) result (specified_with (lexemes_of tokens.now) (ctx_of env.now) (map closure_of closures.now) (work_of work.old) (specifiers_of (lexemes_of tokens.now) specifiers) (tree_at (syntax_of nodes.now) id)) }
+    ensures kept { IfOk result (λ x. Unmoved work.old work.new) }
 {
     let node = node_at(nodes, id);
     let Kids::One(kid) = kids_of(&node.kids) else {
@@ -114,10 +119,11 @@ pub fn type_of_specifiers(
     tokens: &Tokens,
     nodes: &Nodes,
     id: NodeId,
-    work: &Work,
+    work: &mut Work,
 ) -> Result<Ty, ElabFault>
     requires within { id.0 < length nodes.now }
-    ensures { Says typ_of result (specifiers_with (lexemes_of tokens.now) (ctx_of env.now) (map closure_of closures.now) (work_of work.now) (tree_at (syntax_of nodes.now) id)) }
+    ensures says { Says typ_of result (specifiers_with (lexemes_of tokens.now) (ctx_of env.now) (map closure_of closures.now) (work_of work.old) (tree_at (syntax_of nodes.now) id)) }
+    ensures kept { IfOk result (λ x. Unmoved work.old work.new) }
 {
     let node = node_at(nodes, id);
     let mut specifiers = no_specifiers(alloc);
@@ -136,10 +142,11 @@ pub fn type_id(
     tokens: &Tokens,
     nodes: &Nodes,
     id: NodeId,
-    work: &Work,
+    work: &mut Work,
 ) -> Result<Ty, ElabFault>
     requires within { id.0 < length nodes.now }
-    ensures { Says typ_of result (type_id_with (lexemes_of tokens.now) (ctx_of env.now) (map closure_of closures.now) (work_of work.now) (tree_at (syntax_of nodes.now) id)) }
+    ensures says { Says typ_of result (type_id_with (lexemes_of tokens.now) (ctx_of env.now) (map closure_of closures.now) (work_of work.old) (tree_at (syntax_of nodes.now) id)) }
+    ensures kept { IfOk result (λ x. Unmoved work.old work.new) }
 {
     let node = node_at(nodes, id);
     let Kids::Two(base, declarator) = kids_of(&node.kids) else {
@@ -171,10 +178,11 @@ pub fn declared(
     at: At,
     ty: &Ty,
     id: NodeId,
-    work: &Work,
+    work: &mut Work,
 ) -> Result<Declared, ElabFault>
     requires within { id.0 < length nodes.now }
-    ensures { Says declared_of result (declared_with (lexemes_of tokens.now) (ctx_of env.now) (map closure_of closures.now) (work_of work.now) at (typ_of ty.now) (tree_at (syntax_of nodes.now) id)) }
+    ensures says { Says declared_of result (declared_with (lexemes_of tokens.now) (ctx_of env.now) (map closure_of closures.now) (work_of work.old) at (typ_of ty.now) (tree_at (syntax_of nodes.now) id)) }
+    ensures kept { IfOk result (λ x. Unmoved work.old work.new) }
 {
     let node = node_at(nodes, id);
     match node.kind {
@@ -217,11 +225,12 @@ fn parenthesized_declarator(
     at: At,
     ty: &Ty,
     id: NodeId,
-    work: &Work,
+    work: &mut Work,
 ) -> Result<Declared, ElabFault>
     requires within { id.0 < length nodes.now }
     requires kind { kind_of (tree_at (syntax_of nodes.now) id) ≡ syntax.ParenthesizedDeclarator }
-    ensures { Says declared_of result (declared_with (lexemes_of tokens.now) (ctx_of env.now) (map closure_of closures.now) (work_of work.now) at (typ_of ty.now) (tree_at (syntax_of nodes.now) id)) }
+    ensures says { Says declared_of result (declared_with (lexemes_of tokens.now) (ctx_of env.now) (map closure_of closures.now) (work_of work.old) at (typ_of ty.now) (tree_at (syntax_of nodes.now) id)) }
+    ensures kept { IfOk result (λ x. Unmoved work.old work.new) }
 {
     let Kids::One(kid) = kids_of(&node_at(nodes, id).kids) else {
         return Err(ElabFault::Memory);
@@ -240,11 +249,12 @@ fn pointer_declarator(
     at: At,
     ty: &Ty,
     id: NodeId,
-    work: &Work,
+    work: &mut Work,
 ) -> Result<Declared, ElabFault>
     requires within { id.0 < length nodes.now }
     requires kind { kind_of (tree_at (syntax_of nodes.now) id) ≡ syntax.PointerDeclarator }
-    ensures { Says declared_of result (declared_with (lexemes_of tokens.now) (ctx_of env.now) (map closure_of closures.now) (work_of work.now) at (typ_of ty.now) (tree_at (syntax_of nodes.now) id)) }
+    ensures says { Says declared_of result (declared_with (lexemes_of tokens.now) (ctx_of env.now) (map closure_of closures.now) (work_of work.old) at (typ_of ty.now) (tree_at (syntax_of nodes.now) id)) }
+    ensures kept { IfOk result (λ x. Unmoved work.old work.new) }
 {
     let kids = &node_at(nodes, id).kids;
     let Some(kid) = last_kid(kids) else {
@@ -266,11 +276,12 @@ fn reference_declarator(
     at: At,
     ty: &Ty,
     id: NodeId,
-    work: &Work,
+    work: &mut Work,
 ) -> Result<Declared, ElabFault>
     requires within { id.0 < length nodes.now }
     requires kind { kind_of (tree_at (syntax_of nodes.now) id) ≡ syntax.ReferenceDeclarator }
-    ensures { Says declared_of result (declared_with (lexemes_of tokens.now) (ctx_of env.now) (map closure_of closures.now) (work_of work.now) at (typ_of ty.now) (tree_at (syntax_of nodes.now) id)) }
+    ensures says { Says declared_of result (declared_with (lexemes_of tokens.now) (ctx_of env.now) (map closure_of closures.now) (work_of work.old) at (typ_of ty.now) (tree_at (syntax_of nodes.now) id)) }
+    ensures kept { IfOk result (λ x. Unmoved work.old work.new) }
 {
     let Kids::One(kid) = kids_of(&node_at(nodes, id).kids) else {
         return Err(ElabFault::Memory);
@@ -281,7 +292,7 @@ fn reference_declarator(
     )
 }
 
-// An array of a type, whose bound is an expression: what is made for it is not kept.
+// An array of a type, whose bound is an expression.
 #[cycle(expressions)]
 fn bound(
     alloc: Global,
@@ -292,17 +303,22 @@ fn bound(
     at: At,
     ty: &Ty,
     id: NodeId,
-    work: &Work,
+    work: &mut Work,
 ) -> Result<Ty, ElabFault>
     requires within { id.0 < length nodes.now }
-    ensures { Says typ_of result (and_then (and_then (expression_with (lexemes_of tokens.now) (ctx_of env.now) (map closure_of closures.now) (work_of work.now) (tree_at (syntax_of nodes.now) id)) (chosen_operand (ctx_of env.now))) (λ (x : Typed). bounded_of (ctx_of env.now) (work_of work.now) at (typ_of ty.now) x.operand)) }
+    ensures says { Says typ_of result (and_then (and_then (expression_with (lexemes_of tokens.now) (ctx_of env.now) (map closure_of closures.now) (work_of work.old) (tree_at (syntax_of nodes.now) id)) (chosen_operand (ctx_of env.now))) (λ (x : Typed). bounded_of (ctx_of env.now) (work_of work.old) at (typ_of ty.now) x.operand)) }
+    ensures kept { IfOk result (λ x. Unmoved work.old work.new) }
 {
     if is_integer_literal(node_at(nodes, id).kind) {
         return literal_bound(alloc, env, tokens, nodes, at, ty, id, work);
     }
-    let mut scratch = copy_work(alloc, work)?;
-    let operand = chosen_expression(alloc, env, closures, tokens, nodes, id, &mut scratch)?;
-    bounded(alloc, env, at, ty, operand, &mut scratch.nodes, work)
+    let frame = work.frame.len();
+    let globals = work.globals.len();
+    let before = mem::replace(&mut work.nodes, Vec::new(alloc));
+    let operand = chosen_expression(alloc, env, closures, tokens, nodes, id, work)?;
+    cut_back(work, frame, globals);
+    let mut own = mem::replace(&mut work.nodes, before);
+    bounded(alloc, env, at, ty, operand, &mut own, work)
 }
 
 // `d[]` and `d[e]`
@@ -316,11 +332,12 @@ fn array_declarator(
     at: At,
     ty: &Ty,
     id: NodeId,
-    work: &Work,
+    work: &mut Work,
 ) -> Result<Declared, ElabFault>
     requires within { id.0 < length nodes.now }
     requires kind { kind_of (tree_at (syntax_of nodes.now) id) ≡ syntax.ArrayDeclarator }
-    ensures { Says declared_of result (declared_with (lexemes_of tokens.now) (ctx_of env.now) (map closure_of closures.now) (work_of work.now) at (typ_of ty.now) (tree_at (syntax_of nodes.now) id)) }
+    ensures says { Says declared_of result (declared_with (lexemes_of tokens.now) (ctx_of env.now) (map closure_of closures.now) (work_of work.old) at (typ_of ty.now) (tree_at (syntax_of nodes.now) id)) }
+    ensures kept { IfOk result (λ x. Unmoved work.old work.new) }
 {
     match kids_of(&node_at(nodes, id).kids) {
         Kids::One(kid) => {
@@ -346,11 +363,12 @@ fn function_declarator(
     at: At,
     ty: &Ty,
     id: NodeId,
-    work: &Work,
+    work: &mut Work,
 ) -> Result<Declared, ElabFault>
     requires within { id.0 < length nodes.now }
     requires kind { kind_of (tree_at (syntax_of nodes.now) id) ≡ syntax.FunctionDeclarator }
-    ensures { Says declared_of result (declared_with (lexemes_of tokens.now) (ctx_of env.now) (map closure_of closures.now) (work_of work.now) at (typ_of ty.now) (tree_at (syntax_of nodes.now) id)) }
+    ensures says { Says declared_of result (declared_with (lexemes_of tokens.now) (ctx_of env.now) (map closure_of closures.now) (work_of work.old) at (typ_of ty.now) (tree_at (syntax_of nodes.now) id)) }
+    ensures kept { IfOk result (λ x. Unmoved work.old work.new) }
 {
     let Kids::Three(kid, clause, behind) = kids_of(&node_at(nodes, id).kids) else {
         return Err(ElabFault::Memory);
@@ -373,10 +391,11 @@ pub fn parameters(
     tokens: &Tokens,
     nodes: &Nodes,
     id: NodeId,
-    work: &Work,
+    work: &mut Work,
 ) -> Result<Vec<Parameter>, ElabFault>
     requires within { id.0 < length nodes.now }
-    ensures { Says parameters_of result (parameters_in_with (lexemes_of tokens.now) (ctx_of env.now) (map closure_of closures.now) (work_of work.now) (tree_at (syntax_of nodes.now) id)) }
+    ensures says { Says parameters_of result (parameters_in_with (lexemes_of tokens.now) (ctx_of env.now) (map closure_of closures.now) (work_of work.old) (tree_at (syntax_of nodes.now) id)) }
+    ensures kept { IfOk result (λ x. Unmoved work.old work.new) }
 {
     let node = node_at(nodes, id);
     let mut found = Vec::new(alloc);
@@ -396,10 +415,11 @@ pub fn parameter(
     tokens: &Tokens,
     nodes: &Nodes,
     id: NodeId,
-    work: &Work,
+    work: &mut Work,
 ) -> Result<Parameter, ElabFault>
     requires within { id.0 < length nodes.now }
-    ensures { Says parameter_shown result (parameter_with (lexemes_of tokens.now) (ctx_of env.now) (map closure_of closures.now) (work_of work.now) (tree_at (syntax_of nodes.now) id)) }
+    ensures says { Says parameter_shown result (parameter_with (lexemes_of tokens.now) (ctx_of env.now) (map closure_of closures.now) (work_of work.old) (tree_at (syntax_of nodes.now) id)) }
+    ensures kept { IfOk result (λ x. Unmoved work.old work.new) }
 {
     let node = node_at(nodes, id);
     let at = place(node.at);

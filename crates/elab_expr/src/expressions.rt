@@ -1,6 +1,6 @@
 // Expressions, type-ids and declarators: what stands in a form first, from left to right, then the form itself.
 
-ghost use Rattle.std.specs.Prelude.{◌≡◌, ◌<◌, length, map, true};
+ghost use Rattle.std.specs.Prelude.{◌≡◌, ◌<◌, length, map, true, IfOk};
 ghost use Rattle.elab_rows.specs.cpp_lex.Tokens.{lexemes_of};
 ghost use Rattle.elab_rows.specs.cpp_ast.Orders.{are_below};
 ghost use Rattle.elab_rows.specs.cpp_ast.Trees.{kind_of};
@@ -14,10 +14,11 @@ ghost use Rattle.elab_rows.specs.elab_types.Shown.{Says};
 ghost use Rattle.elab_rows.specs.elab_types.Syntax.{syntax_of, tree_at, trees_at};
 ghost use Rattle.elab_rows.specs.Typed.{Types, TypesAll};
 ghost use Rattle.elab_expr.specs.Forms.{is_over_operands as is_over_operands_of, is_cast};
+ghost use Rattle.elab_expr.specs.Unmoved.{Unmoved};
 
 use crate::declarators::{specified, type_id};
 use crate::forms::{is_over_operands, keep_operand};
-use crate::scratch::copy_work;
+use elab_growth::cut_back;
 use elab_rows::below::{
     At, Closure, ElabFault, Env, IllRule, Kids, NodeId, NodeKind, Nodes, Operand, Tokens, Ty, Work,
     elab_types_node_at as node_at, first_kid, ill, kids_of, no_specifiers,
@@ -28,6 +29,7 @@ use elab_rows::{
     sized_row, written_specifiers, written_type,
 };
 use std::alloc::Global;
+use std::mem;
 
 /// The typed form of an expression.
 #[cycle(expressions)]
@@ -246,10 +248,11 @@ fn written_type_id(
     nodes: &Nodes,
     at: At,
     id: NodeId,
-    work: &Work,
+    work: &mut Work,
 ) -> Result<Ty, ElabFault>
     requires within { id.0 < length nodes.now }
-    ensures { Says typ_of result (and_then (type_id_with (lexemes_of tokens.now) (ctx_of env.now) (map closure_of closures.now) (work_of work.now) (tree_at (syntax_of nodes.now) id)) (written_type_of at)) }
+    ensures says { Says typ_of result (and_then (type_id_with (lexemes_of tokens.now) (ctx_of env.now) (map closure_of closures.now) (work_of work.old) (tree_at (syntax_of nodes.now) id)) (written_type_of at)) }
+    ensures kept { IfOk result (λ x. Unmoved work.old work.new) }
 {
     let ty = type_id(alloc, env, closures, tokens, nodes, id, work)?;
     written_type(at, ty)
@@ -280,7 +283,7 @@ fn casted(
     cast_row(alloc, env, at, &ty, value, work)
 }
 
-// `sizeof e`: what is made for the operand is not kept, and no lambda stands in it.
+// `sizeof e`: what is made for the operand is cut off again, and no lambda stands in it.
 #[cycle(expressions)]
 fn sized_operand(
     alloc: Global,
@@ -299,9 +302,13 @@ fn sized_operand(
     let Kids::One(kid) = kids_of(&node.kids) else {
         return Err(ElabFault::Memory);
     };
-    let mut scratch = copy_work(alloc, work)?;
-    let operand = chosen_expression(alloc, env, &[], tokens, nodes, kid, &mut scratch)?;
-    let ty = &typed_node_at(&scratch.nodes, operand.id).ty;
+    let frame = work.frame.len();
+    let globals = work.globals.len();
+    let before = mem::replace(&mut work.nodes, Vec::new(alloc));
+    let operand = chosen_expression(alloc, env, &[], tokens, nodes, kid, work)?;
+    cut_back(work, frame, globals);
+    let own = mem::replace(&mut work.nodes, before);
+    let ty = &typed_node_at(&own, operand.id).ty;
     sized_row(alloc, env, place(node.at), operand.at, ty, work)
 }
 

@@ -10,4 +10,4 @@ pub mod scratch;
 
 pub use declarators::{declared, parameter, parameters, type_id, type_of_specifiers};
 pub use expressions::{chosen_expression, expression, operands};
-pub use scratch::{copy_types, copy_work};
+pub use scratch::copy_types;

@@ -231,7 +231,7 @@ module _ (Behind : Work → Work → Type 0) (growth : Growth Behind) where
       (λ x g. bind (made x.work) (made w) (Initialising.exact_object c x.work t b.at b) _ (exact_object c x.work t b.at b) (λ y h. after g h))
     where
       t : Typ
-      t = Operators.common_class a b
+      t = Operators.joined_class a b
 
   same_work : (w : Work) (r : Result Tree ElabFault) → On (made w) (Operators.same_work w r)
   same_work w r = skip (made w) r _ (λ t. same w)
@@ -314,15 +314,15 @@ module _ (Behind : Work → Work → Type 0) (growth : Growth Behind) where
   cast_in c w at t (ref u) o = bind (made w) (made w) (Initialising.initial c w t o) _ (initial c w t o) (λ m g. g)
   cast_in c w at t (func s) o = tt
   cast_in c w at t (array u n) o = tt
-  cast_in c w at t f o = either (made w) (is_class_typ t) _ _ (object_cast c w (unqualified t) at (o ∷ []) (Casts.as_expression at (unqualified t)))
+  cast_in c w at t f o = either (made w) (is_class_typ t) _ _ (object_cast c w t at (o ∷ []) (Casts.as_expression at t))
       (scalar_cast c w at t o)
 
   pub functional : (c : Ctx) (w : Work) (at : At) (t : Typ) (os : List Operand) → On (made w) (Casts.functional c w at t os)
   functional c w at t (o ∷ []) = cast_in c w at t (form_in t) o
-  functional c w at t [] = either (made w) (is_class_typ t) _ _ (object_cast c w (unqualified t) at [] (Casts.as_expression at (unqualified t)))
+  functional c w at t [] = either (made w) (is_class_typ t) _ _ (object_cast c w t at [] (Casts.as_expression at t))
       (either (made w) (is_void t) _ _ (same w) (search (skip, same)))
   functional c w at t (o ∷ p ∷ os) = either (made w) (is_class_typ t) _ _
-      (object_cast c w (unqualified t) at (o ∷ p ∷ os) (Casts.as_expression at (unqualified t))) tt
+      (object_cast c w t at (o ∷ p ∷ os) (Casts.as_expression at t)) tt
 
   throw_object : (c : Ctx) (w : Work) (at : At) (o : Operand) → On (made w) (Casts.throw_object c w at o)
   throw_object c w at o = search (skip, object)

@@ -37,7 +37,7 @@ use Rattle.elab_fits.proofs.Wholes.{qualified_none}
 use Rattle.elab_fits_objects.specs.Capturing.{IsCaptureTyp, IsCaptured}
 use Rattle.elab_fits_objects.specs.Contexts.{is_whole, IsCapture as IsCaptureType}
 use Rattle.elab_fits_objects.specs.Making.{IsSourceTree}
-use Rattle.elab_fits_objects.proofs.Casting.{plain_source}
+use Rattle.elab_fits_objects.proofs.Casting.{class_source}
 use Rattle.elab_fits_objects.proofs.Fits.{object_kids, at_least_one}
 use Rattle.elab_fits_objects.proofs.Lambdas.{captures_build}
 use Rattle.elab_fits_objects.proofs.Types.{whole_sized, whole_ready}
@@ -213,7 +213,7 @@ object_proper : (s : Setting) (c : Ctx) (w : Work) (n : ℕ) (at : At) (ts : Tre
 object_proper s c w n at ts h l b =
     let x = (h.complete n (h.lambdas n l)).whole (closure n) false false refl l in
     let source : IsSourceTree s c (is_lambda c.classes) (node Pieces (plain (closure n)) Prvalue at ts) =
-    plain_source s c (is_lambda c.classes) (closure n) (node Pieces (plain (closure n)) Prvalue at ts) refl refl l (whole_is c.classes (plain (closure n)) x)
+    class_source s c (is_lambda c.classes) (closure n) false false (node Pieces (plain (closure n)) Prvalue at ts) refl refl l (whole_is c.classes (plain (closure n)) x)
     (record { one = b; copied = refl }) in
     record {
       stands = (source at).operand.stands;

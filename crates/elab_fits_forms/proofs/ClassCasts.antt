@@ -96,17 +96,18 @@ stored_copies at (node (Store k v) t cat q kids) h = refl
 stored_copies at (node kind t cat q kids) h = h
 
 -- one of a `std::tx_exception` is written with its value
-exception_proper : (s : Setting) (c : Ctx) (at : At) (u : Typ) (e : Tree) → Makes s (plain (tx_ex u)) e → is_sound c.classes (plain (tx_ex u)) ≡ true
-    → IsWhole c.classes (plain (tx_ex u)) → Proper s c (node Retype (plain (tx_ex u)) Prvalue at (one (stored_at at e)))
-exception_proper s c at u e m i x = record {
+exception_proper : (s : Setting) (c : Ctx) (at : At) (u : Typ) (q v : Bool) (e : Tree) → Makes s (typ (tx_ex u) q v) e
+    → is_sound c.classes (typ (tx_ex u) q v) ≡ true → IsWhole c.classes (typ (tx_ex u) q v)
+    → Proper s c (node Retype (typ (tx_ex u) q v) Prvalue at (one (stored_at at e)))
+exception_proper s c at u q v e m i x = record {
   stands = record {
     typed = λ n. absurd cc;
     value = λ n. absurd cc;
     object = λ n p full. stored_fits s p at e (m.one.fits p full);
-    built = λ n. ap (λ (z : Head). builds (plain (tx_ex u)) z) (stored_head at e) ∙ m.one.builds;
+    built = λ n. ap (λ (z : Head). builds (typ (tx_ex u) q v) z) (stored_head at e) ∙ m.one.builds;
   };
   sound = i;
-  nothing = λ v. refl;
+  nothing = λ y. refl;
   whole = λ n. x;
   copied = λ n. stored_copies at e m.copied;
 }
@@ -117,8 +118,8 @@ itself_built s (node Retype t cat at kids) h = clash _ false refl (fit_as s Init
 itself_built s (node kind t cat at kids) h = refl
 
 -- its type is that of the object, qualifiers apart
-equal_form : (f : Form) (u : Typ) → typ_eq (plain f) u ≡ true → form_in u ≡ f
-equal_form f u h = ap form_in (sym (typ_same (plain f) u h))
+equal_form : (f : Form) (q v : Bool) (u : Typ) → typ_eq (typ f q v) u ≡ true → form_in u ≡ f
+equal_form f q v u h = ap form_in (sym (typ_same (typ f q v) u h))
 
 no_exception : (c : Ctx) (t : Typ) → is_exception_value c.classes t ≡ true → is_exception_form (form_in t) ≡ false
 no_exception c t h = plain_exception (λ (u : Typ). is_exception_form (form_in u) ≡ false) c.classes t h by
@@ -127,60 +128,62 @@ no_exception c t h = plain_exception (λ (u : Typ). is_exception_form (form_in u
     by (tx_ex u) i = absurd cc
     by f i = refl
 
-shape_form : (n : ℕ) (u : Typ) → same_shape (plain (class n)) u ≡ true → form_in u ≡ class n
-shape_form n (typ g d w) h = sym (form_same (class n) g h)
+shape_form : (n : ℕ) (q v : Bool) (u : Typ) → same_shape (typ (class n) q v) u ≡ true → form_in u ≡ class n
+shape_form n q v (typ g d w) h = sym (form_same (class n) g h)
 
-lambda_form : (n : ℕ) (u : Typ) → same_shape (plain (closure n)) u ≡ true → form_in u ≡ closure n
-lambda_form n (typ g d w) h = sym (form_same (closure n) g h)
+lambda_form : (n : ℕ) (q v : Bool) (u : Typ) → same_shape (typ (closure n) q v) u ≡ true → form_in u ≡ closure n
+lambda_form n q v (typ g d w) h = sym (form_same (closure n) g h)
 
-exception_form : (t u : Typ) → same_shape (plain (tx_ex t)) u ≡ true → form_in u ≡ tx_ex t
-exception_form t (typ g d w) h = sym (form_same (tx_ex t) g h)
+exception_form : (t : Typ) (q v : Bool) (u : Typ) → same_shape (typ (tx_ex t) q v) u ≡ true → form_in u ≡ tx_ex t
+exception_form t q v (typ g d w) h = sym (form_same (tx_ex t) g h)
 
-class_form : (c : Ctx) (f : Form) (u : Typ) (g : Bool) → is_class_typ (plain f) ≡ true → is_sound_form c.classes f ≡ true
+class_form : (c : Ctx) (f : Form) (q v : Bool) (u : Typ) (g : Bool) → is_class_typ (typ f q v) ≡ true → is_sound_form c.classes f ≡ true
     → (is_exception_form f && not (is_exception_form (form_in u))) ≡ false
-    → (typ_eq (plain f) u || typ_eq (without_exception (plain f)) u || (g && is_class_typ (plain f) && same_shape (plain f) u)) ≡ true → form_in u ≡ f
-class_form c (class n) u g k i x h = or_case (form_in u ≡ class n) (typ_eq (plain (class n)) u || typ_eq (plain (class n)) u)
-    (g && true && same_shape (plain (class n)) u) h
-    (λ y. or_case (form_in u ≡ class n) (typ_eq (plain (class n)) u) (typ_eq (plain (class n)) u) y (equal_form (class n) u) (equal_form (class n) u))
-    (λ y. shape_form n u (and_parts (g && true) (same_shape (plain (class n)) u) y).1)
-class_form c (closure n) u g k i x h = or_case (form_in u ≡ closure n) (typ_eq (plain (closure n)) u || typ_eq (plain (closure n)) u)
-    (g && true && same_shape (plain (closure n)) u) h
-    (λ y. or_case (form_in u ≡ closure n) (typ_eq (plain (closure n)) u) (typ_eq (plain (closure n)) u) y (equal_form (closure n) u)
-    (equal_form (closure n) u))
-    (λ y. lambda_form n u (and_parts (g && true) (same_shape (plain (closure n)) u) y).1)
-class_form c (tx_ex (typ b d w)) u g k i x h = or_case (form_in u ≡ tx_ex (typ b d w))
-    (typ_eq (plain (tx_ex (typ b d w))) u || typ_eq (plain b) u) (g && true && same_shape (plain (tx_ex (typ b d w))) u) h
-    (λ y. or_case (form_in u ≡ tx_ex (typ b d w)) (typ_eq (plain (tx_ex (typ b d w))) u) (typ_eq (plain b) u) y (equal_form (tx_ex (typ b d w)) u)
+    → (typ_eq (typ f q v) u || typ_eq (without_exception (typ f q v)) u || (g && is_class_typ (typ f q v) && same_shape (typ f q v) u)) ≡ true
+    → form_in u ≡ f
+class_form c (class n) q v u g k i x h = or_case (form_in u ≡ class n) (typ_eq (typ (class n) q v) u || typ_eq (typ (class n) q v) u)
+    (g && true && same_shape (typ (class n) q v) u) h
+    (λ y. or_case (form_in u ≡ class n) (typ_eq (typ (class n) q v) u) (typ_eq (typ (class n) q v) u) y (equal_form (class n) q v u)
+    (equal_form (class n) q v u))
+    (λ y. shape_form n q v u (and_parts (g && true) (same_shape (typ (class n) q v) u) y).1)
+class_form c (closure n) q v u g k i x h = or_case (form_in u ≡ closure n) (typ_eq (typ (closure n) q v) u || typ_eq (typ (closure n) q v) u)
+    (g && true && same_shape (typ (closure n) q v) u) h
+    (λ y. or_case (form_in u ≡ closure n) (typ_eq (typ (closure n) q v) u) (typ_eq (typ (closure n) q v) u) y (equal_form (closure n) q v u)
+    (equal_form (closure n) q v u))
+    (λ y. lambda_form n q v u (and_parts (g && true) (same_shape (typ (closure n) q v) u) y).1)
+class_form c (tx_ex (typ b d w)) q v u g k i x h = or_case (form_in u ≡ tx_ex (typ b d w))
+    (typ_eq (typ (tx_ex (typ b d w)) q v) u || typ_eq (typ b q v) u) (g && true && same_shape (typ (tx_ex (typ b d w)) q v) u) h
+    (λ y. or_case (form_in u ≡ tx_ex (typ b d w)) (typ_eq (typ (tx_ex (typ b d w)) q v) u) (typ_eq (typ b q v) u) y (equal_form (tx_ex (typ b d w)) q v u)
     (λ z. clash (form_in u ≡ tx_ex (typ b d w)) (not (is_exception_form (form_in u))) x
-    (ap not (ap is_exception_form (equal_form b u z) ∙ no_exception c (typ b d w) i))))
-    (λ y. exception_form (typ b d w) u (and_parts (g && true) (same_shape (plain (tx_ex (typ b d w))) u) y).1)
-class_form c f u g k i x h = absurd cc
+    (ap not (ap is_exception_form (equal_form b q v u z) ∙ no_exception c (typ b d w) i))))
+    (λ y. exception_form (typ b d w) q v u (and_parts (g && true) (same_shape (typ (tx_ex (typ b d w)) q v) u) y).1)
+class_form c f q v u g k i x h = absurd cc
 
 -- any other as it is
 form_sound : (c : Ctx) (t : Typ) (f : Form) → form_in t ≡ f → is_sound_form c.classes f ≡ true → is_sound c.classes t ≡ true
 form_sound c (typ g q v) f e h = ap (λ (z : Form). is_sound_form c.classes z) e ∙ h
 
-form_class : (t : Typ) (f : Form) → form_in t ≡ f → is_class_typ (plain f) ≡ true → is_class_typ t ≡ true
-form_class (typ g q v) f e h = ap (λ (z : Form). is_class_typ (plain z)) e ∙ h
+form_class : (t : Typ) (f : Form) (q v : Bool) → form_in t ≡ f → is_class_typ (typ f q v) ≡ true → is_class_typ t ≡ true
+form_class (typ g a b) f q v e h = ap (λ (z : Form). is_class_typ (typ z a b)) e ∙ h
 
-built_proper : (s : Setting) (c : Ctx) (w : Work) (f : Form) (e : Tree) → Holds s c w → Makes s (plain f) e → is_class_typ (plain f) ≡ true
-    → is_sound_form c.classes f ≡ true → IsDone c (plain f) → (is_exception_form f && not (is_exception_form (form_in (typ_in e)))) ≡ false → Proper s c e
-built_proper s c w f e h m k i d x = proper_built s c e (record {
-  typed = form_class (typ_in e) f form k;
+built_proper : (s : Setting) (c : Ctx) (w : Work) (f : Form) (q v : Bool) (e : Tree) → Holds s c w → Makes s (typ f q v) e → is_class_typ (typ f q v) ≡ true
+    → is_sound_form c.classes f ≡ true → IsDone c (typ f q v) → (is_exception_form f && not (is_exception_form (form_in (typ_in e)))) ≡ false → Proper s c e
+built_proper s c w f q v e h m k i d x = proper_built s c e (record {
+  typed = form_class (typ_in e) f q v form k;
   category = prvalue;
   sound = form_sound c (typ_in e) f form i;
-  whole = class_whole s c w (typ_in e) h (form_sound c (typ_in e) f form i) (form_class (typ_in e) f form k)
-      (λ n q v z. d n false false (ap plain (sym form ∙ ap form_in z)));
+  whole = class_whole s c w (typ_in e) h (form_sound c (typ_in e) f form i) (form_class (typ_in e) f q v form k)
+      (λ n a b z. d n q v (ap (λ (g : Form). typ g q v) (sym form ∙ ap form_in z)));
   itself = itself_built s e m.one.fits;
   copied = m.copied;
   fits = m.one.fits;
   builds = own_builds e prvalue;
 })
   where
-    parts : (is_prvalue (head_of e).cat ≡ true) × ((typ_eq (plain f) (head_of e).typ || typ_eq (without_exception (plain f)) (head_of e).typ
-        || (goes_both_ways (head_of e).kind && is_class_typ (plain f) && same_shape (plain f) (head_of e).typ)) ≡ true)
-    parts = and_parts (is_prvalue (head_of e).cat) (typ_eq (plain f) (head_of e).typ || typ_eq (without_exception (plain f)) (head_of e).typ
-        || (goes_both_ways (head_of e).kind && is_class_typ (plain f) && same_shape (plain f) (head_of e).typ)) m.one.builds
+    parts : (is_prvalue (head_of e).cat ≡ true) × ((typ_eq (typ f q v) (head_of e).typ || typ_eq (without_exception (typ f q v)) (head_of e).typ
+        || (goes_both_ways (head_of e).kind && is_class_typ (typ f q v) && same_shape (typ f q v) (head_of e).typ)) ≡ true)
+    parts = and_parts (is_prvalue (head_of e).cat) (typ_eq (typ f q v) (head_of e).typ || typ_eq (without_exception (typ f q v)) (head_of e).typ
+        || (goes_both_ways (head_of e).kind && is_class_typ (typ f q v) && same_shape (typ f q v) (head_of e).typ)) m.one.builds
 
     prvalue_is : (cat : Cat) → is_prvalue cat ≡ true → cat ≡ Prvalue
     prvalue_is Prvalue y = refl
@@ -190,53 +193,53 @@ built_proper s c w f e h m k i d x = proper_built s c e (record {
     prvalue = sym (head_cat e) ∙ prvalue_is (head_of e).cat parts.0
 
     form : form_in (typ_in e) ≡ f
-    form = class_form c f (typ_in e) (goes_both_ways (head_of e).kind) k i x
-        (sym (ap (λ (u : Typ). typ_eq (plain f) u || typ_eq (without_exception (plain f)) u
-        || (goes_both_ways (head_of e).kind && is_class_typ (plain f) && same_shape (plain f) u)) (head_typ e)) ∙ parts.1)
+    form = class_form c f q v (typ_in e) (goes_both_ways (head_of e).kind) k i x
+        (sym (ap (λ (u : Typ). typ_eq (typ f q v) u || typ_eq (without_exception (typ f q v)) u
+        || (goes_both_ways (head_of e).kind && is_class_typ (typ f q v) && same_shape (typ f q v) u)) (head_typ e)) ∙ parts.1)
 
-expression_by : (s : Setting) (c : Ctx) (w : Work) (at : At) (f : Form) (e : Tree) (b : Bool)
-    → (is_exception_form f && not (is_exception_form (form_in (typ_in e)))) ≡ b → Holds s c w → Makes s (plain f) e → is_class_typ (plain f) ≡ true
-    → is_sound_form c.classes f ≡ true → IsDone c (plain f) → Proper s c (if b then node Retype (plain f) Prvalue at (one (stored_at at e)) else e)
-expression_by s c w at f e false x h m k i d = built_proper s c w f e h m k i d x
-expression_by s c w at (tx_ex u) e true x h m k i d = exception_proper s c at u e m i (class_whole s c w (plain (tx_ex u)) h i refl d)
-expression_by s c w at f e true x h m k i d = absurd cc
+expression_by : (s : Setting) (c : Ctx) (w : Work) (at : At) (f : Form) (q v : Bool) (e : Tree) (b : Bool)
+    → (is_exception_form f && not (is_exception_form (form_in (typ_in e)))) ≡ b → Holds s c w → Makes s (typ f q v) e → is_class_typ (typ f q v) ≡ true
+    → is_sound_form c.classes f ≡ true → IsDone c (typ f q v) → Proper s c (if b then node Retype (typ f q v) Prvalue at (one (stored_at at e)) else e)
+expression_by s c w at f q v e false x h m k i d = built_proper s c w f q v e h m k i d x
+expression_by s c w at (tx_ex u) q v e true x h m k i d = exception_proper s c at u q v e m i (class_whole s c w (typ (tx_ex u) q v) h i refl d)
+expression_by s c w at f q v e true x h m k i d = absurd cc
 
-expression_made : (s : Setting) (c : Ctx) (w : Work) (at : At) (f : Form) (r : Result Made ElabFault) → Holds s c w → is_class_typ (plain f) ≡ true
-    → is_sound_form c.classes f ≡ true → On (λ (m : Made). IsDone c (plain f)) r → On (λ (m : Made). Reaches s m.work → Makes s (plain f) m.tree) r
-    → On (MadeStands s c) (and_then r (λ (m : Made). Ok (with_tree (as_expression at (plain f)) m)))
-expression_made s c w at f (Ok m) h k i d g = λ r. expression_by s c w at f m.tree (is_exception_form f && not (is_exception_form (form_in (typ_in m.tree)))) refl h
+expression_made : (s : Setting) (c : Ctx) (w : Work) (at : At) (f : Form) (q v : Bool) (r : Result Made ElabFault) → Holds s c w → is_class_typ (typ f q v) ≡ true
+    → is_sound_form c.classes f ≡ true → On (λ (m : Made). IsDone c (typ f q v)) r → On (λ (m : Made). Reaches s m.work → Makes s (typ f q v) m.tree) r
+    → On (MadeStands s c) (and_then r (λ (m : Made). Ok (with_tree (as_expression at (typ f q v)) m)))
+expression_made s c w at f q v (Ok m) h k i d g = λ r. expression_by s c w at f q v m.tree (is_exception_form f && not (is_exception_form (form_in (typ_in m.tree)))) refl h
     (g r) k i d
-expression_made s c w at f (Err e) h k i d g = tt
+expression_made s c w at f q v (Err e) h k i d g = tt
 
 -- a type of a class is one of what is initialised
-class_initialised : (s : Setting) (c : Ctx) (w : Work) (f : Form) → Holds s c w → is_class_typ (plain f) ≡ true → is_sound_form c.classes f ≡ true
-    → IsInitialised c (is_lambda c.classes) (plain f)
-class_initialised s c w (class n) h k i = record { value = λ e. parameter_is s c w (plain (class n)) h i; object = λ e. object_typ_is s c w (plain (class n)) h i refl }
-class_initialised s c w (closure n) h k i = record {
-  value = λ e. parameter_is s c w (plain (closure n)) h i;
-  object = λ e. object_typ_is s c w (plain (closure n)) h i refl;
+class_initialised : (s : Setting) (c : Ctx) (w : Work) (f : Form) (q v : Bool) → Holds s c w → is_class_typ (typ f q v) ≡ true → is_sound_form c.classes f ≡ true
+    → IsInitialised c (is_lambda c.classes) (typ f q v)
+class_initialised s c w (class n) q v h k i = record { value = λ e. parameter_is s c w (typ (class n) q v) h i; object = λ e. object_typ_is s c w (typ (class n) q v) h i refl }
+class_initialised s c w (closure n) q v h k i = record {
+  value = λ e. parameter_is s c w (typ (closure n) q v) h i;
+  object = λ e. object_typ_is s c w (typ (closure n) q v) h i refl;
 }
-class_initialised s c w (tx_ex u) h k i = record { value = λ e. parameter_is s c w (plain (tx_ex u)) h i; object = λ e. object_typ_is s c w (plain (tx_ex u)) h i refl }
-class_initialised s c w f h k i = absurd cc
+class_initialised s c w (tx_ex u) q v h k i = record { value = λ e. parameter_is s c w (typ (tx_ex u) q v) h i; object = λ e. object_typ_is s c w (typ (tx_ex u) q v) h i refl }
+class_initialised s c w f q v h k i = absurd cc
 
-class_values : (s : Setting) (c : Ctx) (w : Work) (at : At) (f : Form) (os : List Operand) → Holds s c w → is_class_typ (plain f) ≡ true
+class_values : (s : Setting) (c : Ctx) (w : Work) (at : At) (f : Form) (q v : Bool) (os : List Operand) → Holds s c w → is_class_typ (typ f q v) ≡ true
     → is_sound_form c.classes f ≡ true → ProperOperands s c os
-    → On (MadeStands s c) (and_then (from_values c w (plain f) at os) (λ (m : Made). Ok (with_tree (as_expression at (plain f)) m)))
-class_values s c w at f os h k i x = expression_made s c w at f (from_values c w (plain f) at os) h k i (values_done c w (plain f) at os)
-    (values_build s c _ w (plain f) at os h.setting h.makers (sources_of s c os x) (class_initialised s c w f h k i))
+    → On (MadeStands s c) (and_then (from_values c w (typ f q v) at os) (λ (m : Made). Ok (with_tree (as_expression at (typ f q v)) m)))
+class_values s c w at f q v os h k i x = expression_made s c w at f q v (from_values c w (typ f q v) at os) h k i (values_done c w (typ f q v) at os)
+    (values_build s c _ w (typ f q v) at os h.setting h.makers (sources_of s c os x) (class_initialised s c w f q v h k i))
 
 pub casts_stand : (s : Setting) (c : Ctx) (w : Work) (at : At) (t : Typ) (o : Operand) → Holds s c w → is_sound c.classes t ≡ true → ProperOperand s c o
     → On (MadeStands s c) (cast c w at t o)
-casts_stand s c w at (typ (class n) q v) o h i x = class_values s c w at (class n) (o ∷ []) h refl i (ProperOperands.more x ProperOperands.none)
-casts_stand s c w at (typ (closure n) q v) o h i x = class_values s c w at (closure n) (o ∷ []) h refl i (ProperOperands.more x ProperOperands.none)
-casts_stand s c w at (typ (tx_ex u) q v) o h i x = class_values s c w at (tx_ex u) (o ∷ []) h refl i (ProperOperands.more x ProperOperands.none)
+casts_stand s c w at (typ (class n) q v) o h i x = class_values s c w at (class n) q v (o ∷ []) h refl i (ProperOperands.more x ProperOperands.none)
+casts_stand s c w at (typ (closure n) q v) o h i x = class_values s c w at (closure n) q v (o ∷ []) h refl i (ProperOperands.more x ProperOperands.none)
+casts_stand s c w at (typ (tx_ex u) q v) o h i x = class_values s c w at (tx_ex u) q v (o ∷ []) h refl i (ProperOperands.more x ProperOperands.none)
 casts_stand s c w at (typ f q v) o h i x = scalar_casts s c w at (typ f q v) o h i refl x
 
-functional_class : (s : Setting) (c : Ctx) (w : Work) (at : At) (f : Form) (q v : Bool) (os : List Operand) → Holds s c w → is_class_typ (plain f) ≡ true
+functional_class : (s : Setting) (c : Ctx) (w : Work) (at : At) (f : Form) (q v : Bool) (os : List Operand) → Holds s c w → is_class_typ (typ f q v) ≡ true
     → is_sound_form c.classes f ≡ true → ProperOperands s c os → On (MadeStands s c) (functional c w at (typ f q v) os)
-functional_class s c w at f q v [] h k i x = rw k (class_values s c w at f [] h k i x)
+functional_class s c w at f q v [] h k i x = rw k (class_values s c w at f q v [] h k i x)
 functional_class s c w at f q v (o ∷ []) h k i (ProperOperands.more x xs) = casts_stand s c w at (typ f q v) o h i x
-functional_class s c w at f q v (o ∷ u ∷ os) h k i x = rw k (class_values s c w at f (o ∷ u ∷ os) h k i x)
+functional_class s c w at f q v (o ∷ u ∷ os) h k i x = rw k (class_values s c w at f q v (o ∷ u ∷ os) h k i x)
 
 pub functionals_stand : (s : Setting) (c : Ctx) (w : Work) (at : At) (t : Typ) (os : List Operand) → Holds s c w → is_sound c.classes t ≡ true
     → ProperOperands s c os → On (MadeStands s c) (functional c w at t os)

@@ -1,7 +1,6 @@
 -- `?:` of two objects of a class that share no type.
 use Rattle.std.proofs.Common.{◌≡◌, refl, ap, ◌∙◌, ℕ, Bool, true, false, not, ◌&&◌, ◌||◌, is_some, Result, Ok, Err}
 use Rattle.std.proofs.lemmas.Bool.{and_parts}
-use Rattle.std.specs.Prelude.{if◌then◌else◌}
 use Rattle.elab_rules.specs.cpp_types.Typ.{Typ, typ, class, closure, tx_ex}
 use Rattle.elab_rules.specs.cpp_types.Class.{completion_of}
 use Rattle.elab_rules.specs.cpp_types.Equal.{typ_eq, form_eq}
@@ -9,8 +8,8 @@ use Rattle.elab_rules.specs.cpp_types.declared.classes.At.{At}
 use Rattle.elab_rules.specs.cpp_types.declared.ranks.Cat.TheVariants.{Prvalue}
 use Rattle.elab_rules.specs.cpp_tree.declared.faults.ElabFault.{ElabFault}
 use Rattle.elab_rules.specs.cpp_tree.declared.faults.IllRule.TheVariants.{AbstractObject, Incomplete}
-use Rattle.elab_rules.specs.cpp_tree.Trees.{Tree, typ_in, cat_of}
-use Rattle.elab_rules.specs.cpp_tree.Typing.{head_of, form_in, is_class_typ, is_class_prvalue, is_prvalue, is_void, unqualified}
+use Rattle.elab_rules.specs.cpp_tree.Trees.{Tree, typ_in}
+use Rattle.elab_rules.specs.cpp_tree.Typing.{head_of, form_in, is_class_typ, is_prvalue, is_void}
 use Rattle.elab_rules.specs.cpp_tree.Typing.{goes_both_ways, same_shape, without_exception}
 use Rattle.elab_rules.specs.cpp_tree.Roles.{is_throw}
 use Rattle.elab_rules.specs.cpp_tree.Rows.{Setting, is_branch}
@@ -18,7 +17,7 @@ use Rattle.elab_rules.specs.elab_ctx.Ctx.{Ctx, Work}
 use Rattle.elab_rules.specs.elab_ctx.Steps.{and_then, check, Operand, Made}
 use Rattle.elab_rules.specs.Objects.{traits_at}
 use Rattle.elab_rules.specs.Initialising.{object_of, makeable, class_from, exact_object, is_other_prvalue, object_operand}
-use Rattle.elab_rules.specs.Operators.{both_of_class, object_type, joined_type, common_class, conditional_node, two_objects, conditional}
+use Rattle.elab_rules.specs.Operators.{both_of_class, joined_type, joined_class, conditional_node, two_objects, conditional}
 use Rattle.elab_fits.specs.Standing.{Reaches, On}
 use Rattle.elab_fits.proofs.Equal.{typ_refl}
 use Rattle.elab_fits.proofs.Nodes.{both, or_right, head_typ}
@@ -98,40 +97,26 @@ exact_branch s t e m = or_right (is_throw (head_of e).kind || is_void t) (both (
 joined_sound : (c : Ctx) (t u : Typ) → is_sound c.classes t ≡ true → is_sound c.classes (joined_type t u) ≡ true
 joined_sound c (typ f q v) (typ g d w) h = h
 
-joined_class : (t u : Typ) → is_class_typ t ≡ true → is_class_typ (joined_type t u) ≡ true
-joined_class (typ f q v) (typ g d w) h = h
-
-own_sound : (c : Ctx) (e : Tree) → is_sound c.classes (typ_in e) ≡ true → is_sound c.classes (object_type e) ≡ true
-own_sound c e h = by (is_class_prvalue (typ_in e) (cat_of e)) (typ_in e) h
-  where
-    by : (b : Bool) (t : Typ) → is_sound c.classes t ≡ true → is_sound c.classes (if b then t else unqualified t) ≡ true
-    by true t k = k
-    by false (typ f q v) k = k
-
-own_class : (e : Tree) → is_class_typ (typ_in e) ≡ true → is_class_typ (object_type e) ≡ true
-own_class e h = by (is_class_prvalue (typ_in e) (cat_of e)) (typ_in e) h
-  where
-    by : (b : Bool) (t : Typ) → is_class_typ t ≡ true → is_class_typ (if b then t else unqualified t) ≡ true
-    by true t k = k
-    by false (typ f q v) k = k
+joined_is_class : (t u : Typ) → is_class_typ t ≡ true → is_class_typ (joined_type t u) ≡ true
+joined_is_class (typ f q v) (typ g d w) h = h
 
 two_stand : (s : Setting) (c : Ctx) (w : Work) (at : At) (test : Tree) (a b : Operand) → Holds s c w → IsTruth s test → ProperOperand s c a
     → ProperOperand s c b → both_of_class a b ≡ true → On (MadeStands s c) (two_objects c w at test a b)
 two_stand s c w at test a b h t x y k =
-    bind (IsExact s c w (common_class a b)) (MadeStands s c) (exact_object c w (common_class a b) a.at a) _
-    (exact_is s c w w (common_class a b) a.at a h sound typed x) (λ m g.
-    bind (IsExact s c m.work (common_class a b)) (MadeStands s c) (exact_object c m.work (common_class a b) b.at b) _
-    (exact_is s c m.work w (common_class a b) b.at b h sound typed y) (λ n i r.
-    proper_built s c (conditional_node at (common_class a b) Prvalue test m.tree n.tree)
-    (choice_built s c at (common_class a b) test m.tree n.tree typed sound g.whole t (g.makes (i.before r)).makes.one.fits (i.makes r).makes.one.fits
-    (exact_branch s (common_class a b) m.tree (g.makes (i.before r))) (exact_branch s (common_class a b) n.tree (i.makes r)))))
+    bind (IsExact s c w (joined_class a b)) (MadeStands s c) (exact_object c w (joined_class a b) a.at a) _
+    (exact_is s c w w (joined_class a b) a.at a h sound typed x) (λ m g.
+    bind (IsExact s c m.work (joined_class a b)) (MadeStands s c) (exact_object c m.work (joined_class a b) b.at b) _
+    (exact_is s c m.work w (joined_class a b) b.at b h sound typed y) (λ n i r.
+    proper_built s c (conditional_node at (joined_class a b) Prvalue test m.tree n.tree)
+    (choice_built s c at (joined_class a b) test m.tree n.tree typed sound g.whole t (g.makes (i.before r)).makes.one.fits (i.makes r).makes.one.fits
+    (exact_branch s (joined_class a b) m.tree (g.makes (i.before r))) (exact_branch s (joined_class a b) n.tree (i.makes r)))))
   where
-    sound : is_sound c.classes (common_class a b) ≡ true
-    sound = joined_sound c (object_type a.tree) (object_type b.tree) (own_sound c a.tree x.proper.sound)
+    sound : is_sound c.classes (joined_class a b) ≡ true
+    sound = joined_sound c (typ_in a.tree) (typ_in b.tree) x.proper.sound
 
-    typed : is_class_typ (common_class a b) ≡ true
-    typed = joined_class (object_type a.tree) (object_type b.tree)
-        (own_class a.tree (and_parts (is_class_typ (typ_in a.tree)) (form_eq (form_in (typ_in a.tree)) (form_in (typ_in b.tree))) k).0)
+    typed : is_class_typ (joined_class a b) ≡ true
+    typed = joined_is_class (typ_in a.tree) (typ_in b.tree)
+        (and_parts (is_class_typ (typ_in a.tree)) (form_eq (form_in (typ_in a.tree)) (form_in (typ_in b.tree))) k).0
 
 pub all_choices : (s : Setting) (c : Ctx) (w : Work) (at : At) (test a b : Operand) → Holds s c w → ProperOperand s c test → ProperOperand s c a
     → ProperOperand s c b → On (MadeStands s c) (conditional c w at test a b)

@@ -13,7 +13,6 @@ use Rattle.elab_rules.specs.cpp_tree.declared.faults.ElabFault.{ElabFault}
 use Rattle.elab_rules.specs.cpp_tree.declared.kinds.TKind.{TKind}
 use Rattle.elab_rules.specs.cpp_tree.declared.kinds.TKind.TheVariants.{Retype, Store}
 use Rattle.elab_rules.specs.cpp_tree.declared.roles.Role.TheVariants.{Initialiser}
-use Rattle.elab_rules.specs.cpp_tree.Notation.{plain}
 use Rattle.elab_rules.specs.cpp_tree.Trees.{Tree, node, Trees, one, typ_in}
 use Rattle.elab_rules.specs.cpp_tree.Typing.{Head, head_of, form_in, builds, goes_both_ways}
 use Rattle.elab_rules.specs.cpp_tree.Parts.{holds_complete}
@@ -35,7 +34,7 @@ use Rattle.elab_fits_objects.proofs.Classes.{Built}
 use Rattle.elab_fits_objects.proofs.Exceptions.{value_single}
 use Rattle.elab_fits_objects.proofs.Fits.{fit_as}
 use Rattle.elab_fits_objects.proofs.Forms.{copies_other, single_plain}
-use Rattle.elab_fits_objects.proofs.Types.{requalified, makeable_complete}
+use Rattle.elab_fits_objects.proofs.Types.{makeable_complete}
 use Rattle.elab_fits_objects.proofs.Valued.{values_build}
 
 -- What builds an object of a class has its form, or is the value in an exception
@@ -93,24 +92,24 @@ module _ (s : Setting) (c : Ctx) (lambda : ℕ → Bool) where
     copied = ap copies_itself (unretyped s f d u kind at kids g) ∙ k;
   }
 
-  pub plain_source : (f : Form) (e : Tree) → is_object_form f ≡ true → is_exception_form f ≡ false → is_sorted lambda f ≡ true
-      → is_whole c.classes (plain f) ≡ true → Makes s (plain f) e → IsSourceTree s c lambda e
-  plain_source f (node kind (typ g d u) Lvalue at kids) i n sorted z h = let b = h.one.builds in absurd cc
-  plain_source f (node kind (typ g d u) Prvalue at kids) i n sorted z h =
+  pub class_source : (f : Form) (q v : Bool) (e : Tree) → is_object_form f ≡ true → is_exception_form f ≡ false → is_sorted lambda f ≡ true
+      → is_whole c.classes (typ f q v) ≡ true → Makes s (typ f q v) e → IsSourceTree s c lambda e
+  class_source f q v (node kind (typ g d u) Lvalue at kids) i n sorted z h = let b = h.one.builds in absurd cc
+  class_source f q v (node kind (typ g d u) Prvalue at kids) i n sorted z h =
       let o : f ≡ g = form_by f g kind i n h.one.builds in
       let y = h.one.fits in let k = h.copied in
       subst (λ (x : Form). FitsAs s Initialiser (node kind (typ x d u) Prvalue at kids) → copies_itself (node kind (typ x d u) Prvalue at kids) ≡ true
       → IsSourceTree s c lambda (node kind (typ x d u) Prvalue at kids)) o
-      (λ a b. own_source f d u false false kind at kids i sorted z a b) y k
+      (λ a b. own_source f d u q v kind at kids i sorted z a b) y k
     where
       form_by : (f g : Form) (kind : TKind) → is_object_form f ≡ true → is_exception_form f ≡ false
-          → builds (plain f) (head_of (node kind (typ g d u) Prvalue at kids)) ≡ true → f ≡ g
-      form_by (class m) g kind i n b = same_form (class m) g d u false false kind (twice (typ_eq (plain (class m)) (typ g d u)) _ b)
+          → builds (typ f q v) (head_of (node kind (typ g d u) Prvalue at kids)) ≡ true → f ≡ g
+      form_by (class m) g kind i n b = same_form (class m) g d u q v kind (twice (typ_eq (typ (class m) q v) (typ g d u)) _ b)
         where
           twice : (x y : Bool) → ((x || x) || y) ≡ true → (x || y) ≡ true
           twice true y j = refl
           twice false y j = j
-      form_by (closure m) g kind i n b = same_form (closure m) g d u false false kind (twice (typ_eq (plain (closure m)) (typ g d u)) _ b)
+      form_by (closure m) g kind i n b = same_form (closure m) g d u q v kind (twice (typ_eq (typ (closure m) q v) (typ g d u)) _ b)
         where
           twice : (x y : Bool) → ((x || x) || y) ≡ true → (x || y) ≡ true
           twice true y j = refl
@@ -141,17 +140,17 @@ module _ (s : Setting) (c : Ctx) (lambda : ℕ → Bool) where
   stored_typ at (Store k v) t cat p kids = refl
   stored_typ at kind t cat p kids = refl
 
-  retyped_source : (f : Form) (d x : Bool) (at : At) (kind : TKind) (t : Typ) (p : At) (kids : Trees) → is_exception_form (form_in t) ≡ false
-      → is_sorted lambda f ≡ true → is_whole c.classes (plain (tx_ex (typ f d x))) ≡ true → FitsAs s Initialiser (node kind t Prvalue p kids)
-      → builds (plain (tx_ex (typ f d x))) (record { kind = kind; typ = t; cat = Prvalue }) ≡ true
-      → IsSourceTree s c lambda (node Retype (plain (tx_ex (typ f d x))) Prvalue at (one (stored_at at (node kind t Prvalue p kids))))
-  retyped_source f d x at kind t p kids n sorted z g b = λ q. record {
+  retyped_source : (f : Form) (d x q v : Bool) (at : At) (kind : TKind) (t : Typ) (p : At) (kids : Trees) → is_exception_form (form_in t) ≡ false
+      → is_sorted lambda f ≡ true → is_whole c.classes (typ (tx_ex (typ f d x)) q v) ≡ true → FitsAs s Initialiser (node kind t Prvalue p kids)
+      → builds (typ (tx_ex (typ f d x)) q v) (record { kind = kind; typ = t; cat = Prvalue }) ≡ true
+      → IsSourceTree s c lambda (node Retype (typ (tx_ex (typ f d x)) q v) Prvalue at (one (stored_at at (node kind t Prvalue p kids))))
+  retyped_source f d x q v at kind t p kids n sorted z g b = λ place. record {
     operand = record {
       stands = record {
         typed = λ k. absurd cc;
         value = λ h. absurd cc;
         object = λ h. stored_fits at kind t Prvalue p kids g;
-        built = λ h. subst (λ (y : Head). builds (plain (tx_ex (typ f d x))) y ≡ true) (sym (stored_head at kind t Prvalue p kids)) b;
+        built = λ h. subst (λ (y : Head). builds (typ (tx_ex (typ f d x)) q v) y ≡ true) (sym (stored_head at kind t Prvalue p kids)) b;
       };
       zero = λ h. absurd cc;
     };
@@ -160,133 +159,133 @@ module _ (s : Setting) (c : Ctx) (lambda : ℕ → Bool) where
     copied = copies_other (stored_at at (node kind t Prvalue p kids)) (ap (λ (y : Typ). is_exception_form (form_in y)) (stored_typ at kind t Prvalue p kids) ∙ n);
   }
 
-  no_value : (f g : Form) (a b : Bool) → is_exception_form f ≡ false → is_exception_form g ≡ true → typ_eq (plain f) (typ g a b) ≡ false
-  no_value f g a b n k = by (typ_eq (plain f) (typ g a b)) refl
+  no_value : (f g : Form) (q v a b : Bool) → is_exception_form f ≡ false → is_exception_form g ≡ true → typ_eq (typ f q v) (typ g a b) ≡ false
+  no_value f g q v a b n k = by (typ_eq (typ f q v) (typ g a b)) refl
     where
-      by : (m : Bool) → typ_eq (plain f) (typ g a b) ≡ m → m ≡ false
+      by : (m : Bool) → typ_eq (typ f q v) (typ g a b) ≡ m → m ≡ false
       by false e = refl
-      by true e = clash _ (is_exception_form f) n (ap is_exception_form (ap form_in (typ_same (plain f) (typ g a b) e)) ∙ k)
+      by true e = clash _ (is_exception_form f) n (ap is_exception_form (ap form_in (typ_same (typ f q v) (typ g a b) e)) ∙ k)
 
-  exception_by : (f : Form) (d x : Bool) (kind : TKind) (g : Form) (a b : Bool) (p at : At) (kids : Trees) (k : Bool) → is_exception_form g ≡ k
-      → is_single f ≡ true → is_sorted lambda f ≡ true → is_whole c.classes (plain (tx_ex (typ f d x))) ≡ true
-      → Makes s (plain (tx_ex (typ f d x))) (node kind (typ g a b) Prvalue p kids)
-      → IsSourceTree s c lambda (if not k then node Retype (plain (tx_ex (typ f d x))) Prvalue at (one (stored_at at
+  exception_by : (f : Form) (d x q v : Bool) (kind : TKind) (g : Form) (a b : Bool) (p at : At) (kids : Trees) (k : Bool) → is_exception_form g ≡ k
+      → is_single f ≡ true → is_sorted lambda f ≡ true → is_whole c.classes (typ (tx_ex (typ f d x)) q v) ≡ true
+      → Makes s (typ (tx_ex (typ f d x)) q v) (node kind (typ g a b) Prvalue p kids)
+      → IsSourceTree s c lambda (if not k then node Retype (typ (tx_ex (typ f d x)) q v) Prvalue at (one (stored_at at
       (node kind (typ g a b) Prvalue p kids))) else node kind (typ g a b) Prvalue p kids)
-  exception_by f d x kind g a b p at kids true n i sorted z h =
-      let o : tx_ex (typ f d x) ≡ g = same_form (tx_ex (typ f d x)) g a b false false kind
-      (form_left (typ_eq (plain (tx_ex (typ f d x))) (typ g a b)) (typ_eq (plain f) (typ g a b))
-      (goes_both_ways kind && true && form_eq (tx_ex (typ f d x)) g) h.one.builds (no_value f g a b (single_plain f i) n)) in
+  exception_by f d x q v kind g a b p at kids true n i sorted z h =
+      let o : tx_ex (typ f d x) ≡ g = same_form (tx_ex (typ f d x)) g a b q v kind
+      (form_left (typ_eq (typ (tx_ex (typ f d x)) q v) (typ g a b)) (typ_eq (typ f q v) (typ g a b))
+      (goes_both_ways kind && true && form_eq (tx_ex (typ f d x)) g) h.one.builds (no_value f g q v a b (single_plain f i) n)) in
       let y = h.one.fits in let k = h.copied in
       subst (λ (e : Form). FitsAs s Initialiser (node kind (typ e a b) Prvalue p kids) → copies_itself (node kind (typ e a b) Prvalue p kids) ≡ true
       → IsSourceTree s c lambda (node kind (typ e a b) Prvalue p kids)) o
-      (λ u v. own_source (tx_ex (typ f d x)) a b false false kind p kids refl sorted z u v) y k
-  exception_by f d x kind g a b p at kids false n i sorted z h =
-      retyped_source f d x at kind (typ g a b) p kids n sorted z h.one.fits h.one.builds
+      (λ l m. own_source (tx_ex (typ f d x)) a b q v kind p kids refl sorted z l m) y k
+  exception_by f d x q v kind g a b p at kids false n i sorted z h =
+      retyped_source f d x q v at kind (typ g a b) p kids n sorted z h.one.fits h.one.builds
 
-  exception_source : (f : Form) (d x : Bool) (e : Tree) (at : At) → is_sorted lambda f ≡ true → is_whole c.classes (plain (tx_ex (typ f d x))) ≡ true
-      → Makes s (plain (tx_ex (typ f d x))) e → IsSourceTree s c lambda (as_expression at (plain (tx_ex (typ f d x))) e)
-  exception_source f d x (node kind (typ g a b) Lvalue p kids) at sorted z h = let y = h.one.builds in absurd cc
-  exception_source f d x (node kind (typ g a b) Prvalue p kids) at sorted z h =
-      exception_by f d x kind g a b p at kids (is_exception_form g) refl (value_single c.classes f d x false false z) sorted z h
+  exception_source : (f : Form) (d x q v : Bool) (e : Tree) (at : At) → is_sorted lambda f ≡ true → is_whole c.classes (typ (tx_ex (typ f d x)) q v) ≡ true
+      → Makes s (typ (tx_ex (typ f d x)) q v) e → IsSourceTree s c lambda (as_expression at (typ (tx_ex (typ f d x)) q v) e)
+  exception_source f d x q v (node kind (typ g a b) Lvalue p kids) at sorted z h = let y = h.one.builds in absurd cc
+  exception_source f d x q v (node kind (typ g a b) Prvalue p kids) at sorted z h =
+      exception_by f d x q v kind g a b p at kids (is_exception_form g) refl (value_single c.classes f d x q v z) sorted z h
 
   -- Casts
 
-  completed : (w : Work) (f : Form) (at : At) (os : List Operand) → is_object_form f ≡ true → IsObjectTyp c lambda (plain f)
-      → On (λ (m : Made). holds_complete c.classes f ≡ true) (from_values c w (plain f) at os)
-  completed w (class n) at [] i t = bind (λ (e : Tree). holds_complete c.classes (class n) ≡ true) (λ (m : Made). holds_complete c.classes (class n) ≡ true)
-      (from_nothing c (plain (class n)) at) _
+  completed : (w : Work) (f : Form) (q v : Bool) (at : At) (os : List Operand) → is_object_form f ≡ true → IsObjectTyp c lambda (typ f q v)
+      → On (λ (m : Made). holds_complete c.classes f ≡ true) (from_values c w (typ f q v) at os)
+  completed w (class n) q v at [] i t = bind (λ (e : Tree). holds_complete c.classes (class n) ≡ true) (λ (m : Made). holds_complete c.classes (class n) ≡ true)
+      (from_nothing c (typ (class n) q v) at) _
       (bind (λ (k : ℕ). completion_of c.classes n ≡ Some k) (λ (e : Tree). holds_complete c.classes (class n) ≡ true) (makeable c at n) _
       (makeable_complete c at n) (λ k e. known (λ (y : Tree). holds_complete c.classes (class n) ≡ true)
-      (default_by c (plain (class n)) at (traits_at c n).default) (λ y. ap is_some e)))
+      (default_by c (typ (class n) q v) at (traits_at c n).default) (λ y. ap is_some e)))
       (λ e h. h)
-  completed w (class n) at (o ∷ os) i t = bind (λ (k : ℕ). completion_of c.classes n ≡ Some k) (λ (m : Made). holds_complete c.classes (class n) ≡ true)
+  completed w (class n) q v at (o ∷ os) i t = bind (λ (k : ℕ). completion_of c.classes n ≡ Some k) (λ (m : Made). holds_complete c.classes (class n) ≡ true)
       (makeable c at n) _ (makeable_complete c at n) (λ k e. known (λ (m : Made). holds_complete c.classes (class n) ≡ true) _ (λ m. ap is_some e))
-  completed w (closure n) at os i t =
-      known (λ (m : Made). holds_complete c.classes (closure n) ≡ true) (from_values c w (plain (closure n)) at os) (λ m. t.complete refl)
-  completed w (tx_ex u) at os i t =
-      known (λ (m : Made). holds_complete c.classes (tx_ex u) ≡ true) (from_values c w (plain (tx_ex u)) at os) (λ m. t.complete refl)
-  completed w void at os i t = absurd cc
-  completed w (int j) at os i t = absurd cc
-  completed w (enum n e) at os i t = absurd cc
-  completed w null at os i t = absurd cc
-  completed w (ptr u) at os i t = absurd cc
-  completed w (ref u) at os i t = absurd cc
-  completed w (array u n) at os i t = absurd cc
-  completed w (func g) at os i t = absurd cc
+  completed w (closure n) q v at os i t =
+      known (λ (m : Made). holds_complete c.classes (closure n) ≡ true) (from_values c w (typ (closure n) q v) at os) (λ m. t.complete refl)
+  completed w (tx_ex u) q v at os i t =
+      known (λ (m : Made). holds_complete c.classes (tx_ex u) ≡ true) (from_values c w (typ (tx_ex u) q v) at os) (λ m. t.complete refl)
+  completed w void q v at os i t = absurd cc
+  completed w (int j) q v at os i t = absurd cc
+  completed w (enum n e) q v at os i t = absurd cc
+  completed w null q v at os i t = absurd cc
+  completed w (ptr u) q v at os i t = absurd cc
+  completed w (ref u) q v at os i t = absurd cc
+  completed w (array u n) q v at os i t = absurd cc
+  completed w (func g) q v at os i t = absurd cc
 
-  class_initialised : (f : Form) → is_object_form f ≡ true → IsObjectTyp c lambda (plain f) → IsInitialised c lambda (plain f)
-  class_initialised (class n) i t = record {
+  class_initialised : (f : Form) (q v : Bool) → is_object_form f ≡ true → IsObjectTyp c lambda (typ f q v) → IsInitialised c lambda (typ f q v)
+  class_initialised (class n) q v i t = record {
     value = λ e. record { formed = refl; referred = λ u k. absurd cc; object = λ k. t };
     object = λ e. t;
   }
-  class_initialised (closure n) i t = record {
+  class_initialised (closure n) q v i t = record {
     value = λ e. record { formed = refl; referred = λ u k. absurd cc; object = λ k. t };
     object = λ e. t;
   }
-  class_initialised (tx_ex u) i t = record {
+  class_initialised (tx_ex u) q v i t = record {
     value = λ e. record { formed = refl; referred = λ u k. absurd cc; object = λ k. t };
     object = λ e. t;
   }
-  class_initialised void i t = absurd cc
-  class_initialised (int j) i t = absurd cc
-  class_initialised (enum n e) i t = absurd cc
-  class_initialised null i t = absurd cc
-  class_initialised (ptr u) i t = absurd cc
-  class_initialised (ref u) i t = absurd cc
-  class_initialised (array u n) i t = absurd cc
-  class_initialised (func g) i t = absurd cc
+  class_initialised void q v i t = absurd cc
+  class_initialised (int j) q v i t = absurd cc
+  class_initialised (enum n e) q v i t = absurd cc
+  class_initialised null q v i t = absurd cc
+  class_initialised (ptr u) q v i t = absurd cc
+  class_initialised (ref u) q v i t = absurd cc
+  class_initialised (array u n) q v i t = absurd cc
+  class_initialised (func g) q v i t = absurd cc
 
-  expression_source : (f : Form) (at : At) (e : Tree) → is_object_form f ≡ true → IsObjectTyp c lambda (plain f) → holds_complete c.classes f ≡ true
-      → Makes s (plain f) e → IsSourceTree s c lambda (as_expression at (plain f) e)
-  expression_source (class n) at e i t k h = plain_source (class n) e refl refl t.sorted (t.whole k) h
-  expression_source (closure n) at e i t k h = plain_source (closure n) e refl refl t.sorted (t.whole k) h
-  expression_source (tx_ex (typ f d x)) at e i t k h = exception_source f d x e at t.sorted (t.whole k) h
-  expression_source void at e i t k h = absurd cc
-  expression_source (int j) at e i t k h = absurd cc
-  expression_source (enum n y) at e i t k h = absurd cc
-  expression_source null at e i t k h = absurd cc
-  expression_source (ptr u) at e i t k h = absurd cc
-  expression_source (ref u) at e i t k h = absurd cc
-  expression_source (array u n) at e i t k h = absurd cc
-  expression_source (func g) at e i t k h = absurd cc
+  expression_source : (f : Form) (q v : Bool) (at : At) (e : Tree) → is_object_form f ≡ true → IsObjectTyp c lambda (typ f q v) → holds_complete c.classes f ≡ true
+      → Makes s (typ f q v) e → IsSourceTree s c lambda (as_expression at (typ f q v) e)
+  expression_source (class n) q v at e i t k h = class_source (class n) q v e refl refl t.sorted (t.whole k) h
+  expression_source (closure n) q v at e i t k h = class_source (closure n) q v e refl refl t.sorted (t.whole k) h
+  expression_source (tx_ex (typ f d x)) q v at e i t k h = exception_source f d x q v e at t.sorted (t.whole k) h
+  expression_source void q v at e i t k h = absurd cc
+  expression_source (int j) q v at e i t k h = absurd cc
+  expression_source (enum n y) q v at e i t k h = absurd cc
+  expression_source null q v at e i t k h = absurd cc
+  expression_source (ptr u) q v at e i t k h = absurd cc
+  expression_source (ref u) q v at e i t k h = absurd cc
+  expression_source (array u n) q v at e i t k h = absurd cc
+  expression_source (func g) q v at e i t k h = absurd cc
 
   abbrev Source : Made → Type 0
   Source m = Reaches s m.work → IsSourceTree s c lambda m.tree
 
-  sources_by : (f : Form) (at : At) (r : Result Made ElabFault) → is_object_form f ≡ true → IsObjectTyp c lambda (plain f) → On (Built s (plain f)) r
+  sources_by : (f : Form) (q v : Bool) (at : At) (r : Result Made ElabFault) → is_object_form f ≡ true → IsObjectTyp c lambda (typ f q v) → On (Built s (typ f q v)) r
       → On (λ (m : Made). holds_complete c.classes f ≡ true) r
-      → On Source (and_then r (λ (m : Made). Ok (with_tree (as_expression at (plain f)) m)))
-  sources_by f at (Ok m) i t h k = λ reached. expression_source f at m.tree i t k (h reached)
-  sources_by f at (Err e) i t h k = tt
+      → On Source (and_then r (λ (m : Made). Ok (with_tree (as_expression at (typ f q v)) m)))
+  sources_by f q v at (Ok m) i t h k = λ reached. expression_source f q v at m.tree i t k (h reached)
+  sources_by f q v at (Err e) i t h k = tt
 
-  object_cast : (w : Work) (f : Form) (at : At) (os : List Operand) → IsSetting s c → HasMakers c lambda → AreSources s c lambda os → is_object_form f ≡ true
-      → IsObjectTyp c lambda (plain f)
-      → On Source (and_then (from_values c w (plain f) at os) (λ (m : Made). Ok (with_tree (as_expression at (plain f)) m)))
-  object_cast w f at os i m h k t = sources_by f at (from_values c w (plain f) at os) k t
-      (values_build s c lambda w (plain f) at os i m h (class_initialised f k t)) (completed w f at os k t)
+  object_cast : (w : Work) (f : Form) (q v : Bool) (at : At) (os : List Operand) → IsSetting s c → HasMakers c lambda → AreSources s c lambda os → is_object_form f ≡ true
+      → IsObjectTyp c lambda (typ f q v)
+      → On Source (and_then (from_values c w (typ f q v) at os) (λ (m : Made). Ok (with_tree (as_expression at (typ f q v)) m)))
+  object_cast w f q v at os i m h k t = sources_by f q v at (from_values c w (typ f q v) at os) k t
+      (values_build s c lambda w (typ f q v) at os i m h (class_initialised f q v k t)) (completed w f q v at os k t)
 
 pub casts_stand : CastsStand
 casts_stand s c lambda w at (typ (class n) q v) o i m h k t =
-    object_cast s c lambda w (class n) at (o ∷ []) i m (h, tt) refl (requalified c lambda (class n) q v false false refl t)
+    object_cast s c lambda w (class n) q v at (o ∷ []) i m (h, tt) refl t
 casts_stand s c lambda w at (typ (closure n) q v) o i m h k t =
-    object_cast s c lambda w (closure n) at (o ∷ []) i m (h, tt) refl (requalified c lambda (closure n) q v false false refl t)
+    object_cast s c lambda w (closure n) q v at (o ∷ []) i m (h, tt) refl t
 casts_stand s c lambda w at (typ (tx_ex u) q v) o i m h k t =
-    object_cast s c lambda w (tx_ex u) at (o ∷ []) i m (h, tt) refl (requalified c lambda (tx_ex u) q v false false refl t)
+    object_cast s c lambda w (tx_ex u) q v at (o ∷ []) i m (h, tt) refl t
 casts_stand s c lambda w at (typ f q v) o i m h k t = absurd cc
 
 pub functionals_stand : FunctionalsStand
 functionals_stand s c lambda w at t (o ∷ []) i m h k z = casts_stand s c lambda w at t o i m h.0 k z
 functionals_stand s c lambda w at (typ (class n) q v) [] i m h k t =
-    object_cast s c lambda w (class n) at [] i m h refl (requalified c lambda (class n) q v false false refl t)
+    object_cast s c lambda w (class n) q v at [] i m h refl t
 functionals_stand s c lambda w at (typ (closure n) q v) [] i m h k t =
-    object_cast s c lambda w (closure n) at [] i m h refl (requalified c lambda (closure n) q v false false refl t)
+    object_cast s c lambda w (closure n) q v at [] i m h refl t
 functionals_stand s c lambda w at (typ (tx_ex u) q v) [] i m h k t =
-    object_cast s c lambda w (tx_ex u) at [] i m h refl (requalified c lambda (tx_ex u) q v false false refl t)
+    object_cast s c lambda w (tx_ex u) q v at [] i m h refl t
 functionals_stand s c lambda w at (typ f q v) [] i m h k t = absurd cc
 functionals_stand s c lambda w at (typ (class n) q v) (o ∷ p ∷ os) i m h k t =
-    object_cast s c lambda w (class n) at (o ∷ p ∷ os) i m h refl (requalified c lambda (class n) q v false false refl t)
+    object_cast s c lambda w (class n) q v at (o ∷ p ∷ os) i m h refl t
 functionals_stand s c lambda w at (typ (closure n) q v) (o ∷ p ∷ os) i m h k t =
-    object_cast s c lambda w (closure n) at (o ∷ p ∷ os) i m h refl (requalified c lambda (closure n) q v false false refl t)
+    object_cast s c lambda w (closure n) q v at (o ∷ p ∷ os) i m h refl t
 functionals_stand s c lambda w at (typ (tx_ex u) q v) (o ∷ p ∷ os) i m h k t =
-    object_cast s c lambda w (tx_ex u) at (o ∷ p ∷ os) i m h refl (requalified c lambda (tx_ex u) q v false false refl t)
+    object_cast s c lambda w (tx_ex u) q v at (o ∷ p ∷ os) i m h refl t
 functionals_stand s c lambda w at (typ f q v) (o ∷ p ∷ os) i m h k t = absurd cc

@@ -15,7 +15,7 @@ use Rattle.elab_make.specs.elab_ctx.Operands.{operand_in}
 use Rattle.elab_make.specs.elab_ctx.declared.operand.Operand.{Operand as OperandRec}
 use Rattle.elab_make.proofs.elab_ctx.Looks.{grows_trans, at_grown, within_grown}
 use Rattle.elab_make.specs.elab_rules.Initialising.{initial, exact_object}
-use Rattle.elab_make.specs.elab_rules.Operators.{assigned, conditional_node, common_class, two_objects}
+use Rattle.elab_make.specs.elab_rules.Operators.{assigned, conditional_node, joined_class, two_objects}
 use Rattle.elab_forms.specs.Rows.{scalar_assigned}
 use Rattle.elab_forms.proofs.Steps.{at_operand, then_gives}
 
@@ -27,12 +27,12 @@ second_object : (c : Ctx) (w : Work) (t u : Typ) (a b : Operand) → u ≡ t →
 second_object c w t u a b e h = ap (λ (z : Typ). exact_object c w z a.at a) (sym e) ∙ ap (λ (o : Operand). exact_object c w u o.at o) (sym h)
 
 pub objects_made : (c : Ctx) (w w1 w2 : Work) (at : At) (test x y r : TNodeId) (a b : OperandRec) (u : Typ) (n0 n1 n2 n3 : List Tree) → test.0 < length n0
-    → b.id.0 < length n0 → u ≡ common_class (operand_in n0 a) (operand_in n0 b) → MadeAt n0 n1 w1 x (exact_object c w u a.at (operand_in n0 a))
+    → b.id.0 < length n0 → u ≡ joined_class (operand_in n0 a) (operand_in n0 b) → MadeAt n0 n1 w1 x (exact_object c w u a.at (operand_in n0 a))
     → MadeAt n1 n2 w2 y (exact_object c w1 u b.at (operand_in n1 b))
     → Adds n2 n3 r (conditional_node at u Prvalue (tree_at n2 test) (tree_at n2 x) (tree_at n2 y))
     → MadeAt n0 n3 w2 r (two_objects c w at (tree_at n0 test) (operand_in n0 a) (operand_in n0 b))
 objects_made c w w1 w2 at test x y r a b u n0 n1 n2 n3 k h e xs ys rs =
-    let t : Typ = common_class (operand_in n0 a) (operand_in n0 b) in
+    let t : Typ = joined_class (operand_in n0 a) (operand_in n0 b) in
     let left : exact_object c w t a.at (operand_in n0 a) ≡ Ok (record { tree = tree_at n1 x; work = w1 }) =
     first_object c w t u (operand_in n0 a) _ e xs.is in
     let right : exact_object c w1 t b.at (operand_in n0 b) ≡ Ok (record { tree = tree_at n2 y; work = w2 }) =

@@ -12,7 +12,7 @@ ghost use Rattle.elab_make.specs.elab_ctx.Says.{Gives, Makes, Puts};
 ghost use Rattle.elab_make.specs.elab_rules.Operators.{value, as_kind, as_pointer, pointed, conditional_node, same_lvalues, both_of_class, two_numbers, two_values, two_objects, branches, conditional, conditional_like, joined_class, is_shared, shared, bare_throw as bare_throw_of};
 ghost use Rattle.elab_forms.specs.Rows.{both_stay, beside_throw, behind_throw, two_operands, value_or_null, null_or_value, same_scalars, two_scalars, conditional_by};
 
-use crate::common_types::{common_class, joined_class};
+use crate::common_types::joined_class;
 use crate::exceptions::settled;
 use crate::thrown::{bare_throw, throws};
 use elab_init::seen_as;
@@ -368,7 +368,7 @@ fn two_objects(
     requires right { b.id.0 < length (trees_of work.old.nodes.items) }
     ensures { Makes (trees_of work.old.nodes.items) (trees_of work.new.nodes.items) (work_of work.new) result (two_objects (ctx_of env.now) (work_of work.old) at (tree_at (trees_of work.old.nodes.items) test) (operand_in (trees_of work.old.nodes.items) a) (operand_in (trees_of work.old.nodes.items) b)) }
 {
-    let ty = common_class(alloc, &work.nodes, a, b)?;
+    let ty = joined_class(alloc, &work.nodes, a, b)?;
     let x = exact_object(alloc, env, work, &ty, a.at, a)?;
     let y = exact_object(alloc, env, work, &ty, b.at, b)?;
     let made = conditional_node(alloc, &mut work.nodes, at, ty, Cat::Prvalue, test, x, y)?;

@@ -106,7 +106,7 @@ two_objects c w at test a b h i = bind (Mades c.classes w) (Mades c.classes w) (
     (λ y e. after c.classes w x.work y.work g e))
   where
     t : Typ
-    t = Operators.common_class a b
+    t = Operators.joined_class a b
 
 same_work : (c : Ctx) (w : Work) (r : Result Tree ElabFault) → On (Mades c.classes w) (Operators.same_work w r)
 same_work c w r = skip (Mades c.classes w) r _ (λ t. same c.classes w)
@@ -252,9 +252,9 @@ object_cast : (c : Ctx) (w : Work) (t : Typ) (at : At) (os : List Operand) (f : 
 object_cast c w t at os f q h = bind (Mades c.classes w) (Mades c.classes w) (Initialising.from_values c w t at os) _ (from_values c w t at os q h) (λ m g. g)
 
 to_value : (c : Ctx) (w : Work) (at : At) (t : Typ) (o : Operand) → FunctionsWhole c.classes c.funcs → IsWhole c.classes o.tree
-    → On (Mades c.classes w) (if is_class_typ t then and_then (Initialising.from_values c w (unqualified t) at (o ∷ []))
-    (λ (m : Made). Ok (Initialising.with_tree (Casts.as_expression at (unqualified t)) m)) else Casts.scalar_cast c w at t o)
-to_value c w at t o q h = either (Mades c.classes w) (is_class_typ t) _ _ (object_cast c w (unqualified t) at (o ∷ []) (Casts.as_expression at (unqualified t)) q (h, tt))
+    → On (Mades c.classes w) (if is_class_typ t then and_then (Initialising.from_values c w t at (o ∷ []))
+    (λ (m : Made). Ok (Initialising.with_tree (Casts.as_expression at t) m)) else Casts.scalar_cast c w at t o)
+to_value c w at t o q h = either (Mades c.classes w) (is_class_typ t) _ _ (object_cast c w t at (o ∷ []) (Casts.as_expression at t) q (h, tt))
     (scalar_cast c w at t o h)
 
 cast_in : (c : Ctx) (w : Work) (at : At) (t : Typ) (f : Form) (o : Operand) → FunctionsWhole c.classes c.funcs → IsWhole c.classes o.tree → On (Mades c.classes w) (Casts.cast_in c w at t f o)
@@ -272,11 +272,11 @@ cast_in c w at t (tx_ex u) o q h = to_value c w at t o q h
 
 functional : (c : Ctx) (w : Work) (at : At) (t : Typ) (os : List Operand) → FunctionsWhole c.classes c.funcs → AllWhole c.classes os → On (Mades c.classes w) (Casts.functional c w at t os)
 functional c w at t (o ∷ []) q h = cast_in c w at t (form_in t) o q h.0
-functional c w at t [] q h = either (Mades c.classes w) (is_class_typ t) _ _ (object_cast c w (unqualified t) at [] (Casts.as_expression at (unqualified t)) q tt)
+functional c w at t [] q h = either (Mades c.classes w) (is_class_typ t) _ _ (object_cast c w t at [] (Casts.as_expression at t) q tt)
     (either (Mades c.classes w) (is_void t) _ _ (same c.classes w)
     (skip (Mades c.classes w) (check at BadInit (is_some (kind_in (form_in t)) && not (is_reference t))) _ (λ y. same c.classes w)))
 functional c w at t (o ∷ p ∷ os) q h = either (Mades c.classes w) (is_class_typ t) _ _
-    (object_cast c w (unqualified t) at (o ∷ p ∷ os) (Casts.as_expression at (unqualified t)) q h) tt
+    (object_cast c w t at (o ∷ p ∷ os) (Casts.as_expression at t) q h) tt
 
 throw_object : (c : Ctx) (w : Work) (at : At) (o : Operand) → IsWhole c.classes o.tree → On (Mades c.classes w) (Casts.throw_object c w at o)
 throw_object c w at o h = skip (Mades c.classes w) (check o.at NoCopy (not (is_volatile_typ (typ_in o.tree)))) _

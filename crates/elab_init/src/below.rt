@@ -11,7 +11,7 @@ pub use elab_conv::below::{
     Scopes, SlotRec, Special, TFunc, TGlobal, TKind, TNode, TNodeId, TParam, This, Token, Tokens,
     Traits, TypeNames, Unit, UnitTree, Variable, Work, add_binary, add_item, add_leaf, add_node,
     add_unary, class_at, completion, convert, cpp_lex_int_type, extent, function_at, has_pointer,
-    kids_at, node_at, promote, size_align, size_of, traits_of_class, usual, value_of_word, word_of,
+    kids_at, measured, node_at, promote, size_of, traits_of_class, usual, value_of_word, word_of,
 };
 pub use elab_conv::types::{kind_of, pointer_to, unqualified_type};
 pub use elab_conv::{converted, stepped, stored, valued};

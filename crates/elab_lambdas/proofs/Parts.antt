@@ -6,6 +6,7 @@ use Rattle.elab_entry.specs.cpp_types.Typ.{Typ}
 use Rattle.elab_entry.specs.cpp_types.declared.classes.At.{At}
 use Rattle.elab_entry.specs.cpp_tree.declared.faults.ElabFault.{ElabFault}
 use Rattle.elab_entry.specs.elab_ctx.Ctx.{Capture}
+use Rattle.elab_entry.specs.elab_ctx.declared.env.Work.{Work as WorkRec}
 use Rattle.elab_entry.specs.elab_ctx.Steps.{and_then}
 use Rattle.elab_entry.specs.elab_ctx.Says.{Faults}
 use Rattle.elab_entry.proofs.elab_ctx.Making.{faults_in, faults_same}
@@ -13,9 +14,12 @@ use Rattle.elab_entry.specs.elab_rules.Types.{Parameter, Qualifiers, no_qualifie
 use Rattle.elab_entry.specs.elab_rules.Statements.{State}
 use Rattle.elab_entry.specs.elab_rules.Lambdas.{Otherwise, Written, explicit_captures, default_in, parameters_among, not_dynamic, result_among}
 use Rattle.elab_entry.specs.elab_rules.Lambdas.{default_captures, used_in, has_mutable, kids_of, place_of_tree, closing}
+use Rattle.elab_entry.specs.elab_scopes.elab_expr.Unmoved.{Unmoved}
 use Rattle.elab_entry.specs.elab_scopes.declared.state.State.{State as StateRec}
 use Rattle.elab_entry.specs.elab_scopes.States.{state_of}
 use Rattle.elab_entry.specs.elab_scopes.Says.{Changes}
+use Rattle.elab_entry.proofs.elab_scopes.Labelling.{unmoved_grown, unmoved_state}
+use Rattle.elab_entry.proofs.elab_scopes.Standing.{changes_after}
 use Rattle.elab_lambdas.specs.Whole.{lambda_written, lambda_from, lambda_made}
 
 -- what is known of an introducer and of what stands behind it, step by step
@@ -197,8 +201,17 @@ defaults_refused s st at intro parts body d q xs ps y r x e h a b v w m =
 
 -- A lambda by its parts
 
-pub from_is : (s : List Lexeme) (a c : StateRec) (at : At) (intro parts : Trees) (body : Tree) (x : Written) (r : Result (Unit {0}) ElabFault)
-    → lambda_written s (state_of a) at intro parts body ≡ Ok x → Changes a c r (lambda_made s (state_of a) x)
+-- nothing that was made to read it is kept
+pub from_is : (s : List Lexeme) (a c : StateRec) (w : WorkRec) (at : At) (intro parts : Trees) (body : Tree) (x : Written)
+    (r : Result (Unit {0}) ElabFault) → Unmoved a.work w → lambda_written s (state_of a) at intro parts body ≡ Ok x
+    → Changes (record a { work = w }) c r (lambda_made s (state_of (record a { work = w })) x)
     → Changes a c r (lambda_from s (state_of a) at intro parts body)
-from_is s a c at intro parts body x r e m = subst (λ (z : Result State ElabFault). Changes a c r z)
-    (sym (ap (λ (z : Result Written ElabFault). and_then z (λ (y : Written). lambda_made s (state_of a) y)) e)) m
+from_is s a c w at intro parts body x r u e m =
+    changes_after a (record a { work = w }) c (lambda_written s (state_of a) at intro parts body) x (λ (y : Written). lambda_made s (state_of a) y) r
+    (unmoved_grown a w u) e
+    (subst (λ (z : State). Changes (record a { work = w }) c r (lambda_made s z x)) (unmoved_state a w u) m)
+
+pub from_refused : (s : List Lexeme) (st : State) (at : At) (intro parts : Trees) (body : Tree) (x : ElabFault)
+    → Faults x (lambda_written s st at intro parts body) → Faults x (lambda_from s st at intro parts body)
+from_refused s st at intro parts body x m =
+    faults_in (λ (z : Result Written ElabFault). and_then z (λ (y : Written). lambda_made s st y)) x (lambda_written s st at intro parts body) (λ f. refl) m

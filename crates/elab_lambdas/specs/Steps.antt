@@ -9,6 +9,7 @@ use Rattle.elab_entry.specs.cpp_tree.declared.faults.ElabFault.{ElabFault}
 use Rattle.elab_entry.specs.elab_ctx.Ctx.{Ctx, Work, Func, Capture}
 use Rattle.elab_entry.specs.elab_rules.Types.{Parameter}
 use Rattle.elab_entry.specs.elab_rules.Expressions.{type_id_of}
+use Rattle.elab_entry.specs.elab_rules.Statements.{Body, State}
 use Rattle.elab_entry.specs.elab_rules.Classes.{class_named, is_completed}
 use Rattle.elab_entry.specs.elab_rules.Lambdas.{capture_members, call_func, an_option}
 
@@ -24,6 +25,10 @@ abbrev pub with_call : ℕ → Function → List Parameter → ℕ → Func
 with_call n g ps closed = record (call_func n g ps) { closed_at = closed }
 
 -- The parts of a lambda
+
+-- what is known where a lambda is read
+abbrev pub at_hand : Ctx → Work → List Body → State
+at_hand c w bodies = record { ctx = c; work = w; bodies = bodies }
 
 -- the type that stands behind `->`, if the tree is one
 abbrev pub trailing_in : Tree → Option Tree

@@ -1,10 +1,9 @@
 // The class of a lambda (C++14 5.1.2 p3, p7): its members are the captures, its one function is the call.
 
-ghost use Rattle.std.specs.Prelude.{◌≡◌, ◌++◌, ◌∷◌, [], ◌≤◌, map, length, count_by, if◌then◌else◌, IfOk, OnOk};
+ghost use Rattle.std.specs.Prelude.{◌≡◌, ◌++◌, ◌∷◌, [], map, length, IfOk, OnOk};
 ghost use Rattle.elab_entry.specs.cpp_types.Typ.{typ_of, signature_of};
 ghost use Rattle.elab_entry.specs.cpp_types.Class.{class_of, member_of, function_of};
 ghost use Rattle.elab_entry.specs.elab_ctx.Ctx.{ctx_of, func_of, capture_of, traits_of};
-ghost use Rattle.elab_entry.specs.elab_rules.Classes.{is_completed};
 ghost use Rattle.elab_entry.specs.elab_rules.Functions.{safety_of as safety_of_of};
 ghost use Rattle.elab_entry.specs.elab_rules.Lambdas.{capture_members, with_closure};
 ghost use Rattle.elab_entry.specs.elab_types.Shown.{parameter_of, qualifiers_of};
@@ -12,7 +11,7 @@ ghost use Rattle.elab_lambdas.specs.Shown.{call_of};
 ghost use Rattle.elab_lambdas.specs.Steps.{closure_class, with_class, with_call};
 
 use crate::traits::closure_traits;
-use class_records::push_class;
+use class_records::{next_completion, push_class};
 use elab_decls::functions::params_from;
 use elab_entry::below::{
     At, Capture, ClassRec, Env, FnTy, FuncDecl, FuncKind, FuncRec, Linkage, MemberRec, Parameter,
@@ -109,34 +108,6 @@ fn members_from(alloc: Global, captures: &[Capture]) -> Result<Vec<MemberRec>, A
     Ok(list)
 }
 
-fn one_if_complete(found: &ClassRec) -> usize
-    ensures one { result ≡ (if is_completed (class_of found.now) then 1 else 0) }
-    ensures most { result ≤ 1 }
-{
-    if found.complete.is_some() { 1 } else { 0 }
-}
-
-// How many classes are complete.
-fn count_complete(classes: &[ClassRec]) -> usize
-    ensures { result ≡ count_by is_completed (map class_of classes.now) }
-{
-    let mut count: usize = 0;
-    for found in classes {
-        count += one_if_complete(found);
-    }
-    count
-}
-
-// The number of the next class that is complete.
-fn next_completion(env: &Env) -> Result<u32, AllocError>
-    ensures { IfOk result (λ n. n ≡ count_by is_completed (ctx_of env.now).classes) }
-{
-    let Ok(number) = u32::try_from(count_complete(&env.classes)) else {
-        return Err(AllocError);
-    };
-    Ok(number)
-}
-
 // The record of the class.
 fn class_record(
     alloc: Global,
@@ -179,10 +150,10 @@ fn add_closure_class(
 ) -> Result<(), AllocError>
     ensures { OnOk result (ctx_of env.new ≡ with_class (ctx_of env.old) (map capture_of captures.now) (call_of words (signature_of ty.now))) }
 {
-    let number = next_completion(env)?;
+    let number = next_completion(env);
     let call = call_record(alloc, words, ty)?;
     let made = class_record(alloc, captures, call, number)?;
-    push_class(env, made)?;
+    push_class(alloc, env, made)?;
     Ok(())
 }
 

@@ -1,12 +1,13 @@
 // What reading a body for its result made, which is not kept.
 
-ghost use Rattle.std.specs.Prelude.{◌≡◌, take, true};
+ghost use Rattle.std.specs.Prelude.{◌≡◌, drop, take, true};
 ghost use Rattle.elab_entry.specs.cpp_types.Order.{all_consistent};
 ghost use Rattle.elab_entry.specs.elab_ctx.Ctx.{ctx_of, work_of};
 ghost use Rattle.elab_entry.specs.elab_scopes.States.{state_of, made};
 ghost use Rattle.elab_lambdas.specs.Checkpoints.{checkpoint_in, undone_to};
 
-use elab_entry::below::{Env, State, Work};
+use class_layouts::without;
+use elab_entry::below::{ClassRec, Env, State, Work};
 
 /// How many classes, functions, globals and bodies there are.
 #[derive(Clone, Copy)]
@@ -33,12 +34,26 @@ pub fn checkpoint_here(st: &State) -> Checkpoint
     }
 }
 
+// The classes behind so many.
+fn cut_from(classes: &[ClassRec], count: usize) -> &[ClassRec]
+    ensures { result.now ≡ drop count classes.now }
+{
+    if count < classes.len() {
+        &classes[count..]
+    } else {
+        &[]
+    }
+}
+
 // Takes away the classes of lambdas, to which no other class refers.
 fn undo_classes(env: &mut Env, count: usize)
     requires { all_consistent (take count (ctx_of env.old).classes) ≡ true }
     ensures { ctx_of env.new ≡ record (ctx_of env.old) { classes = take count (ctx_of env.old).classes } }
 {
+    let completed = without(env.completed, cut_from(&env.classes, count));
     env.classes.truncate(count);
+    env.layouts.truncate(count);
+    env.completed = completed;
 }
 
 fn undo_traits(env: &mut Env, count: usize)

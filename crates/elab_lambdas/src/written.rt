@@ -1,20 +1,22 @@
 // Lambdas as they are written, and all of a full-expression.
 
-ghost use Rattle.std.specs.Prelude.{◌≡◌, ◌<◌, map, option_map, length, true, MatchOption, IfOk};
+ghost use Rattle.std.specs.Prelude.{◌≡◌, ◌<◌, List, map, option_map, length, true, MatchOption, IfOk};
 ghost use Rattle.elab_entry.specs.cpp_types.Typ.{typ_of};
 ghost use Rattle.elab_entry.specs.cpp_lex.Tokens.{lexemes_of};
 ghost use Rattle.elab_entry.specs.cpp_ast.Orders.{are_below};
 ghost use Rattle.elab_entry.specs.elab_ctx.Ctx.{ctx_of, work_of, capture_of};
 ghost use Rattle.elab_entry.specs.elab_ctx.Says.{Tells};
+ghost use Rattle.elab_entry.specs.elab_rules.Statements.{Body};
 ghost use Rattle.elab_entry.specs.elab_rules.Types.{no_qualifiers as no_qualifiers_of, qualifiers_from};
 ghost use Rattle.elab_entry.specs.elab_rules.Lambdas.{default_in as default_in_of, explicit_captures as explicit_captures_of, parameters_among as parameters_among_of, result_among as result_among_of, not_dynamic as not_dynamic_of, is_mutable_word as is_mutable_word_of, has_mutable as has_mutable_of, closing as closing_of, captured_uses, default_captures as default_captures_of, used_in as used_in_of, kids_of as kids_of_tree};
 ghost use Rattle.elab_entry.specs.elab_rows.Typed.{parameters_of};
 ghost use Rattle.elab_entry.specs.elab_types.Shown.{Says, parameter_of, qualifiers_of as qualifiers_view};
 ghost use Rattle.elab_entry.specs.elab_types.Syntax.{syntax_of, tree_at, trees_at};
+ghost use Rattle.elab_entry.specs.elab_scopes.elab_expr.Unmoved.{Unmoved};
 ghost use Rattle.elab_entry.specs.elab_scopes.States.{state_of};
 ghost use Rattle.elab_entry.specs.elab_scopes.Says.{Changes};
 ghost use Rattle.lambda_captures.specs.Shown.{otherwise_of, captures_of as captures_view};
-ghost use Rattle.elab_lambdas.specs.Steps.{trailing_in as trailing_in_of, trailing, result_written};
+ghost use Rattle.elab_lambdas.specs.Steps.{trailing_in as trailing_in_of, trailing, result_written, at_hand};
 ghost use Rattle.lambda_captures.specs.Says.{Collects};
 ghost use Rattle.elab_lambdas.specs.Whole.{written_of, lambda_written as lambda_written_of, lambda_from as lambda_from_of, lambda_of as lambda_of_of, lambdas_of, lambdas_among};
 
@@ -36,13 +38,14 @@ fn parameters_among(
     tokens: &Tokens,
     nodes: &Nodes,
     env: &Env,
-    work: &Work,
+    work: &mut Work,
     parent: NodeId,
     ids: &[NodeId],
 ) -> Result<Vec<Parameter>, ElabFault>
     requires within { parent.0 < length nodes.now }
     requires lower { are_below parent.0 ids.now ≡ true }
-    ensures { Says parameters_of result (parameters_among_of (lexemes_of tokens.now) (ctx_of env.now) (work_of work.now) (trees_at (syntax_of nodes.now) ids.now)) }
+    ensures says { Says parameters_of result (parameters_among_of (lexemes_of tokens.now) (ctx_of env.now) (work_of work.old) (trees_at (syntax_of nodes.now) ids.now)) }
+    ensures kept { IfOk result (λ params. Unmoved work.old work.new) }
 {
     let Some(first) = first_kid(ids) else {
         return Ok(Vec::new(alloc));
@@ -137,11 +140,12 @@ fn type_written(
     tokens: &Tokens,
     nodes: &Nodes,
     env: &Env,
-    work: &Work,
+    work: &mut Work,
     id: Option<NodeId>,
 ) -> Result<Option<Ty>, ElabFault>
     requires { MatchOption id (Unit {0}) (λ kid. kid.0 < length nodes.now) }
-    ensures { Says (option_map typ_of) result (result_written (lexemes_of tokens.now) (ctx_of env.now) (work_of work.now) (option_map (tree_at (syntax_of nodes.now)) id)) }
+    ensures says { Says (option_map typ_of) result (result_written (lexemes_of tokens.now) (ctx_of env.now) (work_of work.old) (option_map (tree_at (syntax_of nodes.now)) id)) }
+    ensures kept { IfOk result (λ ty. Unmoved work.old work.new) }
 {
     match id {
         Some(id) => {
@@ -158,13 +162,14 @@ fn result_among(
     tokens: &Tokens,
     nodes: &Nodes,
     env: &Env,
-    work: &Work,
+    work: &mut Work,
     parent: NodeId,
     ids: &[NodeId],
 ) -> Result<Option<Ty>, ElabFault>
     requires within { parent.0 < length nodes.now }
     requires lower { are_below parent.0 ids.now ≡ true }
-    ensures { Says (option_map typ_of) result (result_among_of (lexemes_of tokens.now) (ctx_of env.now) (work_of work.now) (trees_at (syntax_of nodes.now) ids.now)) }
+    ensures says { Says (option_map typ_of) result (result_among_of (lexemes_of tokens.now) (ctx_of env.now) (work_of work.old) (trees_at (syntax_of nodes.now) ids.now)) }
+    ensures kept { IfOk result (λ ty. Unmoved work.old work.new) }
 {
     let found = trailing_type(nodes, parent, ids);
     type_written(alloc, tokens, nodes, env, work, found)
@@ -263,22 +268,23 @@ fn lambda_written(
     ids: &[NodeId],
     qualifiers: Qualifiers,
     body: NodeId,
-    st: &State,
+    env: &Env,
+    work: &mut Work,
 ) -> Result<Written, ElabFault>
     requires intro { intro.0 < length nodes.now }
     requires within { parent.0 < length nodes.now }
     requires lower { are_below parent.0 ids.now ≡ true }
     requires words { qualifiers_view qualifiers ≡ qualifiers_from (lexemes_of tokens.now) no_qualifiers_of (trees_at (syntax_of nodes.now) ids.now) }
     requires body { body.0 < length nodes.now }
-    ensures is { Says (written_of (syntax_of nodes.now)) result (lambda_written_of (lexemes_of tokens.now) (state_of st.now) at (kids_of_tree (tree_at (syntax_of nodes.now) intro)) (trees_at (syntax_of nodes.now) ids.now) (tree_at (syntax_of nodes.now) body)) }
+    ensures is { (bodies : List Body) → Says (written_of (syntax_of nodes.now)) result (lambda_written_of (lexemes_of tokens.now) (at_hand (ctx_of env.now) (work_of work.old) bodies) at (kids_of_tree (tree_at (syntax_of nodes.now) intro)) (trees_at (syntax_of nodes.now) ids.now) (tree_at (syntax_of nodes.now) body)) }
     ensures body { IfOk result (λ x. x.body.0 < length nodes.now) }
+    ensures kept { IfOk result (λ x. Unmoved work.old work.new) }
 {
-    let env = &st.env;
     let otherwise = default_of(tokens, nodes, intro);
     let mut captures = captures_of(alloc, tokens, nodes, env, otherwise, intro)?;
-    let params = parameters_among(alloc, tokens, nodes, env, &st.work, parent, ids)?;
+    let params = parameters_among(alloc, tokens, nodes, env, work, parent, ids)?;
     not_dynamic(at, qualifiers)?;
-    let result = result_among(alloc, tokens, nodes, env, &st.work, parent, ids)?;
+    let result = result_among(alloc, tokens, nodes, env, work, parent, ids)?;
     default_captures(
         alloc,
         tokens,
@@ -325,7 +331,17 @@ fn lambda_from(
     ensures { Changes st.old st.new result (lambda_from_of (lexemes_of tokens.now) (state_of st.old) at (kids_of_tree (tree_at (syntax_of nodes.now) intro)) (trees_at (syntax_of nodes.now) ids.now) (tree_at (syntax_of nodes.now) body)) }
 {
     let written = lambda_written(
-        alloc, tokens, nodes, at, intro, parent, ids, qualifiers, body, st,
+        alloc,
+        tokens,
+        nodes,
+        at,
+        intro,
+        parent,
+        ids,
+        qualifiers,
+        body,
+        &st.env,
+        &mut st.work,
     )?;
     lambda_made(alloc, tokens, nodes, st, written)
 }

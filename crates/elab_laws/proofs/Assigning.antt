@@ -20,7 +20,7 @@ use Rattle.elab_rules.specs.cpp_tree.declared.kinds.TKind.TheVariants.{Retype, T
 use Rattle.elab_rules.specs.cpp_tree.declared.faults.ElabFault.{ElabFault}
 use Rattle.elab_rules.specs.cpp_tree.declared.faults.IllRule.TheVariants.{BadOperand, NoCopy, NoConversion}
 use Rattle.elab_rules.specs.cpp_tree.Trees.{Tree, node, none, more, one, typ_in, cat_of, kind_of, kids_of}
-use Rattle.elab_rules.specs.cpp_tree.Typing.{form_in, kind_in, unqualified, is_class_typ, is_class_prvalue, is_void, is_volatile_typ}
+use Rattle.elab_rules.specs.cpp_tree.Typing.{form_in, kind_in, unqualified, is_class_typ, is_void, is_volatile_typ}
 use Rattle.elab_rules.specs.cpp_tree.Notation.{plain}
 use Rattle.elab_rules.specs.elab_ctx.Ctx.{Ctx, Work}
 use Rattle.elab_rules.specs.elab_ctx.Steps.{and_then, check, expect, Operand, Made, TypedAll, at_of, spelling}
@@ -30,7 +30,7 @@ use Rattle.elab_rules.specs.Initialising.{initial, conversion, class_number, is_
 use Rattle.elab_rules.specs.Initialising.{with_tree, object_of, exception_copied, is_written_exception, exact_object}
 use Rattle.elab_rules.specs.Operators.{updated, scaled, value, value_form, arithmetic, assigned, copy_assigned, class_assigned_in, same_object, assignment}
 use Rattle.elab_rules.specs.Operators.{compound_numbers, compound_in, compound, movable, is_sum, same_work, truth, is_throw, is_null, as_pointer}
-use Rattle.elab_rules.specs.Operators.{bare_throw, throws as throws_tree, dropped, settled, object_type, joined_type, common_class}
+use Rattle.elab_rules.specs.Operators.{bare_throw, throws as throws_tree, dropped, settled, joined_type}
 use Rattle.elab_rules.specs.Operators.{is_shared, shared as shared_tree, joined_class, is_assignable_form}
 use Rattle.elab_rules.specs.Operators.{conditional_like, conditional_node, same_lvalues, both_of_class, two_numbers, two_values, two_objects, branches, conditional}
 use Rattle.elab_rules.specs.Names.{is_const_typ}
@@ -38,7 +38,7 @@ use Rattle.elab_rules.specs.Expressions.{row_of, assignment_of}
 use Rattle.elab_laws.specs.Reading.{On, IsPrvalue, IsLvalue, EachTwo}
 use Rattle.elab_laws.specs.Unary.{IsModifiable}
 use Rattle.elab_laws.specs.Assigning.{Simple, Compound, integer, pointer, simple_words, compound_words, Compounds, IsAs, Second, IsThrow, throws, throws_again}
-use Rattle.elab_laws.specs.Assigning.{Throws, bare, without_value, gives_const, gives_volatile}
+use Rattle.elab_laws.specs.Assigning.{Throws, bare, without_value}
 use Rattle.elab_laws.specs.Assigning.{Either, both_throw, first_throws, second_throws, both_void, lvalues, shared, objects, values, numbers_of, or_null, null_or}
 use Rattle.elab_laws.specs.Assigning.{Chosen, Assignments, Commas, Conditionals}
 use Rattle.elab_laws.proofs.Reading.{bind, skip, after, checked, expected, either, weaken, of_two, of_three, made_in, each_word, ForAll}
@@ -293,28 +293,16 @@ values_law at test x y (ptr t) f i j = pointer_or_null at test x y t i
 values_law at test x y f (ptr t) i j = null_or_pointer at test x y t j
 values_law at test x y f g i j = values_case at test x y f g i j
 
--- an object's type: with its qualifiers, if it is a prvalue
-object_is : (t : Typ) (cat : Cat) → is_object_form (form_in t) ≡ true
-    → (if is_class_prvalue t cat then t else unqualified t) ≡
-    typ (form_in t) (not (is_lvalue cat) && is_const_typ t) (not (is_lvalue cat) && is_volatile_typ t)
-object_is (typ f d v) Lvalue h = refl
-object_is (typ f d v) Prvalue h = rw h refl
-
-common_is : (x y : Operand) → is_object_form (form_in (typ_in x.tree)) ≡ true → is_object_form (form_in (typ_in y.tree)) ≡ true
-    → common_class x y ≡ typ (form_in (typ_in x.tree)) (gives_const x || gives_const y) (gives_volatile x || gives_volatile y)
-common_is x y h g = ap (λ (z : Typ). joined_type z (object_type y.tree)) (object_is (typ_in x.tree) (cat_of x.tree) h)
-    ∙ ap (joined_type (typ (form_in (typ_in x.tree)) (gives_const x) (gives_volatile x))) (object_is (typ_in y.tree) (cat_of y.tree) g)
+joined_is : (t u : Typ) → joined_type t u ≡ typ (form_in t) (is_const_typ t || is_const_typ u) (is_volatile_typ t || is_volatile_typ u)
+joined_is (typ f c v) (typ g d w) = refl
 
 objects_law : (c : Ctx) (w : Work) (at : At) (test : Tree) (x y : Operand) → both_of_class x y ≡ true → On (Tree_in (Either x y)) (two_objects c w at test x y)
-objects_law c w at test x y h = skip (Tree_in (Either x y)) (exact_object c w (common_class x y) x.at x) _
-    (λ u. skip (Tree_in (Either x y)) (exact_object c u.work (common_class x y) y.at y) _ (λ v.
+objects_law c w at test x y h = skip (Tree_in (Either x y)) (exact_object c w (joined_class x y) x.at x) _
+    (λ u. skip (Tree_in (Either x y)) (exact_object c u.work (joined_class x y) y.at y) _ (λ v.
     let p = and_parts (is_class_typ (typ_in x.tree)) (form_eq (form_in (typ_in x.tree)) (form_in (typ_in y.tree))) h in
     let f = form_same (form_in (typ_in x.tree)) (form_in (typ_in y.tree)) p.1 in
     let o = class_from_typ (typ_in x.tree) p.0 in
-    objects (form_in (typ_in x.tree)) o refl (sym f) (record { has_type = common_is x y o (ap is_object_form (sym f) ∙ o); category = refl })))
-
-joined_is : (t u : Typ) → joined_type t u ≡ typ (form_in t) (is_const_typ t || is_const_typ u) (is_volatile_typ t || is_volatile_typ u)
-joined_is (typ f c v) (typ g d w) = refl
+    objects (form_in (typ_in x.tree)) o refl (sym f) (record { has_type = joined_is (typ_in x.tree) (typ_in y.tree); category = refl })))
 
 is_an_lvalue : (cat : Cat) → is_lvalue cat ≡ true → cat ≡ Lvalue
 is_an_lvalue Lvalue h = refl

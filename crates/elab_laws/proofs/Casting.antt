@@ -1,12 +1,12 @@
 -- Casts, `sizeof` and `throw`.
-use Rattle.std.proofs.Common.{◌≡◌, refl, sym, ap, ◌∙◌, subst, ℕ, zero, suc, Bool, true, false, ◌&&◌, ◌||◌, List, [], ◌∷◌, length, cond, Option, Some, None}
-use Rattle.std.proofs.Common.{is_some, Result, Ok, Err, eqb-true}
+use Rattle.std.proofs.Common.{◌≡◌, refl, sym, ap, ◌∙◌, subst, ℕ, Bool, true, false, ◌&&◌, List, [], ◌∷◌, cond, Option, Some, None}
+use Rattle.std.proofs.Common.{is_some, Result, Ok, Err}
 use Rattle.std.proofs.lemmas.Bool.{and_parts}
-use Rattle.std.specs.Prelude.{not, if◌then◌else◌}
+use Rattle.std.specs.Prelude.{not}
 use Rattle.elab_rules.specs.tx_ints.declared.kinds.IntKind.{IntKind}
 use Rattle.elab_rules.specs.tx_ints.declared.kinds.IntKind.TheVariants.{Int, ULong}
 use Rattle.elab_rules.specs.cpp_types.Typ.{Typ, typ, Form, void, int, enum, null, ptr, ref, array, func, class, closure, tx_ex}
-use Rattle.elab_rules.specs.cpp_types.Equal.{typ_eq, form_eq}
+use Rattle.elab_rules.specs.cpp_types.Equal.{form_eq}
 use Rattle.elab_rules.specs.cpp_types.Class.{Class}
 use Rattle.elab_rules.specs.cpp_types.Conversion.{step_of, other_step, bound, has_value, decayed, referred, is_object_form}
 use Rattle.elab_rules.specs.cpp_types.declared.classes.At.{At}
@@ -18,25 +18,22 @@ use Rattle.elab_rules.specs.cpp_types.declared.ranks.Binding.TheVariants.{Value}
 use Rattle.elab_rules.specs.cpp_lex.Tokens.{Lexeme}
 use Rattle.elab_rules.specs.cpp_ast.Trees as syntax
 use Rattle.elab_rules.specs.cpp_ast.declared.kinds.NodeKind.TheVariants as k
-use Rattle.elab_rules.specs.cpp_tree.declared.kinds.TKind.{TKind}
-use Rattle.elab_rules.specs.cpp_tree.declared.kinds.TKind.TheVariants.{Retype, Construct, Store, CopyFrom, Pieces}
+use Rattle.elab_rules.specs.cpp_tree.declared.kinds.TKind.TheVariants.{Retype}
 use Rattle.elab_rules.specs.cpp_tree.declared.faults.ElabFault.{ElabFault}
 use Rattle.elab_rules.specs.cpp_tree.declared.faults.IllRule.TheVariants.{NoConversion, NoCopy, BadOperand, Incomplete, OutOfProfile, BadThrow, NotTriviallyCopyable}
-use Rattle.elab_rules.specs.cpp_tree.Trees.{Tree, node, Trees, none, more, one, typ_in, cat_of, kind_of, kids_of}
-use Rattle.elab_rules.specs.cpp_tree.Typing.{form_in, is_reference, unqualified, is_class_prvalue, is_void, is_volatile_typ, kind_in}
+use Rattle.elab_rules.specs.cpp_tree.Trees.{Tree, node, typ_in, cat_of}
+use Rattle.elab_rules.specs.cpp_tree.Typing.{form_in, is_reference, unqualified, is_void, is_volatile_typ, kind_in}
 use Rattle.elab_rules.specs.cpp_tree.Notation.{plain}
-use Rattle.elab_rules.specs.elab_ctx.Ctx.{Ctx, Work, Special, absent, trivial, function}
+use Rattle.elab_rules.specs.elab_ctx.Ctx.{Ctx, Work}
 use Rattle.elab_rules.specs.elab_ctx.Steps.{and_then, expect, check, Operand, Made, Typed, TypedAll, at_of}
-use Rattle.elab_rules.specs.Values.{place_of, number, valued, converted, stepped, is_exception_form}
-use Rattle.elab_rules.specs.Initialising.{initial, bound_by, is_prvalue_of_class, same_number, class_number, rebuilt, copied_anew, constructed_copy, reference_word}
-use Rattle.elab_rules.specs.Initialising.{is_closure_itself, building}
-use Rattle.elab_rules.specs.Initialising.{parameters_at, copied_object, has_copy, meant, makers, argument, arguments, constructor_at, constructed_by, words}
-use Rattle.elab_rules.specs.Initialising.{constructed, from_nothing, makeable, default_by, is_prvalue_itself, class_from, from_values, with_tree}
-use Rattle.elab_rules.specs.Names.{is_tx_exception}
-use Rattle.elab_rules.specs.Objects.{Leaf, class_whole, zero_leaf, traits_at, size_of}
+use Rattle.elab_rules.specs.Values.{place_of, number, valued, converted, stepped}
+use Rattle.elab_rules.specs.Initialising.{initial, bound_by}
+use Rattle.elab_rules.specs.Initialising.{parameters_at, meant, makers, arguments, constructor_at, constructed_by, words}
+use Rattle.elab_rules.specs.Initialising.{constructed, makeable, is_prvalue_itself, class_from, from_values, with_tree}
+use Rattle.elab_rules.specs.Objects.{traits_at, size_of}
 use Rattle.elab_rules.specs.cpp_overload.Choosing.{chosen}
 use Rattle.elab_rules.specs.Operators.{value, measurable, is_function}
-use Rattle.elab_rules.specs.Casts.{is_numeric, scalar_cast, reference_cast, cast, functional, as_expression, stored_at, size_literal}
+use Rattle.elab_rules.specs.Casts.{is_numeric, scalar_cast, reference_cast, cast, functional, as_expression, size_literal}
 use Rattle.elab_rules.specs.Casts.{throw_object, throw_in, throw_node, throw, within_exception, is_thrown_scalar}
 use Rattle.elab_rules.specs.Expressions.{an_operand, a_tree, row_of, expression_with, chosen_operand, type_id_of, type_id_with, operands_of, specified_with, written_type}
 use Rattle.elab_rules.specs.Types.{has_auto, is_bounded, no_specifiers, specified_type}
@@ -54,6 +51,7 @@ use Rattle.elab_laws.proofs.Equal.{form_same}
 use Rattle.elab_laws.proofs.Arithmetic.{tree_value}
 use Rattle.elab_laws.proofs.Converting.{between_is, between_prvalue, tree_cat}
 use Rattle.elab_laws.proofs.Parts.{InMade}
+use Rattle.elab_laws.proofs.CastObjects.{ClassObject, LambdaObject, ExceptionObject, constructed_law, lambda_law, exception_law}
 
 -- Scalars
 
@@ -167,128 +165,30 @@ scalar_law c w at f d v o j h n = either (InMade (Scalar f)) (is_numeric (form_i
     (λ i e. converted_is at (typ f d v) (value o) i j e h (tree_cat o.at o.tree i e)))
     (λ b. initial_law c w f (record { tree = value o; at = at; zero = o.zero }) j h n)
 
--- Objects of classes
-
-abbrev IsOf : ℕ → Tree → Type 0
-IsOf n e = class_number (typ_in e) ≡ Some n
-
-number_is : (n : ℕ) (x : Option ℕ) → same_number n x ≡ true → x ≡ Some n
-number_is n (Some m) h = ap Some (eqb-true m n h)
-number_is n None h = absurd cc
-
-itself_is : (n : ℕ) (e : Tree) → is_prvalue_of_class n e ≡ true → IsOf n e
-itself_is n e h = number_is n (class_number (typ_in e)) (and_parts (is_class_prvalue (typ_in e) (cat_of e)) (same_number n (class_number (typ_in e))) h).1
-
-zero_is : (depth : ℕ) (leaf : Leaf) (classes : List Class) (at : At) (n : ℕ) (q v : Bool) → IsOf n (class_whole depth leaf classes at n q v)
-zero_is zero leaf classes at n q v = refl
-zero_is (suc depth) leaf classes at n q v = refl
-
-copied_anew_is : (classes : List Class) (n : ℕ) (q v : Bool) (e : Tree) (ts : Trees) → IsOf n e → IsOf n (copied_anew classes (typ (class n) q v) e ts)
-copied_anew_is classes n q v e none h = h
-copied_anew_is classes n q v e (more t ts) h = refl
-
-rebuilt_is : (classes : List Class) (kind : TKind) (n : ℕ) (q v : Bool) (e : Tree) → IsOf n e → IsOf n (rebuilt classes kind (typ (class n) q v) e)
-rebuilt_is classes (Construct k) n q v e h = refl
-rebuilt_is classes (Store k s) n q v e h = refl
-rebuilt_is classes CopyFrom n q v e h = copied_anew_is classes n q v e (kids_of e) h
-rebuilt_is classes Pieces n q v e h = zero_is (length classes) zero_leaf classes (place_of e) n (false || q) (false || v)
-rebuilt_is classes kind n q v e h = h
-
-building_by : (classes : List Class) (n : ℕ) (q v : Bool) (e : Tree) (b : Bool) → IsOf n e
-    → IsOf n (if b then e else rebuilt classes (kind_of e) (typ (class n) q v) e)
-building_by classes n q v e true h = h
-building_by classes n q v e false h = rebuilt_is classes (kind_of e) n q v e h
-
-building_is : (classes : List Class) (n : ℕ) (q v : Bool) (e : Tree) → IsOf n e → IsOf n (building classes (typ (class n) q v) e)
-building_is classes n q v e h = building_by classes n q v e (typ_eq (typ (class n) q v) (typ_in e)) h
-
-default_law : (c : Ctx) (n : ℕ) (q v : Bool) (at : At) (s : Special) → On (IsOf n) (default_by c (typ (class n) q v) at s)
-default_law c n q v at absent = tt
-default_law c n q v at trivial = zero_is (length c.classes) zero_leaf c.classes at n (false || q) (false || v)
-default_law c n q v at (function k) = refl
-
-reference_copy : (c : Ctx) (w : Work) (n : ℕ) (t : Typ) (at : At) (o : Operand) (k : Option ℕ) → class_number t ≡ Some n
-    → On (InMade (IsOf n)) (constructed_copy c w n t at o k)
-reference_copy c w n t at o None h = h
-reference_copy c w n t at o (Some k) h = skip (InMade (IsOf n)) (reference_word c w (parameters_at c.funcs k) o) _ (λ m. h)
-
-copied_law : (c : Ctx) (w : Work) (n : ℕ) (t : Typ) (at : At) (o : Operand) → class_number t ≡ Some n → On (InMade (IsOf n)) (copied_object c w n t at o)
-copied_law c w n t at o h = skip (InMade (IsOf n)) (check o.at NoCopy (not (is_volatile_typ (typ_in o.tree)) && has_copy (traits_at c n).copy)) _
-    (λ y. skip (InMade (IsOf n)) (meant at (chosen c.classes (makers c n) (argument o ∷ []))) _ (λ i. reference_copy c w n t at o (constructor_at c n i) h))
-
-by_law : (c : Ctx) (w : Work) (n : ℕ) (t : Typ) (at : At) (os : List Operand) (k : Option ℕ) → class_number t ≡ Some n
-    → On (InMade (IsOf n)) (constructed_by c w n t at os k)
-by_law c w n t at os (Some k) h = skip (InMade (IsOf n)) (words c w (parameters_at c.funcs k) os) _ (λ m. h)
-by_law c w n t at (o ∷ []) None h = skip (InMade (IsOf n)) (check o.at NoCopy (not (is_volatile_typ (typ_in o.tree)))) _ (λ y. h)
-by_law c w n t at os None h = tt
-
-constructed_law : (c : Ctx) (w : Work) (n : ℕ) (q v : Bool) (at : At) (os : List Operand) → On (InMade (IsOf n)) (constructed c w n (typ (class n) q v) at os)
-constructed_law c w n q v at [] = bind (IsOf n) (InMade (IsOf n)) (from_nothing c (typ (class n) q v) at) _
-    (skip (IsOf n) (makeable c at n) _ (λ k. default_law c n q v at (traits_at c n).default)) (λ e g. g)
-constructed_law c w n q v at (o ∷ []) = skip (InMade (IsOf n)) (makeable c at n) _
-    (λ k. either (InMade (IsOf n)) (is_prvalue_itself n (o ∷ [])) _ _
-    (λ b. building_is c.classes n q v o.tree (itself_is n o.tree b))
-    (λ b. skip (InMade (IsOf n)) (meant at (chosen c.classes (makers c n) (arguments (o ∷ [])))) _
-    (λ i. by_law c w n (typ (class n) q v) at (o ∷ []) (constructor_at c n i) refl)))
-constructed_law c w n q v at (o ∷ p ∷ os) = skip (InMade (IsOf n)) (makeable c at n) _
-    (λ k. skip (InMade (IsOf n)) (meant at (chosen c.classes (makers c n) (arguments (o ∷ p ∷ os)))) _
-    (λ i. by_law c w n (typ (class n) q v) at (o ∷ p ∷ os) (constructor_at c n i) refl))
-
-closure_made : (c : Ctx) (w : Work) (n : ℕ) (q v : Bool) (at : At) (o : Operand) → On (InMade (IsOf n)) (class_from c w (typ (closure n) q v) at o)
-closure_made c w n q v at o = either (InMade (IsOf n)) (is_closure_itself n q v o.tree) _ _
-    (λ b. itself_is n o.tree (and_parts (is_prvalue_of_class n o.tree) (typ_eq (typ (closure n) q v) (typ_in o.tree)) b).0)
-    (λ b. skip (InMade (IsOf n)) (check o.at NoConversion (same_number n (class_number (typ_in o.tree)))) _
-    (λ y. skip (InMade (IsOf n)) (check o.at NoCopy (not (is_volatile_typ (typ_in o.tree)))) _ (λ z. refl)))
-
--- Exceptions
-
-abbrev IsException : Tree → Type 0
-IsException e = is_tx_exception (typ_in e) ≡ true
-
-exception_same : (t : Typ) → is_exception_form (form_in t) ≡ is_tx_exception t
-exception_same (typ (tx_ex t) d v) = refl
-exception_same (typ void d v) = refl
-exception_same (typ (int j) d v) = refl
-exception_same (typ (enum n s) d v) = refl
-exception_same (typ null d v) = refl
-exception_same (typ (ptr t) d v) = refl
-exception_same (typ (ref t) d v) = refl
-exception_same (typ (array t n) d v) = refl
-exception_same (typ (func s) d v) = refl
-exception_same (typ (class n) d v) = refl
-exception_same (typ (closure n) d v) = refl
-
-made_exception : (at : At) (t : Typ) (e : Tree) (b : Bool) → is_exception_form (form_in (typ_in e)) ≡ b → is_tx_exception t ≡ true
-    → IsException (if not b then node Retype t Prvalue at (one (stored_at at e)) else e)
-made_exception at t e true h i = sym (exception_same (typ_in e)) ∙ h
-made_exception at t e false h i = i
-
-exception_is : (at : At) (u : Typ) (e : Tree) → IsException (as_expression at (typ (tx_ex u) false false) e)
-exception_is at u e = made_exception at (typ (tx_ex u) false false) e (is_exception_form (form_in (typ_in e))) refl refl
-
 -- Casts
 
 reference_is : (at : At) (u : Typ) (e : Tree) → IsLvalue u (reference_cast at u e)
 reference_is at u (node Retype t Lvalue p kids) = record { has_type = refl; category = refl }
 reference_is at u e = record { has_type = refl; category = refl }
 
-abbrev Casts_to : Typ → Made → Type 0
-Casts_to t m = CastTo t m.tree
+abbrev Casts_to : Typ → List Operand → Made → Type 0
+Casts_to t os m = CastTo t os m.tree
 
 scalar_case : (c : Ctx) (w : Work) (at : At) (f : Form) (d v : Bool) (o : Operand) (j : IntKind) → kind_in f ≡ Some j → is_referring f ≡ false
-    → On (Casts_to (typ f d v)) (scalar_cast c w at (typ f d v) o)
-scalar_case c w at f d v o j h n = weaken (InMade (Scalar f)) (Casts_to (typ f d v)) (scalar_cast c w at (typ f d v) o) (λ m g. to_scalar (ap is_some h) g)
-    (scalar_law c w at f d v o j h n)
+    → On (Casts_to (typ f d v) (o ∷ [])) (scalar_cast c w at (typ f d v) o)
+scalar_case c w at f d v o j h n = weaken (InMade (Scalar f)) (Casts_to (typ f d v) (o ∷ [])) (scalar_cast c w at (typ f d v) o)
+    (λ m g. to_scalar (ap is_some h) g) (scalar_law c w at f d v o j h n)
 
 objects_case : (c : Ctx) (w : Work) (at : At) (f : Form) (d v : Bool) (os : List Operand) → is_object_form f ≡ true
-    → On (Casts_to (typ f d v)) (and_then (from_values c w (typ f false false) at os) (λ (m : Made). Ok (with_tree (as_expression at (typ f false false)) m)))
-objects_case c w at (class n) d v os h = bind (InMade (IsOf n)) (Casts_to (typ (class n) d v)) (constructed c w n (typ (class n) false false) at os) _
-    (constructed_law c w n false false at os) (λ m g. to_class n refl g)
+    → On (Casts_to (typ f d v) os) (and_then (from_values c w (typ f d v) at os) (λ (m : Made). Ok (with_tree (as_expression at (typ f d v)) m)))
+objects_case c w at (class n) d v os h = bind (InMade (ClassObject n d v os)) (Casts_to (typ (class n) d v) os) (constructed c w n (typ (class n) d v) at os) _
+    (constructed_law c w n d v at os) (λ m g. to_class n refl g.0 g.1)
 objects_case c w at (closure n) d v [] h = tt
-objects_case c w at (closure n) d v (o ∷ os) h = bind (InMade (IsOf n)) (Casts_to (typ (closure n) d v)) (class_from c w (typ (closure n) false false) at o) _
-    (closure_made c w n false false at o) (λ m g. to_class n refl g)
-objects_case c w at (tx_ex u) d v os h = skip (Casts_to (typ (tx_ex u) d v)) (from_values c w (typ (tx_ex u) false false) at os) _
-    (λ m. to_exception refl (exception_is at u m.tree))
+objects_case c w at (closure n) d v (o ∷ os) h = bind (InMade (LambdaObject n d v (o ∷ os))) (Casts_to (typ (closure n) d v) (o ∷ os))
+    (class_from c w (typ (closure n) d v) at o) _ (lambda_law c w n d v at o os) (λ m g. to_class n refl g.0 g.1)
+objects_case c w at (tx_ex u) d v os h = weaken (InMade (ExceptionObject u d v os)) (Casts_to (typ (tx_ex u) d v) os)
+    (and_then (from_values c w (typ (tx_ex u) d v) at os) (λ (m : Made). Ok (with_tree (as_expression at (typ (tx_ex u) d v)) m)))
+    (λ m g. to_exception u refl g.0 g.1) (exception_law c w u d v at os)
 objects_case c w at void d v os h = absurd cc
 objects_case c w at (int j) d v os h = absurd cc
 objects_case c w at (enum n s) d v os h = absurd cc
@@ -298,9 +198,9 @@ objects_case c w at (ref t) d v os h = absurd cc
 objects_case c w at (array t n) d v os h = absurd cc
 objects_case c w at (func s) d v os h = absurd cc
 
-cast_law : (c : Ctx) (w : Work) (at : At) (t : Typ) (o : Operand) → On (Casts_to t) (cast c w at t o)
+cast_law : (c : Ctx) (w : Work) (at : At) (t : Typ) (o : Operand) → On (Casts_to t (o ∷ [])) (cast c w at t o)
 cast_law c w at (typ void d v) o = to_void refl (record { has_type = refl; category = refl })
-cast_law c w at (typ (ref u) d v) o = skip (Casts_to (typ (ref u) d v)) (initial c w (typ (ref u) d v) o) _
+cast_law c w at (typ (ref u) d v) o = skip (Casts_to (typ (ref u) d v) (o ∷ [])) (initial c w (typ (ref u) d v) o) _
     (λ m. to_reference u refl (reference_is at u m.tree))
 cast_law c w at (typ (func s) d v) o = tt
 cast_law c w at (typ (array u n) d v) o = tt
@@ -328,9 +228,9 @@ cast_in_form : (s : List Lexeme) (c : Ctx) (w : Work) (at : At) (a b : syntax.Tr
     (λ (u : Typ). and_then (operand_of s c w b) (λ (x : Typed). an_operand at (cast c x.work at u x.operand))))
 cast_in_form s c w at a b = written (OfCast s c w a b) at (type_id_of s c w a) _
     (λ u h n. after (OfCast s c w a b) (operand_of s c w b) _
-    (λ x g. weaken (λ (r : Typed). CastTo u r.operand.tree) (OfCast s c w a b) (an_operand at (cast c x.work at u x.operand))
+    (λ x g. weaken (λ (r : Typed). CastTo u (x.operand ∷ []) r.operand.tree) (OfCast s c w a b) (an_operand at (cast c x.work at u x.operand))
     (λ r m. record { typ = u; typ_is = h; no_auto = n; operand = x; operand_is = g; holds = m })
-    (made_in (CastTo u) at (cast c x.work at u x.operand) (cast_law c x.work at u x.operand))))
+    (made_in (CastTo u (x.operand ∷ [])) at (cast c x.work at u x.operand) (cast_law c x.work at u x.operand))))
 
 pub static_casts_law : StaticCasts
 static_casts_law s c w p t a b = cast_in_form s c w (at_of p) a b
@@ -340,7 +240,7 @@ casts_law s c w p t a b = cast_in_form s c w (at_of p) a b
 
 -- `T(a, ..)`
 
-none_law : (c : Ctx) (w : Work) (at : At) (f : Form) (d v : Bool) → On (Casts_to (typ f d v)) (functional c w at (typ f d v) [])
+none_law : (c : Ctx) (w : Work) (at : At) (f : Form) (d v : Bool) → On (Casts_to (typ f d v) []) (functional c w at (typ f d v) [])
 none_law c w at (class n) d v = objects_case c w at (class n) d v [] refl
 none_law c w at (closure n) d v = objects_case c w at (closure n) d v [] refl
 none_law c w at (tx_ex u) d v = objects_case c w at (tx_ex u) d v [] refl
@@ -354,10 +254,10 @@ none_law c w at (func s) d v = tt
 none_law c w at (ref t) d v = tt
 
 many_law : (c : Ctx) (w : Work) (at : At) (f : Form) (d v : Bool) (o p : Operand) (os : List Operand)
-    → On (Casts_to (typ f d v)) (functional c w at (typ f d v) (o ∷ p ∷ os))
-many_law c w at f d v o p os = either (Casts_to (typ f d v)) (is_object_form f) _ _ (λ h. objects_case c w at f d v (o ∷ p ∷ os) h) (λ h. tt)
+    → On (Casts_to (typ f d v) (o ∷ p ∷ os)) (functional c w at (typ f d v) (o ∷ p ∷ os))
+many_law c w at f d v o p os = either (Casts_to (typ f d v) (o ∷ p ∷ os)) (is_object_form f) _ _ (λ h. objects_case c w at f d v (o ∷ p ∷ os) h) (λ h. tt)
 
-functional_law : (c : Ctx) (w : Work) (at : At) (t : Typ) (os : List Operand) → On (Casts_to t) (functional c w at t os)
+functional_law : (c : Ctx) (w : Work) (at : At) (t : Typ) (os : List Operand) → On (Casts_to t os) (functional c w at t os)
 functional_law c w at t (o ∷ []) = cast_law c w at t o
 functional_law c w at (typ f d v) [] = none_law c w at f d v
 functional_law c w at (typ f d v) (o ∷ p ∷ os) = many_law c w at f d v o p os
@@ -411,22 +311,22 @@ made_law c w n t at os (Some k) = skip (IsMade (Some k)) (words c w (parameters_
 made_law c w n t at (o ∷ []) None = skip (IsMade None) (check o.at NoCopy (not (is_volatile_typ (typ_in o.tree)))) _ (λ y. by_copy refl)
 made_law c w n t at os None = tt
 
-built_law : (c : Ctx) (w : Work) (n : ℕ) (at : At) (o : Operand) (os : List Operand) → is_prvalue_itself n (o ∷ os) ≡ false
-    → On (InMade (Built c n (arguments (o ∷ os)))) (constructed c w n (typ (class n) false false) at (o ∷ os))
-built_law c w n at o os h = skip (InMade (Built c n (arguments (o ∷ os)))) (makeable c at n) _
+built_law : (c : Ctx) (w : Work) (n : ℕ) (d v : Bool) (at : At) (o : Operand) (os : List Operand) → is_prvalue_itself n (o ∷ os) ≡ false
+    → On (InMade (Built c n (arguments (o ∷ os)))) (constructed c w n (typ (class n) d v) at (o ∷ os))
+built_law c w n d v at o os h = skip (InMade (Built c n (arguments (o ∷ os)))) (makeable c at n) _
     (λ k. either (InMade (Built c n (arguments (o ∷ os)))) (is_prvalue_itself n (o ∷ os)) _ _ (λ b. absurd cc)
     (λ b. after (InMade (Built c n (arguments (o ∷ os)))) (meant at (chosen c.classes (makers c n) (arguments (o ∷ os)))) _
     (λ i e. weaken (IsMade (constructor_at c n i)) (InMade (Built c n (arguments (o ∷ os))))
-    (constructed_by c w n (typ (class n) false false) at (o ∷ os) (constructor_at c n i))
+    (constructed_by c w n (typ (class n) d v) at (o ∷ os) (constructor_at c n i))
     (λ m g. record { index = i; means = makes_law c at n (arguments (o ∷ os)) i e; made = g })
-    (made_law c w n (typ (class n) false false) at (o ∷ os) (constructor_at c n i)))))
+    (made_law c w n (typ (class n) d v) at (o ∷ os) (constructor_at c n i)))))
 
 class_case : (c : Ctx) (w : Work) (at : At) (n : ℕ) (d v : Bool) (o : Operand) (os : List Operand) → is_prvalue_itself n (o ∷ os) ≡ false
     → On (InMade (Built c n (arguments (o ∷ os)))) (functional c w at (typ (class n) d v) (o ∷ os))
 class_case c w at n d v o [] h = bind (InMade (Built c n (arguments (o ∷ [])))) (InMade (Built c n (arguments (o ∷ []))))
-    (constructed c w n (typ (class n) false false) at (o ∷ [])) _ (built_law c w n at o [] h) (λ m g. g)
+    (constructed c w n (typ (class n) d v) at (o ∷ [])) _ (built_law c w n d v at o [] h) (λ m g. g)
 class_case c w at n d v o (p ∷ os) h = bind (InMade (Built c n (arguments (o ∷ p ∷ os)))) (InMade (Built c n (arguments (o ∷ p ∷ os))))
-    (constructed c w n (typ (class n) false false) at (o ∷ p ∷ os)) _ (built_law c w n at o (p ∷ os) h) (λ m g. g)
+    (constructed c w n (typ (class n) d v) at (o ∷ p ∷ os)) _ (built_law c w n d v at o (p ∷ os) h) (λ m g. g)
 
 class_of_form : (c : Ctx) (w : Work) (at : At) (f : Form) (d v : Bool) (n : ℕ) (ps : List Operand) (o : Operand) (os : List Operand) → f ≡ class n → ps ≡ o ∷ os
     → is_prvalue_itself n (o ∷ os) ≡ false → On (InMade (Built c n (arguments (o ∷ os)))) (functional c w at (typ f d v) ps)
@@ -453,11 +353,11 @@ none_on : (c : Ctx) (at : At) (t : Typ) (xs : TypedAll) → On (FromNone t xs) (
 none_on c at t xs = none_in at t xs (functional c xs.work at t xs.operands)
     (λ h. subst (λ (z : List Operand). On (λ (m : Made). NoReference t) (functional c xs.work at t z)) (sym h) (no_reference c xs.work at t))
 
-any_on : (c : Ctx) (at : At) (t : Typ) (xs : TypedAll) → On (λ (r : Typed). CastTo t r.operand.tree) (an_operand at (functional c xs.work at t xs.operands))
-any_on c at t xs = made_in (CastTo t) at (functional c xs.work at t xs.operands) (functional_law c xs.work at t xs.operands)
+any_on : (c : Ctx) (at : At) (t : Typ) (xs : TypedAll) → On (λ (r : Typed). CastTo t xs.operands r.operand.tree) (an_operand at (functional c xs.work at t xs.operands))
+any_on c at t xs = made_in (CastTo t xs.operands) at (functional c xs.work at t xs.operands) (functional_law c xs.work at t xs.operands)
 
 abbrev FromNoneOrAny : Typ → TypedAll → Typed → Type 0
-FromNoneOrAny t xs r = FromNone t xs r × CastTo t r.operand.tree
+FromNoneOrAny t xs r = FromNone t xs r × CastTo t xs.operands r.operand.tree
 
 pub functional_casts_law : FunctionalCasts
 functional_casts_law s c w p t base es =
@@ -467,7 +367,7 @@ functional_casts_law s c w p t base es =
     (an_operand (at_of p) (functional c xs.work (at_of p) u xs.operands))
     (λ r m. record { typ = u; typ_is = h; no_auto = n; args = xs; args_are = g; holds = m.0.1; of_none = m.0.0; of_class = m.1 })
     (both_on (FromNoneOrAny u xs) (FromClass c u xs) (an_operand (at_of p) (functional c xs.work (at_of p) u xs.operands))
-    (both_on (FromNone u xs) (λ (r : Typed). CastTo u r.operand.tree) (an_operand (at_of p) (functional c xs.work (at_of p) u xs.operands))
+    (both_on (FromNone u xs) (λ (r : Typed). CastTo u xs.operands r.operand.tree) (an_operand (at_of p) (functional c xs.work (at_of p) u xs.operands))
     (none_on c (at_of p) u xs) (any_on c (at_of p) u xs)) (class_on c (at_of p) u xs))))
 
 -- `sizeof`

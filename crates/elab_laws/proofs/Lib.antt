@@ -1,6 +1,7 @@
 pub mod Arithmetic
 pub mod Assigning
 pub mod Calling
+pub mod CastObjects
 pub mod Casting
 pub mod Converting
 pub mod Equal

@@ -1,9 +1,9 @@
 -- Assignments (C++14 5.17), `a, b` (5.18) and `? :` (5.16).
-use Rattle.std.specs.Prelude.{◌≡◌, ℕ, Bool, true, false, not, ◌&&◌, ◌||◌, List, [], ◌∷◌, is_some, codes}
+use Rattle.std.specs.Prelude.{◌≡◌, ℕ, true, false, ◌||◌, List, [], ◌∷◌, is_some, codes}
 use Rattle.elab_rules.specs.tx_ints.declared.kinds.IntKind.{IntKind}
 use Rattle.elab_rules.specs.tx_ints.Integers.{usual_of}
 use Rattle.elab_rules.specs.cpp_types.Typ.{Typ, typ, Form, void, int, ptr}
-use Rattle.elab_rules.specs.cpp_types.Conversion.{is_lvalue, is_object_form, conversion_of}
+use Rattle.elab_rules.specs.cpp_types.Conversion.{is_object_form, conversion_of}
 use Rattle.elab_rules.specs.cpp_types.declared.ranks.Cat.TheVariants.{Lvalue}
 use Rattle.elab_rules.specs.cpp_ast.declared.kinds.NodeKind.TheVariants as k
 use Rattle.elab_rules.specs.cpp_tree.declared.kinds.TKind.TheVariants.{Retype, Throw, Rethrow}
@@ -59,12 +59,9 @@ pub data Throws (x : Operand) : Type 0 where
   bare : IsThrow x.tree → Throws x
   without_value : (e : Tree) → kind_of x.tree ≡ Retype → kids_of x.tree ≡ one e → place_of e ≡ place_of x.tree → IsThrow e → Throws x
 
--- the qualifiers that an operand gives to an object: those of a prvalue alone
-abbrev pub gives_const : Operand → Bool
-gives_const x = not (is_lvalue (cat_of x.tree)) && is_const_typ (typ_in x.tree)
-
-abbrev pub gives_volatile : Operand → Bool
-gives_volatile x = not (is_lvalue (cat_of x.tree)) && is_volatile_typ (typ_in x.tree)
+-- a type with the qualifiers of both operands
+abbrev pub joined : Form → Operand → Operand → Typ
+joined f x y = typ f (is_const_typ (typ_in x.tree) || is_const_typ (typ_in y.tree)) (is_volatile_typ (typ_in x.tree) || is_volatile_typ (typ_in y.tree))
 
 -- what `? :` gives of its second and third operand
 pub data Either (x y : Operand) (e : Tree) : Type 0 where
@@ -77,11 +74,10 @@ pub data Either (x y : Operand) (e : Tree) : Type 0 where
   lvalues : (t : Typ) → IsLvalue t x.tree → IsLvalue t y.tree → IsLvalue t e → Either x y e
   -- p3: lvalues of one class, of which one has all qualifiers of the other
   shared : (f : Form) → is_object_form f ≡ true → form_in (typ_in x.tree) ≡ f → form_in (typ_in y.tree) ≡ f → cat_of x.tree ≡ Lvalue → cat_of y.tree ≡ Lvalue
-      → IsLvalue (typ f (is_const_typ (typ_in x.tree) || is_const_typ (typ_in y.tree)) (is_volatile_typ (typ_in x.tree) || is_volatile_typ (typ_in y.tree))) e
-      → Either x y e
-  -- p3, p6: objects of one class, or values of one type
+      → IsLvalue (joined f x y) e → Either x y e
+  -- p3, p6: objects of one class, with the qualifiers of both, or values of one type
   objects : (f : Form) → is_object_form f ≡ true → form_in (typ_in x.tree) ≡ f → form_in (typ_in y.tree) ≡ f
-      → IsPrvalue (typ f (gives_const x || gives_const y) (gives_volatile x || gives_volatile y)) e → Either x y e
+      → IsPrvalue (joined f x y) e → Either x y e
   values : (f : Form) → value_type x ≡ f → value_type y ≡ f → IsPrvalue (plain f) e → Either x y e
   -- p6: numbers as the usual arithmetic conversions say, a pointer with a null pointer constant as the pointer
   numbers_of : (i j : IntKind) → IsNumber x i → IsNumber y j → IsPrvalue (plain (int (usual_of i j))) e → Either x y e

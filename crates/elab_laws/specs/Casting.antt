@@ -1,22 +1,24 @@
 -- Casts (C++14 5.2.3, 5.2.9, 5.4), `sizeof` (5.3.3) and `throw` (15.1).
-use Rattle.std.specs.Prelude.{◌≡◌, ℕ, true, false, List, [], ◌∷◌, is_some, Option, Some, None, Result, Ok}
+use Rattle.std.specs.Prelude.{◌≡◌, ℕ, Bool, true, false, not, ◌&&◌, ◌||◌, List, [], ◌∷◌, is_some, Option, Some, None, Result, Ok, if◌then◌else◌}
 use Rattle.elab_rules.specs.tx_ints.declared.kinds.IntKind.TheVariants.{ULong}
-use Rattle.elab_rules.specs.cpp_types.Typ.{Typ, void, int, ref, class}
+use Rattle.elab_rules.specs.cpp_types.Typ.{Typ, typ, Form, void, int, enum, ref, class, closure, tx_ex}
+use Rattle.elab_rules.specs.cpp_types.Equal.{typ_eq}
 use Rattle.elab_rules.specs.cpp_types.Conversion.{referred}
 use Rattle.elab_rules.specs.cpp_lex.Tokens.{Lexeme}
 use Rattle.elab_rules.specs.cpp_ast.Trees as syntax
 use Rattle.elab_rules.specs.cpp_ast.declared.arena.At.{At as SyntaxAt}
 use Rattle.elab_rules.specs.cpp_ast.declared.kinds.NodeKind.{NodeKind}
 use Rattle.elab_rules.specs.cpp_ast.declared.kinds.NodeKind.TheVariants as k
-use Rattle.elab_rules.specs.cpp_tree.declared.kinds.TKind.TheVariants.{Literal, Retype, Throw, Rethrow, Construct, CopyFrom}
-use Rattle.elab_rules.specs.cpp_tree.Trees.{Tree, one, kind_of, typ_in, kids_of}
-use Rattle.elab_rules.specs.cpp_tree.Typing.{form_in, unqualified, kind_in, is_reference}
+use Rattle.elab_rules.specs.cpp_tree.declared.kinds.TKind.TheVariants.{Literal, Retype, Throw, Rethrow, Construct, CopyFrom, Store, Pieces}
+use Rattle.elab_rules.specs.cpp_tree.Trees.{Tree, node, more, one, kind_of, typ_in, cat_of, kids_of}
+use Rattle.elab_rules.specs.cpp_tree.Typing.{form_in, unqualified, kind_in, is_reference, is_class_prvalue}
 use Rattle.elab_rules.specs.cpp_tree.Notation.{plain}
 use Rattle.elab_rules.specs.elab_ctx.Ctx.{Ctx, Work}
 use Rattle.elab_rules.specs.elab_ctx.Steps.{and_then, Operand, Typed, TypedAll, at_of}
-use Rattle.elab_rules.specs.Values.{place_of}
+use Rattle.elab_rules.specs.Values.{place_of, builder, is_exception_form}
 use Rattle.elab_rules.specs.Objects.{size_of}
-use Rattle.elab_rules.specs.Initialising.{class_number, makers, constructor_at, arguments, is_prvalue_itself}
+use Rattle.elab_rules.specs.Initialising.{class_number, makers, constructor_at, arguments, is_prvalue_itself, is_prvalue_of_class}
+use Rattle.elab_rules.specs.Initialising.{is_closure_itself, is_exception_itself}
 use Rattle.elab_rules.specs.cpp_overload.Overload.{Argument, IsChosen}
 use Rattle.elab_rules.specs.cpp_overload.declared.calls.NoBest.{NoBest}
 use Rattle.elab_rules.specs.Names.{is_tx_exception}
@@ -24,14 +26,45 @@ use Rattle.elab_rules.specs.Expressions.{expression_of, expression_with, operand
 use Rattle.elab_rules.specs.Types.{has_auto, is_bounded, no_specifiers, specified_type}
 use Rattle.elab_laws.specs.Reading.{On, IsPrvalue, IsLvalue, value_type, operand_of, AnyOne}
 
+-- what builds an object in its place; a class prvalue that is called, chosen or stands behind a `,` does not
+abbrev pub is_built : Tree → Bool
+is_built (node (Construct k) t cat at kids) = true
+is_built (node (Store kind marked) t cat at kids) = true
+is_built (node Pieces t cat at kids) = true
+is_built (node CopyFrom t cat at (more source copies)) = true
+is_built e = false
+
+-- the operand that is the object already (8.5 p17): a prvalue of the class that has the type named, or is not built where it stands. One of a
+-- `std::tx_exception` that is written with its value is no such operand, and a lambda's object of another type is copied
+abbrev pub own_object : Typ → List Operand → Option Tree
+own_object (typ (class n) c v) (o ∷ []) = if is_prvalue_of_class n o.tree && (typ_eq (typ (class n) c v) (typ_in o.tree) || not (is_built o.tree)) then
+    Some o.tree else None
+own_object (typ (closure n) c v) (o ∷ []) = if is_closure_itself n c v o.tree then Some o.tree else None
+own_object (typ (tx_ex u) c v) (o ∷ []) = if is_exception_itself u (o ∷ []) && (is_class_prvalue (typ_in o.tree) (cat_of o.tree)
+    && (is_exception_form (form_in (typ_in (builder o.tree))) && (typ_eq (typ (tx_ex u) c v) (typ_in (builder o.tree)) || not (is_built (builder o.tree))))) then
+    Some (builder o.tree) else None
+own_object t os = None
+
+-- it stays as it is, with its own qualifiers; every other object has the type that is named, with its qualifiers (5.2.3 p1, 5.2.9 p4)
+abbrev pub IsObject : Typ → Option Tree → Tree → Type 0
+IsObject t (Some own) e = e ≡ own
+IsObject t None e = IsPrvalue t e
+
+-- what a `std::tx_exception` holds (profile)
+abbrev pub is_held : Form → Bool
+is_held (int k) = true
+is_held (enum n s) = true
+is_held (class n) = true
+is_held f = false
+
 -- what is cast to a type has that type: an lvalue exactly for a reference (5.4 p1), and else a prvalue, without qualifiers where it is no object (5 p6)
-pub data CastTo (t : Typ) (e : Tree) : Type 0 where
-  to_void : form_in t ≡ void → IsPrvalue (plain void) e → CastTo t e
-  to_reference : (u : Typ) → form_in t ≡ ref u → IsLvalue u e → CastTo t e
-  to_scalar : is_some (kind_in (form_in t)) ≡ true → IsPrvalue (unqualified t) e → CastTo t e
-  -- an object of the class, which is initialised by the operand
-  to_class : (n : ℕ) → class_number t ≡ Some n → class_number (typ_in e) ≡ Some n → CastTo t e
-  to_exception : is_tx_exception t ≡ true → is_tx_exception (typ_in e) ≡ true → CastTo t e
+pub data CastTo (t : Typ) (os : List Operand) (e : Tree) : Type 0 where
+  to_void : form_in t ≡ void → IsPrvalue (plain void) e → CastTo t os e
+  to_reference : (u : Typ) → form_in t ≡ ref u → IsLvalue u e → CastTo t os e
+  to_scalar : is_some (kind_in (form_in t)) ≡ true → IsPrvalue (unqualified t) e → CastTo t os e
+  -- an object of the class, which is initialised by the operands
+  to_class : (n : ℕ) → class_number t ≡ Some n → class_number (typ_in e) ≡ Some n → IsObject t (own_object t os) e → CastTo t os e
+  to_exception : (u : Typ) → form_in t ≡ tx_ex u → is_tx_exception (typ_in e) ≡ true → (is_held (form_in u) ≡ true → IsObject t (own_object t os) e) → CastTo t os e
 
 -- the type is read, then the operand; `auto` stands for no type there (7.1.6.4 p5)
 pub record OfCast (s : List Lexeme) (c : Ctx) (w : Work) (a b : syntax.Tree) (r : Typed) : Type 0 where
@@ -40,7 +73,7 @@ pub record OfCast (s : List Lexeme) (c : Ctx) (w : Work) (a b : syntax.Tree) (r 
   pub no_auto : has_auto typ ≡ false
   pub operand : Typed
   pub operand_is : operand_of s c w b ≡ Ok operand
-  pub holds : CastTo typ r.operand.tree
+  pub holds : CastTo typ (operand.operand ∷ []) r.operand.tree
 
 -- of the constructors of a class, and its trivial copy behind them, these arguments mean the one with this index: whatever is the answer of overload resolution
 -- (13.3.1.3)
@@ -65,7 +98,7 @@ pub record OfFunctional (s : List Lexeme) (c : Ctx) (w : Work) (p : SyntaxAt) (b
   pub no_auto : has_auto typ ≡ false
   pub args : TypedAll
   pub args_are : operands_of s c w es ≡ Ok args
-  pub holds : CastTo typ r.operand.tree
+  pub holds : CastTo typ args.operands r.operand.tree
   pub of_none : args.operands ≡ [] → is_reference typ ≡ false
   pub of_class : (n : ℕ) (x : Operand) (xs : List Operand) → form_in typ ≡ class n → args.operands ≡ x ∷ xs → is_prvalue_itself n (x ∷ xs) ≡ false
       → Built c n (arguments (x ∷ xs)) r.operand.tree

@@ -33,7 +33,7 @@ use Rattle.elab_rules.specs.Initialising.{with_tree, as_source, signature_parame
 use Rattle.elab_rules.specs.Operators.{value, throws, is_volatile_scalar, is_read_when_dropped, dropped, copy_assigned, class_assigned_in, assignment}
 use Rattle.elab_rules.specs.Operators.{same_lvalues, both_of_class, two_objects, same_work, branches, conditional, value_form, assigned, step, target, truth}
 use Rattle.elab_rules.specs.Operators.{compound, compound_operator, same_object, subscript, two_values, settled, comma}
-use Rattle.elab_rules.specs.Operators.{common_class, is_shared, is_assignable_form}
+use Rattle.elab_rules.specs.Operators.{joined_class, is_shared, is_assignable_form}
 use Rattle.elab_rules.specs.Names.{is_tx_exception, member_access, class_member, exception_member, is_free, is_method, resolved, is_const_typ}
 use Rattle.elab_rules.specs.Names.{is_volatile_object, members_in, named, offset_at, this_tree}
 use Rattle.elab_rules.specs.Casts.{is_numeric, scalar_cast, cast_in, cast, functional, throw_object, throw_in, throw, string_global, is_thrown_scalar}
@@ -242,7 +242,7 @@ objects_grow c w at test a b = bind (Mades w) (Mades w) (exact_object c w t a.at
     (λ x g. bind (Mades x.work) (Mades w) (exact_object c x.work t b.at b) _ (exact_grows c x.work t b.at b) (λ y h. grown w x.work y.work g h))
   where
     t : Typ
-    t = common_class a b
+    t = joined_class a b
 
 branches_grow : (c : Ctx) (w : Work) (at : At) (test : Tree) (a b : Operand) → On (Mades w) (branches c w at test a b)
 branches_grow c w at test a b =
@@ -262,10 +262,10 @@ scalar_cast_grows c w at t o = either (Mades w) (is_numeric (form_in (typ_in (va
     (initial_grows c w (unqualified t) (record { tree = value o; at = at; zero = o.zero }))
 
 class_cast : (c : Ctx) (w : Work) (at : At) (t : Typ) (o : Operand)
-    → On (Mades w) (if is_class_typ t then and_then (from_values c w (unqualified t) at (o ∷ []))
-    (λ (m : Made). Ok (with_tree (as_expression at (unqualified t)) m)) else scalar_cast c w at t o)
+    → On (Mades w) (if is_class_typ t then and_then (from_values c w t at (o ∷ []))
+    (λ (m : Made). Ok (with_tree (as_expression at t) m)) else scalar_cast c w at t o)
 class_cast c w at t o = either (Mades w) (is_class_typ t) _ _
-    (bind (Mades w) (Mades w) (from_values c w (unqualified t) at (o ∷ [])) _ (values_grow c w (unqualified t) at (o ∷ [])) (λ m g. g))
+    (bind (Mades w) (Mades w) (from_values c w t at (o ∷ [])) _ (values_grow c w t at (o ∷ [])) (λ m g. g))
     (scalar_cast_grows c w at t o)
 
 cast_in_grows : (c : Ctx) (w : Work) (at : At) (t : Typ) (f : Form) (o : Operand) → On (Mades w) (cast_in c w at t f o)
@@ -278,11 +278,11 @@ cast_in_grows c w at t f o = class_cast c w at t o
 functional_grows : (c : Ctx) (w : Work) (at : At) (t : Typ) (os : List Operand) → On (Mades w) (functional c w at t os)
 functional_grows c w at t (o ∷ []) = cast_in_grows c w at t (form_in t) o
 functional_grows c w at t [] = either (Mades w) (is_class_typ t) _ _
-    (bind (Mades w) (Mades w) (from_values c w (unqualified t) at []) _ (values_grow c w (unqualified t) at []) (λ m g. g))
+    (bind (Mades w) (Mades w) (from_values c w t at []) _ (values_grow c w t at []) (λ m g. g))
     (either (Mades w) (is_void t) _ _ (same w) (skip (Mades w) (check at BadInit (is_some (kind_in (form_in t)) && not (is_reference t))) _
     (λ y. same w)))
 functional_grows c w at t os = either (Mades w) (is_class_typ t) _ _
-    (bind (Mades w) (Mades w) (from_values c w (unqualified t) at os) _ (values_grow c w (unqualified t) at os) (λ m g. g)) tt
+    (bind (Mades w) (Mades w) (from_values c w t at os) _ (values_grow c w t at os) (λ m g. g)) tt
 
 throw_object_grows : (c : Ctx) (w : Work) (at : At) (o : Operand) → On (Mades w) (throw_object c w at o)
 throw_object_grows c w at o = skip (Mades w) (check o.at NoCopy (not (is_volatile_typ (typ_in o.tree)))) _

@@ -1,7 +1,8 @@
 -- Declarators of a declaration, one behind the other.
 use Rattle.std.proofs.Common.{◌≡◌, ◌≢◌, ◌<◌, ◌+◌, ◌-◌, take, ◌++◌, ◌∷◌, ℕ, Bool, true, false, List, [], length, drop, Option, None, option_map, Result, Ok, Err}
-use Rattle.std.proofs.Common.{IfOk, refl, sym, ap, ◌∙◌, subst, append-nil, arith}
+use Rattle.std.proofs.Common.{IfOk, Vec, refl, sym, ap, ◌∙◌, subst, append-nil, arith}
 use Rattle.std.specs.declared.alloc.AllocError.{AllocError}
+use Rattle.std.specs.declared.alloc.Global.{Global as Alloc}
 use Rattle.elab_scopes.specs.cpp_lex.Tokens.{Lexeme}
 use Rattle.elab_scopes.specs.cpp_types.Typ.{Typ, typ_of}
 use Rattle.elab_scopes.specs.cpp_types.declared.types.Ty.{Ty}
@@ -15,10 +16,13 @@ use Rattle.elab_scopes.specs.cpp_ast.Trees as syntax
 use Rattle.elab_scopes.specs.cpp_tree.declared.faults.ElabFault.{ElabFault}
 use Rattle.elab_scopes.specs.cpp_tree.declared.faults.ElabFault.TheVariants.{Ill}
 use Rattle.elab_scopes.specs.cpp_tree.declared.faults.IllRule.TheVariants.{BadDeclaration, OutOfProfile}
+use Rattle.elab_scopes.specs.cpp_tree.declared.arena.TNode.{TNode}
 use Rattle.elab_scopes.specs.cpp_tree.declared.arena.TNodeId.{TNodeId}
 use Rattle.elab_scopes.specs.cpp_tree.Trees.{Tree, Trees, none, one}
-use Rattle.elab_scopes.specs.cpp_tree.Arena.{tree_at, trees_at, Grows}
+use Rattle.elab_scopes.specs.cpp_tree.Arena.{trees_of, tree_at, trees_at, Grows}
 use Rattle.elab_scopes.specs.elab_ctx.Ctx.{Ctx, ctx_of}
+use Rattle.elab_scopes.specs.elab_ctx.declared.env.Work.{Work as WorkRec}
+use Rattle.elab_scopes.specs.elab_expr.Unmoved.{Unmoved}
 use Rattle.elab_scopes.specs.elab_ctx.Steps.{and_then, check, at_of}
 use Rattle.elab_scopes.specs.elab_ctx.Says.{Faults, are_within}
 use Rattle.elab_scopes.proofs.elab_ctx.Looks.{grows_refl}
@@ -34,6 +38,7 @@ use Rattle.elab_scopes.specs.elab_types.Syntax.{tree_at as syntax_at, trees_at a
 use Rattle.elab_scopes.specs.declared.state.State.{State as StateRec}
 use Rattle.elab_scopes.specs.States.{state_of, made, KeepsLabels, Grown}
 use Rattle.elab_scopes.specs.Says.{AllDone, DoesAll, behind}
+use Rattle.elab_scopes.proofs.Labelling.{unmoved_grown, unmoved_state}
 use Rattle.elab_scopes.proofs.Standing.{grown_refl, grown_trans}
 use Rattle.elab_locals.specs.Deducing.{VariableAt, declaring_of, DeclaringAt, Declares}
 use Rattle.elab_locals.specs.Declarators.{past_ctx, declared_from, init_declarator, specified_by, AllDeclared}
@@ -131,14 +136,36 @@ pub declares_same : (a c : StateRec) (ids : List TNodeId) (auto : Option Ty) (r 
     → Declares a c ids auto r x → Declares a c ids auto r y
 declares_same a c ids auto r x y e m = subst (λ (z : Result Declaring ElabFault). Declares a c ids auto r z) (sym e) m
 
-pub declarator_then : (lams : Lambdas) (s : List Lexeme) (a c : StateRec) (at : At) (t : Typ) (before after : List TNodeId) (auto next : Option Ty)
-    (x : syntax.Tree) (init : syntax.Trees) (found : Declared) (r : Result (Unit {0}) ElabFault)
-    → declared_by s (ctx_of a.env) (state_of a).work at t x ≡ Ok found
-    → Declares a c after next r (declared_from lams s at (declaring_of a before auto) found init)
+-- what was made for a type or a declarator is cut off again
+unmoved_trees : (a : StateRec) (w : WorkRec) → Unmoved a.work w → trees_of w.nodes.items ≡ made a
+unmoved_trees a w u = ap (λ (v : Vec TNode Alloc). trees_of v.items) u.nodes
+
+pub unmoved_within : (a : StateRec) (w : WorkRec) (ids : List TNodeId) → Unmoved a.work w → are_within (length (made a)) ids ≡ true
+    → are_within (length (trees_of w.nodes.items)) ids ≡ true
+unmoved_within a w ids u h = subst (λ (z : List Tree). are_within (length z) ids ≡ true) (sym (unmoved_trees a w u)) h
+
+unmoved_declaring : (a : StateRec) (w : WorkRec) (ids : List TNodeId) (auto : Option Ty) → Unmoved a.work w
+    → declaring_of (record a { work = w }) ids auto ≡ declaring_of a ids auto
+unmoved_declaring a w ids auto u =
+    let from : Trees → State → Declaring = λ (ts : Trees) (st : State). record { trees = ts; state = st; auto = option_map typ_of auto } in
+    ap (λ (z : List Tree). from (trees_at z ids) (state_of (record a { work = w }))) (unmoved_trees a w u)
+    ∙ ap (from (trees_at (made a) ids)) (unmoved_state a w u)
+
+declares_grown : (a b c : StateRec) (ids : List TNodeId) (auto : Option Ty) (r : Result (Unit {0}) ElabFault) (x : Result Declaring ElabFault) → Grown a b
+    → Declares b c ids auto r x → Declares a c ids auto r x
+declares_grown a b c ids auto (Ok u) x g m = record { grown = grown_trans a b c g m.grown; within = m.within; is = m.is }
+declares_grown a b c ids auto (Err e) x g m = m
+
+pub declarator_then : (lams : Lambdas) (s : List Lexeme) (a c : StateRec) (w : WorkRec) (at : At) (t : Typ) (before after : List TNodeId)
+    (auto next : Option Ty) (x : syntax.Tree) (init : syntax.Trees) (found : Declared) (r : Result (Unit {0}) ElabFault)
+    → declared_by s (ctx_of a.env) (state_of a).work at t x ≡ Ok found → Unmoved a.work w
+    → Declares (record a { work = w }) c after next r (declared_from lams s at (declaring_of (record a { work = w }) before auto) found init)
     → Declares a c after next r (init_declarator lams s at t (declaring_of a before auto) x init)
-declarator_then lams s a c at t before after auto next x init found r e m =
-    declares_same a c after next r _ _ (ap (λ (z : Result Declared ElabFault). and_then z
-    (λ (w : Declared). declared_from lams s at (declaring_of a before auto) w init)) e) m
+declarator_then lams s a c w at t before after auto next x init found r e u m =
+    declares_grown a (record a { work = w }) c after next r _ (unmoved_grown a w u)
+    (declares_same (record a { work = w }) c after next r _ _ (ap (λ (z : Result Declared ElabFault). and_then z
+    (λ (y : Declared). declared_from lams s at (declaring_of a before auto) y init)) e
+    ∙ ap (λ (z : Declaring). declared_from lams s at z found init) (sym (unmoved_declaring a w before auto u))) m)
 
 -- those of which `rest` are left, where the whole gives `x`
 pub record DeclaredSoFar (a b : StateRec) (ids : List TNodeId) (rest x : Result Declaring ElabFault) : Type 0 where
@@ -203,6 +230,27 @@ specified_fails lams s a x ds t none_yet f e n h = faults_same f
     ∙ ap (λ (z : List TNodeId). and_then (block_declarators lams s t (declaring_of a z None) ds) (λ (y : Declaring). done y.trees y.state)) (sym n))
     (faults_in (λ (z : Result Declaring ElabFault). and_then z (λ (y : Declaring). done y.trees y.state)) f
     (block_declarators lams s t (declaring_of a none_yet None) ds) (λ d. refl) h)
+
+-- behind a type, whose bounds leave nothing behind
+pub specified_declares : (lams : Lambdas) (s : List Lexeme) (a c : StateRec) (w : WorkRec) (ds : syntax.Trees) (t : Typ) (list none_yet : List TNodeId)
+    → Unmoved a.work w → AllDeclared (record a { work = w }) c list (block_declarators lams s t (declaring_of (record a { work = w }) none_yet None) ds)
+    → AllDeclared a c list (block_declarators lams s t (declaring_of a none_yet None) ds)
+specified_declares lams s a c w ds t list none_yet u m =
+    let d = m.declared in
+    record {
+      auto = m.auto;
+      declared = record {
+        grown = grown_trans a (record a { work = w }) c (unmoved_grown a w u) d.grown;
+        within = d.within;
+        is = ap (λ (z : Declaring). block_declarators lams s t z ds) (sym (unmoved_declaring a w none_yet None u)) ∙ d.is;
+      };
+    }
+
+pub specified_faults : (lams : Lambdas) (s : List Lexeme) (a : StateRec) (w : WorkRec) (ds : syntax.Trees) (t : Typ) (none_yet : List TNodeId) (f : ElabFault)
+    → Unmoved a.work w → Faults f (block_declarators lams s t (declaring_of (record a { work = w }) none_yet None) ds)
+    → Faults f (block_declarators lams s t (declaring_of a none_yet None) ds)
+specified_faults lams s a w ds t none_yet f u h = faults_same f (block_declarators lams s t (declaring_of (record a { work = w }) none_yet None) ds) _
+    (ap (λ (z : Declaring). block_declarators lams s t z ds) (sym (unmoved_declaring a w none_yet None u))) h
 
 -- a declaration
 

@@ -153,7 +153,7 @@ fn init_declarator<L: MakeLambdas>(
     requires list { are_within (length (made st.old)) list.old.items ≡ true }
     ensures { Declares st.old st.new list.new.items auto.new result (init_declarator_of (L.lambdas lams.now) (lexemes_of tokens.now) at (typ_of ty.now) (declaring_of st.old list.old.items auto.old) (tree_at (syntax_of nodes.now) kid) (trees_at (syntax_of nodes.now) ids.now)) }
 {
-    let found = declared_by(alloc, &st.env, tokens, nodes, at, ty, kid, &st.work)?;
+    let found = declared_by(alloc, &st.env, tokens, nodes, at, ty, kid, &mut st.work)?;
     declared_from(
         alloc, lams, tokens, nodes, parent, ids, st, &found, at, auto, list,
     )
@@ -243,7 +243,7 @@ fn specified<L: MakeLambdas>(
     requires out { are_within (length (made st.old)) out.old.items ≡ true }
     ensures { DoesAll st.old st.new out.old.items out.new.items result (specified_by (L.lambdas lams.now) (lexemes_of tokens.now) (state_of st.old) (tree_at (syntax_of nodes.now) specifiers) (trees_at (syntax_of nodes.now) ids.now)) }
 {
-    let ty = specified_type(alloc, &st.env, tokens, nodes, specifiers, &st.work)?;
+    let ty = specified_type(alloc, &st.env, tokens, nodes, specifiers, &mut st.work)?;
     let mut list = Vec::new(alloc);
     declarators(alloc, lams, tokens, nodes, parent, ids, st, &ty, &mut list)?;
     keep_all(out, &list)?;

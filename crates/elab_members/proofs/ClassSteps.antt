@@ -8,13 +8,13 @@ use Rattle.elab_entry.specs.cpp_ast.declared.kinds.NodeKind.{NodeKind}
 use Rattle.elab_entry.specs.cpp_ast.declared.kinds.NodeKind.TheVariants as k
 use Rattle.elab_entry.specs.cpp_tree.declared.program.FuncKind.{FuncKind}
 use Rattle.elab_entry.specs.cpp_tree.declared.faults.ElabFault.{ElabFault}
-use Rattle.elab_entry.specs.elab_ctx.Ctx.{Ctx}
+use Rattle.elab_entry.specs.elab_ctx.Ctx.{Ctx, Work}
 use Rattle.elab_entry.specs.elab_ctx.Steps.{and_then, at_of}
 use Rattle.elab_entry.specs.elab_ctx.Says.{Faults}
 use Rattle.elab_entry.proofs.elab_ctx.Looks.{grows_trans}
 use Rattle.elab_entry.specs.elab_rules.Lambdas.{kids_of}
-use Rattle.elab_entry.specs.elab_rules.Statements.{State, Lambdas}
-use Rattle.elab_entry.specs.elab_rules.Classes.{Begun, Method, method_of, begun, body_in, last_token, token_end}
+use Rattle.elab_entry.specs.elab_rules.Statements.{Body, State, Lambdas}
+use Rattle.elab_entry.specs.elab_rules.Classes.{Begun, Home, Method, method_of, begun, body_in, last_token, token_end}
 use Rattle.elab_entry.specs.elab_rules.Members.{members_among, declared_only, place_of_header}
 use Rattle.elab_entry.specs.elab_scopes.declared.state.State.{State as StateRec}
 use Rattle.elab_entry.specs.elab_scopes.States.{state_of, made}
@@ -22,7 +22,7 @@ use Rattle.elab_entry.specs.elab_scopes.Says.{Changed, Changes}
 use Rattle.elab_entry.proofs.elab_scopes.Standing.{grown_refl, grown_by, changes_after}
 use Rattle.class_members.specs.Shown.{home_of}
 use Rattle.class_members.specs.declared.records.Home.{Home as HomeRec}
-use Rattle.class_table.specs.Written.{ClassRead, class_read, class_stood}
+use Rattle.class_table.specs.Written.{ClassRead, at_hand, class_read, class_stood}
 use Rattle.elab_members.specs.Bodies.{method_body}
 use Rattle.elab_members.specs.Initialisers.{all_defaults}
 use Rattle.elab_members.specs.Whole.{late_kept, late_with, late_method, late_function, late_kind, late_of, all_late, behind_brace, class_defined, Stood, Stands}
@@ -116,6 +116,11 @@ late_other lams s a n name tree kind p token kids o e g h =
     (late_by lams s n name (state_of a) p kids) (sym g ∙ h))
 
 -- The class
+
+-- what was made for its members is cut off again
+pub class_here : (x : Result ClassRead ElabFault) (c : Ctx) (v w : Work) (bodies : List Body) (h : Home) → w ≡ v → x ≡ Ok (class_stood (at_hand c v bodies) h)
+    → x ≡ Ok (class_stood (at_hand c w bodies) h)
+class_here x c v w bodies h q e = e ∙ ap (λ (z : Work). Ok (class_stood (at_hand c z bodies) h)) (sym q)
 
 module _ (lams : Lambdas) (s : List Lexeme) (a b : StateRec) (at : At) (name : List ℕ) (kids members : syntax.Trees) (h : HomeRec)
     (read : class_read s (state_of a) at name kids ≡ Ok (class_stood (state_of b) (home_of h))) (same : members ≡ members_among kids) where

@@ -43,6 +43,37 @@ use Rattle.elab_members.proofs.DeclarationSteps.{changes_so}
 pub says_refused : {A B : Type 0} (show : A → B) (r : Result A ElabFault) (e : ElabFault) (x : Result B ElabFault) → r ≡ Err e → Faults e x → Says show r x
 says_refused show r e x h f = subst (λ z. Says show z x) (sym h) f
 
+-- The header, where what is read for the type leaves the work at hand as it was
+
+abbrev plain_owned : List Lexeme → Ctx → At → Storage → Declared → Result Header ElabFault
+plain_owned s c at x r = and_then (owner_named s c at r.owner) (λ n. header_in n x Plain at (name_of s r.name) r (form_in r.typ))
+
+module _ (s : List Lexeme) (c : Ctx) (v w : Work) (at : At) (x : Storage) (base d : Tree) (t : Typ) (typed : type_of_specifiers s c v base ≡ Ok t)
+    (same : w ≡ v) where
+  plain_then : outside_plain s c v at x base d ≡ and_then (declared_by s c w at t d) (λ (r : Declared). plain_owned s c at x r)
+  plain_then = ap (λ (z : Result Typ ElabFault). and_then z (λ (u : Typ). and_then (declared_by s c v at u d) (λ (r : Declared). plain_owned s c at x r))) typed
+      ∙ ap (λ (z : Work). and_then (declared_by s c z at t d) (λ (r : Declared). plain_owned s c at x r)) (sym same)
+
+  pub plain_undeclared : (e : ElabFault) → Faults e (declared_by s c w at t d) → Faults e (outside_plain s c v at x base d)
+  plain_undeclared e f = subst (Faults e) (sym plain_then) (then_fails e (declared_by s c w at t d) (λ (r : Declared). plain_owned s c at x r) f)
+
+  plain_declared : (y : Declared) → declared_by s c w at t d ≡ Ok y → outside_plain s c v at x base d ≡ plain_owned s c at x y
+  plain_declared y e = plain_then ∙ ap (λ (z : Result Declared ElabFault). and_then z (λ (r : Declared). plain_owned s c at x r)) e
+
+  pub plain_unowned : (y : Declared) (e : ElabFault) → declared_by s c w at t d ≡ Ok y → Faults e (owner_named s c at y.owner)
+      → Faults e (outside_plain s c v at x base d)
+  plain_unowned y e q f = subst (Faults e) (sym (plain_declared y q))
+      (then_fails e (owner_named s c at y.owner) (λ (n : ℕ). header_in n x Plain at (name_of s y.name) y (form_in y.typ)) f)
+
+  pub plain_says : (y : Declared) (n : ℕ) (name : List ℕ) (r : Result HeaderRec ElabFault) → declared_by s c w at t d ≡ Ok y
+      → owner_named s c at y.owner ≡ Ok n → name ≡ name_of s y.name → Says header_of r (header_in n x Plain at name y (form_in y.typ))
+      → Says header_of r (outside_plain s c v at x base d)
+  plain_says y n name r e o q h = subst (Says header_of r) (sym (plain_declared y e
+      ∙ ap (λ (z : Result ℕ ElabFault). and_then z (λ (m : ℕ). header_in m x Plain at (name_of s y.name) y (form_in y.typ))) o
+      ∙ ap (λ (z : List ℕ). header_in n x Plain at z y (form_in y.typ)) (sym q))) h
+
+-- A function by its kids
+
 module _ (s : List Lexeme) (c : Ctx) (w : Work) (bodies : List Body) (at : At) (x : Storage) where
   plain_is : (base d : Tree) (rest : Trees) → outside_method s (at_hand c w bodies) at x Plain (more base (more d rest))
       ≡ and_then (outside_plain s c w at x base d) (λ (h : Header). Ok (method_with h rest))

@@ -37,7 +37,16 @@ pub fn class_defined<L: MakeLambdas>(
     requires { are_below (length nodes.now) kids.now ≡ true }
     ensures { Stands st.old st.new result (class_defined_of (L.lambdas lams.now) (lexemes_of tokens.now) (state_of st.old) at name.now (trees_at (syntax_of nodes.now) kids.now)) }
 {
-    let home = class_read(alloc, &mut st.env, tokens, nodes, at, name, kids, &st.work)?;
+    let home = class_read(
+        alloc,
+        &mut st.env,
+        tokens,
+        nodes,
+        at,
+        name,
+        kids,
+        &mut st.work,
+    )?;
     let members = members_among(nodes, kids);
     all_defaults(alloc, lams, tokens, nodes, st, home.number, members)?;
     all_late(alloc, lams, tokens, nodes, st, &home, members)?;

@@ -155,7 +155,7 @@ fn late_function<L: MakeLambdas>(
         at,
         kind,
         kids,
-        &st.work,
+        &mut st.work,
     )?;
     let Some(body) = body_in(nodes, kids) else {
         return Ok(());

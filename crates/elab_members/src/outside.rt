@@ -11,6 +11,7 @@ ghost use Rattle.elab_entry.specs.elab_types.Shown.{Says};
 ghost use Rattle.elab_entry.specs.elab_types.Syntax.{syntax_of, tree_at, trees_at};
 ghost use Rattle.elab_entry.specs.elab_scopes.States.{state_of};
 ghost use Rattle.elab_entry.specs.elab_scopes.Says.{Changes};
+ghost use Rattle.elab_entry.specs.elab_scopes.elab_expr.Unmoved.{Unmoved};
 ghost use Rattle.class_members.specs.Shown.{header_of, storage_of};
 ghost use Rattle.class_table.specs.Written.{method_shown, at_hand, is_plain_kind};
 ghost use Rattle.elab_members.specs.Outside.{outside_plain as outside_plain_of, outside_special as outside_special_of, outside_body as outside_body_of, member_defined as member_defined_of};
@@ -38,11 +39,12 @@ fn outside_plain(
     storage: Storage,
     base: NodeId,
     declarator: NodeId,
-    work: &Work,
+    work: &mut Work,
 ) -> Result<Header, ElabFault>
     requires base { base.0 < length nodes.now }
     requires declarator { declarator.0 < length nodes.now }
-    ensures { Says header_of result (outside_plain_of (lexemes_of tokens.now) (ctx_of env.now) (work_of work.now) at (storage_of storage) (tree_at (syntax_of nodes.now) base) (tree_at (syntax_of nodes.now) declarator)) }
+    ensures says { Says header_of result (outside_plain_of (lexemes_of tokens.now) (ctx_of env.now) (work_of work.old) at (storage_of storage) (tree_at (syntax_of nodes.now) base) (tree_at (syntax_of nodes.now) declarator)) }
+    ensures kept { IfOk result (λ h. Unmoved work.old work.new) }
 {
     let ty = type_written(alloc, env, tokens, nodes, base, work)?;
     let found = declared_written(alloc, env, tokens, nodes, at, &ty, declarator, work)?;
@@ -61,10 +63,11 @@ fn outside_special(
     storage: Storage,
     kind: FuncKind,
     declarator: NodeId,
-    work: &Work,
+    work: &mut Work,
 ) -> Result<Header, ElabFault>
     requires { declarator.0 < length nodes.now }
-    ensures { Says header_of result (outside_special_of (lexemes_of tokens.now) (ctx_of env.now) (work_of work.now) at (storage_of storage) kind (tree_at (syntax_of nodes.now) declarator)) }
+    ensures says { Says header_of result (outside_special_of (lexemes_of tokens.now) (ctx_of env.now) (work_of work.old) at (storage_of storage) kind (tree_at (syntax_of nodes.now) declarator)) }
+    ensures kept { IfOk result (λ h. Unmoved work.old work.new) }
 {
     let void = plain_type(Shape::Void);
     let found = declared_written(alloc, env, tokens, nodes, at, &void, declarator, work)?;
@@ -92,11 +95,12 @@ fn plain_method(
     storage: Storage,
     kids: &[NodeId],
     start: usize,
-    work: &Work,
+    work: &mut Work,
 ) -> Result<Method, ElabFault>
     requires { are_below (length nodes.now) kids.now ≡ true }
-    ensures method { (bodies : List Body) → Says (method_shown (syntax_of nodes.now) kids.now) result (outside_method_of (lexemes_of tokens.now) (at_hand (ctx_of env.now) (work_of work.now) bodies) at (storage_of storage) Plain (trees_at (syntax_of nodes.now) (drop start kids.now))) }
+    ensures method { (bodies : List Body) → Says (method_shown (syntax_of nodes.now) kids.now) result (outside_method_of (lexemes_of tokens.now) (at_hand (ctx_of env.now) (work_of work.old) bodies) at (storage_of storage) Plain (trees_at (syntax_of nodes.now) (drop start kids.now))) }
     ensures within { IfOk result (λ m. m.count ≤ length kids.now) }
+    ensures kept { IfOk result (λ m. Unmoved work.old work.new) }
 {
     let Some(base) = kid_at(kids, start) else {
         return Err(ill(at, IllRule::OutOfProfile));
@@ -124,12 +128,13 @@ fn special_method(
     kind: FuncKind,
     kids: &[NodeId],
     start: usize,
-    work: &Work,
+    work: &mut Work,
 ) -> Result<Method, ElabFault>
     requires below { are_below (length nodes.now) kids.now ≡ true }
     requires special { is_plain_kind kind ≡ false }
-    ensures method { (bodies : List Body) → Says (method_shown (syntax_of nodes.now) kids.now) result (outside_method_of (lexemes_of tokens.now) (at_hand (ctx_of env.now) (work_of work.now) bodies) at (storage_of storage) kind (trees_at (syntax_of nodes.now) (drop start kids.now))) }
+    ensures method { (bodies : List Body) → Says (method_shown (syntax_of nodes.now) kids.now) result (outside_method_of (lexemes_of tokens.now) (at_hand (ctx_of env.now) (work_of work.old) bodies) at (storage_of storage) kind (trees_at (syntax_of nodes.now) (drop start kids.now))) }
     ensures within { IfOk result (λ m. m.count ≤ length kids.now) }
+    ensures kept { IfOk result (λ m. Unmoved work.old work.new) }
 {
     let Some(declarator) = kid_at(kids, start) else {
         return Err(ill(at, IllRule::OutOfProfile));
@@ -164,11 +169,12 @@ fn outside_method(
     kind: FuncKind,
     kids: &[NodeId],
     start: usize,
-    work: &Work,
+    work: &mut Work,
 ) -> Result<Method, ElabFault>
     requires { are_below (length nodes.now) kids.now ≡ true }
-    ensures method { (bodies : List Body) → Says (method_shown (syntax_of nodes.now) kids.now) result (outside_method_of (lexemes_of tokens.now) (at_hand (ctx_of env.now) (work_of work.now) bodies) at (storage_of storage) kind (trees_at (syntax_of nodes.now) (drop start kids.now))) }
+    ensures method { (bodies : List Body) → Says (method_shown (syntax_of nodes.now) kids.now) result (outside_method_of (lexemes_of tokens.now) (at_hand (ctx_of env.now) (work_of work.old) bodies) at (storage_of storage) kind (trees_at (syntax_of nodes.now) (drop start kids.now))) }
     ensures within { IfOk result (λ m. m.count ≤ length kids.now) }
+    ensures kept { IfOk result (λ m. Unmoved work.old work.new) }
 {
     if is_plain(kind) {
         return plain_method(alloc, env, tokens, nodes, at, storage, kids, start, work);
@@ -231,7 +237,7 @@ pub fn member_defined<L: MakeLambdas>(
         kind,
         kids,
         started.count,
-        &st.work,
+        &mut st.work,
     )?;
     let Some(body) = body_in(nodes, kids) else {
         return Err(ill(at, IllRule::BadDeclaration));

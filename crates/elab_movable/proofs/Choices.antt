@@ -84,7 +84,7 @@ module _ (g : Sought) where
       (initials.exact_object g c x.work t b.at b) (λ y i. omega arith))
     where
       t : Typ
-      t = Operators.common_class a b
+      t = Operators.joined_class a b
 
   -- a tree for which nothing was added
   pub same_work : (b : ℕ) (w : Work) (r : Result Tree ElabFault) → On (HoldsAtMost g b) r → On (Gives g b w) (Operators.same_work w r)

@@ -3,7 +3,7 @@ use Rattle.std.proofs.Common.{◌≡◌, ℕ, zero, suc, ◌<◌, ◌≤◌, Lis
 use Rattle.elab_conv.specs.cpp_types.declared.classes.ClassRec.{ClassRec}
 use Rattle.elab_conv.specs.cpp_types.declared.classes.MemberRec.{MemberRec}
 use Rattle.elab_conv.specs.cpp_types.Class.{Class, Member, class_of, member_of}
-use Rattle.elab_conv.specs.cpp_layout.Measured.{HasMember, member_offset}
+use Rattle.elab_conv.specs.cpp_layout.Measured.{member_offset}
 use Rattle.elab_conv.specs.elab_rules.Names.{offset_at, offset_of_member, members_in}
 
 length_members : (ms : List MemberRec) → length (map member_of ms) ≡ length ms
@@ -19,9 +19,6 @@ past : (ms : List Member) (i : ℕ) → length ms ≤ i → slice_get ms i ≡ N
 past [] i h = refl
 past (m ∷ ms) zero h = absurd (omega arith)
 past (m ∷ ms) (suc i) h = past ms i (omega arith)
-
-pub has_member : (classes : List Class) (n i : ℕ) (c : ClassRec) → slice_get classes n ≡ Some (class_of c) → i < length c.members.items → HasMember classes n i
-has_member classes n i c h l = let e = length_members c.members.items in record { owner = class_of c; found = h; member = omega arith }
 
 pub offset_is : (classes : List Class) (n i r : ℕ) (c : ClassRec) → slice_get classes n ≡ Some (class_of c) → i < length c.members.items
     → ((d : Class) (m : Member) → slice_get classes n ≡ Some d → slice_get d.members i ≡ Some m → r ≡ member_offset classes n d i m) → r ≡ offset_at classes n i

@@ -4,8 +4,7 @@ ghost use Rattle.std.specs.Prelude.{◌≡◌, IfOk};
 ghost use Rattle.elab_conv.specs.cpp_types.Class.{classes_of};
 ghost use Rattle.elab_conv.specs.elab_rules.Names.{offset_at as offset_of};
 
-use crate::parts::plain_type;
-use elab_conv::below::{Env, Shape, class_at, offset, size_align};
+use elab_conv::below::{Env, class_at, member_place};
 use std::alloc::AllocError;
 
 /// The offset of a member in the objects of a class, by its index. A class that is not complete, or too large, has no
@@ -19,12 +18,8 @@ pub fn offset_at(env: &Env, class: u32, index: u32) -> Result<u32, AllocError>
     if index as usize >= found.members.len() {
         return Ok(0);
     }
-    let Some(_number) = found.complete else {
-        return Err(AllocError);
-    };
-    let whole = plain_type(Shape::Class(class));
-    match size_align(&whole, &env.classes) {
-        Ok(_) => Ok(offset(&env.classes, class, index)),
-        Err(_) => Err(AllocError),
+    match member_place(env, class, index) {
+        Some(place) => Ok(place),
+        None => Err(AllocError),
     }
 }

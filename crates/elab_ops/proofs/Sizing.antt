@@ -1,10 +1,14 @@
 -- Types whose objects have a size, of at most the greatest or more.
 use Rattle.std.proofs.Common.{◌≡◌, ℕ, ◌≤◌, ◌<◌, Bool, true, false, ◌&&◌, leb, sym, refl, ◌⊎◌, inl, inr, arith}
-use Rattle.std.specs.Prelude.{Option, Some, None}
-use Rattle.std.proofs.lemmas.Bool.{le-leb}
+use Rattle.std.specs.Prelude.{Option, Some, None, is_some}
+use Rattle.std.specs.Option.{MatchOption}
 use Rattle.std.proofs.lemmas.Bool.Decides.{leb_tells}
 use Rattle.elab_conv.specs.cpp_types.Typ.{Typ, typ}
 use Rattle.elab_conv.specs.cpp_types.Class.{held_form}
+use Rattle.elab_conv.specs.cpp_layout.Layout.{Extent}
+use Rattle.elab_conv.specs.cpp_layout.Measured.{Measured}
+use Rattle.elab_conv.specs.cpp_layout.declared.extents.SizeAlign.{SizeAlign}
+use Rattle.elab_conv.specs.cpp_layout.declared.extents.TheConstants.{GREATEST_SIZE}
 use Rattle.elab_conv.specs.cpp_tree.Typing.{form_in}
 use Rattle.elab_conv.specs.elab_ctx.Ctx.{Ctx}
 use Rattle.elab_conv.specs.elab_ctx.Sized.{is_whole}
@@ -21,12 +25,17 @@ whole_if c t (Some n) e h = rw e h
 pub whole_of : (c : Ctx) (t : Typ) → is_sized c t ≡ true → is_whole c.classes (form_in t) ≡ true
 whole_of c (typ f q v) h = whole_if c (typ f q v) (held_form f) refl (held_known c (is_object_type f) (held_form f) h)
 
-pub at_most : (a b : ℕ) → a ≤ b → true ≡ leb a b
-at_most a b h = sym (le-leb a b h)
+within_or_more : (n : ℕ) → n ≤ GREATEST_SIZE → ((leb n GREATEST_SIZE ≡ true) × (n ≤ GREATEST_SIZE)) ⊎ ((leb n GREATEST_SIZE ≡ false) × (GREATEST_SIZE < n))
+    → true ≡ leb n GREATEST_SIZE
+within_or_more n l (inl p) = sym p.0
+within_or_more n l (inr p) = let m : GREATEST_SIZE < n = p.1 in absurd (omega arith)
 
-more_by : (a b : ℕ) → b < a → ((leb a b ≡ true) × (a ≤ b)) ⊎ ((leb a b ≡ false) × (b < a)) → false ≡ leb a b
-more_by a b h (inl p) = let q : a ≤ b = p.1 in absurd (omega arith)
-more_by a b h (inr p) = sym p.0
+more_or_within : (n : ℕ) → GREATEST_SIZE < n → ((leb n GREATEST_SIZE ≡ true) × (n ≤ GREATEST_SIZE)) ⊎ ((leb n GREATEST_SIZE ≡ false) × (GREATEST_SIZE < n))
+    → false ≡ leb n GREATEST_SIZE
+more_or_within n l (inl p) = let m : n ≤ GREATEST_SIZE = p.1 in absurd (omega arith)
+more_or_within n l (inr p) = sym p.0
 
-pub more : (a b : ℕ) → b < a → false ≡ leb a b
-more a b h = more_by a b h (leb_tells a b)
+-- what was measured tells whether it is no more than the greatest
+pub measured_within : (e : Extent) (r : Option SizeAlign) → MatchOption r (GREATEST_SIZE < e.size) (λ s. Measured e s) → is_some r ≡ leb e.size GREATEST_SIZE
+measured_within e (Some s) m = within_or_more e.size m.within (leb_tells e.size GREATEST_SIZE)
+measured_within e None l = more_or_within e.size l (leb_tells e.size GREATEST_SIZE)

@@ -24,8 +24,7 @@ use crate::arithmetic::{arithmetic_of, in_kind, number, on_values, operated, ope
 use crate::operands::{as_kind, ill, int_type, number_kind, pointed, value, value_type};
 use elab_conv::below::{
     At, BinOp, Cat, ElabFault, Env, IllRule, IntKind, LimitKind, Operand, Shape, TKind, TNode,
-    TNodeId, Ty, add_unary, completion, copy, equal_types, held_class, node_at, size_align,
-    size_of,
+    TNodeId, Ty, add_unary, completion, copy, equal_types, held_class, measured, node_at, size_of,
 };
 use elab_conv::types::{pointer_to, unqualified_type};
 use std::alloc::{AllocError, Global};
@@ -89,10 +88,7 @@ fn is_within_greatest(env: &Env, ty: &Ty) -> bool
     requires { is_sized (ctx_of env.now) (typ_of ty.now) ≡ true }
     ensures { result ≡ nat_le (size_of (classes_of env.now.classes.items) (typ_of ty.now)) GREATEST_SIZE }
 {
-    match size_align(ty, &env.classes) {
-        Ok(_) => true,
-        Err(_) => false,
-    }
+    measured(env, ty).is_some()
 }
 
 /// Tests that objects of a type, where they have a size, are no larger than the greatest one.

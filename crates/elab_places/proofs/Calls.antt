@@ -182,14 +182,14 @@ module _ (g : Sought) where
       (initials.initial g c w (unqualified t) (record { tree = Operators.value o; at = at; zero = o.zero })))
 
   object_cast : (c : Ctx) (w : Work) (at : At) (t : Typ) (os : List Operand)
-      → On (Gives g (operands_held g os) w) (and_then (Initialising.from_values c w (unqualified t) at os)
-      (λ (m : Made). Ok (Initialising.with_tree (Casts.as_expression at (unqualified t)) m)))
-  object_cast c w at t os = with_tree (operands_held g os) w (Initialising.from_values c w (unqualified t) at os) (Casts.as_expression at (unqualified t))
-      (as_expression at (unqualified t)) (initials.from_values g c w (unqualified t) at os)
+      → On (Gives g (operands_held g os) w) (and_then (Initialising.from_values c w t at os)
+      (λ (m : Made). Ok (Initialising.with_tree (Casts.as_expression at t) m)))
+  object_cast c w at t os = with_tree (operands_held g os) w (Initialising.from_values c w t at os) (Casts.as_expression at t)
+      (as_expression at t) (initials.from_values g c w t at os)
 
   other_cast : (c : Ctx) (w : Work) (at : At) (t : Typ) (o : Operand)
-      → On (Gives g (held g o.tree + 0) w) (if is_class_typ t then and_then (Initialising.from_values c w (unqualified t) at (o ∷ []))
-      (λ (m : Made). Ok (Initialising.with_tree (Casts.as_expression at (unqualified t)) m)) else Casts.scalar_cast c w at t o)
+      → On (Gives g (held g o.tree + 0) w) (if is_class_typ t then and_then (Initialising.from_values c w t at (o ∷ []))
+      (λ (m : Made). Ok (Initialising.with_tree (Casts.as_expression at t) m)) else Casts.scalar_cast c w at t o)
   other_cast c w at t o = either (Gives g (held g o.tree + 0) w) (is_class_typ t) _ _ (object_cast c w at t (o ∷ []))
       (initials.wider g (held g o.tree) (held g o.tree + 0) w (Casts.scalar_cast c w at t o) (omega arith) (scalar_cast c w at t o))
 

@@ -59,8 +59,8 @@ cast_in c w at t void o = Ok (with_tree (λ (e : Tree). retyped at (plain void) 
 cast_in c w at t (ref u) o = and_then (initial c w t o) (λ (m : Made). Ok (with_tree (reference_cast at u) m))
 cast_in c w at t (func s) o = Err (Ill at BadOperand)
 cast_in c w at t (array u n) o = Err (Ill at BadOperand)
-cast_in c w at t f o = if is_class_typ t then and_then (from_values c w (unqualified t) at (o ∷ []))
-    (λ (m : Made). Ok (with_tree (as_expression at (unqualified t)) m)) else scalar_cast c w at t o
+cast_in c w at t f o = if is_class_typ t then and_then (from_values c w t at (o ∷ []))
+    (λ (m : Made). Ok (with_tree (as_expression at t) m)) else scalar_cast c w at t o
 
 abbrev pub cast : Ctx → Work → At → Typ → Operand → Result Made ElabFault
 cast c w at t o = cast_in c w at t (form_in t) o
@@ -68,12 +68,12 @@ cast c w at t o = cast_in c w at t (form_in t) o
 -- `T(a, ..)` (C++14 5.2.3)
 abbrev pub functional : Ctx → Work → At → Typ → List Operand → Result Made ElabFault
 functional c w at t (o ∷ []) = cast c w at t o
-functional c w at t [] = if is_class_typ t then and_then (from_values c w (unqualified t) at [])
-    (λ (m : Made). Ok (with_tree (as_expression at (unqualified t)) m)) else (
+functional c w at t [] = if is_class_typ t then and_then (from_values c w t at [])
+    (λ (m : Made). Ok (with_tree (as_expression at t) m)) else (
     if is_void t then Ok (record { tree = node Retype (plain void) Prvalue at (one (number ULong 0 at)); work = w }) else and_then
     (check at BadInit (is_some (kind_in (form_in t)) && not (is_reference t))) (λ y. Ok (record { tree = node (Literal 0) (unqualified t) Prvalue at none; work = w })))
-functional c w at t os = if is_class_typ t then and_then (from_values c w (unqualified t) at os)
-    (λ (m : Made). Ok (with_tree (as_expression at (unqualified t)) m)) else Err (Ill at BadInit)
+functional c w at t os = if is_class_typ t then and_then (from_values c w t at os)
+    (λ (m : Made). Ok (with_tree (as_expression at t) m)) else Err (Ill at BadInit)
 
 -- `sizeof` (C++14 5.3.3)
 abbrev pub size_literal : Ctx → At → At → Typ → Result Tree ElabFault

@@ -376,20 +376,14 @@ two_values at test f (ptr t) a b = and_then (check at BadOperand (is_null a))
 two_values at test f g a b = if form_eq f g && is_some (kind_in f) then Ok
     (conditional_node at (plain f) Prvalue test (value a) (value b)) else two_numbers at test (arithmetic f) (arithmetic g) a b
 
--- two objects of a class: the type has the qualifiers of those that are prvalues
-abbrev pub object_type : Tree → Typ
-object_type e = if is_class_prvalue (typ_in e) (cat_of e) then typ_in e else unqualified (typ_in e)
-
 abbrev pub joined_type : Typ → Typ → Typ
 joined_type (typ f c v) (typ g d w) = typ f (c || d) (v || w)
 
-abbrev pub common_class : Operand → Operand → Typ
-common_class a b = joined_type (object_type a.tree) (object_type b.tree)
-
--- two lvalues of one class, of which one has all qualifiers of the other (C++14 5.16 p3)
+-- two objects of a class: each is converted to the type that has the qualifiers of both (C++14 5.16 p3)
 abbrev pub joined_class : Operand → Operand → Typ
 joined_class a b = joined_type (typ_in a.tree) (typ_in b.tree)
 
+-- two lvalues of one class, of which one has all qualifiers of the other
 abbrev pub is_shared : Operand → Operand → Bool
 is_shared a b = is_lvalue (cat_of a.tree) && is_lvalue (cat_of b.tree) && both_of_class a b
     && (typ_eq (joined_class a b) (typ_in a.tree) || typ_eq (joined_class a b) (typ_in b.tree))
@@ -398,9 +392,9 @@ abbrev pub shared : At → Tree → Operand → Operand → Tree
 shared at test a b = conditional_node at (joined_class a b) Lvalue test (seen_as a.at (joined_class a b) a.tree) (seen_as b.at (joined_class a b) b.tree)
 
 abbrev pub two_objects : Ctx → Work → At → Tree → Operand → Operand → Result Made ElabFault
-two_objects c w at test a b = and_then (exact_object c w (common_class a b) a.at a)
-    (λ (x : Made). and_then (exact_object c x.work (common_class a b) b.at b)
-    (λ (y : Made). Ok (record { tree = conditional_node at (common_class a b) Prvalue test x.tree y.tree; work = y.work })))
+two_objects c w at test a b = and_then (exact_object c w (joined_class a b) a.at a)
+    (λ (x : Made). and_then (exact_object c x.work (joined_class a b) b.at b)
+    (λ (y : Made). Ok (record { tree = conditional_node at (joined_class a b) Prvalue test x.tree y.tree; work = y.work })))
 
 -- an operand beside one that throws: an lvalue, a class prvalue or nothing stays as it is
 abbrev pub kept_value : Operand → Tree

@@ -1,19 +1,104 @@
 //! What stands below this crate, passed on: a crate above it lists this crate alone.
 
 pub use crate::MOST_PARAMETERS;
-pub use cpp_overload::{Arg, Cand, NoBest, choose};
-pub use elab_ctx::below::{
-    At, BinOp, BlockKind, Builtin, Cat, CellKind, ClassDef, ClassRec, CppAstAt, EXCEPTION_SIZE,
-    ElabFault, Entity, EntityKind, FnTy, FuncKind, GREATEST_FRAME, GREATEST_SIZE, IllRule,
-    InitCell, IntKind, LimitKind, Linkage, MemberRec, NameFault, Node, NodeId, NodeKind, Nodes,
-    OverrideRule, Program, Scopes, Shape, SizeAlign, SlotRec, Step, TFunc, TGlobal, TKind, TNode,
-    TNodeId, TParam, Token, Tokens, Ty, Unit, UnitTree, add_binary, add_leaf, add_node, add_unary,
-    apply, conversion_between, convert, copy, copy_function, cpp_lex_int_type, equal_kinds,
-    equal_shapes, equal_types, has_pointer, held_class, offset, promote, same, size_align, usual,
-    value_of_word, word_of,
-};
-pub use elab_ctx::{
-    Capture, Closure, DefaultInit, EnumRec, Env, FuncDecl, Functions, Label, Labels, Lambda,
-    Operand, Returns, Special, This, Traits, TypeNames, Variable, Work, add_item, class_at,
-    completion, extent, function_at, kids_at, node_at, size_of, traits_of_class,
-};
+pub use cpp_overload::Arg;
+pub use cpp_overload::Cand;
+pub use cpp_overload::NoBest;
+pub use cpp_overload::choose;
+pub use elab_ctx::Capture;
+pub use elab_ctx::ClassLayout;
+pub use elab_ctx::Closure;
+pub use elab_ctx::DefaultInit;
+pub use elab_ctx::EnumRec;
+pub use elab_ctx::Env;
+pub use elab_ctx::FuncDecl;
+pub use elab_ctx::Functions;
+pub use elab_ctx::Label;
+pub use elab_ctx::Labels;
+pub use elab_ctx::Lambda;
+pub use elab_ctx::Operand;
+pub use elab_ctx::Returns;
+pub use elab_ctx::Special;
+pub use elab_ctx::This;
+pub use elab_ctx::Traits;
+pub use elab_ctx::TypeNames;
+pub use elab_ctx::Variable;
+pub use elab_ctx::Work;
+pub use elab_ctx::add_item;
+pub use elab_ctx::below::At;
+pub use elab_ctx::below::BinOp;
+pub use elab_ctx::below::BlockKind;
+pub use elab_ctx::below::Builtin;
+pub use elab_ctx::below::Cat;
+pub use elab_ctx::below::CellKind;
+pub use elab_ctx::below::ClassDef;
+pub use elab_ctx::below::ClassRec;
+pub use elab_ctx::below::CppAstAt;
+pub use elab_ctx::below::EXCEPTION_SIZE;
+pub use elab_ctx::below::ElabFault;
+pub use elab_ctx::below::Entity;
+pub use elab_ctx::below::EntityKind;
+pub use elab_ctx::below::FnTy;
+pub use elab_ctx::below::FuncKind;
+pub use elab_ctx::below::GREATEST_FRAME;
+pub use elab_ctx::below::GREATEST_SIZE;
+pub use elab_ctx::below::IllRule;
+pub use elab_ctx::below::InitCell;
+pub use elab_ctx::below::IntKind;
+pub use elab_ctx::below::LimitKind;
+pub use elab_ctx::below::Linkage;
+pub use elab_ctx::below::MemberRec;
+pub use elab_ctx::below::NameFault;
+pub use elab_ctx::below::Node;
+pub use elab_ctx::below::NodeId;
+pub use elab_ctx::below::NodeKind;
+pub use elab_ctx::below::Nodes;
+pub use elab_ctx::below::OverrideRule;
+pub use elab_ctx::below::Program;
+pub use elab_ctx::below::Scopes;
+pub use elab_ctx::below::Shape;
+pub use elab_ctx::below::SizeAlign;
+pub use elab_ctx::below::SlotRec;
+pub use elab_ctx::below::Step;
+pub use elab_ctx::below::TFunc;
+pub use elab_ctx::below::TGlobal;
+pub use elab_ctx::below::TKind;
+pub use elab_ctx::below::TNode;
+pub use elab_ctx::below::TNodeId;
+pub use elab_ctx::below::TParam;
+pub use elab_ctx::below::Token;
+pub use elab_ctx::below::Tokens;
+pub use elab_ctx::below::Ty;
+pub use elab_ctx::below::Unit;
+pub use elab_ctx::below::UnitTree;
+pub use elab_ctx::below::add_binary;
+pub use elab_ctx::below::add_leaf;
+pub use elab_ctx::below::add_node;
+pub use elab_ctx::below::add_unary;
+pub use elab_ctx::below::apply;
+pub use elab_ctx::below::conversion_between;
+pub use elab_ctx::below::convert;
+pub use elab_ctx::below::copy;
+pub use elab_ctx::below::copy_function;
+pub use elab_ctx::below::cpp_lex_int_type;
+pub use elab_ctx::below::equal_kinds;
+pub use elab_ctx::below::equal_shapes;
+pub use elab_ctx::below::equal_types;
+pub use elab_ctx::below::has_pointer;
+pub use elab_ctx::below::held_class;
+pub use elab_ctx::below::promote;
+pub use elab_ctx::below::same;
+pub use elab_ctx::below::size_align;
+pub use elab_ctx::below::usual;
+pub use elab_ctx::below::value_of_word;
+pub use elab_ctx::below::word_of;
+pub use elab_ctx::class_at;
+pub use elab_ctx::completion;
+pub use elab_ctx::extent;
+pub use elab_ctx::function_at;
+pub use elab_ctx::kids_at;
+pub use elab_ctx::measured;
+pub use elab_ctx::member_place;
+pub use elab_ctx::node_at;
+pub use elab_ctx::size_of;
+pub use elab_ctx::traits_of_class;

@@ -25,7 +25,8 @@ use Rattle.elab_expr.specs.elab_rules.Constants.{constant}
 use Rattle.elab_expr.specs.elab_rules.Operators.{value}
 use Rattle.elab_expr.specs.elab_rules.Expressions.{expression_of, chosen_operand}
 use Rattle.elab_expr.specs.elab_rules.Statements.{State, label_here, case_fits, case_label}
-use Rattle.elab_scopes.specs.Labelled.{word_of, operand_alone, initial_alone, label_word, case_word, case_of, OperandAt, Unmoved}
+use Rattle.elab_expr.specs.Unmoved.{Unmoved}
+use Rattle.elab_scopes.specs.Labelled.{word_of, operand_alone, initial_alone, label_word, case_word, case_of, OperandAt}
 use Rattle.elab_scopes.specs.declared.state.State.{State as StateRec}
 use Rattle.elab_scopes.specs.States.{state_of, made, Grown}
 use Rattle.elab_scopes.specs.Says.{Does}

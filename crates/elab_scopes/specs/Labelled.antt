@@ -11,8 +11,7 @@ use Rattle.elab_expr.specs.cpp_tree.declared.kinds.TKind.TheVariants as forms
 use Rattle.elab_expr.specs.cpp_tree.Trees.{Tree, none, one, typ_in}
 use Rattle.elab_expr.specs.cpp_tree.Typing.{form_in, kind_in}
 use Rattle.elab_expr.specs.cpp_tree.Units.{Global}
-use Rattle.elab_expr.specs.elab_ctx.Ctx.{Ctx, Work, work_of}
-use Rattle.elab_expr.specs.elab_ctx.declared.env.Work.{Work as WorkRec}
+use Rattle.elab_expr.specs.elab_ctx.Ctx.{Ctx, Work}
 use Rattle.elab_expr.specs.elab_ctx.Says.{Faults}
 use Rattle.elab_expr.specs.elab_ctx.Operands.{operand_in}
 use Rattle.elab_expr.specs.elab_ctx.declared.operand.Operand.{Operand as OperandRec}
@@ -56,8 +55,3 @@ pub record OperandAt (old new : List Tree) (o : OperandRec) (x : Result Operand 
 abbrev pub Operates : List Tree → List Tree → Result OperandRec ElabFault → Result Operand ElabFault → Type 0
 Operates old new (Ok o) x = OperandAt old new o x
 Operates old new (Err e) x = Faults e x
-
--- nothing that was made for a label is kept
-pub record Unmoved (old new : WorkRec) : Type 0 where
-  pub work : work_of new ≡ work_of old
-  pub nodes : new.nodes ≡ old.nodes

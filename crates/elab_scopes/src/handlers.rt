@@ -173,9 +173,16 @@ fn parameter_caught(
     requires declarator { declarator.0 < length nodes.now }
     ensures { Catches st.old st.new result (parameter_caught_of (lexemes_of tokens.now) (state_of st.old) at place (syntax_at (syntax_of nodes.now) base) (syntax_at (syntax_of nodes.now) declarator)) }
 {
-    let ty = specified(alloc, &st.env, tokens, nodes, base, &st.work)?;
+    let ty = specified(alloc, &st.env, tokens, nodes, base, &mut st.work)?;
     let found = declared_by(
-        alloc, &st.env, tokens, nodes, place, &ty, declarator, &st.work,
+        alloc,
+        &st.env,
+        tokens,
+        nodes,
+        place,
+        &ty,
+        declarator,
+        &mut st.work,
     )?;
     typed_handler(alloc, tokens, st, at, place, found.ty, found.name)
 }

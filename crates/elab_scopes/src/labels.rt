@@ -15,7 +15,8 @@ ghost use Rattle.elab_expr.specs.elab_ctx.Says.{Gives, Tells};
 ghost use Rattle.elab_expr.specs.elab_rules.Statements.{label_allowed as label_allowed_of, label_here as label_here_of, case_fits as case_fits_of, case_label as case_label_of, default_label as default_label_of};
 ghost use Rattle.elab_expr.specs.elab_types.Syntax.{syntax_of, tree_at as syntax_at};
 ghost use Rattle.elab_scopes.specs.States.{state_of};
-ghost use Rattle.elab_scopes.specs.Labelled.{word_of as word_of_of, label_word as label_word_of, case_word as case_word_of, case_of as case_of_of, operand_alone as operand_alone_of, initial_alone as initial_alone_of, Operates, Unmoved};
+ghost use Rattle.elab_scopes.specs.Labelled.{word_of as word_of_of, label_word as label_word_of, case_word as case_word_of, case_of as case_of_of, operand_alone as operand_alone_of, initial_alone as initial_alone_of, Operates};
+ghost use Rattle.elab_expr.specs.Unmoved.{Unmoved};
 ghost use Rattle.elab_scopes.specs.Says.{Does};
 
 use crate::nodes::leaf_statement;

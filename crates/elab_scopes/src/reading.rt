@@ -1,6 +1,6 @@
 // Expressions and types, with the lambdas that were made before them.
 
-ghost use Rattle.std.specs.Prelude.{◌≡◌, ◌<◌, length, true};
+ghost use Rattle.std.specs.Prelude.{◌≡◌, ◌<◌, length, true, IfOk};
 ghost use Rattle.elab_expr.specs.cpp_lex.Tokens.{lexemes_of};
 ghost use Rattle.elab_expr.specs.cpp_ast.Orders.{are_below};
 ghost use Rattle.elab_expr.specs.cpp_types.Typ.{typ_of};
@@ -11,6 +11,7 @@ ghost use Rattle.elab_expr.specs.elab_rules.Expressions.{expression_of, chosen_o
 ghost use Rattle.elab_expr.specs.elab_types.Shown.{Says, declared_of};
 ghost use Rattle.elab_expr.specs.elab_types.Syntax.{syntax_of, tree_at, trees_at};
 ghost use Rattle.elab_expr.specs.elab_rows.Typed.{Types, TypesAll};
+ghost use Rattle.elab_expr.specs.Unmoved.{Unmoved};
 
 use elab_expr::below::{At, Declared, ElabFault, Env, NodeId, Nodes, Operand, Tokens, Ty, Work};
 use elab_expr::{chosen_expression, declared, operands, type_of_specifiers};
@@ -48,22 +49,23 @@ pub fn values(
     operands(alloc, env, &env.closures, tokens, nodes, parent, ids, work)
 }
 
-/// The type that a list of specifiers gives.
+/// The type that a list of specifiers gives. Of what is made for the bounds of arrays and for operands of `sizeof` nothing stays.
 pub fn specified(
     alloc: Global,
     env: &Env,
     tokens: &Tokens,
     nodes: &Nodes,
     id: NodeId,
-    work: &Work,
+    work: &mut Work,
 ) -> Result<Ty, ElabFault>
     requires { id.0 < length nodes.now }
-    ensures { Says typ_of result (type_of_specifiers_of (lexemes_of tokens.now) (ctx_of env.now) (work_of work.now) (tree_at (syntax_of nodes.now) id)) }
+    ensures says { Says typ_of result (type_of_specifiers_of (lexemes_of tokens.now) (ctx_of env.now) (work_of work.old) (tree_at (syntax_of nodes.now) id)) }
+    ensures kept { IfOk result (λ t. Unmoved work.old work.new) }
 {
     type_of_specifiers(alloc, env, &env.closures, tokens, nodes, id, work)
 }
 
-/// What a declarator declares of a type.
+/// What a declarator declares of a type. Of what is made on the way nothing stays.
 pub fn declared_by(
     alloc: Global,
     env: &Env,
@@ -72,10 +74,11 @@ pub fn declared_by(
     at: At,
     ty: &Ty,
     id: NodeId,
-    work: &Work,
+    work: &mut Work,
 ) -> Result<Declared, ElabFault>
     requires { id.0 < length nodes.now }
-    ensures { Says declared_of result (declared_by_of (lexemes_of tokens.now) (ctx_of env.now) (work_of work.now) at (typ_of ty.now) (tree_at (syntax_of nodes.now) id)) }
+    ensures says { Says declared_of result (declared_by_of (lexemes_of tokens.now) (ctx_of env.now) (work_of work.old) at (typ_of ty.now) (tree_at (syntax_of nodes.now) id)) }
+    ensures kept { IfOk result (λ d. Unmoved work.old work.new) }
 {
     declared(alloc, env, &env.closures, tokens, nodes, at, ty, id, work)
 }

@@ -40,9 +40,9 @@ scalar_cast cs c w at t o h g e = either_of (made cs) (casts.is_numeric (form_in
 
 -- to an object of a class
 class_cast : (cs : List Class) (c : Ctx) (w : Work) (at : At) (t : Typ) (os : List Operand) → is_class_typ t ≡ true → is_sound cs a_value t ≡ true
-    → AreExpressions cs os → On (made cs) (and_then (Initialising.from_values c w (unqualified t) at os)
-    (λ (m : Made). Ok (Initialising.with_tree (casts.as_expression at (unqualified t)) m)))
-class_cast cs c w at (typ f q v) os i h g = object_cast cs c w f false false at os i (unqualified_sound cs a_value (typ f q v) h) g
+    → AreExpressions cs os → On (made cs) (and_then (Initialising.from_values c w t at os)
+    (λ (m : Made). Ok (Initialising.with_tree (casts.as_expression at t) m)))
+class_cast cs c w at (typ f q v) os i h g = object_cast cs c w f q v at os i h g
 
 pub cast_in : (cs : List Class) (c : Ctx) (w : Work) (at : At) (t : Typ) (o : Operand) → is_sound cs denoted t ≡ true → IsExpression cs o.tree
     → On (made cs) (casts.cast_in c w at t (form_in t) o)

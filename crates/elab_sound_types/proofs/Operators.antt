@@ -20,7 +20,7 @@ use Rattle.elab_rules.specs.cpp_tree.declared.faults.IllRule.{IllRule}
 use Rattle.elab_rules.specs.cpp_tree.declared.faults.IllRule.TheVariants.{NoConversion, BadOperand, NotLvalue, ConstTarget, NoCopy}
 use Rattle.elab_rules.specs.cpp_tree.Trees.{Tree, node, typ_in, cat_of}
 use Rattle.elab_rules.specs.cpp_tree.Notation.{plain}
-use Rattle.elab_rules.specs.cpp_tree.Typing.{form_in, unqualified, kind_in, is_class_typ, is_class_prvalue, is_void, is_volatile_typ}
+use Rattle.elab_rules.specs.cpp_tree.Typing.{form_in, unqualified, kind_in, is_class_typ, is_void, is_volatile_typ}
 use Rattle.elab_rules.specs.elab_ctx.Ctx.{Ctx, Work}
 use Rattle.elab_rules.specs.elab_ctx.Steps.{and_then, expect, check, Operand, Made}
 use Rattle.elab_rules.specs.Objects.{traits_at}
@@ -30,7 +30,7 @@ use Rattle.elab_rules.specs.Operators.{value, value_form, pointed, arithmetic, a
 use Rattle.elab_fits.specs.Standing.{On}
 use Rattle.elab_fits.proofs.Steps.{bind, skip, checked, expected, either_way as either}
 use Rattle.elab_sound_types.specs.Types.{target, is_sound, is_head, IsExpression}
-use Rattle.elab_sound_types.proofs.Sound.{both, unqualified_sound}
+use Rattle.elab_sound_types.proofs.Sound.{both}
 use Rattle.elab_sound_types.proofs.Trees.{some_same, class_head, class_sound, scalar_head, lvalue_retyped, valued_sound, in_kind_sound}
 use Rattle.elab_sound_types.proofs.Initial.{made, made_if}
 use Rattle.elab_sound_types.proofs.Pointers.{pointers_law}
@@ -239,25 +239,11 @@ comma cs c w at a b h = record { head = (settled cs c (operators.dropped c w a).
 joined_head : (cs : List Class) (s t : Typ) (cat : Cat) → is_class_typ s ≡ true → is_sound cs target s ≡ true → is_head cs (operators.joined_type s t) cat ≡ true
 joined_head cs (typ f c v) (typ g d w) cat i h = class_head cs target f (c || v) (c || d) (v || w) cat i h
 
-record ClassObject (cs : List Class) (t : Typ) : Type 0 where
-  is_class : is_class_typ t ≡ true
-  sound : is_sound cs target t ≡ true
-
-unqualified_class : (t : Typ) → is_class_typ t ≡ true → is_class_typ (unqualified t) ≡ true
-unqualified_class (typ f c v) h = h
-
-object_by : (cs : List Class) (b : Bool) (t : Typ) → is_class_typ t ≡ true → is_sound cs target t ≡ true → ClassObject cs (if b then t else unqualified t)
-object_by cs true t i h = record { is_class = i; sound = h }
-object_by cs false t i h = record { is_class = unqualified_class t i; sound = unqualified_sound cs target t h }
-
-class_object : (cs : List Class) (e : Tree) → is_class_typ (typ_in e) ≡ true → IsExpression cs e → ClassObject cs (operators.object_type e)
-class_object cs e i h = object_by cs (is_class_prvalue (typ_in e) (cat_of e)) (typ_in e) i (class_sound cs (typ_in e) (cat_of e) i h.head)
-
 two_objects : (cs : List Class) (c : Ctx) (w : Work) (at : At) (test : Tree) (a b : Operand) → is_class_typ (typ_in a.tree) ≡ true → IsExpression cs a.tree
     → On (made cs) (operators.two_objects c w at test a b)
-two_objects cs c w at test a b i h = skip (made cs) (exact_object c w (operators.common_class a b) a.at a) _
-    (λ x. skip (made cs) (exact_object c x.work (operators.common_class a b) b.at b) _ (λ y. record {
-      head = joined_head cs (operators.object_type a.tree) (operators.object_type b.tree) Prvalue (class_object cs a.tree i h).is_class (class_object cs a.tree i h).sound;
+two_objects cs c w at test a b i h = skip (made cs) (exact_object c w (operators.joined_class a b) a.at a) _
+    (λ x. skip (made cs) (exact_object c x.work (operators.joined_class a b) b.at b) _ (λ y. record {
+      head = joined_head cs (typ_in a.tree) (typ_in b.tree) Prvalue i (class_sound cs (typ_in a.tree) (cat_of a.tree) i h.head);
       chosen = refl;
       written = refl;
     }))

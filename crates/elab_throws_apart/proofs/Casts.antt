@@ -51,14 +51,14 @@ scalar_cast c w at t o h = either MadeApart (casts.is_numeric (form_in (typ_in (
     (λ i. initial_apart c w (unqualified t) (record { tree = value o; at = at; zero = o.zero }) (valued_apart o.at o.tree h))
 
 class_cast : (c : Ctx) (w : Work) (at : At) (t : Typ) (os : List Operand) → AreApart os
-    → On MadeApart (and_then (Initialising.from_values c w (unqualified t) at os)
-    (λ (m : Made). Ok (Initialising.with_tree (casts.as_expression at (unqualified t)) m)))
-class_cast c w at t os h = bind MadeApart MadeApart (Initialising.from_values c w (unqualified t) at os) _ (values_apart c w (unqualified t) at os h)
-    (λ m i. as_expression_apart at (unqualified t) m.tree i)
+    → On MadeApart (and_then (Initialising.from_values c w t at os)
+    (λ (m : Made). Ok (Initialising.with_tree (casts.as_expression at t) m)))
+class_cast c w at t os h = bind MadeApart MadeApart (Initialising.from_values c w t at os) _ (values_apart c w t at os h)
+    (λ m i. as_expression_apart at t m.tree i)
 
 object_cast : (c : Ctx) (w : Work) (at : At) (t : Typ) (o : Operand) → Apart o.tree
-    → On MadeApart (if is_class_typ t then and_then (Initialising.from_values c w (unqualified t) at (o ∷ []))
-    (λ (m : Made). Ok (Initialising.with_tree (casts.as_expression at (unqualified t)) m)) else casts.scalar_cast c w at t o)
+    → On MadeApart (if is_class_typ t then and_then (Initialising.from_values c w t at (o ∷ []))
+    (λ (m : Made). Ok (Initialising.with_tree (casts.as_expression at t) m)) else casts.scalar_cast c w at t o)
 object_cast c w at t o h = either MadeApart (is_class_typ t) _ _ (λ i. class_cast c w at t (o ∷ []) (h, tt)) (λ i. scalar_cast c w at t o h)
 
 cast_in : (c : Ctx) (w : Work) (at : At) (t : Typ) (f : Form) (o : Operand) → Apart o.tree → On MadeApart (casts.cast_in c w at t f o)

@@ -155,8 +155,8 @@ two_values at test f g a b = values_if (form_eq f g && is_some (kind_in f))
     values_if false = two_numbers at test (arithmetic f) (arithmetic g) a b
 
 two_objects : (c : Ctx) (w : Work) (at : At) (test : Tree) (a b : Operand) → On MadeApart (operators.two_objects c w at test a b)
-two_objects c w at test a b = skip MadeApart (exact_object c w (operators.common_class a b) a.at a) _
-    (λ x. skip MadeApart (exact_object c x.work (operators.common_class a b) b.at b) _ (λ y. refl))
+two_objects c w at test a b = skip MadeApart (exact_object c w (operators.joined_class a b) a.at a) _
+    (λ x. skip MadeApart (exact_object c x.work (operators.joined_class a b) b.at b) _ (λ y. refl))
 
 branches : (c : Ctx) (w : Work) (at : At) (test : Tree) (a b : Operand) → On MadeApart (operators.branches c w at test a b)
 branches c w at test a b = either MadeApart (operators.throws a.tree && operators.throws b.tree) _ _ (λ i. refl)

@@ -15,22 +15,28 @@ use Rattle.elab_entry.specs.cpp_tree.declared.faults.ElabFault.TheVariants.{Ill}
 use Rattle.elab_entry.specs.cpp_tree.declared.faults.IllRule.TheVariants.{BadDeclaration, OutOfProfile}
 use Rattle.elab_entry.specs.elab_ctx.Says.{Faults}
 use Rattle.elab_entry.specs.elab_ctx.Steps.{and_then, each_of, at_of, spelling}
+use Rattle.elab_entry.specs.elab_ctx.Ctx.{Work, ctx_of, work_of}
+use Rattle.elab_entry.specs.elab_ctx.declared.env.Work.{Work as WorkRec}
 use Rattle.elab_entry.specs.elab_rules.Types.{Declared}
+use Rattle.elab_entry.specs.elab_rules.Expressions.{type_of_specifiers, declared_by}
 use Rattle.elab_entry.specs.elab_rules.Statements.{State, name_of, bound_by_initialiser}
 use Rattle.elab_entry.specs.elab_rules.Functions.{Storage, Header, with_specifier, text_sized}
 use Rattle.elab_entry.specs.elab_rules.Classes.{header_in, started_from}
 use Rattle.elab_entry.specs.elab_rules.Globals.{global_declared}
-use Rattle.elab_entry.specs.elab_rules.Units.{header_of, definition_text, declared_of_type, file_declarator, file_declaration}
+use Rattle.elab_entry.specs.elab_rules.Units.{header_of, definition_text, declared_of_type, file_declarator, file_declarators, file_declaration, is_qualified}
+use Rattle.elab_entry.specs.elab_scopes.elab_expr.Unmoved.{Unmoved}
 use Rattle.elab_entry.specs.elab_scopes.declared.state.State.{State as StateRec}
 use Rattle.elab_entry.specs.elab_scopes.States.{state_of}
 use Rattle.elab_entry.specs.elab_scopes.Says.{Changes}
+use Rattle.elab_entry.proofs.elab_scopes.elab_expr.Unmoved.{unmoved_trans}
+use Rattle.elab_entry.proofs.elab_scopes.Labelling.{unmoved_state}
 use Rattle.elab_entry.specs.elab_types.Syntax.{trees_at, tree_at}
 use Rattle.class_members.specs.Shown.{Answers}
-use Rattle.elab_decls.proofs.Steps.{faults_then}
+use Rattle.elab_decls.proofs.Steps.{faults_then, faults_same}
 use Rattle.elab_units.proofs.KidSteps.{trees_step, trees_past}
 use Rattle.elab_members.specs.Whole.{Stands}
-use Rattle.elab_leaving.specs.Declaring.{is_function_form, file_header, has_trees, only_declared, declarator_by, file_started, defined_with, defined_header}
-use Rattle.elab_leaving.specs.Declaring.{defined_steps, defined_typed, are_three, declaration_of, declarations_of}
+use Rattle.elab_leaving.specs.Declaring.{is_function_form, file_header, has_trees, only_declared, declarator_by, file_typed, file_started, defined_with}
+use Rattle.elab_leaving.specs.Declaring.{defined_header, defined_steps, defined_by, defined_typed, are_three, declaration_of, declarations_of}
 
 -- Trees, one behind the other
 
@@ -167,7 +173,55 @@ started_is s st at (more (node k.DeclSpecifier p None kids) ts) x = refl
 started_is s st at (more (node k.TypeSpecifierSeq p token kids) ts) x = refl
 started_is s st at (more (node kind p token kids) ts) x = refl
 
+typed_is : (s : List Lexeme) (st : State) (x : Storage) (at : At) (tree : Tree) (kind : NodeKind) (p : SyntaxAt) (token : Option ℕ) (kids rest : Trees)
+    → tree ≡ node kind p token kids → kind ≡ k.TypeSpecifierSeq
+    → file_typed s st x at (more tree rest) ≡ and_then (type_of_specifiers s st.ctx st.work tree) (λ (t : Typ). file_declarators s x t st rest)
+typed_is s st x at tree kind p token kids rest e h =
+    subst (λ (z : Tree). file_typed s st x at (more z rest) ≡ and_then (type_of_specifiers s st.ctx st.work z) (λ (t : Typ). file_declarators s x t st rest))
+    (sym (e ∙ ap (λ (z : NodeKind). node z p token kids) h)) refl
+
+-- nothing that was made for the type is kept
+pub typed_then : (s : List Lexeme) (a b : StateRec) (w : WorkRec) (x : Storage) (at : At) (tree : Tree) (kind : NodeKind) (p : SyntaxAt) (token : Option ℕ)
+    (kids rest : Trees) (t : Typ) (r : Result (Unit {0}) ElabFault) → tree ≡ node kind p token kids → kind ≡ k.TypeSpecifierSeq
+    → type_of_specifiers s (ctx_of a.env) (work_of a.work) tree ≡ Ok t → Unmoved a.work w
+    → Answers (state_of b) r (file_declarators s x t (state_of (record a { work = w })) rest)
+    → Answers (state_of b) r (file_typed s (state_of a) x at (more tree rest))
+typed_then s a b w x at tree kind p token kids rest t r e h g u m =
+    answers_so (state_of b) r (file_declarators s x t (state_of (record a { work = w })) rest) (file_typed s (state_of a) x at (more tree rest))
+    (typed_is s (state_of a) x at tree kind p token kids rest e h
+    ∙ ap (λ (z : Result Typ ElabFault). and_then z (λ (y : Typ). file_declarators s x y (state_of a) rest)) g
+    ∙ ap (λ (z : State). file_declarators s x t z rest) (sym (unmoved_state a w u))) m
+
 -- Definitions
+
+module _ (s : List Lexeme) (a : StateRec) (v : WorkRec) (known x : Storage) (whole ts : Trees) (at : At) (first : ℕ) (base d body : Tree) (t : Typ)
+    (three : ts ≡ more base (more d (more body none))) (typed : type_of_specifiers s (ctx_of a.env) (work_of a.work) base ≡ Ok t) (same : Unmoved a.work v) where
+  -- up to its declarator
+  behind_type : defined_typed s (state_of a) known whole x at first ts ≡ and_then (declared_by s (ctx_of a.env) (work_of v) at t d)
+      (λ (r : Declared). defined_by s (state_of a) known whole x at first r body (is_qualified r))
+  behind_type = ap (defined_typed s (state_of a) known whole x at first) three
+      ∙ ap (λ (z : Result Typ ElabFault). and_then z (λ (y : Typ). and_then (declared_by s (ctx_of a.env) (work_of a.work) at y d)
+      (λ (r : Declared). defined_by s (state_of a) known whole x at first r body (is_qualified r)))) typed
+      ∙ ap (λ (z : Work). and_then (declared_by s (ctx_of a.env) z at t d)
+      (λ (r : Declared). defined_by s (state_of a) known whole x at first r body (is_qualified r))) (sym same.work)
+
+  -- nothing that was made for its type and its declarator is kept
+  pub defined_then : (b : StateRec) (w : WorkRec) (r : Declared) (q : Bool) (u : Result (Unit {0}) ElabFault)
+      → declared_by s (ctx_of a.env) (work_of v) at t d ≡ Ok r → Unmoved v w → is_qualified r ≡ q
+      → Answers (state_of b) u (defined_by s (state_of (record a { work = w })) known whole x at first r body q)
+      → Answers (state_of b) u (defined_typed s (state_of a) known whole x at first ts)
+  defined_then b w r q u e n h m =
+      answers_so (state_of b) u (defined_by s (state_of (record a { work = w })) known whole x at first r body q)
+      (defined_typed s (state_of a) known whole x at first ts)
+      (behind_type ∙ ap (λ (z : Result Declared ElabFault). and_then z
+      (λ (y : Declared). defined_by s (state_of a) known whole x at first y body (is_qualified y))) e
+      ∙ ap (λ (z : Bool). defined_by s (state_of a) known whole x at first r body z) h
+      ∙ ap (λ (z : State). defined_by s z known whole x at first r body q) (sym (unmoved_state a w (unmoved_trans a.work v w same n)))) m
+
+  pub defined_fails : (f : ElabFault) → Faults f (declared_by s (ctx_of a.env) (work_of v) at t d)
+      → Faults f (defined_typed s (state_of a) known whole x at first ts)
+  defined_fails f m = faults_same f _ _ behind_type (faults_then f (declared_by s (ctx_of a.env) (work_of v) at t d)
+      (λ (r : Declared). defined_by s (state_of a) known whole x at first r body (is_qualified r)) m)
 
 pub definition_steps : (s : List Lexeme) (st : State) (x : Storage) (at : At) (first : ℕ) (d : Declared) (body : Tree) (f : Form) → is_function_form f ≡ true
     → defined_with s st x at first d body f ≡ defined_steps s st x at first d body f

@@ -169,6 +169,8 @@ pub fn no_classes(alloc: Global) -> Classes
 {
     Classes {
         classes: Vec::new(alloc),
+        completed: 0,
+        layouts: Vec::new(alloc),
         traits: Vec::new(alloc),
         slots: Vec::new(alloc),
     }
@@ -203,6 +205,8 @@ fn bare_classes(alloc: Global, known: Classes) -> Result<Classes, AllocError>
     let traits = bare_traits(alloc, &known.traits)?;
     Ok(Classes {
         classes: known.classes,
+        completed: known.completed,
+        layouts: known.layouts,
         traits,
         slots: known.slots,
     })
@@ -220,6 +224,8 @@ fn start_with(alloc: Global, source: u32, known: Classes) -> Result<State, Alloc
         scopes,
         types: TypeNames::new(alloc),
         classes: known.classes,
+        completed: known.completed,
+        layouts: known.layouts,
         traits: known.traits,
         slots: known.slots,
         defaults: Vec::new(alloc),

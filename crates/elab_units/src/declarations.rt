@@ -1,6 +1,6 @@
 // Declarations at file scope in the order of the text (C++14 3.5, clause 7).
 
-ghost use Rattle.std.specs.Prelude.{◌≡◌, ◌<◌, ℕ, List, length, true, false, Option, Some, None, Err};
+ghost use Rattle.std.specs.Prelude.{◌≡◌, ◌<◌, ℕ, List, length, true, false, Option, Some, None, Err, IfOk};
 ghost use Rattle.elab_entry.specs.cpp_ast.Orders.{are_below};
 ghost use Rattle.elab_entry.specs.cpp_ast.Trees.{Tree, node, Trees, more};
 ghost use Rattle.elab_entry.specs.cpp_ast.declared.arena.At.{At as SyntaxAt};
@@ -20,6 +20,7 @@ ghost use Rattle.elab_entry.specs.elab_rules.Globals.{global_declared as global_
 ghost use Rattle.elab_entry.specs.elab_rules.Members.{declared_only};
 ghost use Rattle.elab_entry.specs.elab_rules.Statements.{State as StateOf, is_own_name as is_own_name_of, name_of as name_of_of, bound_by_initialiser as bound_by_initialiser_of};
 ghost use Rattle.elab_entry.specs.elab_rules.Units.{declared_of_type as declared_of_type_of, file_declarator as file_declarator_of, file_declarators as file_declarators_of, file_declaration as file_declaration_of, alias_of as alias_of_of, is_c as is_c_of};
+ghost use Rattle.elab_entry.specs.elab_scopes.elab_expr.Unmoved.{Unmoved};
 ghost use Rattle.elab_entry.specs.elab_scopes.States.{state_of};
 ghost use Rattle.elab_entry.specs.elab_types.Shown.{Says, declared_of};
 ghost use Rattle.elab_entry.specs.elab_types.Syntax.{syntax_of, tree_at, trees_at};
@@ -192,7 +193,7 @@ fn declarator_declared(
     let Some(first) = kid_at(kids, 0) else {
         return Err(ill(at, IllRule::OutOfProfile));
     };
-    let found = declared_by(alloc, &st.env, tokens, nodes, at, ty, first, &st.work)?;
+    let found = declared_by(alloc, &st.env, tokens, nodes, at, ty, first, &mut st.work)?;
     if !is_own_name(&found) {
         return Err(ill(at, IllRule::BadDeclaration));
     }
@@ -269,7 +270,7 @@ fn declarators_typed(
     if !is_specifiers(node_at(nodes, base).kind) {
         return Err(ill(at, IllRule::OutOfProfile));
     }
-    let ty = specified(alloc, &st.env, tokens, nodes, base, &st.work)?;
+    let ty = specified(alloc, &st.env, tokens, nodes, base, &mut st.work)?;
     file_declarators(alloc, tokens, nodes, st, storage, &ty, rest)
 }
 
@@ -301,10 +302,11 @@ fn type_written(
     tokens: &Tokens,
     nodes: &Nodes,
     id: NodeId,
-    work: &Work,
+    work: &mut Work,
 ) -> Result<Ty, ElabFault>
     requires { id.0 < length nodes.now }
-    ensures { Says typ_of result (type_id_of (lexemes_of tokens.now) (ctx_of env.now) (work_of work.now) (tree_at (syntax_of nodes.now) id)) }
+    ensures says { Says typ_of result (type_id_of (lexemes_of tokens.now) (ctx_of env.now) (work_of work.old) (tree_at (syntax_of nodes.now) id)) }
+    ensures kept { IfOk result (λ ty. Unmoved work.old work.new) }
 {
     type_id(alloc, env, &env.closures, tokens, nodes, id, work)
 }
@@ -325,7 +327,7 @@ fn alias_of(
     let Some(first) = first_kid(kids) else {
         return Err(ill(at, IllRule::OutOfProfile));
     };
-    let ty = type_written(alloc, &st.env, tokens, nodes, first, &st.work)?;
+    let ty = type_written(alloc, &st.env, tokens, nodes, first, &mut st.work)?;
     alias_declared(alloc, &mut st.env, at, name, &ty)
 }
 

@@ -6,7 +6,7 @@ ghost use Rattle.elab_entry.specs.cpp_ast.Trees.{Tree, Trees, none, more};
 ghost use Rattle.elab_entry.specs.cpp_lex.Tokens.{lexemes_of};
 ghost use Rattle.elab_entry.specs.cpp_types.Typ.{typ_of};
 ghost use Rattle.elab_entry.specs.cpp_tree.Typing.{form_in};
-ghost use Rattle.elab_entry.specs.elab_rules.Units.{brace_of as brace_of_of, definition_text as definition_text_of};
+ghost use Rattle.elab_entry.specs.elab_rules.Units.{brace_of as brace_of_of, definition_text as definition_text_of, is_qualified as is_qualified_of};
 ghost use Rattle.elab_entry.specs.elab_scopes.States.{state_of};
 ghost use Rattle.elab_entry.specs.elab_types.Shown.{declared_of};
 ghost use Rattle.elab_entry.specs.elab_types.Syntax.{syntax_of, tree_at, trees_at};
@@ -132,6 +132,13 @@ fn parts_of(ids: &[NodeId]) -> Option<Parts>
     }
 }
 
+// Whether a declarator names the class that the function is of.
+fn is_qualified(declared: &Declared) -> bool
+    ensures { result ≡ is_qualified_of (declared_of declared.now) }
+{
+    declared.owner.is_some()
+}
+
 // The same where the words before it are known.
 fn defined_behind(
     alloc: Global,
@@ -152,7 +159,7 @@ fn defined_behind(
     let Some(parts) = parts_of(rest) else {
         return Err(ill(at, IllRule::OutOfProfile));
     };
-    let ty = specified(alloc, &st.env, tokens, nodes, parts.base, &st.work)?;
+    let ty = specified(alloc, &st.env, tokens, nodes, parts.base, &mut st.work)?;
     let found = declared_by(
         alloc,
         &st.env,
@@ -161,9 +168,9 @@ fn defined_behind(
         at,
         &ty,
         parts.declarator,
-        &st.work,
+        &mut st.work,
     )?;
-    if found.owner.is_some() {
+    if is_qualified(&found) {
         return member_defined(
             alloc,
             &UnitLambdas,

@@ -40,6 +40,8 @@ fn unit_made(alloc: Global, unit: &Unit, whole: &WholeUnit, st: State) -> Result
     };
     let known = Classes {
         classes: env.classes,
+        completed: env.completed,
+        layouts: env.layouts,
         traits: env.traits,
         slots: env.slots,
     };

@@ -21,7 +21,6 @@ use Rattle.src_bind.specs.Tables.{Given, name_in, no_name, slot_in, linked_of, t
 use Rattle.src_bind.specs.declared.choices.Choices.{Choices}
 use Rattle.src_link.specs.Slots.{slot_function, is_that, symbol_among, or_else, first_symbol, slot_symbol, safe_row, safe_rows, AreChoices}
 use Rattle.tree_fold.specs.Programs.{folded_func, folded_unit, folded_program}
-use Rattle.tree_fold.specs.Declaring.{DeclaresPlainly}
 use Rattle.fold_events.specs.Keeping.{Keeps}
 use Rattle.fold_events.proofs.Shown.{program_shown}
 use Rattle.fold_events.proofs.Program.{shown_keeps}
@@ -71,10 +70,9 @@ slot_kept : (t : TypedProgram) (s : SlotFunc) → slot_symbol (folded_program t)
 slot_kept t s = ap (λ (find : Function → Option (List ℕ)). option_and_then find (slot_function t s))
     (fun_ext (λ (f : Function). ap (λ (z : Option (List ℕ)). cond f.pure_virtual None z) (first_symbol_kept (has_volatile_part t.classes) s.class f t.units)))
 
-pub choices_kept : (p : Units) (c : Choices) → WellFormed p → DeclaresPlainly (program_of p) → AreChoices (program_of p) c
-    → AreChoices (folded_program (program_of p)) c
-choices_kept p c well plain are = record {
-  safe = are.safe ∙ sym (rows_kept (has_volatile_part (program_of p).classes) (program_of p) (folded_program (program_of p)) (is_safe_kept p well plain) 0
+pub choices_kept : (p : Units) (c : Choices) → WellFormed p → AreChoices (program_of p) c → AreChoices (folded_program (program_of p)) c
+choices_kept p c well are = record {
+  safe = are.safe ∙ sym (rows_kept (has_volatile_part (program_of p).classes) (program_of p) (folded_program (program_of p)) (is_safe_kept p well) 0
       (program_of p).units);
   symbols = are.symbols ∙ sym (map_same (map (slot_symbol (folded_program (program_of p)))) (map (slot_symbol (program_of p)))
       (map_same (slot_symbol (folded_program (program_of p))) (slot_symbol (program_of p)) (slot_kept (program_of p))) (program_of p).slots);

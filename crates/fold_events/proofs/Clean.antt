@@ -24,7 +24,8 @@ use Rattle.cpp_tree.specs.cpp_types.declared.ranks.Cat.TheVariants.{Prvalue}
 use Rattle.cpp_tree.specs.Trees.{Tree, node, Trees, none, more, kind_of, typ_in, first, rest}
 use Rattle.cpp_tree.specs.Typing.{is_void}
 use Rattle.tx_unsafe.specs.Volatile.{is_volatile_object, is_class_object, is_volatile_class}
-use Rattle.tx_unsafe.specs.Unsafe.{own, own_in, own_in_all, is_exception, calls_in, calls_in_all, counted, called, sites, is_atomic, is_local, first_of, place_of, where_so}
+use Rattle.tx_unsafe.specs.Unsafe.{own, own_in, own_in_all, is_exception, calls_in, calls_in_all, counted, called, sites, is_atomic, is_local, first_of}
+use Rattle.tx_unsafe.specs.Unsafe.{place_of, where_so}
 use Rattle.tx_unsafe.specs.declared.finding.Finding.{Finding}
 use Rattle.tx_unsafe.specs.declared.finding.CallSite.{CallSite}
 use Rattle.tx_safety.specs.Safe.{is_empty}
@@ -34,8 +35,9 @@ use Rattle.tree_fold.specs.Constants.{is_integer, integer_word, both_words, oper
 use Rattle.tree_fold.specs.Folding.{stands_for, only_taken, taken_by, taken, literal_or, folded, all_folded}
 use Rattle.fold_events.proofs.Steady.{typ_kept}
 use Rattle.fold_events.proofs.Comes.{guarded}
-use Rattle.fold_events.proofs.Fitting.{first_true, last_true, zeros_stay, fits_kids, kid_fits, rest_fits, same_tree}
-use Rattle.tree_fold.specs.Declaring.{is_init, is_choice, declares_plainly, all_declare_plainly}
+use Rattle.fold_events.proofs.Fitting.{fits_kids, kid_fits, rest_fits, same_tree}
+use Rattle.tree_fold.proofs.Tests.{first_true, last_true}
+use Rattle.tree_fold.proofs.Zeros.{zeros_stay}
 
 -- Lists
 
@@ -217,39 +219,32 @@ module _ (v : ℕ → Bool) where
   abbrev init_findings : (declares writes : Bool) → (at place : At) → List Finding
   init_findings declares writes at place = (where_so declares at VolatileLocal ++ [] ++ []) ++ ([] ++ where_so writes place VolatileWrite ++ []) ++ ([] ++ [])
 
-  init_places : (d w : Bool) (at x y : At) → is_empty (init_findings d w at x) ≡ is_empty (init_findings d w at y)
-  init_places true true at x y = refl
-  init_places true false at x y = refl
-  init_places false true at x y = refl
-  init_places false false at x y = refl
+  -- whatever tells the object, it is found where it is volatile
+  init_is : (named class marked : Bool) (at place : At) → is_empty (init_findings ((named || not class) && marked) (class && marked) at place) ≡ not marked
+  init_is true true true at place = refl
+  init_is true true false at place = refl
+  init_is true false true at place = refl
+  init_is true false false at place = refl
+  init_is false true true at place = refl
+  init_is false true false at place = refl
+  init_is false false true at place = refl
+  init_is false false false at place = refl
 
   own_alike : (kind : TKind) (t : Typ) (cat : Cat) (at : At) (kids : Trees) → typ_in (first (all_folded v kids)) ≡ typ_in (first kids)
-      → (is_init kind ≡ true → is_local (kind_of (first (all_folded v kids))) ≡ is_local (kind_of (first kids)))
       → is_empty (own v kind t cat at (first_of (all_folded v kids)) (first_of (rest (all_folded v kids))))
       ≡ is_empty (own v kind t cat at (first_of kids) (first_of (rest kids)))
-  own_alike kind t cat at none e f = refl
-  own_alike Init t cat at (more a ts) e f =
-      ap₂ (λ (x : Bool) (y : Typ). is_empty (init_findings ((x || not (is_class_object y)) && is_volatile_object v y) (is_volatile_class v y) at
-      (place_of at (first_of (all_folded v ts))))) (f refl) e
-      ∙ init_places ((is_local (kind_of a) || not (is_class_object (typ_in a))) && is_volatile_object v (typ_in a)) (is_volatile_class v (typ_in a)) at
-      (place_of at (first_of (all_folded v ts))) (place_of at (first_of ts))
-  own_alike (Update op stored operation true old) t cat at (more a ts) e f = refl
-  own_alike (Update op stored operation false old) t cat at (more a ts) e f = refl
-  own_alike PointerCall t cat at (more a ts) e f = rw e refl
-  own_alike (Handler (Some place)) t cat at (more a ts) e f = refl
-  own_alike (Handler None) t cat at (more a ts) e f = refl
-  own_alike kind t cat at (more a ts) e f = refl
-
-  literal_no_local : (o : Option ℕ) (t : Typ) (at : At) (tree : Tree) → is_local (kind_of tree) ≡ false → is_local (kind_of (literal_or o t at tree)) ≡ false
-  literal_no_local None t at tree e = e
-  literal_no_local (Some w) t at tree e = refl
-
-  local_kept : (a : Tree) → is_choice (kind_of a) ≡ false → is_local (kind_of (folded v a)) ≡ is_local (kind_of a)
-  local_kept (node Conditional t cat at kids) e = absurd cc
-  local_kept (node (Convert to) t cat at kids) e = literal_no_local (constant (Convert to) t cat (all_folded v kids)) t at _ refl
-  local_kept (node (Binary op kind) t cat at kids) e = literal_no_local (constant (Binary op kind) t cat (all_folded v kids)) t at _ refl
-  local_kept (node Comma t cat at kids) e = literal_no_local (constant Comma t cat (all_folded v kids)) t at _ refl
-  local_kept (node kind t cat at kids) e = refl
+  own_alike kind t cat at none e = refl
+  own_alike Init t cat at (more a ts) e =
+      init_is (is_local (kind_of (folded v a))) (is_class_object (typ_in (folded v a))) (is_volatile_object v (typ_in (folded v a))) at
+      (place_of at (first_of (all_folded v ts)))
+      ∙ ap (λ (y : Typ). not (is_volatile_object v y)) e
+      ∙ sym (init_is (is_local (kind_of a)) (is_class_object (typ_in a)) (is_volatile_object v (typ_in a)) at (place_of at (first_of ts)))
+  own_alike (Update op stored operation true old) t cat at (more a ts) e = refl
+  own_alike (Update op stored operation false old) t cat at (more a ts) e = refl
+  own_alike PointerCall t cat at (more a ts) e = rw e refl
+  own_alike (Handler (Some place)) t cat at (more a ts) e = refl
+  own_alike (Handler None) t cat at (more a ts) e = refl
+  own_alike kind t cat at (more a ts) e = refl
 
   stay_alike : (kind : TKind) (t : Typ) (cat : Cat) (at : At) (kids : Trees) → AllAlike kids (all_folded v kids)
       → is_empty (own v kind t cat at (first_of (all_folded v kids)) (first_of (rest (all_folded v kids))))
@@ -438,31 +433,17 @@ module _ (v : ℕ → Bool) where
   first_typ s pos ks (more t ts) e = kid_typ (is_zero_role (unwrap_or (role_at ks 0) Value)) s pos (unwrap_or (role_at ks 0) Value) t
       (kid_fits v s pos ks 0 t ts e)
 
-  first_local : (kids : Trees) → is_choice (kind_of (first kids)) ≡ false → is_local (kind_of (first (all_folded v kids))) ≡ is_local (kind_of (first kids))
-  first_local none e = refl
-  first_local (more a ts) e = local_kept a e
-
-  plain_choice : (a b : Bool) → not (a && b) ≡ true → a ≡ true → b ≡ false
-  plain_choice true b e f = false_of b e
-  plain_choice false b e f = absurd cc
-
   mutual
-    pub alike_tree : (s : Setting) (pos : Position) (role : Role) (t : Tree) → fits s pos role t ≡ true → declares_plainly t ≡ true → Alike t (folded v t)
-    alike_tree s pos role (node kind t cat at kids) e d =
+    pub alike_tree : (s : Setting) (pos : Position) (role : Role) (t : Tree) → fits s pos role t ≡ true → Alike t (folded v t)
+    alike_tree s pos role (node kind t cat at kids) e =
         let f = fits_kids v s pos role kind t cat at kids e in
-        node_alike kind t cat at kids
-        (alike_kids s (inside kind pos) (kids_in role kind t (heads_of kids)) 0 kids f
-        (last_true (not (is_init kind && is_choice (kind_of (first kids)))) (all_declare_plainly kids) d))
-        (own_alike kind t cat at kids (first_typ s (inside kind pos) (kids_in role kind t (heads_of kids)) kids f)
-        (λ i. first_local kids (plain_choice (is_init kind) (is_choice (kind_of (first kids)))
-        (first_true (not (is_init kind && is_choice (kind_of (first kids)))) (all_declare_plainly kids) d) i)))
+        node_alike kind t cat at kids (alike_kids s (inside kind pos) (kids_in role kind t (heads_of kids)) 0 kids f)
+        (own_alike kind t cat at kids (first_typ s (inside kind pos) (kids_in role kind t (heads_of kids)) kids f))
 
-    alike_kids : (s : Setting) (pos : Position) (ks : Kids) (i : ℕ) (ts : Trees) → kids_fit s pos ks i ts ≡ true → all_declare_plainly ts ≡ true
-        → AllAlike ts (all_folded v ts)
-    alike_kids s pos ks i none e d = record { clean = λ inside. refl; calls = λ inside. refl }
-    alike_kids s pos ks i (more t ts) e d =
+    alike_kids : (s : Setting) (pos : Position) (ks : Kids) (i : ℕ) (ts : Trees) → kids_fit s pos ks i ts ≡ true → AllAlike ts (all_folded v ts)
+    alike_kids s pos ks i none e = record { clean = λ inside. refl; calls = λ inside. refl }
+    alike_kids s pos ks i (more t ts) e =
         more_alike t (folded v t) ts (all_folded v ts)
         (kid_alike (is_zero_role (unwrap_or (role_at ks i) Value)) s pos (unwrap_or (role_at ks i) Value) t
-        (λ f. alike_tree s pos (unwrap_or (role_at ks i) Value) t f (first_true (declares_plainly t) (all_declare_plainly ts) d))
-        (kid_fits v s pos ks i t ts e))
-        (alike_kids s pos ks (suc i) ts (rest_fits v s pos ks i t ts e) (last_true (declares_plainly t) (all_declare_plainly ts) d))
+        (λ f. alike_tree s pos (unwrap_or (role_at ks i) Value) t f) (kid_fits v s pos ks i t ts e))
+        (alike_kids s pos ks (suc i) ts (rest_fits v s pos ks i t ts e))

@@ -1,5 +1,4 @@
 pub mod Lagging
-pub mod Types
 pub mod Steady
 pub mod Shown
 pub mod Calls

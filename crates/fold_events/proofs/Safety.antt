@@ -19,7 +19,6 @@ use Rattle.tx_safety.specs.Safe.{is_promised, is_passed, may_call, is_empty, is_
 use Rattle.tx_safety.specs.Safe.{funcs_findings, unit_findings, program_findings, IsSafe}
 use Rattle.tree_fold.specs.Folding.{folded}
 use Rattle.tree_fold.specs.Programs.{folded_func, folded_unit, folded_program}
-use Rattle.tree_fold.specs.Declaring.{DeclaresPlainly}
 use Rattle.fold_events.proofs.Clean.{empty_both, Alike, alike_tree}
 use Rattle.fold_events.proofs.Linking.{map_get, found_in, some_kept}
 
@@ -113,7 +112,7 @@ empty_is (x ∷ xs) e = absurd cc
 is_empty_of : {A : Type 0} (xs : List A) → xs ≡ [] → is_empty xs ≡ true
 is_empty_of xs e = ap is_empty e
 
-module _ (p : Units) (well : WellFormed p) (plain : DeclaresPlainly (program_of p)) where
+module _ (p : Units) (well : WellFormed p) where
   abbrev typed : TypedProgram
   typed = program_of p
 
@@ -134,8 +133,7 @@ module _ (p : Units) (well : WellFormed p) (plain : DeclaresPlainly (program_of 
       )
 
   parts_of : (u n : ℕ) (x : TypedUnit) (f : Func) → slice_get typed.units u ≡ Some x → slice_get x.funcs n ≡ Some f → SameParts marks f
-  parts_of u n x f e g = same_parts marks f (λ body h. let s = fits_of u n x f body e g h in alike_tree marks s.0 outermost Statement body s.1
-      (plain.bodies u n x f body e g h))
+  parts_of u n x f e g = same_parts marks f (λ body h. let s = fits_of u n x f body e g h in alike_tree marks s.0 outermost Statement body s.1)
 
   unit_safe : (u n : ℕ) (o : Option TypedUnit) → ((x : TypedUnit) → o ≡ Some x → (n : ℕ) (f : Func) → slice_get x.funcs n ≡ Some f → SameParts marks f)
       → passes (λ (x : TypedUnit). safe marks x.funcs unit_end n) (option_map (folded_unit marks) o)

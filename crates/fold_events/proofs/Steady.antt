@@ -13,7 +13,7 @@ use Rattle.cpp_tree.specs.Trees.{Tree, node, Trees, none, more, kind_of, typ_in,
 use Rattle.src_mean.specs.Source.{is_case, is_default}
 use Rattle.tree_fold.specs.Constants.{constant}
 use Rattle.tree_fold.specs.Folding.{taken, literal_or}
-use Rattle.fold_events.proofs.Types.{typ_same}
+use Rattle.tree_fold.proofs.Types.{typ_same}
 
 -- neither a label, nor a destruction, nor a field
 abbrev pub is_unmarked : TKind → Bool

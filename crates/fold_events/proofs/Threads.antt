@@ -1,5 +1,5 @@
 -- The thread of the folded program leaves out silent steps of the thread of the program.
-use Rattle.std.proofs.Common.{◌≡◌, ℕ, ℤ, zero, suc, ◌*◌, ◌==◌, Bool, true, false, refl, ap, ◌∙◌, List, [], ◌∷◌, ◌++◌, Option, Some, None, cond, Result, Ok, Err}
+use Rattle.std.proofs.Common.{◌≡◌, ℕ, ℤ, zero, suc, ◌*◌, ◌==◌, Bool, true, false, refl, ap, List, [], ◌∷◌, ◌++◌, cond, Result, Ok, Err}
 use Rattle.cpp_tree.specs.tx_ints.declared.kinds.ArithTrap.{ArithTrap}
 use Rattle.cpp_tree.specs.tx_ints.Words.{word_of}
 use Rattle.cpp_tree.specs.tx_events.declared.Event.TheVariants.{Silent}
@@ -12,13 +12,13 @@ use Rattle.src_mean.specs.Frames.{Here, throws, returns, pointer, Frame, Run, Th
 use Rattle.src_mean.specs.Frames.{Choose, AssignTo, UpdateAt, UpdateOld, UpdateBy, CopyTo, CopyBy, From, Words, Object, Slot, Pointer, Passes, Called, Full}
 use Rattle.src_mean.specs.Frames.{Keeps, Scope, Waits, InitAt, Cleans, Due, Destroys, Parts, Each, Items, Test, Body, Step, Picks, Compares, Switches, Opens}
 use Rattle.src_mean.specs.Frames.{Within, Closes, Throws, Fills, Filled, Tries, Trying, Takes, Taking, Handling, Returning, Starts, Halted, Ended, State, at}
-use Rattle.src_mean.specs.Source.{source, give, converted, applied, plus, finish, run_items, compare, case_word, from_label, is_case, enter, first_end}
+use Rattle.src_mean.specs.Source.{source, give, converted, applied, plus, finish, run_items, compare, case_word, from_label, is_case, first_end}
 use Rattle.src_mean.specs.Source.{with_temporaries, begins, main_state, empty_stack, reply_word}
 use Rattle.fold_events.specs.Lagging.{Lags}
 use Rattle.fold_events.specs.Keeping.{calls}
 use Rattle.fold_events.proofs.Lagging.{same_events, no_more_steps}
 use Rattle.fold_events.proofs.Steady.{steady}
-use Rattle.fold_events.proofs.Shown.{here_shown, frames_shown, state_shown, func_shown, program_shown, either_shown, puts_some_shown, waiting_kept, leave_shown}
+use Rattle.fold_events.proofs.Shown.{here_shown, frames_shown, state_shown, program_shown, either_shown, puts_some_shown, waiting_kept, leave_shown}
 use Rattle.fold_events.proofs.Calls.{enter_shown, next_word_shown, call_shown, call_slot_shown, destroy_shown, take_field_shown, fill_field_shown}
 use Rattle.fold_events.proofs.Calls.{compare_shown, handle_shown}
 use Rattle.fold_events.proofs.Nodes.{Follows, shown_at, run_kept}

@@ -1,6 +1,6 @@
 //! What holds of a program and the folded one. A function here does nothing: its clauses are the laws.
 
-ghost use Rattle.std.specs.Prelude.{◌≡◌, ℕ, true, false};
+ghost use Rattle.std.specs.Prelude.{◌≡◌, ℕ};
 ghost use Rattle.cpp_tree.specs.tx_events.declared.Reply.{Reply};
 ghost use Rattle.cpp_tree.specs.tx_events.Same.{SameEvents, StepsWithin};
 ghost use Rattle.cpp_tree.specs.declared.program.Program.{Program};
@@ -12,7 +12,6 @@ ghost use Rattle.src_link.specs.Slots.{AreChoices};
 ghost use Rattle.src_mean.specs.Links.{first_cells, globals_size};
 ghost use Rattle.tree_fold.specs.Programs.{folded_program};
 ghost use Rattle.tx_safety.specs.Safe.{IsSafe, is_safe};
-ghost use Rattle.tree_fold.specs.Declaring.{DeclaresPlainly};
 ghost use Rattle.fold_events.specs.Keeping.{Linking, linked_by, Keeps};
 ghost use Rattle.fold_events.specs.Lagging.{Lags};
 
@@ -29,15 +28,15 @@ pub fn same_bound()
     ensures { (g h : Given) → WellFormed g.program → program_of h.program ≡ folded_program (program_of g.program) → h.choices ≡ g.choices → Keeps (linked_of g) (linked_of h) }
 {}
 
-/// The choices by which a program is bound are those of the folded one, where each declaration names its variable.
+/// The choices by which a program is bound are those of the folded one.
 pub fn same_choices()
-    ensures { (p : Program) (c : Choices) → WellFormed p → DeclaresPlainly (program_of p) → AreChoices (program_of p) c → AreChoices (folded_program (program_of p)) c }
+    ensures { (p : Program) (c : Choices) → WellFormed p → AreChoices (program_of p) c → AreChoices (folded_program (program_of p)) c }
 {}
 
-/// Each function is safe exactly where it was, and a safe program stays one, where each declaration names its variable.
+/// Each function is safe exactly where it was, and a safe program stays one.
 pub fn same_safety()
-    ensures program { (p : Program) → WellFormed p → DeclaresPlainly (program_of p) → IsSafe (program_of p) → IsSafe (folded_program (program_of p)) }
-    ensures functions { (p : Program) (unit n : ℕ) → WellFormed p → DeclaresPlainly (program_of p) → is_safe (folded_program (program_of p)) unit n ≡ is_safe (program_of p) unit n }
+    ensures program { (p : Program) → WellFormed p → IsSafe (program_of p) → IsSafe (folded_program (program_of p)) }
+    ensures functions { (p : Program) (unit n : ℕ) → WellFormed p → is_safe (folded_program (program_of p)) unit n ≡ is_safe (program_of p) unit n }
 {}
 
 /// Memory begins with the same bytes, and the globals take as many.

@@ -1,20 +1,18 @@
 -- A well-formed body is folded to a well-formed one.
-use Rattle.std.proofs.Common.{◌≡◌, ◌≤◌, refl, ap, sym, subst, ◌∙◌, arith, ℕ, Bool, true, false, ◌||◌}
+use Rattle.std.proofs.Common.{◌≡◌, refl, arith, ℕ, Bool, true, false}
 use Rattle.cpp_tree.specs.cpp_types.Typ.{Typ}
-use Rattle.cpp_tree.specs.cpp_types.Equal.{flag_eq}
-use Rattle.cpp_tree.specs.declared.kinds.TKind.{TKind}
 use Rattle.cpp_tree.specs.declared.kinds.TKind.TheVariants.{Block, Return}
 use Rattle.cpp_tree.specs.declared.program.FuncKind.{FuncKind}
 use Rattle.cpp_tree.specs.declared.roles.Role.TheVariants.{Statement}
-use Rattle.cpp_tree.specs.Trees.{Tree, node, Trees, none, more, kind_of, kids_of}
+use Rattle.cpp_tree.specs.Trees.{Tree, node, Trees, none, more, kind_of}
 use Rattle.cpp_tree.specs.Typing.{is_void}
 use Rattle.cpp_tree.specs.Rows.{Setting, result_of}
-use Rattle.cpp_tree.specs.WellFormed.{outermost, is_body_of, is_return, last_is_return, ends_well, is_free_place, places_of, WellFormedBody}
+use Rattle.cpp_tree.specs.WellFormed.{outermost, is_body_of, is_return, last_is_return, ends_well, is_free_place, WellFormedBody}
 use Rattle.tree_fold.specs.Folding.{folded, all_folded}
 use Rattle.tree_fold.specs.Declaring.{declares_plainly}
 use Rattle.setting_growth.proofs.Still.{same, one_of}
 use Rattle.fold_fits.proofs.Trees.{tree_folds}
-use Rattle.fold_fits.proofs.Places.{Fewer, tree_places}
+use Rattle.fold_fits.proofs.Places.{tree_places}
 
 module _ (v : ℕ → Bool) where
   block_kept : (f : FuncKind) (t : Tree) → is_body_of f (kind_of t) ≡ true → is_body_of f (kind_of (folded v t)) ≡ true

@@ -1,6 +1,5 @@
 -- Heads of nodes and of what they are folded to: the same, or another kind of the same type and category.
-use Rattle.std.proofs.Common.{◌≡◌, ◌⊎◌, inl, inr, refl, ap, sym, subst, ◌∙◌, ℕ, suc, Bool, true, false, ◌&&◌, ◌||◌, not, List, [], ◌∷◌, length, drop}
-use Rattle.std.proofs.Common.{slice_get}
+use Rattle.std.proofs.Common.{◌≡◌, ◌⊎◌, inl, inr, refl, ap, sym, subst, ◌∙◌, suc, Bool, true, false, ◌||◌, List, [], ◌∷◌, length, drop}
 use Rattle.std.specs.List.{list_all}
 use Rattle.cpp_tree.specs.cpp_types.Typ.{Typ}
 use Rattle.cpp_tree.specs.cpp_types.declared.ranks.Cat.{Cat}
@@ -8,10 +7,10 @@ use Rattle.cpp_tree.specs.tx_ints.declared.kinds.IntKind.{IntKind}
 use Rattle.cpp_tree.specs.tx_ints.declared.kinds.BinOp.{BinOp}
 use Rattle.cpp_tree.specs.declared.kinds.TKind.{TKind}
 use Rattle.cpp_tree.specs.declared.kinds.TKind.TheVariants.{Convert, Binary, Conditional, Comma}
-use Rattle.cpp_tree.specs.Typing.{Head, passes, is_class_prvalue, goes_both_ways}
+use Rattle.cpp_tree.specs.Typing.{Head, is_class_prvalue, goes_both_ways}
 use Rattle.cpp_tree.specs.Roles.{is_expression, is_initialiser}
 use Rattle.cpp_tree.specs.Rows.{kid, two_kids}
-use Rattle.setting_growth.proofs.Still.{Still, same, both, never}
+use Rattle.setting_growth.proofs.Still.{Still, same, both}
 
 -- kinds that are folded
 abbrev pub is_folded_kind : TKind → Bool
@@ -54,7 +53,8 @@ AllAlike (h ∷ hs) (g ∷ gs) = Alike h g × AllAlike hs gs
 
 -- a test of heads that says yes still
 abbrev pub Keeps : (Head → Bool) → Type 0
-Keeps test = (kind other : TKind) (t : Typ) (cat : Cat) → is_folded_kind kind ≡ true → Stands other t cat → Still (test (head kind t cat)) (test (head other t cat))
+Keeps test = (kind other : TKind) (t : Typ) (cat : Cat) → is_folded_kind kind ≡ true → Stands other t cat
+    → Still (test (head kind t cat)) (test (head other t cat))
 
 -- one that does not read the kind
 pub unread : (test : Typ → Cat → Bool) → Keeps (λ (h : Head). test h.typ h.cat)

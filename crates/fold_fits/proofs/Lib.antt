@@ -1,9 +1,7 @@
-mod Types
 mod Words
 mod Heads
 mod Rows
 mod Nodes
-mod Zeros
 mod Trees
 mod Places
 mod Bodies

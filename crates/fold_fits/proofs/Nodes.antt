@@ -1,10 +1,9 @@
 -- A node that fits is folded to one that fits in its place.
-use Rattle.std.proofs.Common.{◌≡◌, ◌⊎◌, inl, inr, refl, ap, sym, subst, ◌∙◌, ℕ, zero, suc, ◌==◌, Bool, true, false, ◌&&◌, ◌||◌, not, List, [], ◌∷◌, length}
-use Rattle.std.proofs.Common.{Option, Some, None, cond, drop}
+use Rattle.std.proofs.Common.{◌≡◌, inl, inr, refl, ap, sym, subst, ◌∙◌, ℕ, suc, ◌==◌, Bool, true, false, ◌&&◌, ◌||◌, not, List, [], ◌∷◌, length}
+use Rattle.std.proofs.Common.{Option, Some, None, cond}
 use Rattle.std.specs.Prelude.{unwrap_or, is_some, option_map}
 use Rattle.std.proofs.lemmas.Bool.{and_parts, and_from}
 use Rattle.std.proofs.lemmas.Option.{cond_some}
-use Rattle.std.specs.List.{list_all}
 use Rattle.cpp_tree.specs.tx_ints.declared.kinds.IntKind.{IntKind}
 use Rattle.cpp_tree.specs.tx_ints.declared.kinds.BinOp.{BinOp}
 use Rattle.cpp_tree.specs.cpp_types.Typ.{Typ, typ, Form, void, int}
@@ -14,36 +13,30 @@ use Rattle.cpp_tree.specs.cpp_types.declared.classes.At.{At}
 use Rattle.cpp_tree.specs.cpp_types.declared.ranks.Cat.{Cat}
 use Rattle.cpp_tree.specs.cpp_types.declared.ranks.Cat.TheVariants.{Lvalue, Prvalue}
 use Rattle.cpp_tree.specs.declared.kinds.TKind.{TKind}
-use Rattle.cpp_tree.specs.declared.kinds.TKind.TheVariants.{Literal, Convert, Binary, Conditional, Comma, FullExpression, Materialize, Pieces, Piece, Elements}
+use Rattle.cpp_tree.specs.declared.kinds.TKind.TheVariants.{Literal, Convert, Binary, Conditional, Comma, FullExpression, Pieces, Piece, Elements}
 use Rattle.cpp_tree.specs.declared.kinds.TKind.TheVariants.{Block, Loop, Switch, Break, Continue, Return, Try, Atomic, Synchronized, Init, Defer}
-use Rattle.cpp_tree.specs.declared.program.FuncKind.{FuncKind}
 use Rattle.cpp_tree.specs.declared.roles.Position.{Position}
 use Rattle.cpp_tree.specs.declared.roles.Role.{Role}
-use Rattle.cpp_tree.specs.declared.roles.Role.TheVariants.{Value, Word, Initialiser, CopyInit, Zero, Statement, BlockItem, SwitchItem, Step, Part, CopiedPart}
-use Rattle.cpp_tree.specs.declared.roles.Role.TheVariants.{Catch, Destruction, Scalar}
+use Rattle.cpp_tree.specs.declared.roles.Role.TheVariants.{Value, Word, Initialiser, Statement, BlockItem, SwitchItem, Step}
 use Rattle.cpp_tree.specs.Trees.{Tree, node, Trees, none, more, kind_of, typ_in, cat_of}
-use Rattle.cpp_tree.specs.Typing.{Head, head_of, is_void, is_prvalue, is_lvalue_of, is_prvalue_of, is_class_prvalue, goes_both_ways, is_class_typ, is_word_of}
+use Rattle.cpp_tree.specs.Typing.{Head, head_of, is_void, is_prvalue, is_class_prvalue, goes_both_ways, is_class_typ, is_word_of}
 use Rattle.cpp_tree.specs.Typing.{is_scalar_value, scalar_of, passes, kind_in, form_in, is_bool, is_promoted, gives}
-use Rattle.cpp_tree.specs.Roles.{Kids, only, kids_for, role_at, serves, way_fits, may_give, may_build, branch_role, result_role, is_throw, is_expression}
+use Rattle.cpp_tree.specs.Roles.{Kids, only, kids_for, role_at, serves, way_fits, branch_role, result_role, is_throw, is_expression}
 use Rattle.cpp_tree.specs.Roles.{is_initialiser, is_statement, is_block_item}
-use Rattle.cpp_tree.specs.Rows.{Setting, row_fits, is_branch, same_value, kid, two_kids, is_binary, is_comparison, result_of, is_right}
+use Rattle.cpp_tree.specs.Rows.{Setting, row_fits, is_branch, same_value, kid, is_binary, is_comparison, result_of, is_right}
 use Rattle.cpp_tree.specs.WellFormed.{heads_of, kids_in, stands, enough, is_switch, labels_fit, is_kid, is_zero_role, inside, fits, kids_fit, zeroes, may_stand}
-use Rattle.cpp_tree.specs.WellFormed.{branches_fit, has_no_typ, is_statement_role, no_object}
+use Rattle.cpp_tree.specs.WellFormed.{branches_fit, no_object}
 use Rattle.src_mean.specs.Source.{converted, applied}
 use Rattle.tree_fold.specs.Bare.{is_bare}
-use Rattle.tree_fold.specs.Constants.{is_integer, is_none, literal_word, integer_word, one_word, two_words, both_words, value_word, operator_word, comma_word}
-use Rattle.tree_fold.specs.Constants.{of_integer, constant}
+use Rattle.tree_fold.specs.Constants.{is_integer, is_none, integer_word, one_word, both_words, value_word, operator_word, comma_word}
+use Rattle.tree_fold.specs.Constants.{constant}
 use Rattle.tree_fold.specs.Folding.{is_folded_form, stands_for, only_taken, taken_by, taken, literal_or, folded_node}
-use Rattle.setting_growth.proofs.Still.{Still, same, both}
-use Rattle.fold_fits.proofs.Heads.{is_folded_kind, head, Stands, Changed, Alike}
-use Rattle.fold_fits.proofs.Types.{typ_same}
-use Rattle.fold_fits.proofs.Words.{IsWord, prvalue_is, integer_known, operator_known, converted_word, applied_word, compared_word, word_typ, literal_typ, bool_typ}
-
-pub first_true : (a b : Bool) → (a && b) ≡ true → a ≡ true
-first_true a b e = (and_parts a b e).0
-
-pub last_true : (a b : Bool) → (a && b) ≡ true → b ≡ true
-last_true a b e = (and_parts a b e).1
+use Rattle.setting_growth.proofs.Still.{same}
+use Rattle.fold_fits.proofs.Heads.{is_folded_kind, head, Alike}
+use Rattle.tree_fold.proofs.Tests.{first_true, last_true}
+use Rattle.tree_fold.proofs.Types.{typ_same}
+use Rattle.fold_fits.proofs.Words.{IsWord, prvalue_is, integer_known, operator_known, converted_word, applied_word, compared_word, word_typ}
+use Rattle.fold_fits.proofs.Words.{literal_typ, bool_typ}
 
 -- What is known of a node that fits
 
@@ -198,7 +191,8 @@ convert_word : (s : Setting) (to : IntKind) (t : Typ) (cat : Cat) (ks : Trees) (
 convert_word s to t cat ks w e r =
     let i = integer_known t cat (option_map (converted to) (one_word ks)) w e in
     let u = one_known (converted to) (one_word ks) w i.2 in
-    let p = first_true (is_prvalue cat && is_scalar_value t && scalar_of to t) (kid 0 (λ h. is_prvalue h.cat && is_some (kind_in (form_in h.typ))) (heads_of ks)) r in
+    let p = first_true (is_prvalue cat && is_scalar_value t && scalar_of to t)
+    (kid 0 (λ h. is_prvalue h.cat && is_some (kind_in (form_in h.typ))) (heads_of ks)) r in
     let q = and_parts (is_prvalue cat && is_scalar_value t) (scalar_of to t) p in
     word_typ t cat to w i.0 i.1 (last_true (is_prvalue cat) (is_scalar_value t) q.0) q.1 (ap (is_word_of to) (sym u.1) ∙ converted_word to u.0)
 
@@ -225,7 +219,7 @@ binary_word s op k t cat (more a (more b none)) w e r =
     let x = operator_known op k (both_words (integer_word a) (integer_word b)) w i.2 in
     binary_words op k t cat (head_of a) (head_of b) x.0.left x.0.right w i.0 i.1 r x.1
 binary_word s op k t cat (more a (more b (more c ts))) w e r =
-    absurd (let i = integer_known t cat None w e in let x = operator_known op k None w i.2 in let y : value_word (applied op k x.0.left x.0.right) ≡ Some w = x.1 in none_some w i.2)
+    absurd (let i = integer_known t cat None w e in none_some w i.2)
   where
     none_some : (w : ℕ) → ◌≡◌ {A = Option ℕ} None (Some w) → ⊥
     none_some w e = absurd cc
@@ -333,7 +327,8 @@ way_up SwitchItem kind t cat r e = e
 way_up Step kind t cat r e = e
 way_up role kind t cat r e = absurd cc
 
-choice_up : (role : Role) (t : Typ) (hs : List Head) → is_raised role ≡ true → branches_fit Value Conditional t hs ≡ true → branches_fit role Conditional t hs ≡ true
+choice_up : (role : Role) (t : Typ) (hs : List Head) → is_raised role ≡ true → branches_fit Value Conditional t hs ≡ true
+    → branches_fit role Conditional t hs ≡ true
 choice_up Word t hs r e = e
 choice_up Statement t hs r e = refl
 choice_up BlockItem t hs r e = refl
@@ -460,7 +455,8 @@ branch_folds s p role t cat (node kind u d at ks) r g b e =
     let same = branch_same t cat kind u d b g in
     let n = no_void t cat kind g in
     let f : cond (is_zero_role (branch_role role false)) (zeroes s.classes false (result_of s.function) x) (fits s p (branch_role role false) x) ≡ true =
-    subst (λ (z : Bool). cond (is_zero_role (branch_role role z)) (zeroes s.classes false (result_of s.function) x) (fits s p (branch_role role z) x) ≡ true) n e in
+    subst (λ (z : Bool). cond (is_zero_role (branch_role role z)) (zeroes s.classes false (result_of s.function) x)
+    (fits s p (branch_role role z) x) ≡ true) n e in
     let i : fits s p (branch_role role false) x ≡ true = own role f in
     record {
       fits = raised_from s p role x r (ap is_void same.0 ∙ n) i;

@@ -1,7 +1,7 @@
 -- Folded programs are well formed.
-use Rattle.std.proofs.Common.{◌≡◌, ◌≤◌, refl, ap, sym, subst, ◌∙◌, arith, ℕ, zero, suc, Bool, true, List, [], ◌∷◌, map, length, slice_get, Option, Some, None}
+use Rattle.std.proofs.Common.{◌≡◌, refl, ap, sym, subst, ◌∙◌, arith, ℕ, zero, suc, Bool, true, List, [], ◌∷◌, map, slice_get, Option, Some, None}
 use Rattle.std.specs.Prelude.{option_map}
-use Rattle.cpp_types.specs.Class.{Class, InOrder, classes_of}
+use Rattle.cpp_types.specs.Class.{Class, InOrder}
 use Rattle.cpp_tree.specs.declared.arena.TNodeId.{TNodeId}
 use Rattle.cpp_tree.specs.declared.program.TFunc.{TFunc}
 use Rattle.cpp_tree.specs.declared.program.UnitTree.{UnitTree}
@@ -10,15 +10,15 @@ use Rattle.cpp_tree.specs.Trees.{Tree}
 use Rattle.cpp_tree.specs.Arena.{trees_of, tree_at}
 use Rattle.cpp_tree.specs.Units.{Func, Global, SlotFunc, Unit as TypedUnit, TypedProgram, func_of, unit_of, program_of}
 use Rattle.cpp_tree.specs.Rows.{Setting}
-use Rattle.cpp_tree.specs.WellFormed.{setting_of, HasBody, WellFormedBody, WellFormedUnit, WellFormed}
+use Rattle.cpp_tree.specs.WellFormed.{setting_of, WellFormedBody, WellFormed}
 use Rattle.tx_unsafe.specs.Volatile.{has_volatile_part}
-use Rattle.setting_growth.specs.Growth.{Grows, FuncsGrow, SameBody}
+use Rattle.setting_growth.specs.Growth.{Grows, SameBody}
 use Rattle.setting_growth.proofs.Bodies.{body_law}
 use Rattle.setting_growth.proofs.Trees.{order_law}
 use Rattle.tree_fold.specs.Declaring.{DeclaresPlainly, declares_plainly}
 use Rattle.tree_fold.specs.Folding.{folded}
-use Rattle.tree_fold.specs.Forests.{HasOwnTrees, HaveOwnTrees}
 use Rattle.tree_fold.specs.Programs.{folded_func, folded_unit, folded_program}
+use Rattle.tree_forests.specs.Forests.{HaveForests}
 use Rattle.fold_fits.specs.Laws.{BodiesFit, ProgramsFit}
 use Rattle.fold_fits.specs.Settings.{folded_setting}
 use Rattle.fold_fits.proofs.Bodies.{body_folds}
@@ -77,7 +77,7 @@ body_known v trees others None root e = absurd cc
 body_known v trees others (Some id) root e = (id, refl, cc)
 
 module _ (p q : Program) (well : WellFormed p) (plain : DeclaresPlainly (program_of p)) (same : program_of q ≡ folded_program (program_of p))
-    (own : HaveOwnTrees q.units.items) where
+    (own : HaveForests q.units.items) where
   abbrev marks : ℕ → Bool
   marks = has_volatile_part (program_of p).classes
 

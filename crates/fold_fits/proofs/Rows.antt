@@ -1,15 +1,14 @@
 -- What a node asks of its kids, it finds in folded ones.
-use Rattle.std.proofs.Common.{◌≡◌, refl, ap, sym, subst, ◌∙◌, ℕ, suc, ◌*◌, ◌-◌, ◌==◌, nat_le, nat_lt, Bool, true, false, ◌&&◌, ◌||◌, not, List, [], ◌∷◌, length}
+use Rattle.std.proofs.Common.{◌≡◌, refl, ap, subst, ℕ, suc, ◌*◌, ◌-◌, ◌==◌, nat_lt, Bool, true, false, ◌&&◌, ◌||◌, not, List, [], ◌∷◌, length}
 use Rattle.std.proofs.Common.{drop, slice_get, Option, Some, None, inl, inr}
 use Rattle.std.specs.List.{list_all}
 use Rattle.std.proofs.lemmas.Bool.{and_parts, and_from}
 use Rattle.cpp_tree.specs.tx_ints.declared.kinds.IntKind.{IntKind}
-use Rattle.cpp_tree.specs.tx_ints.declared.kinds.IntKind.TheVariants.{ULong}
 use Rattle.cpp_tree.specs.tx_ints.declared.kinds.BinOp.{BinOp}
-use Rattle.cpp_tree.specs.cpp_types.Typ.{Typ, typ, Form, void, ref, array, class, closure, tx_ex, Signature}
+use Rattle.cpp_tree.specs.cpp_types.Typ.{Typ, typ, void, ref, array, class, closure, tx_ex, Signature}
 use Rattle.cpp_tree.specs.cpp_types.Class.{Class}
 use Rattle.cpp_tree.specs.cpp_types.Conversion.{is_lvalue, is_object_form}
-use Rattle.cpp_tree.specs.cpp_types.Equal.{typ_eq, form_eq, kind_eq}
+use Rattle.cpp_tree.specs.cpp_types.Equal.{typ_eq}
 use Rattle.cpp_tree.specs.cpp_types.declared.ranks.Cat.{Cat}
 use Rattle.cpp_tree.specs.cpp_types.declared.ranks.Cat.TheVariants.{Lvalue, Prvalue}
 use Rattle.cpp_tree.specs.declared.kinds.TKind.{TKind}
@@ -18,18 +17,17 @@ use Rattle.cpp_tree.specs.declared.kinds.TKind.TheVariants.{Convert, Call, Virtu
 use Rattle.cpp_tree.specs.declared.kinds.TKind.TheVariants.{Elements, Init, Defer, Loop, Switch, Case, Return, Handler}
 use Rattle.cpp_tree.specs.declared.program.FuncKind.TheVariants.{Plain}
 use Rattle.cpp_tree.specs.Typing.{Head, passes, form_in, is_void, is_prvalue, is_class_typ, is_class_prvalue, same_shape, without_exception, goes_both_ways}
-use Rattle.cpp_tree.specs.Typing.{is_temporary, initialises, builds, is_argument, is_class, Word, object, passed, is_word, are_words, is_prvalue_of, is_lvalue_of}
-use Rattle.cpp_tree.specs.Typing.{is_reference, kind_in, is_result, is_bool, is_statement_typ, unqualified, same_kind, word_kind, gives, gives_promoted}
-use Rattle.cpp_tree.specs.Parts.{Part, Scalar, part_of, size_in, has_size, is_piece_of, is_piece_at, is_at, are_part_pieces, are_class_pieces, is_last}
-use Rattle.cpp_tree.specs.Parts.{are_element_pieces, are_pieces, are_elements, is_field_of, are_fields, are_scalars, scalars_of, is_value_form, sized_class}
-use Rattle.cpp_tree.specs.Parts.{count_of_parts, has_pointer_at}
+use Rattle.cpp_tree.specs.Typing.{is_temporary, initialises, builds, is_argument, Word, object, passed, is_word, are_words}
+use Rattle.cpp_tree.specs.Typing.{is_reference, kind_in, is_result, is_bool, gives_promoted}
+use Rattle.cpp_tree.specs.Parts.{Part, Scalar, part_of, size_in, is_piece_of, is_piece_at, is_at, are_part_pieces, is_last}
+use Rattle.cpp_tree.specs.Parts.{are_element_pieces, are_pieces, are_elements, is_field_of, are_fields, are_scalars, scalars_of}
 use Rattle.cpp_tree.specs.Roles.{is_expression, is_initialiser, is_throw}
-use Rattle.cpp_tree.specs.Rows.{Setting, row_fits, is_load, is_first_place, is_retyped, is_zero_literal, is_binary, is_literal, is_loaded, is_branch, same_value}
-use Rattle.cpp_tree.specs.Rows.{is_update, is_copied_from, is_destruction, are_destructions, offsets_fall, is_thrown, is_case_of, are_cases, is_returned, is_return}
-use Rattle.cpp_tree.specs.Rows.{is_handler_of, kid, two_kids, at_place, referred, result_of, is_special, is_virtual_call, words_of, called_in, result_in, signature_words}
-use Rattle.cpp_tree.specs.Rows.{is_constructor_of, builtin_words}
+use Rattle.cpp_tree.specs.Rows.{Setting, row_fits, is_load, is_first_place, is_retyped, is_zero_literal, is_binary, is_literal, is_loaded, is_branch}
+use Rattle.cpp_tree.specs.Rows.{same_value, is_update, is_destruction, are_destructions, offsets_fall, is_case_of, are_cases, is_returned, is_return}
+use Rattle.cpp_tree.specs.Rows.{is_handler_of, kid, two_kids, referred, result_of, words_of, called_in, result_in, signature_words}
+use Rattle.cpp_tree.specs.Rows.{builtin_words}
 use Rattle.setting_growth.proofs.Still.{Still, same, equal, both, both_if, one_of, choice, each}
-use Rattle.fold_fits.proofs.Heads.{is_folded_kind, by_kinds, head, Stands, Alike, AllAlike, Keeps, kept, first_kept, second_kept, third_kept, two_kept}
+use Rattle.fold_fits.proofs.Heads.{is_folded_kind, by_kinds, Alike, AllAlike, Keeps, kept, first_kept, second_kept, third_kept, two_kept}
 use Rattle.fold_fits.proofs.Heads.{all_kept, many_kept, rest_alike, typ_alike}
 
 pub off : {a : Bool} (b : Bool) → a ≡ false → Still a b
@@ -192,7 +190,8 @@ destructions_kept s t hs gs a = record {
 }
 
 -- of the type of a kid, and of the kids behind it
-destructions_of : (s : Setting) (h g : Head) (hs gs : List Head) → Alike h g → AllAlike hs gs → Still (are_destructions s h.typ hs) (are_destructions s g.typ gs)
+destructions_of : (s : Setting) (h g : Head) (hs gs : List Head) → Alike h g → AllAlike hs gs
+    → Still (are_destructions s h.typ hs) (are_destructions s g.typ gs)
 destructions_of s h g hs gs x a = after (destructions_kept s h.typ hs gs a) (equal (ap (λ (t : Typ). are_destructions s t gs) (typ_alike h g x)))
 
 part_kept : (classes : List Class) (c v : Bool) (h g : Head) (o : Option Part) → Alike h g
@@ -218,7 +217,8 @@ element_pieces_kept e size many i [] [] a = same _
 element_pieces_kept e size many i [] (g ∷ gs) a = absurd a
 element_pieces_kept e size many i (h ∷ hs) [] a = absurd a
 element_pieces_kept e size many i (h ∷ hs) (g ∷ gs) a = both (same (nat_lt i many))
-    (one_of (both (last_kept hs gs a.1) (kept (is_piece_at (i * size) (typ (array e (many - i)) false false)) (piece_keeps (i * size) (typ (array e (many - i)) false false)) h g a.0))
+    (one_of (both (last_kept hs gs a.1)
+    (kept (is_piece_at (i * size) (typ (array e (many - i)) false false)) (piece_keeps (i * size) (typ (array e (many - i)) false false)) h g a.0))
     (both (kept (is_piece_at (i * size) e) (piece_keeps (i * size) e) h g a.0) (element_pieces_kept e size many (suc i) hs gs a.1)))
 
 pieces_kept : (classes : List Class) (t : Typ) (hs gs : List Head) → AllAlike hs gs → Still (are_pieces classes t hs) (are_pieces classes t gs)
@@ -244,8 +244,10 @@ handler_kept classes frame (Some place) t hs gs a = both (same _) (scalars_kept 
 -- Rows that look at the first kid and at the others
 
 pointer_kept : (t : Typ) (cat : Cat) (h g : Head) (hs gs : List Head) → Alike h g → AllAlike hs gs
-    → Still (is_prvalue h.cat && passes (λ (x : Signature). is_result (result_in Plain x) t cat && are_words (signature_words None x) hs) (called_in (form_in h.typ)))
-    (is_prvalue g.cat && passes (λ (x : Signature). is_result (result_in Plain x) t cat && are_words (signature_words None x) gs) (called_in (form_in g.typ)))
+    → Still (is_prvalue h.cat
+    && passes (λ (x : Signature). is_result (result_in Plain x) t cat && are_words (signature_words None x) hs) (called_in (form_in h.typ)))
+    (is_prvalue g.cat
+    && passes (λ (x : Signature). is_result (result_in Plain x) t cat && are_words (signature_words None x) gs) (called_in (form_in g.typ)))
 pointer_kept t cat h g hs gs x a = after (kept (λ (z : Head). is_prvalue z.cat
     && passes (λ (x : Signature). is_result (result_in Plain x) t cat && are_words (signature_words None x) hs) (called_in (form_in z.typ)))
     (λ kind other u c w s. same _) h g x)
@@ -267,7 +269,8 @@ elements_kept : (s : Setting) (count stride : ℕ) (t : Typ) (hs gs : List Head)
 elements_kept s count stride t [] [] a = same false
 elements_kept s count stride t [] (g ∷ gs) a = absurd a
 elements_kept s count stride t (h ∷ hs) [] a = absurd a
-elements_kept s count stride t (h ∷ hs) (g ∷ gs) a = both (kept (are_elements s.classes count stride 1 t) (elements_keeps s.classes count stride 1 t) h g a.0) (destructions_of s h g hs gs a.0 a.1)
+elements_kept s count stride t (h ∷ hs) (g ∷ gs) a =
+    both (kept (are_elements s.classes count stride 1 t) (elements_keeps s.classes count stride 1 t) h g a.0) (destructions_of s h g hs gs a.0 a.1)
 
 defer_kept : (s : Setting) (hs gs : List Head) → AllAlike hs gs
     → Still (kid 0 (λ h. is_lvalue h.cat && are_destructions s h.typ (drop 1 hs)) hs) (kid 0 (λ h. is_lvalue h.cat && are_destructions s h.typ (drop 1 gs)) gs)
@@ -318,7 +321,8 @@ init_kept s (h ∷ i ∷ hs) (g ∷ j ∷ gs) a = declared_kept s h g i j hs gs 
 bool_keeps : Keeps is_bool
 bool_keeps = λ kind other u c w s. same _
 
-pub row_kept : (s : Setting) (kind : TKind) (t : Typ) (cat : Cat) (hs gs : List Head) → AllAlike hs gs → Still (row_fits s kind t cat hs) (row_fits s kind t cat gs)
+pub row_kept : (s : Setting) (kind : TKind) (t : Typ) (cat : Cat) (hs gs : List Head) → AllAlike hs gs
+    → Still (row_fits s kind t cat hs) (row_fits s kind t cat gs)
 row_kept s (Load k marked) t cat hs gs a = first_kept _ (load_keeps (result_of s.function) k marked t cat) hs gs a
 row_kept s (Convert k) t cat hs gs a = both (same _) (first_kept _ (λ kind other u c w x. same _) hs gs a)
 row_kept s Retype t cat hs gs a = first_kept _ (retype_keeps t cat) hs gs a
@@ -347,7 +351,8 @@ row_kept s (Builtin b) t cat hs gs a = both (same _) (words_kept (builtin_words 
 row_kept s Throw t cat hs gs a = both (both (same _) (first_kept _ (λ kind other u c w x. same _) hs gs a))
     (scalars_kept s.classes t (drop 1 hs) (drop 1 gs) (rest_alike hs gs a))
 row_kept s (Store k marked) t cat hs gs a = both (same _) (first_kept _ (initialises_keeps t) hs gs a)
-row_kept s (Construct f) t cat hs gs a = both (same _) (each (slice_get s.funcs f) _ _ (λ g. both (same _) (words_kept (signature_words None g.declared.signature) hs gs a)))
+row_kept s (Construct f) t cat hs gs a =
+    both (same _) (each (slice_get s.funcs f) _ _ (λ g. both (same _) (words_kept (signature_words None g.declared.signature) hs gs a)))
 row_kept s CopyFrom t cat hs gs a = both (both (same _) (first_kept _ (λ kind other u c w x. same _) hs gs a)) (second_kept _ (builds_keeps t) hs gs a)
 row_kept s Pieces t cat hs gs a = both (same _) (pieces_kept s.classes t hs gs a)
 row_kept s (Piece offset) t cat hs gs a = both (both (same _) (first_kept _ (builds_keeps t) hs gs a))

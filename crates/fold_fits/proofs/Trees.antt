@@ -1,31 +1,29 @@
 -- Trees that fit are folded to trees that fit.
-use Rattle.std.proofs.Common.{◌≡◌, ◌⊎◌, inl, inr, refl, ap, sym, subst, ◌∙◌, ℕ, zero, suc, Bool, true, false, ◌&&◌, ◌||◌, not, List, [], ◌∷◌, length, drop}
-use Rattle.std.proofs.Common.{Option, Some, None, cond}
+use Rattle.std.proofs.Common.{◌≡◌, inl, inr, refl, ap, sym, subst, ◌∙◌, ℕ, suc, Bool, true, false, ◌&&◌, ◌||◌, not, List, [], ◌∷◌, length, drop}
+use Rattle.std.proofs.Common.{cond}
 use Rattle.std.specs.Prelude.{unwrap_or}
-use Rattle.std.specs.List.{list_all}
 use Rattle.std.proofs.lemmas.Bool.{and_parts, and_from}
 use Rattle.cpp_tree.specs.cpp_types.Typ.{Typ}
 use Rattle.cpp_tree.specs.cpp_types.declared.classes.At.{At}
 use Rattle.cpp_tree.specs.cpp_types.declared.ranks.Cat.{Cat}
 use Rattle.cpp_tree.specs.declared.kinds.TKind.{TKind}
 use Rattle.cpp_tree.specs.declared.kinds.TKind.TheVariants.{Literal, Conditional, Store, Pieces, Piece, Elements, Block, Init, Case, Default}
-use Rattle.cpp_tree.specs.declared.program.FuncKind.{FuncKind}
 use Rattle.cpp_tree.specs.declared.roles.Position.{Position}
 use Rattle.cpp_tree.specs.declared.roles.Role.{Role}
 use Rattle.cpp_tree.specs.declared.roles.Role.TheVariants.{Value}
 use Rattle.cpp_tree.specs.Trees.{Tree, node, Trees, none, more, kind_of}
 use Rattle.cpp_tree.specs.Typing.{Head, head_of, is_void, is_prvalue}
-use Rattle.cpp_tree.specs.Roles.{Kids, kids_for, role_at, is_label, is_throw, is_expression, is_initialiser}
+use Rattle.cpp_tree.specs.Roles.{Kids, kids_for, role_at, is_label, is_expression, is_initialiser}
 use Rattle.cpp_tree.specs.Rows.{Setting, result_of}
-use Rattle.cpp_tree.specs.WellFormed.{heads_of, kids_in, enough, is_switch, labels_fit, skips, is_zeroing, is_zero, are_zero, is_kid, is_zero_role, inside, fits}
-use Rattle.cpp_tree.specs.WellFormed.{kids_fit, zeroes, may_stand, branches_fit, has_no_typ, is_statement_role, no_object}
+use Rattle.cpp_tree.specs.WellFormed.{heads_of, kids_in, enough, is_switch, labels_fit, skips, is_zeroing, is_zero, are_zero, is_kid, is_zero_role, inside}
+use Rattle.cpp_tree.specs.WellFormed.{fits, kids_fit, zeroes, may_stand, branches_fit, has_no_typ, is_statement_role, no_object}
 use Rattle.tree_fold.specs.Folding.{folded, all_folded}
 use Rattle.tree_fold.specs.Declaring.{is_init}
-use Rattle.setting_growth.proofs.Still.{Still, same, both, one_of}
+use Rattle.setting_growth.proofs.Still.{Still, same, one_of}
 use Rattle.fold_fits.proofs.Heads.{Alike, AllAlike, Keeps, all_kept, many_kept, rest_alike, cat_alike}
 use Rattle.fold_fits.proofs.Rows.{throw_off, row_kept}
-use Rattle.fold_fits.proofs.Nodes.{Fits, fits_known, fits_from, KidFits, FirstKid, kid_known, kids_from, Folds, node_folds}
-use Rattle.fold_fits.proofs.Zeros.{zeros_stay}
+use Rattle.fold_fits.proofs.Nodes.{Fits, fits_known, fits_from, kid_known, kids_from, Folds, node_folds}
+use Rattle.tree_fold.proofs.Zeros.{zeros_stay}
 
 -- Kinds that stay
 

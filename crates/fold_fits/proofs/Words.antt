@@ -1,22 +1,21 @@
 -- The word that a node is folded to is one of its type.
-use Rattle.std.proofs.Common.{◌≡◌, refl, ap, sym, subst, ◌∙◌, ℕ, ◌==◌, eq-eqb, eqb-true, Bool, true, false, ◌&&◌, ◌||◌, not, List, [], ◌∷◌, Option, Some, None}
+use Rattle.std.proofs.Common.{◌≡◌, refl, ap, sym, ◌∙◌, ℕ, eq-eqb, Bool, true, false, ◌&&◌, Option, Some, None}
 use Rattle.std.proofs.Common.{cond, Result, Ok, Err}
-use Rattle.std.specs.Prelude.{ℤ, pos, option_map}
-use Rattle.std.proofs.lemmas.Bool.{and_parts, and_from}
-use Rattle.std.proofs.lemmas.Option.{cond_some}
+use Rattle.std.specs.Prelude.{ℤ, pos}
+use Rattle.std.proofs.lemmas.Bool.{and_parts}
 use Rattle.tx_ints.specs.declared.kinds.IntKind.{IntKind}
 use Rattle.tx_ints.specs.declared.kinds.IntKind.TheVariants.{Bool as BoolKind}
 use Rattle.tx_ints.specs.declared.kinds.BinOp.{BinOp}
 use Rattle.tx_ints.specs.declared.kinds.BinOp.TheVariants.{Lt, Gt, Le, Ge, Eq, Ne}
 use Rattle.tx_ints.specs.declared.kinds.ArithTrap.{ArithTrap}
-use Rattle.tx_ints.specs.Integers.{InRange, apply_of, truth, reduced, convert_of}
+use Rattle.tx_ints.specs.Integers.{InRange, apply_of, truth, reduced}
 use Rattle.tx_ints.specs.Words.{word_of, value_of_word}
 use Rattle.tx_ints.proofs.ConversionLaws.{converts_into_range}
 use Rattle.tx_ints.proofs.OperatorLaws.{applies_into_range}
 use Rattle.tx_ints.proofs.Values.{truth_in, reduced_kept}
 use Rattle.tx_ints.proofs.WordLaws.{word_back}
-use Rattle.cpp_tree.specs.cpp_types.Typ.{Typ, typ, Form, int}
-use Rattle.cpp_tree.specs.cpp_types.Equal.{kind_eq, typ_eq}
+use Rattle.cpp_tree.specs.cpp_types.Typ.{Typ, typ, int}
+use Rattle.cpp_tree.specs.cpp_types.Equal.{typ_eq}
 use Rattle.cpp_tree.specs.cpp_types.declared.ranks.Cat.{Cat}
 use Rattle.cpp_tree.specs.cpp_types.declared.ranks.Cat.TheVariants.{Lvalue, Prvalue}
 use Rattle.cpp_tree.specs.Typing.{is_word_of, is_scalar_value, is_prvalue, scalar_of, passes, kind_in, form_in}
@@ -24,7 +23,7 @@ use Rattle.cpp_tree.specs.Rows.{is_comparison}
 use Rattle.src_mean.specs.Source.{converted, applied}
 use Rattle.tree_fold.specs.declared.words.Operands.{Operands}
 use Rattle.tree_fold.specs.Constants.{is_integer, value_word, operator_word, of_integer}
-use Rattle.fold_fits.proofs.Types.{kind_same, typ_same}
+use Rattle.tree_fold.proofs.Types.{kind_same, typ_same}
 
 -- words of numbers
 

@@ -7,12 +7,15 @@ ghost use Rattle.run_command.specs.exec_command.Exec.{CanRun};
 ghost use Rattle.run_command.specs.tx_events.declared.TheConstants.{THREAD_LIMIT};
 ghost use Rattle.run_command.specs.cpp_tree.Units.{program_of};
 ghost use Rattle.run_command.specs.cpp_tree.WellFormed.{WellFormed};
+ghost use Rattle.tree_fold.specs.Declaring.{DeclaresPlainly};
 ghost use Rattle.run_command.specs.tx_safety.Answers.{checked_in};
 ghost use Rattle.run_command.specs.tx_safety.Safe.{IsSafe};
 ghost use Rattle.races_command.specs.Commands.{CompilesAndRaces, DecidesTexts, RacesLinked};
 
 use object_races::with_objects;
-use run_command::below::{Decision, RunOptions, SafeProgram, Verdict, unit_objects, verdict_of};
+use run_command::below::{
+    Decision, RunOptions, SafeProgram, Verdict, accepted_declares_plainly, unit_objects, verdict_of,
+};
 use run_command::laws::runs_of_compiled;
 use run_command::{folded_if, held_against_source};
 use src_bind::Choices;
@@ -65,6 +68,7 @@ fn compiled(
     requires threads { list_all (λ t. nat_lt t THREAD_LIMIT) entries.now ≡ true }
     requires well_formed { WellFormed (checked_in safe) }
     requires safe { IsSafe (program_of (checked_in safe)) }
+    requires plain { DeclaresPlainly (program_of (checked_in safe)) }
     ensures { IfOk result (λ d. CompilesAndRaces options.now fold file.now (checked_in safe) (map string_bytes names.now) input.items entries.now d.answer (map written_of d.writes.items)) }
 {
     let choices = choices(alloc, &safe)?;
@@ -90,6 +94,7 @@ pub fn with_texts(
     requires threads { list_all (λ t. nat_lt t THREAD_LIMIT) entries.now ≡ true }
     ensures { IfOk result (λ d. DecidesTexts options.now fold file.now (map string_bytes names.now) (map (λ text. text.items) texts.now) input.items entries.now d.answer (map written_of d.writes.items)) }
 {
+    accepted_declares_plainly();
     match verdict_of(alloc, names, texts)? {
         Verdict::Accepted(safe) => compiled(
             alloc, options, fold, file, safe, names, texts, input, entries,

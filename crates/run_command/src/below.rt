@@ -6,6 +6,7 @@ pub use exec_command::files::{read_schedule, schedule_name};
 pub use exec_command::refusals::bad_schedule;
 pub use exec_command::{exec, halt_schedule};
 pub use schedules::{ScheduleFault, read};
+pub use source_verdict::laws::accepted_declares_plainly;
 pub use source_verdict::limits::{MOST_SOURCES, too_many_sources};
 pub use source_verdict::{Verdict, verdict_of};
 pub use tx_answers::{Answer, Decision, Refusal, Status, bare, halt_among, halt_given, settle};

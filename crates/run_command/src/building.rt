@@ -6,6 +6,7 @@ ghost use Rattle.command_io.specs.Writes.{written_of};
 ghost use Rattle.command_io.specs.declared.files.FileKind.TheVariants as kind;
 ghost use Rattle.cpp_tree.specs.Units.{program_of};
 ghost use Rattle.cpp_tree.specs.WellFormed.{WellFormed};
+ghost use Rattle.tree_fold.specs.Declaring.{DeclaresPlainly};
 ghost use Rattle.tx_safety.specs.Answers.{checked_in};
 ghost use Rattle.tx_safety.specs.Safe.{IsSafe};
 ghost use Rattle.run_command.specs.Commands.{CompilesAndPuts, DecidesBuild, Puts, PutsUnit};
@@ -16,6 +17,7 @@ ghost use Rattle.tx_code.specs.WellFormed.{IsObject};
 use crate::steps::folded_if;
 use command_io::{FileKind, Write, read_file};
 use object_bytes::write;
+use source_verdict::laws::accepted_declares_plainly;
 use source_verdict::{Verdict, verdict_of};
 use std::alloc::{AllocError, Global};
 use tx_answers::{Answer, Decision, Status, bare, halt, over_limit, settle};
@@ -70,6 +72,7 @@ fn built(
 ) -> Result<Decision, AllocError>
     requires well_formed { WellFormed (checked_in safe) }
     requires safe { IsSafe (program_of (checked_in safe)) }
+    requires plain { DeclaresPlainly (program_of (checked_in safe)) }
     ensures { IfOk result (λ d. CompilesAndPuts fold (checked_in safe) name.now to.now d.answer (map written_of d.writes.items)) }
 {
     let program = folded_if(alloc, fold, safe)?;
@@ -104,6 +107,7 @@ fn decided(
 {
     let names = one_name(alloc, name)?;
     let texts = one_text(alloc, text)?;
+    accepted_declares_plainly();
     match verdict_of(alloc, names.as_slice(), texts.as_slice())? {
         Verdict::Accepted(safe) => built(alloc, fold, safe, name, to, text),
         Verdict::Refused(decision) => Ok(decision),

@@ -7,12 +7,14 @@ ghost use Rattle.exec_command.specs.Exec.{CanRun};
 ghost use Rattle.cpp_tree.specs.tx_events.declared.TheConstants.{THREAD_LIMIT};
 ghost use Rattle.cpp_tree.specs.Units.{program_of};
 ghost use Rattle.cpp_tree.specs.WellFormed.{WellFormed};
+ghost use Rattle.tree_fold.specs.Declaring.{DeclaresPlainly};
 ghost use Rattle.tx_safety.specs.Answers.{checked_in};
 ghost use Rattle.tx_safety.specs.Safe.{IsSafe};
 ghost use Rattle.run_command.specs.Runs.{Compiled, CompilesAndRuns, DecidesTexts, RunsLinked};
 
 use crate::laws::runs_of_compiled;
 use held_runs::run_objects;
+use source_verdict::laws::accepted_declares_plainly;
 use source_verdict::{Verdict, verdict_of};
 use src_bind::Choices;
 use src_link::choices;
@@ -26,6 +28,7 @@ use unit_objects::unit_objects;
 pub fn folded_if(alloc: Global, fold: bool, safe: SafeProgram) -> Result<SafeProgram, AllocError>
     requires well_formed { WellFormed (checked_in safe) }
     requires safe { IsSafe (program_of (checked_in safe)) }
+    requires plain { DeclaresPlainly (program_of (checked_in safe)) }
     ensures { IfOk result (λ q. Compiled fold (checked_in safe) (checked_in q)) }
 {
     if !fold {
@@ -76,6 +79,7 @@ fn compiled(
     requires threads { list_all (λ t. nat_lt t THREAD_LIMIT) entries.now ≡ true }
     requires well_formed { WellFormed (checked_in safe) }
     requires safe { IsSafe (program_of (checked_in safe)) }
+    requires plain { DeclaresPlainly (program_of (checked_in safe)) }
     ensures { IfOk result (λ d. CompilesAndRuns options.now fold (checked_in safe) (map string_bytes names.now) input.items entries.now d.answer (map written_of d.writes.items)) }
 {
     let choices = choices(alloc, &safe)?;
@@ -100,6 +104,7 @@ pub fn with_texts(
     requires threads { list_all (λ t. nat_lt t THREAD_LIMIT) entries.now ≡ true }
     ensures { IfOk result (λ d. DecidesTexts options.now fold (map string_bytes names.now) (map (λ text. text.items) texts.now) input.items entries.now d.answer (map written_of d.writes.items)) }
 {
+    accepted_declares_plainly();
     match verdict_of(alloc, names, texts)? {
         Verdict::Accepted(safe) => compiled(
             alloc, options, fold, safe, names, texts, input, entries,

@@ -13,7 +13,7 @@ use Rattle.cpp_tree.specs.Trees.{Tree}
 use Rattle.cpp_tree.specs.Typing.{passes, is_class_typ}
 use Rattle.cpp_tree.specs.Rows.{result_of}
 use Rattle.cpp_tree.specs.Units.{Param, Func, Unit as TypedUnit, TypedProgram}
-use Rattle.src_mean.specs.Links.{func_at, is_marked}
+use Rattle.src_mean.specs.Links.{is_marked}
 use Rattle.tx_unsafe.specs.Volatile.{has_volatile_part, is_volatile_object}
 use Rattle.tx_unsafe.specs.Unsafe.{where_so, builds_volatile, param_findings, head_findings, body_findings, own_findings}
 use Rattle.tx_safety.specs.Safe.{safe, unit_end, func_findings, unit_findings, IsSafe, is_safe}

@@ -1,8 +1,7 @@
 //! The units of the texts.
 
-ghost use Rattle.std.specs.Prelude.{◌≡◌, ◌≤◌, map, IfOk, IfErr, IfSome};
-ghost use Rattle.cpp_lex.specs.Tokens.{lexemes_of, IsTokens, IsFault};
-ghost use Rattle.cpp_parse.specs.Units.{ParsesUnit};
+ghost use Rattle.std.specs.Prelude.{◌≡◌, map, IfOk, IfErr, IfSome};
+ghost use Rattle.cpp_lex.specs.Tokens.{lexemes_of, IsTokens};
 ghost use Rattle.source_verdict.specs.Front.{offset_of, IsRead, IsNotRead, AreRead, IsFirstUnread};
 
 use cpp_ast::Unit;

@@ -10,6 +10,9 @@ ghost use Rattle.source_verdict.specs.Verdict.{Accepts, RefusesFault, RefusesTex
 ghost use Rattle.command_io.specs.Writes.{Written};
 ghost use Rattle.tx_answers.specs.declared.answer.Answer.{Answer};
 ghost use Rattle.cpp_tree.specs.declared.faults.ElabFault.{ElabFault};
+ghost use Rattle.tree_fold.specs.Declaring.{DeclaresPlainly};
+
+use elab_plain::laws::programs;
 
 /// The blocks of an accepted program that links safely make no event that is volatile, output, input, or the start or
 /// join of a thread, and no unsafe function is entered in them, whatever its slots name (the TS, [stmt.tx]).
@@ -17,6 +20,13 @@ pub fn accepted_is_unsafe_free()
     ensures hides { (texts : List (List ℕ)) (p : Program) (symbol : SlotFunc → Option (List ℕ)) (entry : List ℕ) → Accepts texts p → LinksSafely (program_of p) → HidesBlocks (safely_linked symbol entry (program_of p)) }
     ensures enters { (texts : List (List ℕ)) (p : Program) (symbol : SlotFunc → Option (List ℕ)) (entry : List ℕ) → Accepts texts p → LinksSafely (program_of p) → EntersSafe (safely_linked symbol entry (program_of p)) }
 {}
+
+/// No declaration of an accepted program has a `?:` as its address: so it may be folded.
+pub fn accepted_declares_plainly()
+    ensures { (texts : List (List ℕ)) (p : Program) → Accepts texts p → DeclaresPlainly (program_of p) }
+{
+    programs();
+}
 
 /// Texts have at most one program: what is accepted of the same texts is the same typed program (C++14 2.2 and annex A leave one reading of a text, and what is elaborated is
 /// defined of it). Accepted texts have no fault.

@@ -1,6 +1,6 @@
 //! Lines and columns.
 
-ghost use Rattle.std.specs.Prelude.{◌≡◌, ◌≤◌, ◌+◌, take, length, IfOk, string_bytes, ◌++◌, ℕ, List};
+ghost use Rattle.std.specs.Prelude.{◌≡◌, ◌≤◌, ◌+◌, length, IfOk, string_bytes, ◌++◌};
 ghost use Rattle.source_verdict.specs.Places.{ends_in, since_end, line_of, column_of, place_line};
 
 use std::alloc::{AllocError, Global};

@@ -1,6 +1,6 @@
 //! The refusals of sources.
 
-ghost use Rattle.std.specs.Prelude.{◌≡◌, ◌++◌, map, IfOk, codes, string_bytes};
+ghost use Rattle.std.specs.Prelude.{◌++◌, map, IfOk, codes, string_bytes};
 ghost use Rattle.command_io.specs.Writes.{written_of};
 ghost use Rattle.tx_answers.specs.Ends.{Refuses};
 ghost use Rattle.tx_answers.specs.declared.answer.Status.TheVariants as status;

@@ -5,4 +5,6 @@ pub mod Nothing
 pub mod Values
 pub mod ProgramParts
 mod Forests
-mod PlainTrees
+pub mod Tests
+pub mod Types
+pub mod Zeros

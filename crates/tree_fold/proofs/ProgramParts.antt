@@ -140,7 +140,7 @@ next_func v from now next i start funcs new f body k l s m e =
           ∙ sym (ap (λ (z : List TFunc). map (func_of now) (take i funcs) ++ map (folded_func v) (map (func_of from) z)) (drop_at funcs i f s)) ∙ k.are;
     }
 
-take_past : {A : Type 0} (xs : List A) (i : ℕ) → length xs ≤ i → take i xs ≡ xs
+pub take_past : {A : Type 0} (xs : List A) (i : ℕ) → length xs ≤ i → take i xs ≡ xs
 take_past [] zero h = refl
 take_past [] (suc i) h = refl
 take_past (x ∷ xs) zero h = absurd (omega arith)

@@ -9,7 +9,7 @@ use Rattle.cpp_tree.specs.Trees.{Tree}
 use Rattle.cpp_tree.specs.Arena.{IsOrdered, tree_at, Grows}
 use Rattle.cpp_tree.specs.Units.{Unit as TypedUnit, func_of, unit_of}
 use Rattle.tx_unsafe.specs.Roots.{HasRoot}
-use Rattle.tree_fold.specs.Forests.{HasOwnTrees}
+use Rattle.tree_forests.specs.Forests.{HasForest}
 use Rattle.tree_fold.specs.Programs.{folded_func, folded_unit}
 
 -- a body stands in a list of so many
@@ -46,7 +46,7 @@ pub record UnitFolded (volatile : ℕ → Bool) (i : ℕ) (old new : List UnitTr
   pub unit : UnitTree
   pub are : new ≡ slice_set old i unit
   pub is : unit_of unit ≡ folded_unit volatile (unit_of u)
-  pub own : HasOwnTrees unit
+  pub own : HasForest unit
 
 -- the units before an index are folded, those from there on are still to be
 abbrev pub units_folded : (volatile : ℕ → Bool) → ℕ → List UnitTree → List TypedUnit

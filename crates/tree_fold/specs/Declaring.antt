@@ -1,6 +1,5 @@
 -- Declarations whose object is told before the run.
-use Rattle.std.specs.Prelude.{◌≡◌, ℕ, Bool, true, false, not, ◌&&◌, Option, Some, None, slice_get}
-use Rattle.std.specs.List.{list_all}
+use Rattle.std.specs.Prelude.{◌≡◌, ℕ, Bool, true, false, not, ◌&&◌, Some, slice_get}
 use Rattle.cpp_tree.specs.declared.kinds.TKind.{TKind}
 use Rattle.cpp_tree.specs.declared.kinds.TKind.TheVariants.{Conditional, Init}
 use Rattle.cpp_tree.specs.Trees.{Tree, node, Trees, none, more, kind_of, first}
@@ -27,12 +26,3 @@ abbrev mutual
 pub record DeclaresPlainly (p : TypedProgram) : Type 0 where
   pub bodies : (u n : ℕ) (x : TypedUnit) (f : Func) (body : Tree) → slice_get p.units u ≡ Some x → slice_get x.funcs n ≡ Some f → f.body ≡ Some body
       → declares_plainly body ≡ true
-
--- the same as a test of each body
-
-abbrev pub is_body_plain : Option Tree → Bool
-is_body_plain None = true
-is_body_plain (Some body) = declares_plainly body
-
-abbrev pub is_unit_plain : TypedUnit → Bool
-is_unit_plain u = list_all (λ (f : Func). is_body_plain f.body) u.funcs

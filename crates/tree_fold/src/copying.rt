@@ -8,8 +8,8 @@ ghost use Rattle.cpp_tree.specs.declared.kinds.TKind.TheVariants.{Literal};
 ghost use Rattle.cpp_tree.specs.Arena.{IsOrdered, are_below, trees_of, tree_of, tree_at, trees_at, Adds};
 ghost use Rattle.cpp_tree.specs.Trees.{node as node_of, none};
 ghost use Rattle.tree_fold.specs.Folding.{taken, folded, all_folded};
-ghost use Rattle.tree_fold.specs.Forests.{AddsOwn};
 ghost use Rattle.tree_fold.specs.Sights.{AreSights, Adding};
+ghost use Rattle.tree_forests.specs.Copies.{OwnForest};
 
 use crate::sights::{Sight, constant, taken};
 use cpp_tree::below::{Cat, copy};
@@ -30,7 +30,7 @@ pub(crate) fn node_at(nodes: &[TNode], id: TNodeId) -> &TNode
 // Adds a node, whose kids are the roots of trees that were added. Where no id is left, that counts as want of memory.
 fn push_node(nodes: &mut Vec<TNode>, node: TNode) -> Result<TNodeId, AllocError>
     ensures tree { IfOk result (λ r. Adds (trees_of nodes.old.items) (trees_of nodes.new.items) r (tree_of (trees_of nodes.old.items) node)) }
-    ensures own { (start : List TNode) → AddsOwn start nodes.old.items node.kids.items → IfOk result (λ r. AddsOwn start nodes.new.items (r ∷ [])) }
+    ensures own { (start : List TNode) → OwnForest start nodes.old.items node.kids.items → IfOk result (λ r. OwnForest start nodes.new.items (r ∷ [])) }
 {
     let Ok(id) = u32::try_from(nodes.len()) else {
         return Err(AllocError);
@@ -47,7 +47,7 @@ fn add_literal(
     word: u64,
 ) -> Result<TNodeId, AllocError>
     ensures tree { IfOk result (λ r. Adds (trees_of nodes.old.items) (trees_of nodes.new.items) r (node_of (Literal word) (typ_of node.now.ty) Prvalue node.now.at none)) }
-    ensures own { IfOk result (λ r. AddsOwn nodes.old.items nodes.new.items (r ∷ [])) }
+    ensures own { IfOk result (λ r. OwnForest nodes.old.items nodes.new.items (r ∷ [])) }
 {
     let ty = copy(alloc, &node.ty)?;
     push_node(
@@ -70,7 +70,7 @@ fn add_copy(
     kids: Vec<TNodeId>,
 ) -> Result<TNodeId, AllocError>
     ensures tree { IfOk result (λ r. Adds (trees_of nodes.old.items) (trees_of nodes.new.items) r (node_of node.now.kind (typ_of node.now.ty) node.now.cat node.now.at (trees_at (trees_of nodes.old.items) kids.items))) }
-    ensures own { (start : List TNode) → AddsOwn start nodes.old.items kids.items → IfOk result (λ r. AddsOwn start nodes.new.items (r ∷ [])) }
+    ensures own { (start : List TNode) → OwnForest start nodes.old.items kids.items → IfOk result (λ r. OwnForest start nodes.new.items (r ∷ [])) }
 {
     let ty = copy(alloc, &node.ty)?;
     push_node(
@@ -106,7 +106,7 @@ pub(crate) fn fold_tree(
     requires within { id.0 < length from.now }
     requires many { length sights.now ≡ length from.now }
     ensures tree { (volatile : ℕ → Bool) → AreSights volatile (trees_of from.now) sights.now → IfOk result (λ r. Adds (trees_of nodes.old.items) (trees_of nodes.new.items) r (folded volatile (tree_at (trees_of from.now) id))) }
-    ensures own { IfOk result (λ r. AddsOwn nodes.old.items nodes.new.items (r ∷ [])) }
+    ensures own { IfOk result (λ r. OwnForest nodes.old.items nodes.new.items (r ∷ [])) }
 {
     let node = node_at(from, id);
     match constant(sights, node) {
@@ -131,7 +131,7 @@ fn fold_rest(
     requires lower { are_below id.0 node.now.kids.items ≡ true }
     requires below { are_below (length from.now) node.now.kids.items ≡ true }
     ensures tree { (volatile : ℕ → Bool) → AreSights volatile (trees_of from.now) sights.now → IfOk result (λ r. Adds (trees_of nodes.old.items) (trees_of nodes.new.items) r (unwrap_or (taken volatile node.now.kind (typ_of node.now.ty) node.now.cat (all_folded volatile (trees_at (trees_of from.now) node.now.kids.items))) (node_of node.now.kind (typ_of node.now.ty) node.now.cat node.now.at (all_folded volatile (trees_at (trees_of from.now) node.now.kids.items))))) }
-    ensures own { IfOk result (λ r. AddsOwn nodes.old.items nodes.new.items (r ∷ [])) }
+    ensures own { IfOk result (λ r. OwnForest nodes.old.items nodes.new.items (r ∷ [])) }
 {
     match taken(sights, node) {
         Some(kid) => fold_tree(alloc, from, sights, kid, nodes),
@@ -155,7 +155,7 @@ fn fold_node(
     requires lower { are_below id.0 node.now.kids.items ≡ true }
     requires below { are_below (length from.now) node.now.kids.items ≡ true }
     ensures tree { (volatile : ℕ → Bool) → AreSights volatile (trees_of from.now) sights.now → IfOk result (λ r. Adds (trees_of nodes.old.items) (trees_of nodes.new.items) r (node_of node.now.kind (typ_of node.now.ty) node.now.cat node.now.at (all_folded volatile (trees_at (trees_of from.now) node.now.kids.items)))) }
-    ensures own { IfOk result (λ r. AddsOwn nodes.old.items nodes.new.items (r ∷ [])) }
+    ensures own { IfOk result (λ r. OwnForest nodes.old.items nodes.new.items (r ∷ [])) }
 {
     let ids = node.kids.as_slice();
     let kids = fold_all(alloc, from, sights, id, ids, nodes)?;
@@ -177,7 +177,7 @@ fn fold_all(
     requires lower { are_below parent.0 ids.now ≡ true }
     requires below { are_below (length from.now) ids.now ≡ true }
     ensures trees { (volatile : ℕ → Bool) → AreSights volatile (trees_of from.now) sights.now → IfOk result (λ r. Adding (trees_of nodes.old.items) (trees_of nodes.new.items) r.items none (all_folded volatile (trees_at (trees_of from.now) ids.now))) }
-    ensures own { IfOk result (λ r. AddsOwn nodes.old.items nodes.new.items r.items) }
+    ensures own { IfOk result (λ r. OwnForest nodes.old.items nodes.new.items r.items) }
 {
     let mut list = Vec::new(alloc);
     for id in ids {

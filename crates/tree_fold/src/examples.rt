@@ -2,7 +2,7 @@
 
 ghost use Rattle.std.specs.Prelude.{◌≡◌};
 ghost use Rattle.tx_ints.specs.declared.kinds.IntKind.TheVariants.{Bool as BoolKind, Char, Int, UInt};
-ghost use Rattle.tx_ints.specs.declared.kinds.BinOp.TheVariants.{Add, Sub, Mul, Div, Shl, Lt};
+ghost use Rattle.tx_ints.specs.declared.kinds.BinOp.TheVariants.{Add, Sub, Mul, Shl, Lt};
 ghost use Rattle.tree_fold.specs.Examples.{fold, number, operated, converted, choice, comma, yes, no, variable, volatile_variable, global, call, trap, thrown, choice_of, pointer, colour};
 
 /// Operators, conversions and commas of integer literals; what traps stays, and so does what is no literal.

@@ -5,11 +5,9 @@ mod bare;
 mod copying;
 pub mod examples;
 pub mod laws;
-mod plain;
 mod program;
 pub mod sights;
 mod volatility;
 pub mod words;
 
-pub use plain::declares_plainly;
 pub use program::fold_bodies;

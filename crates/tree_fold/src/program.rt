@@ -11,7 +11,9 @@ ghost use Rattle.tree_fold.specs.Folding.{folded};
 ghost use Rattle.tree_fold.specs.Programs.{folded_func, folded_unit, folded_program};
 ghost use Rattle.tree_fold.specs.Sights.{AreSights};
 ghost use Rattle.tree_fold.specs.Bodies.{is_body_within, AddsBody, HaveRootsFrom, ReadableFrom, UnitFolded};
-ghost use Rattle.tree_fold.specs.Forests.{AddsOwn, body_root, body_roots, HasOwnTrees, HaveOwnTrees};
+ghost use Rattle.tree_fold.specs.Forests.{body_root, body_roots};
+ghost use Rattle.tree_forests.specs.Copies.{OwnForest};
+ghost use Rattle.tree_forests.specs.Forests.{HasForest, HaveForests};
 
 use crate::copying::fold_tree;
 use crate::sights::{Sight, sights_of};
@@ -31,7 +33,7 @@ fn fold_body(
     requires many { length sights.now ≡ length from.now }
     requires within { is_body_within (length from.now) body ≡ true }
     ensures body { (volatile : ℕ → Bool) → AreSights volatile (trees_of from.now) sights.now → IfOk result (λ b. AddsBody (trees_of nodes.old.items) (trees_of nodes.new.items) b (option_map (folded volatile) (option_map (tree_at (trees_of from.now)) body))) }
-    ensures own { IfOk result (λ b. AddsOwn nodes.old.items nodes.new.items (body_root b)) }
+    ensures own { IfOk result (λ b. OwnForest nodes.old.items nodes.new.items (body_root b)) }
 {
     match body {
         Some(root) => {
@@ -71,7 +73,7 @@ fn fold_funcs(
     requires many { length sights.now ≡ length from.now }
     requires roots { HaveRootsFrom 0 from.now funcs.old.items }
     ensures funcs { (volatile : ℕ → Bool) → AreSights volatile (trees_of from.now) sights.now → OnOk result (map (func_of (trees_of nodes.new.items)) funcs.new.items ≡ map (folded_func volatile) (map (func_of (trees_of from.now)) funcs.old.items)) }
-    ensures own { OnOk result (AddsOwn nodes.old.items nodes.new.items (body_roots funcs.new.items)) }
+    ensures own { OnOk result (OwnForest nodes.old.items nodes.new.items (body_roots funcs.new.items)) }
 {
     for i in 0..funcs.len() {
         let old = body_at(funcs.as_slice(), i);
@@ -86,7 +88,7 @@ fn fold_unit(alloc: Global, volatile: &[bool], unit: &mut UnitTree) -> Result<()
     requires ordered { IsOrdered unit.old.nodes.items }
     requires roots { HaveRootsFrom 0 unit.old.nodes.items unit.old.funcs.items }
     ensures unit { OnOk result (unit_of unit.new ≡ folded_unit (marked volatile.now) (unit_of unit.old)) }
-    ensures own { OnOk result (HasOwnTrees unit.new) }
+    ensures own { OnOk result (HasForest unit.new) }
 {
     let from = unit.nodes.as_slice();
     let sights = sights_of(alloc, from, volatile)?;
@@ -115,7 +117,7 @@ fn fold_unit_at(
 fn fold_units(alloc: Global, volatile: &[bool], units: &mut Vec<UnitTree>) -> Result<(), AllocError>
     requires { ReadableFrom 0 units.old.items }
     ensures units { OnOk result (map unit_of units.new.items ≡ map (folded_unit (marked volatile.now)) (map unit_of units.old.items)) }
-    ensures own { OnOk result (HaveOwnTrees units.new.items) }
+    ensures own { OnOk result (HaveForests units.new.items) }
 {
     for i in 0..units.len() {
         fold_unit_at(alloc, volatile, units, i)?;
@@ -129,7 +131,7 @@ fn fold_units(alloc: Global, volatile: &[bool], units: &mut Vec<UnitTree>) -> Re
 pub fn fold_bodies(alloc: Global, mut program: Program) -> Result<Program, AllocError>
     requires { WellFormed program }
     ensures program { IfOk result (λ r. program_of r ≡ folded_program (program_of program)) }
-    ensures own { IfOk result (λ r. HaveOwnTrees r.units.items) }
+    ensures own { IfOk result (λ r. HaveForests r.units.items) }
 {
     let volatile = volatile_classes(alloc, &program.classes)?;
     fold_units(alloc, volatile.as_slice(), &mut program.units)?;

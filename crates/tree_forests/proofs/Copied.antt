@@ -17,7 +17,7 @@ use Rattle.cpp_tree.specs.declared.arena.TNodeId.{TNodeId}
 use Rattle.cpp_tree.specs.Trees.{Tree, node, Trees, none, more, literal, nowhere, kind_of, typ_in, cat_of}
 use Rattle.cpp_tree.specs.Arena.{tree_at, trees_at, tree_of, trees_of, with_node}
 use Rattle.tree_forests.specs.Copies.{IsCopied, AreCopied, IsPut, Copying, followed_by, tree_before, trees_before}
-use Rattle.tree_forests.proofs.Behind.{over, is_over, none_copied, one_more}
+use Rattle.tree_forests.proofs.Behind.{over, is_over, size_over, none_copied, one_more}
 
 -- one node
 
@@ -29,19 +29,27 @@ pub literal_of : (old new : List TNode) (n : TNode) (r : Result TNodeId AllocErr
     → typ_of n.ty ≡ typ_in (literal 0) → n.cat ≡ cat_of (literal 0) → n.at ≡ nowhere → IfOk r (λ r. IsPut old new n r)
     → IfOk r (λ r. IsCopied old new r (literal 0))
 literal_of old new n (Ok r) k kind typ cat at p =
-    let a = is_over old old new [] none n r (none_copied old) k p in
+    let a = is_over old old new [] none n r (none_copied old) p in
     let t : tree_of (trees_of old) n ≡ literal 0 = bare (trees_of old) n _ _ _ _ k kind typ cat at in
-    record { shown = record { grows = a.grows; within = a.within; is = a.is ∙ t }; forest = over old old new [] none n r (none_copied old) k p }
+    record {
+      shown = record { grows = a.grows; within = a.within; is = a.is ∙ t };
+      forest = over old old new [] none n r (none_copied old) p k;
+      size = size_over old old new [] none n r (none_copied old) p;
+    }
 literal_of old new n (Err e) k kind typ cat at p = tt
 
 pub node_over : (old now new : List TNode) (ids : List TNodeId) (trees : Trees) (n m : TNode) (r : Result TNodeId AllocError) → AreCopied old now ids trees
     → m.kids.items ≡ ids → m.kind ≡ n.kind → typ_of m.ty ≡ typ_of n.ty → m.cat ≡ n.cat → m.at ≡ n.at
     → IfOk r (λ r. IsPut now new m r) → IfOk r (λ r. IsCopied old new r (node n.kind (typ_of n.ty) n.cat n.at trees))
 node_over old now new ids trees n m (Ok r) c k kind t cat at p =
-    let a = is_over old now new ids trees m r c k p in
+    let a = is_over old now new ids trees m r c p in
     let kids : trees_at (trees_of now) m.kids.items ≡ trees = ap (trees_at (trees_of now)) k ∙ c.shown in
     let same : tree_of (trees_of now) m ≡ node n.kind (typ_of n.ty) n.cat n.at trees = cc in
-    record { shown = record { grows = a.grows; within = a.within; is = a.is ∙ same }; forest = over old now new ids trees m r c k p }
+    record {
+      shown = record { grows = a.grows; within = a.within; is = a.is ∙ same };
+      forest = over old now new ids trees m r c p k;
+      size = size_over old now new ids trees m r c p;
+    }
 node_over old now new ids trees n m (Err e) c k kind t cat at p = tt
 
 -- kid by kid

@@ -2,8 +2,8 @@
 use Rattle.std.specs.Prelude.{◌≡◌, ℕ, ◌+◌, ◌≤◌, nat_lt, true, cond, List, [], ◌∷◌, ◌++◌, length}
 use Rattle.cpp_tree.specs.declared.arena.TNode.{TNode}
 use Rattle.cpp_tree.specs.declared.arena.TNodeId.{TNodeId}
-use Rattle.cpp_tree.specs.Trees.{Tree, Trees, none, more, literal}
-use Rattle.cpp_tree.specs.Arena.{IsOrdered, are_below, times_in, times_a_kid, tree_at, trees_at, trees_of, Grows, Adds}
+use Rattle.cpp_tree.specs.Trees.{Tree, node, Trees, none, more, literal}
+use Rattle.cpp_tree.specs.Arena.{IsOrdered, are_below, times_in, times_a_kid, tree_at, trees_at, trees_of, Grows, Adds, Extends}
 
 -- how many of these nodes have this id: one or none
 abbrev pub count_at : ℕ → List TNode → ℕ
@@ -12,20 +12,32 @@ count_at id nodes = cond (nat_lt id (length nodes)) 1 0
 -- What was put behind nodes is a forest of its own, with these as its roots: each new node is a kid once or a root once at most, and no other node is.
 -- What is in order stays in order.
 pub record OwnForest (old new : List TNode) (roots : List TNodeId) : Type 0 where
+  pub behind : Extends old new
+  pub within : are_below (length new) roots ≡ true
   pub once : (id : ℕ) → times_a_kid id new + times_in id roots + count_at id old ≤ times_a_kid id old + count_at id new
   pub ordered : IsOrdered old → IsOrdered new
 
--- a tree was put behind nodes, which shows there
+-- how many nodes a tree has
+abbrev mutual
+  pub count_of_nodes : Tree → ℕ
+  count_of_nodes (node kind t cat at kids) = count_of_all kids + 1
+
+  pub count_of_all : Trees → ℕ
+  count_of_all none = 0
+  count_of_all (more t ts) = count_of_nodes t + count_of_all ts
+
+-- a tree was put behind nodes, which shows there: as many nodes as it has, and no more
 pub record IsCopied (old new : List TNode) (id : TNodeId) (tree : Tree) : Type 0 where
   pub shown : Adds (trees_of old) (trees_of new) id tree
   pub forest : OwnForest old new (id ∷ [])
+  pub size : length new ≡ length old + count_of_nodes tree
 
 -- trees were put behind nodes
 pub record AreCopied (old new : List TNode) (ids : List TNodeId) (trees : Trees) : Type 0 where
   pub grows : Grows (trees_of old) (trees_of new)
-  pub within : are_below (length new) ids ≡ true
   pub shown : trees_at (trees_of new) ids ≡ trees
   pub forest : OwnForest old new ids
+  pub size : length new ≡ length old + count_of_all trees
 
 -- Steps
 

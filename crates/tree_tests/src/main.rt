@@ -1,10 +1,9 @@
-//! Typed programs: whether they are well formed, and safe. A case is a line of the input, a word that says what is asked and
-//! what it is asked of; its answer is a line of the output.
+//! Typed programs: whether they are safe, their nodes and their frames. A case is a line of the input, a word that says what is
+//! asked; its answer is a line of the output.
 #![tactic(auto)]
 
 mod arena;
 mod frames;
-mod programs;
 mod safety;
 
 use case_texts::is_case;
@@ -13,9 +12,7 @@ use std::io;
 
 // The answer to a case.
 fn answer(alloc: Global, case: &str) -> Result<String, AllocError> {
-    let (word, rest) = case.split_once(' ').unwrap_or((case, ""));
-    match word {
-        "well-formed" => programs::answer(alloc, rest),
+    match case {
         "sum" => arena::sum(alloc),
         "faults" => arena::faults(alloc),
         "frames" => frames::answer(alloc),

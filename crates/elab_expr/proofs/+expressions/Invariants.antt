@@ -7,6 +7,7 @@ use Rattle.elab_rows.specs.elab_rules.Types.{no_specifiers}
 use Rattle.elab_rows.specs.elab_rules.Expressions.{operands_with, all_specified_with, parameters_in_with, parameters_with}
 use Rattle.elab_rows.specs.elab_types.Syntax.{syntax_of, tree_at, trees_at}
 use Rattle.elab_rows.specs.elab_types.Shown.{specifiers_of, parameter_of}
+use Rattle.elab_expr.specs.Unmoved.{Unmoved}
 use Rattle.elab_expr.proofs.Several.{SoFar}
 use Rattle.elab_expr.proofs.Declaring.{after}
 use Rattle.elab_expr.proofs.+expressions.Given as goal
@@ -89,13 +90,19 @@ invariant-expressions::operands-loop-id l = SoFar (lexemes_of l.tokens) (ctx_of 
     (operands_with (lexemes_of l.tokens) (ctx_of l.env) (map closure_of l.closures) (work_of l.fn.work) (trees_at (syntax_of l.nodes) l.ids))
 
 abbrev pub invariant-declarators::type_of_specifiers-loop-kid : goal.invariant-declarators::type_of_specifiers-loop-kid
-invariant-declarators::type_of_specifiers-loop-kid l =
-    all_specified_with (lexemes_of l.tokens) (ctx_of l.env) (map closure_of l.closures) (work_of l.work) no_specifiers
-    (trees_at (syntax_of l.nodes) l.node.kids.items) ≡ all_specified_with (lexemes_of l.tokens) (ctx_of l.env) (map closure_of l.closures) (work_of l.work)
-    (specifiers_of (lexemes_of l.tokens) l.specifiers) (trees_at (syntax_of l.nodes) (drop l.kid-index l.node.kids.items))
+invariant-declarators::type_of_specifiers-loop-kid l = record {
+  read :
+      all_specified_with (lexemes_of l.tokens) (ctx_of l.env) (map closure_of l.closures) (work_of l.fn.work) no_specifiers
+      (trees_at (syntax_of l.nodes) l.node.kids.items) ≡ all_specified_with (lexemes_of l.tokens) (ctx_of l.env) (map closure_of l.closures)
+      (work_of l.fn.work) (specifiers_of (lexemes_of l.tokens) l.specifiers) (trees_at (syntax_of l.nodes) (drop l.kid-index l.kid-items));
+  kept : Unmoved l.fn.work l.work;
+}
 
 abbrev pub invariant-declarators::parameters-loop-kid : goal.invariant-declarators::parameters-loop-kid
-invariant-declarators::parameters-loop-kid l = parameters_in_with (lexemes_of l.tokens) (ctx_of l.env) (map closure_of l.closures) (work_of l.work)
-    (tree_at (syntax_of l.nodes) l.fn.id) ≡ after (map parameter_of l.found.items)
-    (parameters_with (lexemes_of l.tokens) (ctx_of l.env) (map closure_of l.closures) (work_of l.work)
-    (trees_at (syntax_of l.nodes) (drop l.kid-index l.kid-items)))
+invariant-declarators::parameters-loop-kid l = record {
+  read :
+      parameters_in_with (lexemes_of l.tokens) (ctx_of l.env) (map closure_of l.closures) (work_of l.fn.work) (tree_at (syntax_of l.nodes) l.fn.id)
+      ≡ after (map parameter_of l.found.items) (parameters_with (lexemes_of l.tokens) (ctx_of l.env) (map closure_of l.closures) (work_of l.fn.work)
+      (trees_at (syntax_of l.nodes) (drop l.kid-index l.kid-items)));
+  kept : Unmoved l.fn.work l.work;
+}

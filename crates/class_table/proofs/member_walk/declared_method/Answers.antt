@@ -11,10 +11,11 @@ use Rattle.class_table.proofs.Walking.{refused, answers_same, faults_then}
 use Rattle.elab_expr.specs.elab_rules.Classes.{within_bounds, declarator_among, method_of, member_function, marks_from, no_marks, declared_method}
 use Rattle.class_table.specs.Written.{at_hand, method_shown}
 use Rattle.class_table.proofs.Members.{method_bound, method_fails, method_is}
+use Rattle.elab_expr.proofs.Unmoved.{unmoved_all}
 use Rattle.class_table.proofs.member_walk.declared_method.Goals as goal
 
-pub returns-in_err-within_bounds : goal.returns-in_err-within_bounds
-returns-in_err-within_bounds c bodies =
+pub returns-in_err-within_bounds-clause-members : goal.returns-in_err-within_bounds-clause-members
+returns-in_err-within_bounds-clause-members c bodies =
     let is_error : c.from_residual.result ≡ Err c.in_err-within_bounds.field-0.0 = search rules in
     refused (reading (ctx_of c.args.env.now) (work_of c.args.work.now) bodies c.args.members.now) c.from_residual.result c.in_err-within_bounds.field-0.0
     (declared_method (lexemes_of c.args.tokens.now) (home_of c.args.home.now)
@@ -29,8 +30,8 @@ returns-in_err-within_bounds c bodies =
     (subst (λ z. Faults c.in_err-within_bounds.field-0.0 (within_bounds z))
     (c.declarator_among.ensures (work_of c.args.work.now) bodies) c.in_err-within_bounds.ensures))
 
-pub returns-in_err-method : goal.returns-in_err-method
-returns-in_err-method c bodies =
+pub returns-in_err-method-clause-members : goal.returns-in_err-method-clause-members
+returns-in_err-method-clause-members c bodies =
     let is_error : c.from_residual-in_err-method.result ≡ Err c.in_err-method.field-0.0 = search rules in
     refused (reading (ctx_of c.args.env.now) (work_of c.args.work.now) bodies c.args.members.now) c.from_residual-in_err-method.result c.in_err-method.field-0.0
     (declared_method (lexemes_of c.args.tokens.now) (home_of c.args.home.now)
@@ -47,8 +48,8 @@ returns-in_err-method c bodies =
     (at_hand (ctx_of c.args.env.now) (work_of c.args.work.now) bodies) c.args.home.now.number z c.args.at c.args.kind
     (trees_at (syntax_of c.args.nodes.now) c.args.kids.now))) c.deref.ensures.value (c.in_err-method.ensures.method bodies)))
 
-pub returns : goal.returns
-returns c bodies =
+pub returns-clause-members : goal.returns-clause-members
+returns-clause-members c bodies =
     answers_same (reading (ctx_of c.member_function.new.env) (work_of c.args.work.now) bodies c.args.members.now) c.member_function.result
     (member_function (home_of c.args.home.now) (reading (ctx_of c.args.env.now) (work_of c.args.work.now) bodies c.args.members.now)
     (header_of c.in_ok-method.method.header) (marks_of c.marks_from-marks.result) (option_map definition_of c.args.definition))
@@ -68,3 +69,6 @@ returns c bodies =
     (ap (λ (z : List NodeId). marks_from (lexemes_of c.args.tokens.now) no_marks (trees_at (syntax_of c.args.nodes.now) z)) (sym c.rest_from.ensures.rest)
     ∙ sym c.marks_from-marks.ensures))
     (c.member_function.ensures (work_of c.args.work.now) bodies)
+
+pub returns-clause-kept : goal.returns-clause-kept
+returns-clause-kept c = unmoved_all c.member_function.result c.args.work.now c.method_of.new.work c.in_ok-method.ensures.kept

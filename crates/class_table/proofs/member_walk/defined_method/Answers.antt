@@ -11,8 +11,8 @@ use Rattle.elab_expr.specs.elab_rules.Classes.{declared_method, definition_betwe
 use Rattle.class_table.specs.Written.{defined_method}
 use Rattle.class_table.proofs.member_walk.defined_method.Goals as goal
 
-pub returns : goal.returns
-returns c bodies =
+pub returns-clause-members : goal.returns-clause-members
+returns-clause-members c bodies =
     answers_same (reading (ctx_of c.declared_method.new.env) (work_of c.args.work.now) bodies c.args.members.now) c.declared_method.result
     (declared_method (lexemes_of c.args.tokens.now) (home_of c.args.home.now)
     (reading (ctx_of c.args.env.now) (work_of c.args.work.now) bodies c.args.members.now) c.args.kind c.args.at
@@ -27,4 +27,4 @@ returns c bodies =
     (reading (ctx_of c.args.env.now) (work_of c.args.work.now) bodies c.args.members.now) c.args.kind c.args.at (Some z)
     (trees_at (syntax_of c.args.nodes.now) c.args.kids.now))
     (ap (definition_between (lexemes_of c.args.tokens.now) c.in-Some.first) (sym c.body_end-last.ensures) ∙ sym c.in_ok-definition.ensures))
-    (c.declared_method.ensures bodies)
+    (c.declared_method.ensures.members bodies)

@@ -19,6 +19,7 @@ use Rattle.class_table.proofs.Members.{declarator_bound, declarator_fails, decla
 use Rattle.elab_expr.specs.cpp_ast.declared.arena.NodeId.{NodeId}
 use Rattle.elab_expr.specs.cpp_ast.Orders.{are_below}
 use Rattle.elab_expr.proofs.elab_types.KidLists.{wider}
+use Rattle.elab_expr.proofs.Unmoved.{unmoved_all}
 use Rattle.class_table.proofs.member_walk.member_declarator.Goals as goal
 
 pub declared_member-requires : goal.declared_member-requires
@@ -26,8 +27,8 @@ declared_member-requires c = c.rest_from.ensures.below (length c.args.nodes.now)
     (subst (λ (z : List NodeId). are_below (length c.args.nodes.now) z ≡ true) (sym c.as_slice-kids.ensures.value)
     (wider c.args.id.0 (length c.args.nodes.now) c.node_at-node.result.now.kids.items c.requires c.node_at-node.ensures.lower))
 
-pub returns-in_err-within_bounds : goal.returns-in_err-within_bounds
-returns-in_err-within_bounds c bodies =
+pub returns-in_err-within_bounds-clause-members : goal.returns-in_err-within_bounds-clause-members
+returns-in_err-within_bounds-clause-members c bodies =
     let is_error : c.from_residual.result ≡ Err c.in_err-within_bounds.field-0.0 = search rules in
     refused (reading (ctx_of c.args.env.now) (work_of c.args.work.now) bodies c.args.members.now) c.from_residual.result c.in_err-within_bounds.field-0.0
     (member_declarator (lexemes_of c.args.tokens.now) (home_of c.args.home.now) (storage_of c.args.storage) (typ_of c.args.ty.now)
@@ -48,8 +49,8 @@ returns-in_err-within_bounds c bodies =
     (subst (λ z. Faults c.in_err-within_bounds.field-0.0 (within_bounds z))
     (c.member_named.ensures (work_of c.args.work.now) bodies) c.in_err-within_bounds.ensures))
 
-pub returns-in_err-found : goal.returns-in_err-found
-returns-in_err-found c bodies =
+pub returns-in_err-found-clause-members : goal.returns-in_err-found-clause-members
+returns-in_err-found-clause-members c bodies =
     let is_error : c.from_residual-in_err-found.result ≡ Err c.in_err-found.field-0.0 = search rules in
     refused (reading (ctx_of c.args.env.now) (work_of c.args.work.now) bodies c.args.members.now) c.from_residual-in_err-found.result c.in_err-found.field-0.0
     (member_declarator (lexemes_of c.args.tokens.now) (home_of c.args.home.now) (storage_of c.args.storage) (typ_of c.args.ty.now)
@@ -69,10 +70,10 @@ returns-in_err-found c bodies =
     (trees_at (syntax_of c.args.nodes.now) (drop 1 c.as_slice-kids.result.now)) c.in_ok-within_bounds.field-0 c.in_err-found.field-0.0
     (ap within_bounds (sym (c.member_named.ensures (work_of c.args.work.now) bodies)) ∙ c.in_ok-within_bounds.ensures)
     (subst (λ z. Faults c.in_err-found.field-0.0 (declared_by (lexemes_of c.args.tokens.now) (ctx_of c.args.env.now) (work_of c.args.work.now) z
-    (typ_of c.args.ty.now) (tree_at (syntax_of c.args.nodes.now) c.in-Some.first))) c.place-at.ensures c.in_err-found.ensures))
+    (typ_of c.args.ty.now) (tree_at (syntax_of c.args.nodes.now) c.in-Some.first))) c.place-at.ensures c.in_err-found.ensures.says))
 
-pub returns : goal.returns
-returns c bodies =
+pub returns-clause-members : goal.returns-clause-members
+returns-clause-members c bodies =
     answers_same (reading (ctx_of c.declared_member.new.env) (work_of c.args.work.now) bodies c.declared_member.new.members) c.declared_member.result
     (member_declared (lexemes_of c.args.tokens.now) (home_of c.args.home.now)
     (reading (ctx_of c.args.env.now) (work_of c.args.work.now) bodies c.args.members.now) c.place-at.result (storage_of c.args.storage)
@@ -90,7 +91,7 @@ returns c bodies =
     (trees_at (syntax_of c.args.nodes.now) (drop 1 c.as_slice-kids.result.now)) c.in_ok-within_bounds.field-0 (declared_of c.in_ok-found.found)
     (ap within_bounds (sym (c.member_named.ensures (work_of c.args.work.now) bodies)) ∙ c.in_ok-within_bounds.ensures)
     (ap (λ z. declared_by (lexemes_of c.args.tokens.now) (ctx_of c.args.env.now) (work_of c.args.work.now) z (typ_of c.args.ty.now)
-    (tree_at (syntax_of c.args.nodes.now) c.in-Some.first)) (sym c.place-at.ensures) ∙ c.in_ok-found.ensures)
+    (tree_at (syntax_of c.args.nodes.now) c.in-Some.first)) (sym c.place-at.ensures) ∙ c.in_ok-found.ensures.says)
     ∙ ap (λ z. and_then (check (at_of c.node_at-node.result.now.at) BadDeclaration z)
     (λ y. member_declared (lexemes_of c.args.tokens.now) (home_of c.args.home.now)
     (reading (ctx_of c.args.env.now) (work_of c.args.work.now) bodies c.args.members.now) (at_of c.node_at-node.result.now.at) (storage_of c.args.storage)
@@ -103,3 +104,6 @@ returns c bodies =
     (reading (ctx_of c.args.env.now) (work_of c.args.work.now) bodies c.args.members.now) c.place-at.result (storage_of c.args.storage)
     (trees_at (syntax_of c.args.nodes.now) z) (declared_of c.in_ok-found.found)) (sym c.rest_from.ensures.rest))
     (c.declared_member.ensures (work_of c.args.work.now) bodies)
+
+pub returns-clause-kept : goal.returns-clause-kept
+returns-clause-kept c = unmoved_all c.declared_member.result c.args.work.now c.declared_written.new.work c.in_ok-found.ensures.kept

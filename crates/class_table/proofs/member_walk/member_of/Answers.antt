@@ -45,8 +45,8 @@ defined_method-requires-in-DestructorDefinition c = subst (λ (z : List NodeId).
     (sym c.as_slice-kids.ensures.value) (wider c.args.id.0
     (length c.args.nodes.now) c.node_at-node.result.now.kids.items c.requires c.node_at-node.ensures.lower)
 
-pub returns-in-MemberDeclaration : goal.returns-in-MemberDeclaration
-returns-in-MemberDeclaration c bodies =
+pub returns-in-MemberDeclaration-clause-members : goal.returns-in-MemberDeclaration-clause-members
+returns-in-MemberDeclaration-clause-members c bodies =
     answers_same (reading (ctx_of c.member_declaration.new.env) (work_of c.args.work.now) bodies c.member_declaration.new.members) c.member_declaration.result
     (member_declaration (lexemes_of c.args.tokens.now) (home_of c.args.home.now)
     (reading (ctx_of c.args.env.now) (work_of c.args.work.now) bodies c.args.members.now) c.place-at.result
@@ -57,10 +57,10 @@ returns-in-MemberDeclaration c bodies =
     (reading (ctx_of c.args.env.now) (work_of c.args.work.now) bodies c.args.members.now) (tree_at (syntax_of c.args.nodes.now) c.args.id)
     (syntax_of c.args.nodes.now) c.node_at-node.result.now.kind c.node_at-node.result.now.at c.node_at-node.result.now.token
     c.node_at-node.result.now.kids.items c.as_slice-kids.result.now c.place-at.result c.node_at-node.ensures.node c.place-at.ensures
-    c.as_slice-kids.ensures.value c.in-MemberDeclaration.is) (c.member_declaration.ensures bodies)
+    c.as_slice-kids.ensures.value c.in-MemberDeclaration.is) (c.member_declaration.ensures.members bodies)
 
-pub returns-in-FunctionDefinition : goal.returns-in-FunctionDefinition
-returns-in-FunctionDefinition c bodies =
+pub returns-in-FunctionDefinition-clause-members : goal.returns-in-FunctionDefinition-clause-members
+returns-in-FunctionDefinition-clause-members c bodies =
     answers_same (reading (ctx_of c.defined_method.new.env) (work_of c.args.work.now) bodies c.args.members.now) c.defined_method.result
     (defined_method (lexemes_of c.args.tokens.now) (home_of c.args.home.now)
     (reading (ctx_of c.args.env.now) (work_of c.args.work.now) bodies c.args.members.now) Plain c.place-at.result c.node_at-node.result.now.token
@@ -71,10 +71,10 @@ returns-in-FunctionDefinition c bodies =
     (reading (ctx_of c.args.env.now) (work_of c.args.work.now) bodies c.args.members.now) (tree_at (syntax_of c.args.nodes.now) c.args.id)
     (syntax_of c.args.nodes.now) c.node_at-node.result.now.kind c.node_at-node.result.now.at c.node_at-node.result.now.token
     c.node_at-node.result.now.kids.items c.as_slice-kids.result.now c.place-at.result c.node_at-node.ensures.node c.place-at.ensures
-    c.as_slice-kids.ensures.value c.in-FunctionDefinition.is) (c.defined_method.ensures bodies)
+    c.as_slice-kids.ensures.value c.in-FunctionDefinition.is) (c.defined_method.ensures.members bodies)
 
-pub returns-in-ConstructorDeclaration : goal.returns-in-ConstructorDeclaration
-returns-in-ConstructorDeclaration c bodies =
+pub returns-in-ConstructorDeclaration-clause-members : goal.returns-in-ConstructorDeclaration-clause-members
+returns-in-ConstructorDeclaration-clause-members c bodies =
     answers_same (reading (ctx_of c.declared_method.new.env) (work_of c.args.work.now) bodies c.args.members.now) c.declared_method.result
     (declared_method (lexemes_of c.args.tokens.now) (home_of c.args.home.now)
     (reading (ctx_of c.args.env.now) (work_of c.args.work.now) bodies c.args.members.now) Constructor c.place-at.result None
@@ -85,10 +85,10 @@ returns-in-ConstructorDeclaration c bodies =
     (reading (ctx_of c.args.env.now) (work_of c.args.work.now) bodies c.args.members.now) (tree_at (syntax_of c.args.nodes.now) c.args.id)
     (syntax_of c.args.nodes.now) c.node_at-node.result.now.kind c.node_at-node.result.now.at c.node_at-node.result.now.token
     c.node_at-node.result.now.kids.items c.as_slice-kids.result.now c.place-at.result c.node_at-node.ensures.node c.place-at.ensures
-    c.as_slice-kids.ensures.value c.in-ConstructorDeclaration.is) (c.declared_method.ensures bodies)
+    c.as_slice-kids.ensures.value c.in-ConstructorDeclaration.is) (c.declared_method.ensures.members bodies)
 
-pub returns-in-ConstructorDefinition : goal.returns-in-ConstructorDefinition
-returns-in-ConstructorDefinition c bodies =
+pub returns-in-ConstructorDefinition-clause-members : goal.returns-in-ConstructorDefinition-clause-members
+returns-in-ConstructorDefinition-clause-members c bodies =
     answers_same (reading (ctx_of c.defined_method-in-ConstructorDefinition.new.env)
     (work_of c.args.work.now) bodies c.args.members.now) c.defined_method-in-ConstructorDefinition.result
     (defined_method (lexemes_of c.args.tokens.now) (home_of c.args.home.now)
@@ -100,10 +100,10 @@ returns-in-ConstructorDefinition c bodies =
     (reading (ctx_of c.args.env.now) (work_of c.args.work.now) bodies c.args.members.now) (tree_at (syntax_of c.args.nodes.now) c.args.id)
     (syntax_of c.args.nodes.now) c.node_at-node.result.now.kind c.node_at-node.result.now.at c.node_at-node.result.now.token
     c.node_at-node.result.now.kids.items c.as_slice-kids.result.now c.place-at.result c.node_at-node.ensures.node c.place-at.ensures
-    c.as_slice-kids.ensures.value c.in-ConstructorDefinition.is) (c.defined_method-in-ConstructorDefinition.ensures bodies)
+    c.as_slice-kids.ensures.value c.in-ConstructorDefinition.is) (c.defined_method-in-ConstructorDefinition.ensures.members bodies)
 
-pub returns-in-DestructorDeclaration : goal.returns-in-DestructorDeclaration
-returns-in-DestructorDeclaration c bodies =
+pub returns-in-DestructorDeclaration-clause-members : goal.returns-in-DestructorDeclaration-clause-members
+returns-in-DestructorDeclaration-clause-members c bodies =
     answers_same (reading (ctx_of c.declared_method-in-DestructorDeclaration.new.env)
     (work_of c.args.work.now) bodies c.args.members.now) c.declared_method-in-DestructorDeclaration.result
     (declared_method (lexemes_of c.args.tokens.now) (home_of c.args.home.now)
@@ -115,10 +115,10 @@ returns-in-DestructorDeclaration c bodies =
     (reading (ctx_of c.args.env.now) (work_of c.args.work.now) bodies c.args.members.now) (tree_at (syntax_of c.args.nodes.now) c.args.id)
     (syntax_of c.args.nodes.now) c.node_at-node.result.now.kind c.node_at-node.result.now.at c.node_at-node.result.now.token
     c.node_at-node.result.now.kids.items c.as_slice-kids.result.now c.place-at.result c.node_at-node.ensures.node c.place-at.ensures
-    c.as_slice-kids.ensures.value c.in-DestructorDeclaration.is) (c.declared_method-in-DestructorDeclaration.ensures bodies)
+    c.as_slice-kids.ensures.value c.in-DestructorDeclaration.is) (c.declared_method-in-DestructorDeclaration.ensures.members bodies)
 
-pub returns-in-DestructorDefinition : goal.returns-in-DestructorDefinition
-returns-in-DestructorDefinition c bodies =
+pub returns-in-DestructorDefinition-clause-members : goal.returns-in-DestructorDefinition-clause-members
+returns-in-DestructorDefinition-clause-members c bodies =
     answers_same (reading (ctx_of c.defined_method-in-DestructorDefinition.new.env)
     (work_of c.args.work.now) bodies c.args.members.now) c.defined_method-in-DestructorDefinition.result
     (defined_method (lexemes_of c.args.tokens.now) (home_of c.args.home.now)
@@ -130,4 +130,7 @@ returns-in-DestructorDefinition c bodies =
     (reading (ctx_of c.args.env.now) (work_of c.args.work.now) bodies c.args.members.now) (tree_at (syntax_of c.args.nodes.now) c.args.id)
     (syntax_of c.args.nodes.now) c.node_at-node.result.now.kind c.node_at-node.result.now.at c.node_at-node.result.now.token
     c.node_at-node.result.now.kids.items c.as_slice-kids.result.now c.place-at.result c.node_at-node.ensures.node c.place-at.ensures
-    c.as_slice-kids.ensures.value c.in-DestructorDefinition.is) (c.defined_method-in-DestructorDefinition.ensures bodies)
+    c.as_slice-kids.ensures.value c.in-DestructorDefinition.is) (c.defined_method-in-DestructorDefinition.ensures.members bodies)
+
+pub returns-in-AccessLabel-clause-kept : goal.returns-in-AccessLabel-clause-kept
+returns-in-AccessLabel-clause-kept c = record { work = refl; nodes = refl }

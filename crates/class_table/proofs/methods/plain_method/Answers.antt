@@ -20,7 +20,7 @@ returns-in_err-header-clause-method c bodies =
     (storage_of c.args.storage) (trees_at (syntax_of c.args.nodes.now) (drop c.args.start c.args.kids.now))) is_error refl
     (plain_fails (lexemes_of c.args.tokens.now) (ctx_of c.args.env.now) (work_of c.args.work.now) bodies c.args.class c.args.at (storage_of c.args.storage)
     (syntax_of c.args.nodes.now) c.args.kids.now c.args.start c.in-Some.base c.in-Some-kid_at.declarator c.in_err-header.field-0.0 c.in-Some.ensures.kid
-    c.in-Some-kid_at.ensures.kid c.in_err-header.ensures)
+    c.in-Some-kid_at.ensures.kid c.in_err-header.ensures.says)
 
 pub returns-clause-method : goal.returns-clause-method
 returns-clause-method c bodies =
@@ -30,4 +30,4 @@ returns-clause-method c bodies =
       header = c.in_ok-header.header;
       count =
           c.args.start + 2;
-    }) c.in_ok-header.header c.in-Some.ensures.kid c.in-Some-kid_at.ensures.kid c.in_ok-header.ensures refl refl
+    }) c.in_ok-header.header c.in-Some.ensures.kid c.in-Some-kid_at.ensures.kid c.in_ok-header.ensures.says refl refl

@@ -22,10 +22,10 @@ returns-in_err-header-clause-method c bodies =
     (trees_at (syntax_of c.args.nodes.now) (drop c.args.start c.args.kids.now))) is_error refl
     (special_fails (lexemes_of c.args.tokens.now) (ctx_of c.args.env.now) (work_of c.args.work.now) bodies c.args.class c.args.at (storage_of c.args.storage)
     (syntax_of c.args.nodes.now) c.args.kids.now c.args.start c.args.class_name.now c.args.kind c.in-Some.declarator c.in_err-header.field-0.0
-    c.in-Some.ensures.kid c.in_err-header.ensures)
+    c.in-Some.ensures.kid c.in_err-header.ensures.says)
 
 pub returns-clause-method : goal.returns-clause-method
 returns-clause-method c bodies =
     special_made (lexemes_of c.args.tokens.now) (ctx_of c.args.env.now) (work_of c.args.work.now) bodies c.args.class c.args.at (storage_of c.args.storage)
     (syntax_of c.args.nodes.now) c.args.kids.now c.args.start c.args.class_name.now c.args.kind c.in-Some.declarator
-    (record { header = c.in_ok-header.header; count = c.args.start + 1 }) c.in_ok-header.header c.in-Some.ensures.kid c.in_ok-header.ensures refl refl
+    (record { header = c.in_ok-header.header; count = c.args.start + 1 }) c.in_ok-header.header c.in-Some.ensures.kid c.in_ok-header.ensures.says refl refl

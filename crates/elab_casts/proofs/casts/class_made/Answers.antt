@@ -6,5 +6,5 @@ use Rattle.elab_casts.proofs.ClassMade.{class_makes}
 use Rattle.elab_casts.proofs.casts.class_made.Goals as goal
 
 pub returns : goal.returns
-returns c = class_makes (ctx_of c.args.env.now) (work_of c.args.work.now) _ c.args.at (typ_of c.args.ty.now) (typ_of c.in_ok-bare.bare)
-    (operands_in (trees_of c.args.work.now.nodes.items) c.args.os.now) _ _ _ _ _ c.in_ok-bare.ensures c.in_ok-init.ensures c.in_ok-made.ensures
+returns c = class_makes (ctx_of c.args.env.now) (work_of c.args.work.now) _ c.args.at (typ_of c.args.ty.now)
+    (operands_in (trees_of c.args.work.now.nodes.items) c.args.os.now) _ _ _ _ _ c.in_ok-init.ensures c.in_ok-made.ensures

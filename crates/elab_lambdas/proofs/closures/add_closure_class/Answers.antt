@@ -8,5 +8,5 @@ use Rattle.elab_lambdas.proofs.closures.add_closure_class.Goals as goal
 
 pub returns : goal.returns
 returns c = class_is (ctx_of c.args.env.now) (ctx_of c.push_class.new.env) (map capture_of c.args.captures.now)
-    (call_of c.args.words (signature_of c.args.ty.now)) (function_of c.in_ok-call.call) c.in_ok-number.number (class_of c.in_ok-made.made)
-    c.in_ok-push_class.ensures c.in_ok-made.ensures c.in_ok-call.ensures c.in_ok-number.ensures
+    (call_of c.args.words (signature_of c.args.ty.now)) (function_of c.in_ok-call.call) c.next_completion-number.result (class_of c.in_ok-made.made)
+    c.in_ok-push_class.ensures c.in_ok-made.ensures c.in_ok-call.ensures c.next_completion-number.ensures

@@ -13,7 +13,7 @@ returns-in_err-header-clause-method c bodies =
     says_refused (method_shown (syntax_of c.args.nodes.now) c.args.kids.now) c.from_residual.result c.in_err-header.field-0.0 _ is_error
     (special_fails (lexemes_of c.args.tokens.now) (ctx_of c.args.env.now) (work_of c.args.work.now) bodies c.args.at (storage_of c.args.storage)
     (syntax_of c.args.nodes.now) c.args.kids.now c.args.start c.args.kind c.in-Some.declarator c.in_err-header.field-0.0 c.requires.special
-    c.in-Some.ensures.kid c.in_err-header.ensures)
+    c.in-Some.ensures.kid c.in_err-header.ensures.says)
 
 pub returns-clause-method : goal.returns-clause-method
 returns-clause-method c bodies =
@@ -23,4 +23,4 @@ returns-clause-method c bodies =
       header = c.in_ok-header.header;
       count =
           c.args.start + 1;
-    }) c.in_ok-header.header c.requires.special c.in-Some.ensures.kid c.in_ok-header.ensures refl refl
+    }) c.in_ok-header.header c.requires.special c.in-Some.ensures.kid c.in_ok-header.ensures.says refl refl

@@ -7,7 +7,12 @@ use Rattle.run_command.specs.Commands.{builds, refuses}
 use Rattle.run_command.proofs.building.decided.Goals as goal
 
 pub built-requires : goal.built-requires
-built-requires c = let k = rw c.in-Accepted.is at c.in_ok-safe.ensures in record { well_formed = k.well_formed; safe = k.safe }
+built-requires c = let k = rw c.in-Accepted.is at c.in_ok-safe.ensures in
+    record {
+      well_formed = k.well_formed;
+      safe = k.safe;
+      plain = c.accepted_declares_plainly.ensures (map (λ t. t.items) c.as_slice-2.result.now) (checked_in c.in-Accepted.safe) k;
+    }
 
 pub returns-in-Accepted : goal.returns-in-Accepted
 returns-in-Accepted c =

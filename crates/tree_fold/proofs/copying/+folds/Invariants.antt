@@ -2,7 +2,7 @@ use Rattle.std.proofs.Common.{◌+◌, ◌*◌, ℕ, Bool, drop}
 use Rattle.cpp_tree.specs.Arena.{trees_of, trees_at}
 use Rattle.tree_fold.specs.Folding.{all_folded}
 use Rattle.tree_fold.specs.Sights.{AreSights, Adding}
-use Rattle.tree_fold.specs.Forests.{AddsOwn}
+use Rattle.tree_forests.specs.Copies.{OwnForest}
 use Rattle.tree_fold.proofs.copying.+folds.Given as goal
 
 abbrev pub decreases-fold_tree : goal.decreases-fold_tree
@@ -23,5 +23,5 @@ invariant-fold_all-loop-id l = record {
   trees : (volatile : ℕ → Bool) → AreSights volatile (trees_of l.from) l.sights
       → Adding (trees_of l.fn.nodes.items) (trees_of l.nodes.items) l.list.items (all_folded volatile (trees_at (trees_of l.from) (drop l.id-index l.ids)))
       (all_folded volatile (trees_at (trees_of l.from) l.ids));
-  own : AddsOwn l.fn.nodes.items l.nodes.items l.list.items;
+  own : OwnForest l.fn.nodes.items l.nodes.items l.list.items;
 }

@@ -2,11 +2,12 @@ use Rattle.std.proofs.Common.{◌≡◌, ◌<◌, List, length, slice_get, arith
 use Rattle.cpp_tree.specs.Arena.{trees_of}
 use Rattle.cpp_tree.specs.declared.program.TFunc.{TFunc}
 use Rattle.tree_fold.proofs.ProgramParts.{found, no_funcs_yet, all_funcs, body_is_within, next_roots, set_long, next_func_at}
-use Rattle.tree_fold.proofs.Forests.{adds_none, next_root, all_roots}
+use Rattle.tree_forests.proofs.Behind.{forest_none}
+use Rattle.tree_fold.proofs.Forests.{next_root, all_roots}
 use Rattle.tree_fold.proofs.program.fold_funcs.Goals as goal
 
 pub loop-i-init : goal.loop-i-init
-loop-i-init c = record { long = refl; roots = c.requires.roots; folded = λ v s. no_funcs_yet v _ _ _; own = adds_none c.args.nodes.now.items }
+loop-i-init c = record { long = refl; roots = c.requires.roots; folded = λ v s. no_funcs_yet v _ _ _; own = forest_none c.args.nodes.now.items }
 
 pub fold_body-requires : goal.fold_body-requires
 fold_body-requires c =

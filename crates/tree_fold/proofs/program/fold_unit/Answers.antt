@@ -6,7 +6,8 @@ use Rattle.tx_unsafe.specs.Volatile.{marked}
 use Rattle.tree_fold.specs.declared.sights.Sight.{Sight}
 use Rattle.tree_fold.specs.Programs.{folded_func}
 use Rattle.tree_fold.specs.Sights.{AreSights}
-use Rattle.tree_fold.specs.Forests.{AddsOwn, body_roots}
+use Rattle.tree_fold.specs.Forests.{body_roots}
+use Rattle.tree_forests.specs.Copies.{OwnForest}
 use Rattle.tree_fold.proofs.Forests.{own_trees}
 use Rattle.tree_fold.proofs.program.fold_unit.Goals as goal
 
@@ -19,5 +20,5 @@ returns-clause-unit c =
     (map (func_of (trees_of z)) c.args.unit.now.funcs.items)) c.as_slice-from.ensures.value)
 
 pub returns-clause-own : goal.returns-clause-own
-returns-clause-own c = own_trees _ (subst (λ (z : List TNode). AddsOwn z c.fold_funcs.new.nodes.items (body_roots c.fold_funcs.new.funcs.items))
+returns-clause-own c = own_trees _ (subst (λ (z : List TNode). OwnForest z c.fold_funcs.new.nodes.items (body_roots c.fold_funcs.new.funcs.items))
     c.new-nodes.ensures.items c.in_ok-fold_funcs.ensures.own)

@@ -1,4 +1,0 @@
-pub mod FreePlaces
-pub mod Regrouped
-pub mod Units
-pub mod ZeroKinds

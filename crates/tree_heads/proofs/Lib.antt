@@ -1,3 +1,0 @@
-pub mod Captures
-pub mod ElementPieces
-pub mod Fields
