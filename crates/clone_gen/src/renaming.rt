@@ -44,7 +44,7 @@ impl Renaming {
     pub fn new(alloc: Global, names: &NameTable) -> Result<Renaming, AllocError> {
         let mut used = Vec::new(alloc);
         let mut numbers = Vec::new(alloc);
-        for _ in 0..names.names().len() {
+        for _ in 0..names.count() {
             used.push(false)?;
             numbers.push(0)?;
         }
@@ -78,7 +78,7 @@ impl Renaming {
     /// The used names, in the order of their bytes; from now on each has its place there as its number.
     pub fn settle(&mut self, alloc: Global, names: &NameTable) -> Result<Vec<Vec<u8>>, AllocError> {
         let mut kept = Vec::new(alloc);
-        for number in names.order() {
+        for number in &names.order(alloc)? {
             let is_used = self.used.get(*number as usize).copied().unwrap_or(false);
             if is_used {
                 let Ok(place) = u32::try_from(kept.len()) else {
@@ -87,7 +87,7 @@ impl Renaming {
                 if let Some(found) = self.numbers.get_mut(*number as usize) {
                     *found = place;
                 }
-                if let Some(name) = names.names().get(*number as usize) {
+                if let Some(name) = names.name(*number) {
                     kept.push(Vec::from_slice(alloc, name)?)?;
                 }
             }

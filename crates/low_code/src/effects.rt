@@ -1,9 +1,15 @@
 //! How many operands an instruction takes and leaves.
 
+ghost use Rattle.std.specs.Prelude.{◌≡◌};
+ghost use Rattle.low_code.specs.Effects.{takes_of, leaves_of, ends as ends_code, in_transaction as transaction_instr};
+
 use tx_code::Instr;
 
 /// How many operands an instruction takes, and how many it leaves. A call's are not told here.
-pub fn effect(instr: Instr) -> (u32, u32) {
+pub fn effect(instr: Instr) -> (u32, u32)
+    ensures takes { result.0 ≡ takes_of instr }
+    ensures leaves { result.1 ≡ leaves_of instr }
+{
     match instr {
         Instr::Push(_)
         | Instr::FrameAddr(_)
@@ -30,7 +36,9 @@ pub fn effect(instr: Instr) -> (u32, u32) {
 }
 
 /// Whether no instruction follows it.
-pub fn ends(instr: Instr) -> bool {
+pub fn ends(instr: Instr) -> bool
+    ensures { result ≡ ends_code instr }
+{
     matches!(
         instr,
         Instr::Jump(_)
@@ -43,7 +51,9 @@ pub fn ends(instr: Instr) -> bool {
 }
 
 /// What it is in a safe body and where an atomic block is open.
-pub fn in_transaction(instr: Instr) -> Instr {
+pub fn in_transaction(instr: Instr) -> Instr
+    ensures { result ≡ transaction_instr instr }
+{
     match instr {
         Instr::Load(kind) => Instr::TLoad(kind),
         Instr::Store(kind) => Instr::TStore(kind),
