@@ -13,9 +13,9 @@ use Rattle.unwind_lower.specs.declared.items.Way.{Way}
 use Rattle.unwind_lower.specs.declared.items.Item.TheVariants.{Handle}
 use Rattle.unwind_lower.specs.States.{State, later}
 use Rattle.unwind_lower.specs.Settings.{Setting, place_in}
-use Rattle.unwind_lower.specs.Kids.{run_kid, run_all}
-use Rattle.unwind_lower.specs.Exceptions.{later_handlers}
-use Rattle.unwind_lower.specs.Blocks.{label_at, first_label, other_labels, run_item, run_items}
+use Rattle.unwind_lower.specs.Kids.{run_kid, runs, run_all}
+use Rattle.unwind_lower.specs.Exceptions.{handles, later_handlers}
+use Rattle.unwind_lower.specs.Blocks.{label_at, first_label, other_labels, run_item, labelled, run_items}
 use Rattle.unwind_lower.specs.Functions.{store_word, store_each}
 
 -- a loop from the back ends at the first place, or at once
@@ -32,13 +32,13 @@ drop_reached xs index first w b h = elim (cases index (length xs) w) as (λ _. d
 -- the kid before those that are run already
 pub run_more : (n : Node) (way : Way) (i j : ℕ) (s : State) → i + 1 ≡ j → i < length n.kids
     → run_kid n i way (run_all way (drop j n.kids) s) ≡ run_all way (drop i n.kids) s
-unfolding run_kid run_all
+unfolding later run_kid runs run_all
 run_more n way i j s e h = ap (λ k. run_kid n i way (run_all way (drop k n.kids) s)) (sym e)
     ∙ sym (ap (λ ids. run_all way ids s) (drop_more n.kids i first_id h))
 
 pub handler_more : (kids : List TNodeId) (id : TNodeId) (i j scope : ℕ) (live : Bool) (s : State) → i + 1 ≡ j → i < length kids → id ≡ kid_in kids i
     → later (Handle id scope live) (later_handlers (drop j kids) scope live s) ≡ later_handlers (drop i kids) scope live s
-unfolding later_handlers
+unfolding later handles later_handlers
 handler_more kids id i j scope live s e h is = ap (λ k. later (Handle id scope live) (later_handlers (drop k kids) scope live s)) (sym e)
     ∙ (ap (λ (x : TNodeId). later (Handle x scope live) (later_handlers (drop (i + 1) kids) scope live s)) is
     ∙ sym (ap (λ ids. later_handlers ids scope live s) (drop_more kids i first_id h)))
@@ -58,7 +58,7 @@ others_dropped (label ∷ labels) (suc i) = others_dropped labels i
 pub item_more : (g : Setting) (otherwise : Option Jump) (kids : List TNodeId) (labels : List (Option Jump)) (id : TNodeId) (label : Option Jump) (i j : ℕ)
     (s : State) → i + 1 ≡ j → i < length kids → id ≡ kid_in kids i → label ≡ label_at labels i
     → run_item g otherwise id label (run_items g otherwise (drop j kids) (drop j labels) s) ≡ run_items g otherwise (drop i kids) (drop i labels) s
-unfolding run_items
+unfolding later run_item labelled run_items
 item_more g otherwise kids labels id label i j s e h is there =
     ap (λ k. run_item g otherwise id label (run_items g otherwise (drop k kids) (drop k labels) s)) (sym e)
     ∙ (ap (λ (x : TNodeId). run_item g otherwise x label (run_items g otherwise (drop (i + 1) kids) (drop (i + 1) labels) s)) is
@@ -92,7 +92,7 @@ one_of index count w b h = grind arith
 pub items_reached : (g : Setting) (otherwise : Option Jump) (kids : List TNodeId) (labels : List (Option Jump)) (index : ℕ) (s : State)
     → index ≤ length kids → index ≤ 1 → (index < length kids → 1 ≤ index)
     → run_items g otherwise (drop index kids) (drop index labels) s ≡ run_items g otherwise (drop 1 kids) (drop 1 labels) s
-unfolding run_items
+unfolding labelled run_items
 items_reached g otherwise [] labels index s w b h = ap (λ ids. run_items g otherwise ids (drop index labels) s) (drop_all {X = TNodeId} index [] (omega arith))
 items_reached g otherwise (kid ∷ kids) labels index s w b h =
     ap (λ k. run_items g otherwise (drop k (kid ∷ kids)) (drop k labels) s) (one_of index (length kids) w b h)

@@ -20,6 +20,7 @@ use Rattle.unwind_lower.specs.declared.items.Leaving.{Leaving}
 use Rattle.unwind_lower.specs.declared.items.Leaving.TheVariants.{Return}
 use Rattle.unwind_lower.specs.declared.items.Turn.{Turn}
 use Rattle.unwind_lower.specs.declared.items.Way.TheVariants.{Value, Dropped}
+use Rattle.unwind_lower.specs.declared.items.Item.{Item}
 use Rattle.unwind_lower.specs.declared.items.Item.TheVariants.{Run, Bind, Close, BodyDone, StepDone, TestDone, Select, Past, BlockDone, Leave}
 use Rattle.unwind_lower.specs.States.{State, later, put, jumped, jump_from, jumped_if_zero, zero_jump_from, bound, bound_all, entered, left_scope}
 use Rattle.unwind_lower.specs.States.{at_scope, made_live, here, scope_of, is_live, scope_at, scope_count}
@@ -155,9 +156,14 @@ other_labels (label ∷ labels) = labels
 unfoldable pub run_item : Setting → Option Jump → TNodeId → Option Jump → State → State
 run_item g otherwise id label s = later (Bind (label_of (node_in g id).kind label otherwise)) (later (Run id Dropped) s)
 
+-- the items with the jumps to them, the first one first, and then others
+unfoldable pub labelled : Setting → Option Jump → List TNodeId → List (Option Jump) → List Item → List Item
+labelled g otherwise [] labels items = items
+labelled g otherwise (id ∷ ids) labels items =
+    Bind (label_of (node_in g id).kind (first_label labels) otherwise) ∷ Run id Dropped ∷ labelled g otherwise ids (other_labels labels) items
+
 unfoldable pub run_items : Setting → Option Jump → List TNodeId → List (Option Jump) → State → State
-run_items g otherwise [] labels s = s
-run_items g otherwise (id ∷ ids) labels s = run_item g otherwise id (first_label labels) (run_items g otherwise ids (other_labels labels) s)
+run_items g otherwise ids labels s = record s { work = labelled g otherwise ids labels s.work }
 
 -- the labels are compared with the value on top
 unfoldable pub compare_labels : Setting → Node → State → State

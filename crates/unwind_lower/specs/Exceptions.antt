@@ -15,6 +15,7 @@ use Rattle.low_code.specs.Numbers.{bytes_number, load, store}
 use Rattle.low_code.specs.Types.{is_void, is_class_type}
 use Rattle.low_code.specs.Caught.{caught_names}
 use Rattle.unwind_lower.specs.declared.items.Way.TheVariants.{Value, Dropped}
+use Rattle.unwind_lower.specs.declared.items.Item.{Item}
 use Rattle.unwind_lower.specs.declared.items.Item.TheVariants.{Thrown, Past, TryDone, Handle, HandlerDone}
 use Rattle.unwind_lower.specs.States.{State, later, put, put_offset, jumped_to, entered, entered_handler, handler_from, left_scope, caught_all, caught_one}
 use Rattle.unwind_lower.specs.States.{at_scope, at_depth, made_live, named, number_of, is_live, scope_at, scope_count}
@@ -55,10 +56,13 @@ thrown g n s = throw_value g (node_in g (kid_in n.kids 0)).typ (kids_from n 1) n
 
 -- ---- `try`
 
--- the handlers of a `try`
+-- the handlers of a `try`, the first one first, and then other items
+unfoldable pub handles : List TNodeId → ℕ → Bool → List Item → List Item
+handles [] scope live items = items
+handles (id ∷ ids) scope live items = Handle id scope live ∷ handles ids scope live items
+
 unfoldable pub later_handlers : List TNodeId → ℕ → Bool → State → State
-later_handlers [] scope live s = s
-later_handlers (id ∷ ids) scope live s = later (Handle id scope live) (later_handlers ids scope live s)
+later_handlers ids scope live s = record s { work = handles ids scope live s.work }
 
 unfoldable pub start_try : TNodeId → Node → State → State
 start_try id n s = run_kid n 0 Dropped (later (TryDone id (scope_count s)) (later_handlers (kids_from n 1) (scope_count s) (is_live s)

@@ -2,12 +2,12 @@ use Rattle.std.proofs.Common.{◌≡◌, ◌∙◌, ◌-◌, ◌+◌, ◌<◌, l
 use Rattle.std.proofs.lemmas.List.{drop_all}
 use Rattle.unwind_lower.specs.States.{state_of}
 use Rattle.unwind_lower.specs.Settings.{setting_of}
-use Rattle.unwind_lower.specs.Blocks.{run_item, run_items}
+use Rattle.unwind_lower.specs.Blocks.{run_item, labelled, run_items}
 use Rattle.unwind_lower.proofs.Walks.{item_more, drop_reached, items_reached}
 use Rattle.unwind_lower.proofs.lowering.Lowering.run_items.Goals as goal
 
 pub loop-index-init : goal.loop-index-init
-unfolding run_items
+unfolding state_of labelled run_items
 loop-index-init c =
     let kids = c.args.node.now.kids in
     let all : c.len-index.result ≡ length kids.items = omega (arith, kids.ok) in

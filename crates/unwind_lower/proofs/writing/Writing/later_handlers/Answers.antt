@@ -2,12 +2,12 @@ use Rattle.std.proofs.Common.{◌≡◌, ◌∙◌, ◌-◌, ◌+◌, ◌<◌, l
 use Rattle.std.proofs.lemmas.List.{drop_all}
 use Rattle.unwind_lower.specs.declared.items.Item.TheVariants.{Handle}
 use Rattle.unwind_lower.specs.States.{state_of, later}
-use Rattle.unwind_lower.specs.Exceptions.{later_handlers}
+use Rattle.unwind_lower.specs.Exceptions.{handles, later_handlers}
 use Rattle.unwind_lower.proofs.Walks.{handler_more}
 use Rattle.unwind_lower.proofs.writing.Writing.later_handlers.Goals as goal
 
 pub loop-index-init : goal.loop-index-init
-unfolding later_handlers
+unfolding state_of handles later_handlers
 loop-index-init c =
     let kids = c.args.node.now.kids in
     let all : c.len-index.result ≡ length kids.items = omega (arith, kids.ok) in

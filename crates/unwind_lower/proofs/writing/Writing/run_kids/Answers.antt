@@ -2,12 +2,12 @@ use Rattle.std.proofs.Common.{◌≡◌, ◌∙◌, ◌-◌, ◌+◌, ◌<◌, l
 use Rattle.std.proofs.lemmas.List.{drop_all}
 use Rattle.low_code.specs.Nodes.{node_of}
 use Rattle.unwind_lower.specs.States.{state_of}
-use Rattle.unwind_lower.specs.Kids.{run_kid, run_all}
+use Rattle.unwind_lower.specs.Kids.{run_kid, runs, run_all}
 use Rattle.unwind_lower.proofs.Walks.{run_more, drop_reached}
 use Rattle.unwind_lower.proofs.writing.Writing.run_kids.Goals as goal
 
 pub loop-index-init : goal.loop-index-init
-unfolding run_all
+unfolding state_of runs run_all
 loop-index-init c =
     let kids = c.args.node.now.kids in
     let all : c.len-index.result ≡ length kids.items = omega (arith, kids.ok) in
