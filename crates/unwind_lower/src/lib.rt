@@ -11,11 +11,13 @@ mod exceptions;
 mod expressions;
 mod functions;
 mod items;
+mod kids;
 mod leaving;
 mod lowering;
 mod objects;
 mod pads;
 mod parts;
 mod steps;
+mod writing;
 
 pub use functions::{LowFunc, lower_function};

@@ -1,0 +1,14 @@
+pub mod States
+pub mod Settings
+pub mod Kids
+pub mod Expressions
+pub mod Calls
+pub mod Conditions
+pub mod Objects
+pub mod Parts
+pub mod Exceptions
+pub mod Blocks
+pub mod Leaving
+pub mod Pads
+pub mod Steps
+pub mod Functions
