@@ -22,7 +22,8 @@ use class_specials::specials::{
 };
 use cpp_types::{At, ClassRec, FuncRec, MemberRec, Shape, Ty};
 use elab_init::below::{
-    ElabFault, Env, LimitKind, OverrideRule, SlotRec, Special, Traits, class_at, completion, measured,
+    ElabFault, Env, LimitKind, OverrideRule, SlotRec, Special, Traits, class_at, completion,
+    measured,
 };
 use std::alloc::{AllocError, Global};
 
