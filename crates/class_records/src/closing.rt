@@ -6,12 +6,13 @@ ghost use Rattle.cpp_types.specs.Class.{classes_of, class_of, member_of, functio
 ghost use Rattle.cpp_types.specs.Trivial.{hinders, is_plain as is_plain_of};
 ghost use Rattle.elab_init.specs.cpp_tree.Units.{slot_of, SlotFunc};
 ghost use Rattle.elab_init.specs.elab_ctx.Ctx.{ctx_of, traits_of as traits_shown, special_of};
-ghost use Rattle.elab_init.specs.elab_rules.Classes.{class_named, is_pure as is_pure_of, slot_function as slot_function_of, with_record, with_traits, with_specials, completed as completed_of, closed_class as closed_class_of, base_slots as base_slots_of};
+ghost use Rattle.elab_init.specs.elab_rules.Classes.{class_named, is_pure as is_pure_of, slot_function as slot_function_of, with_record, with_traits, with_specials, completed as completed_of, closed_class as closed_class_of, sized_class as sized_class_of, base_of as base_of_class, is_final_destructor as is_final_destructor_of, inherits_final_destructor as inherits_final_destructor_of, base_slots as base_slots_of};
 ghost use Rattle.class_members.specs.Shown.{home_of, Answers};
 ghost use Rattle.class_records.specs.Traits.{about_parts, traits_by};
 
 use crate::renewing::{next_completion, put_class};
 use crate::slots::{own_functions, slots_of};
+use class_members::bases::keeps;
 use class_members::overriding::{base_slots, is_destructor_name, slot_function};
 use class_members::records::Home;
 use class_specials::part_tests::{PartTest, all_held, has_volatile_member, may_assign};
@@ -21,7 +22,8 @@ use class_specials::specials::{
 };
 use cpp_types::{At, ClassRec, FuncRec, MemberRec, Shape, Ty};
 use elab_init::below::{
-    ElabFault, Env, LimitKind, SlotRec, Special, Traits, class_at, completion, measured,
+    ElabFault, Env, LimitKind, OverrideRule, SlotRec, Special, Traits, class_at, completion,
+    measured,
 };
 use std::alloc::{AllocError, Global};
 
@@ -245,9 +247,46 @@ pub fn completed(
     Ok(())
 }
 
-/// The class, complete, unless its objects are too large. A class that is not complete counts as want of memory.
-pub fn closed_class(env: &Env, at: At, class: u32) -> Result<(), ElabFault>
-    ensures { Answers (ctx_of env.now) result (closed_class_of at class (ctx_of env.now)) }
+// Whether a slot has a destructor that is final.
+fn is_final_destructor(classes: &[ClassRec], slot: &SlotRec) -> bool
+    ensures { result ≡ is_final_destructor_of (slot_function_of (classes_of classes.now) (slot_of slot.now)) }
+{
+    match slot_function(classes, slot) {
+        Some(found) => is_destructor_name(&found.name) && found.is_final,
+        None => false,
+    }
+}
+
+fn has_final_destructor(classes: &[ClassRec], slots: &[SlotRec]) -> bool
+    ensures { result ≡ list_any (λ (s : SlotFunc). is_final_destructor_of (slot_function_of (classes_of classes.now) s)) (map slot_of slots.now) }
+{
+    for slot in slots {
+        if is_final_destructor(classes, slot) {
+            return true;
+        }
+    }
+    false
+}
+
+fn base_of(env: &Env, class: u32) -> Option<u32>
+    ensures { result ≡ base_of_class (slice_get (ctx_of env.now).classes class) }
+{
+    match class_at(env, class) {
+        Some(found) => found.base,
+        None => None,
+    }
+}
+
+// Whether the destructor of a class overrides one that is final (C++14 10.3 p4).
+fn inherits_final_destructor(env: &Env, class: u32) -> bool
+    ensures { result ≡ inherits_final_destructor_of (ctx_of env.now) class }
+{
+    has_final_destructor(&env.classes, base_slots(env, base_of(env, class)))
+}
+
+/// The class, unless its objects are too large. A class that is not complete counts as want of memory.
+pub fn sized_class(env: &Env, at: At, class: u32) -> Result<(), ElabFault>
+    ensures { Answers (ctx_of env.now) result (sized_class_of at class (ctx_of env.now)) }
 {
     let Some(_) = completion(env, class) else {
         return Err(ElabFault::Memory);
@@ -264,4 +303,17 @@ pub fn closed_class(env: &Env, at: At, class: u32) -> Result<(), ElabFault>
             which: LimitKind::Size,
         }),
     }
+}
+
+/// The class, complete, unless its destructor, be it implicit, overrides one that is final (C++14 10.3 p4, 12.4 p9), or
+/// its objects are too large. A class that is not complete counts as want of memory.
+pub fn closed_class(env: &Env, at: At, class: u32) -> Result<(), ElabFault>
+    ensures { Answers (ctx_of env.now) result (closed_class_of at class (ctx_of env.now)) }
+{
+    keeps(
+        at,
+        OverrideRule::OverridesFinal,
+        !inherits_final_destructor(env, class),
+    )?;
+    sized_class(env, at, class)
 }

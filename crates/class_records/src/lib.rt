@@ -8,6 +8,6 @@ pub mod slots;
 mod within;
 
 pub use beginning::{begun, no_traits};
-pub use closing::{closed_class, completed};
+pub use closing::{closed_class, completed, sized_class};
 pub use renewing::{next_completion, push_class};
 pub use slots::slots_of;

@@ -1,5 +1,5 @@
 -- A class goes on by steps: it is named, its functions are declared, and at its brace it becomes complete.
-use Rattle.std.proofs.Common.{◌≡◌, ℕ, zero, suc, Bool, true, false, List, [], ◌∷◌, ◌++◌, length, refl, sym, ◌∙◌, subst, Option, Some, None, Ok, Err}
+use Rattle.std.proofs.Common.{◌≡◌, ℕ, zero, suc, Bool, true, false, List, [], ◌∷◌, ◌++◌, length, refl, sym, ◌∙◌, subst, Option, Some, None, Result, Ok, Err}
 use Rattle.std.specs.Prelude.{if◌then◌else◌, ◌&&◌, not, is_none, is_some, nat_le, ◌||◌}
 use Rattle.elab_rules.specs.cpp_types.Typ.{Typ, typ, Form, class, func}
 use Rattle.elab_rules.specs.cpp_types.Class.{Class, Member, completion_of, held}
@@ -365,9 +365,11 @@ completed_same c home at ms initialised =
 
 -- The brace
 
-if_closed : (P : Ctx → Type 0) (c : Ctx) (e : ElabFault) (b : Bool) → (b ≡ true → P c) → On P (if b then Ok c else Err e)
-if_closed P c e true h = h refl
-if_closed P c e false h = tt
+if_closed : (P : Ctx → Type 0) (c : Ctx) (e : ElabFault) (t : Result Bool ElabFault) (b : Bool) → (b ≡ true → P c)
+    → On P (and_then t (λ z. if b then Ok c else Err e))
+if_closed P c e (Ok z) true h = h refl
+if_closed P c e (Ok z) false h = tt
+if_closed P c e (Err f) b h = tt
 
 completed_leaves : (st : State) (home : Home) (at : At) (ms : List Member) (initialised : List ℕ) → IsOpen st.ctx.classes home.number
     → is_no_name home.name ≡ false → IsWhole st.ctx.classes home.base → IsBase st.ctx.classes home.base → AreMembers st.ctx.classes ms
@@ -396,7 +398,7 @@ completed_leaves st home at ms initialised e q b f o z = record {
 closed_leaves : (st : State) (home : Home) (at : At) (ms : List Member) (initialised : List ℕ) → IsOpen st.ctx.classes home.number
     → is_no_name home.name ≡ false → IsWhole st.ctx.classes home.base → IsBase st.ctx.classes home.base → AreMembers st.ctx.classes ms
     → On (λ (d : Ctx). Leaves st (record st { ctx = d })) (closed_class at home.number (completed st.ctx home at ms initialised))
-closed_leaves st home at ms initialised e q b f o = if_closed (λ (d : Ctx). Leaves st (record st { ctx = d })) (completed st.ctx home at ms initialised) _
+closed_leaves st home at ms initialised e q b f o = if_closed (λ (d : Ctx). Leaves st (record st { ctx = d })) (completed st.ctx home at ms initialised) _ _
     (nat_le (class_extent (completed st.ctx home at ms initialised).classes home.number).size 1048576) (completed_leaves st home at ms initialised e q b f o)
 
 -- behind the brace

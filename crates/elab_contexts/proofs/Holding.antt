@@ -15,6 +15,7 @@ use Rattle.elab_rules.specs.cpp_tree.declared.kinds.Builtin.{Builtin}
 use Rattle.elab_rules.specs.cpp_tree.declared.kinds.Builtin.TheVariants.{PutChar, GetChar, Spawn, Join}
 use Rattle.elab_rules.specs.cpp_tree.declared.program.FuncKind.TheVariants.{Plain}
 use Rattle.elab_rules.specs.elab_ctx.Ctx.{Ctx, Func, Traits}
+use Rattle.elab_rules.specs.elab_ctx.Steps.{and_then}
 use Rattle.elab_rules.specs.Objects.{no_traits}
 use Rattle.elab_rules.specs.Classes.{begun, members_of, completed, closed_class}
 use Rattle.elab_rules.specs.Globals.{enum_declared}
@@ -387,12 +388,13 @@ methods_override s st n kind m body = leaves_override st (late_method lambdas_of
 pub implied_override : ImpliedOverride
 implied_override st k = leaves_override st (implied st k) (implied_one st k)
 
-same_ctx : (b : Bool) (c d : Ctx) (e : ElabFault) → (if b then Ok c else Err e) ≡ Ok d → c ≡ d
-same_ctx true c d e h = cc
-same_ctx false c d e h = absurd cc
+same_ctx : (t : Result Bool ElabFault) (b : Bool) (c d : Ctx) (e : ElabFault) → and_then t (λ z. if b then Ok c else Err e) ≡ Ok d → c ≡ d
+same_ctx (Ok z) true c d e h = cc
+same_ctx (Ok z) false c d e h = absurd cc
+same_ctx (Err f) b c d e h = absurd cc
 
 pub classes_override : ClassesOverride
 classes_override w at home r d e h = subst (λ (c : Ctx). HasOverridersBy w c.funcs)
-    (same_ctx (nat_le (class_extent (completed r.state.ctx home at r.members r.initialised).classes home.number).size GREATEST_SIZE) _ d _ e)
+    (same_ctx _ (nat_le (class_extent (completed r.state.ctx home at r.members r.initialised).classes home.number).size GREATEST_SIZE) _ d _ e)
     (overriders_closed w r.state.ctx.funcs (completed r.state.ctx home at r.members r.initialised).funcs home.number
     (closing r.state.ctx home at r.members r.initialised).added h)

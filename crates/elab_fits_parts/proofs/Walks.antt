@@ -8,6 +8,7 @@ use Rattle.elab_rules.specs.cpp_tree.Typing.{form_in}
 use Rattle.elab_rules.specs.cpp_layout.Layout.{class_extent}
 use Rattle.elab_rules.specs.cpp_layout.declared.extents.TheConstants.{GREATEST_SIZE}
 use Rattle.elab_rules.specs.elab_ctx.Ctx.{Ctx, Func}
+use Rattle.elab_rules.specs.elab_ctx.Steps.{and_then}
 use Rattle.elab_rules.specs.Classes.{begun, members_of, completed, closed_class}
 use Rattle.elab_rules.specs.Globals.{enum_declared}
 use Rattle.elab_rules.specs.Implicit.{implied}
@@ -125,8 +126,12 @@ of_limit : (b : Bool) (c d : Ctx) (e : ElabFault) (r : Result Ctx ElabFault) →
 of_limit true c d e r g h = let q : Ok c ≡ Ok d = g ∙ h in cc
 of_limit false c d e r g h = let q : Err e ≡ Ok d = g ∙ h in absurd cc
 
+of_test : (t : Result Bool ElabFault) (b : Bool) (c d : Ctx) (e : ElabFault) → and_then t (λ z. if b then Ok c else Err e) ≡ Ok d → c ≡ d
+of_test (Ok z) b c d e h = of_limit b c d e _ refl h
+of_test (Err f) b c d e h = absurd cc
+
 closed_is : (at : At) (n : ℕ) (c d : Ctx) → closed_class at n c ≡ Ok d → c ≡ d
-closed_is at n c d e = of_limit (nat_le (class_extent c.classes n).size GREATEST_SIZE) c d _ (closed_class at n c) refl e
+closed_is at n c d e = of_test _ (nat_le (class_extent c.classes n).size GREATEST_SIZE) c d _ e
 
 pub classes_law : ClassesImplicit
 classes_law s st at kids home b r d u n e f g i j h =

@@ -331,9 +331,10 @@ completed_same c home at ms initialised =
     let g = default_same x.ctx home at ms initialised (is_no_place (places_from (is_constructor home.number) 0 c.funcs)) in
     record { defaults = g.defaults ∙ f.defaults ∙ e.defaults; closures = g.closures ∙ f.closures ∙ e.closures }
 
-if_closed : (P : Ctx → Type 0) (c : Ctx) (e : ElabFault) (b : Bool) → P c → On P (if b then Ok c else Err e)
-if_closed P c e true h = h
-if_closed P c e false h = tt
+if_closed : (P : Ctx → Type 0) (c : Ctx) (e : ElabFault) (t : Result Bool ElabFault) (b : Bool) → P c → On P (and_then t (λ z. if b then Ok c else Err e))
+if_closed P c e (Ok z) true h = h
+if_closed P c e (Ok z) false h = tt
+if_closed P c e (Err f) b h = tt
 
 pub class_quiet : (s : List Lexeme) (st : State) (at : At) (name : List ℕ) (kids : syntax.Trees) (home : Home) (r : Members) (c : Ctx)
     → IsClosed s st at name kids home r c → Quiet st (record r.state { ctx = c })
@@ -344,5 +345,5 @@ class_quiet s st at name kids home r c h =
     (each_quiet (Read st) (member_of s home) (record { state = x; members = []; initialised = [] }) (members_among kids)
     (record { bodies = refl; defaults = b.defaults; closures = b.closures }) (λ y t i. member_read st s home y t i)) h.read in
     let d : Ctx = completed r.state.ctx home at r.members r.initialised in
-    let n = answered (Named r.state.ctx) (closed_class at home.number d) c (if_closed (Named r.state.ctx) d _ _ (completed_same r.state.ctx home at r.members r.initialised)) h.closed in
+    let n = answered (Named r.state.ctx) (closed_class at home.number d) c (if_closed (Named r.state.ctx) d _ _ _ (completed_same r.state.ctx home at r.members r.initialised)) h.closed in
     record { bodies = m.bodies; defaults = n.defaults ∙ m.defaults; closures = n.closures ∙ m.closures }

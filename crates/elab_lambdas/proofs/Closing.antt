@@ -8,7 +8,7 @@ use Rattle.elab_entry.specs.elab_ctx.Ctx.{Ctx, Func, Traits, Capture}
 use Rattle.elab_entry.specs.elab_ctx.Says.{Faults}
 use Rattle.elab_entry.specs.elab_rules.Types.{Parameter}
 use Rattle.elab_entry.specs.elab_rules.Statements.{State}
-use Rattle.elab_entry.specs.elab_rules.Classes.{is_completed, closed_class}
+use Rattle.elab_entry.specs.elab_rules.Classes.{is_completed, sized_class}
 use Rattle.elab_entry.specs.elab_rules.Lambdas.{Written, closure_sized, closure_traits, declared_closure, with_closure}
 use Rattle.elab_lambdas.specs.Steps.{closure_class, with_class, with_call}
 
@@ -47,11 +47,11 @@ then_faults false c e (Limit at which) h = let is : e ≡ Limit at which = cc in
 then_faults false c e Memory h = tt
 
 pub closed_sized : (st : State) (x : Written) (sig : Signature) (c : Ctx) (n : ℕ) → c ≡ declared_closure st x sig → n ≡ length st.ctx.classes
-    → closed_class x.at n c ≡ Ok c → closure_sized st x sig ≡ Ok true
+    → sized_class x.at n c ≡ Ok c → closure_sized st x sig ≡ Ok true
 closed_sized st x sig c n e f h = then_true _ (declared_closure st x sig) _
-    (subst (λ (z : Ctx). closed_class x.at (length st.ctx.classes) z ≡ Ok z) e (subst (λ (m : ℕ). closed_class x.at m c ≡ Ok c) f h))
+    (subst (λ (z : Ctx). sized_class x.at (length st.ctx.classes) z ≡ Ok z) e (subst (λ (m : ℕ). sized_class x.at m c ≡ Ok c) f h))
 
 pub closed_large : (st : State) (x : Written) (sig : Signature) (c : Ctx) (n : ℕ) (d : ElabFault) → c ≡ declared_closure st x sig → n ≡ length st.ctx.classes
-    → Faults d (closed_class x.at n c) → Faults d (closure_sized st x sig)
+    → Faults d (sized_class x.at n c) → Faults d (closure_sized st x sig)
 closed_large st x sig c n d e f h = then_faults _ (declared_closure st x sig) _ d
-    (subst (λ (z : Ctx). Faults d (closed_class x.at (length st.ctx.classes) z)) e (subst (λ (m : ℕ). Faults d (closed_class x.at m c)) f h))
+    (subst (λ (z : Ctx). Faults d (sized_class x.at (length st.ctx.classes) z)) e (subst (λ (m : ℕ). Faults d (sized_class x.at m c)) f h))

@@ -24,7 +24,7 @@ ghost use Rattle.elab_lambdas.specs.Outcomes.{Lists, Deduces};
 
 use crate::closures::{CallWords, add_closure, next_class};
 use crate::undoing::{checkpoint_here, undo};
-use class_records::closed_class;
+use class_records::sized_class;
 use elab_entry::below::{
     At, Capture, Closure, ElabFault, Env, FnTy, IllRule, Lambda, NoLambdas, NodeId, Nodes,
     Parameter, Returns, Shape, State, TNodeId, Tokens, Ty, block, copy, copy_function,
@@ -123,7 +123,7 @@ fn enter(
     let class = next_class(&st.env)?;
     let lambda = lambda_here(alloc, &st.env, x, class)?;
     declare_closure(alloc, &mut st.env, x, function)?;
-    closed_class(&st.env, x.words.at, class)?;
+    sized_class(&st.env, x.words.at, class)?;
     let around = enter_lambda(alloc, st, ret, object_type(x, class), returns, lambda)?;
     Ok(around)
 }

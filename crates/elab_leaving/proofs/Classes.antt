@@ -238,7 +238,8 @@ completed_settled c home at ms initialised =
     ∙ with_destructor_settled c home at ms (first_from (is_destructor_of home.number) 0 c.funcs)
 
 closed_settled : (at : At) (n : ℕ) (c : Ctx) → c.closures ≡ [] → On (λ (d : Ctx). d.closures ≡ []) (closed_class at n c)
-closed_settled at n c e = either (λ (d : Ctx). d.closures ≡ []) (nat_le (class_extent c.classes n).size 1048576) (Ok c) _ e tt
+closed_settled at n c e = skip (λ (d : Ctx). d.closures ≡ []) _ _
+    (λ z. either (λ (d : Ctx). d.closures ≡ []) (nat_le (class_extent c.classes n).size 1048576) (Ok c) _ e tt)
 
 abbrev ReadSettled : ClassRead → Type 0
 ReadSettled x = Settled x.state

@@ -149,7 +149,7 @@ module _ (K : Round → Type 0) (w : Walks K) where
   -- The closing brace
 
   closed_class : (bodies : List Body) (at : At) (n : ℕ) (c : Ctx) → Known bodies c → On (Known bodies) (Classes.closed_class at n c)
-  closed_class bodies at n c own = either (Known bodies) (nat_le (class_extent c.classes n).size GREATEST_SIZE) _ _ own tt
+  closed_class bodies at n c own = skip (Known bodies) _ _ (λ z. either (Known bodies) (nat_le (class_extent c.classes n).size GREATEST_SIZE) _ _ own tt)
 
   class_closed : (s : List Lexeme) (home : Home) (at : At) (r : Classes.Members) (ts : syntax.Trees) → MembersSound r
       → On Sound (Members.class_closed lambdas_of s home at r ts)

@@ -700,9 +700,26 @@ abbrev pub completed : Ctx → Home → At → List Member → List ℕ → Ctx
 completed c home at ms initialised = copy_completed home at ms initialised (is_no_place (places_from (is_constructor home.number) 0 c.funcs))
     (takes_const c home ms (written_copy c home)) (with_destructor c home at ms (first_from (is_destructor_of home.number) 0 c.funcs))
 
--- complete, unless it is too large
+-- a slot of the base has a destructor that is final: that of the class would override it, and be it implicit (10.3 p4, 12.4 p9)
+abbrev pub is_final_destructor : Option Function → Bool
+is_final_destructor (Some f) = is_destructor_name f.name && f.is_final
+is_final_destructor None = false
+
+abbrev pub base_of : Option Class → Option ℕ
+base_of (Some k) = k.base
+base_of None = None
+
+abbrev pub inherits_final_destructor : Ctx → ℕ → Bool
+inherits_final_destructor c n =
+    list_any (λ (x : SlotFunc). is_final_destructor (slot_function c.classes x)) (base_slots c (base_of (slice_get c.classes n)))
+
+-- not too large
+abbrev pub sized_class : At → ℕ → Ctx → Result Ctx ElabFault
+sized_class at n c = if nat_le (class_extent c.classes n).size GREATEST_SIZE then Ok c else Err (Limit at Size)
+
+-- complete, unless its destructor overrides one that it must not, or it is too large
 abbrev pub closed_class : At → ℕ → Ctx → Result Ctx ElabFault
-closed_class at n c = if nat_le (class_extent c.classes n).size GREATEST_SIZE then Ok c else Err (Limit at Size)
+closed_class at n c = and_then (keeps at OverridesFinal (not (inherits_final_destructor c n))) (λ z. sized_class at n c)
 
 -- Its text, from the first word to the `;` behind the brace
 

@@ -1,5 +1,5 @@
 -- At the brace of a class implicit members are added, and the class is complete.
-use Rattle.std.proofs.Common.{◌≡◌, refl, sym, ap, ◌∙◌, subst, ℕ, Bool, true, false, List, [], ◌∷◌, ◌++◌, Option, Some, None, Ok, Err}
+use Rattle.std.proofs.Common.{◌≡◌, refl, sym, ap, ◌∙◌, subst, ℕ, Bool, true, false, List, [], ◌∷◌, ◌++◌, Option, Some, None, Result, Ok, Err}
 use Rattle.std.specs.Prelude.{◌&&◌, not, if◌then◌else◌, nat_le}
 use Rattle.std.specs.List.{list_all}
 use Rattle.elab_rules.specs.cpp_types.Class.{Member}
@@ -7,6 +7,7 @@ use Rattle.elab_rules.specs.cpp_types.declared.classes.At.{At}
 use Rattle.elab_rules.specs.cpp_layout.Layout.{class_extent}
 use Rattle.elab_rules.specs.cpp_tree.declared.faults.ElabFault.{ElabFault}
 use Rattle.elab_rules.specs.elab_ctx.Ctx.{Ctx, Work, Func, Traits, Closure, Returns}
+use Rattle.elab_rules.specs.elab_ctx.Steps.{and_then}
 use Rattle.elab_rules.specs.Initialising.{is_constructor, places_from}
 use Rattle.elab_rules.specs.Objects.{traits_at}
 use Rattle.elab_rules.specs.Statements.{State, is_trivial}
@@ -140,12 +141,13 @@ completed_after st home at ms initialised h g e o =
       grown = record { kept = b.kept; same = λ q. absurd cc };
     }
 
-if_closed : (P : Ctx → Type 0) (c : Ctx) (e : ElabFault) (b : Bool) → P c → On P (if b then Ok c else Err e)
-if_closed P c e true h = h
-if_closed P c e false h = tt
+if_closed : (P : Ctx → Type 0) (c : Ctx) (e : ElabFault) (t : Result Bool ElabFault) (b : Bool) → P c → On P (and_then t (λ z. if b then Ok c else Err e))
+if_closed P c e (Ok z) true h = h
+if_closed P c e (Ok z) false h = tt
+if_closed P c e (Err f) b h = tt
 
 pub closed_after : (st : State) (home : Home) (at : At) (ms : List Member) (initialised : List ℕ) → IsSoundState st
     → is_class st.ctx.classes home.number ≡ true → is_nothing home.name ≡ false → list_all (is_sound_member st.ctx.classes) ms ≡ true
     → On (λ (d : Ctx). After st (record st { ctx = d })) (closed_class at home.number (completed st.ctx home at ms initialised))
-closed_after st home at ms initialised h g e o = if_closed (λ (d : Ctx). After st (record st { ctx = d })) (completed st.ctx home at ms initialised) _
+closed_after st home at ms initialised h g e o = if_closed (λ (d : Ctx). After st (record st { ctx = d })) (completed st.ctx home at ms initialised) _ _
     (nat_le (class_extent (completed st.ctx home at ms initialised).classes home.number).size 1048576) (completed_after st home at ms initialised h g e o)

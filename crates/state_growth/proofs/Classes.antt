@@ -235,7 +235,8 @@ completed_from a st home at ms initialised s e =
     (default_further k.ctx home at ms initialised (is_no_place (places_from (is_constructor home.number) 0 c.funcs)))) e
 
 pub closed_from : (a st : State) (at : At) (n : ℕ) (c : Ctx) → From a (record st { ctx = c }) → On (λ (d : Ctx). From a (record st { ctx = d })) (closed_class at n c)
-closed_from a st at n c h = either (λ (d : Ctx). From a (record st { ctx = d })) (nat_le (class_extent c.classes n).size 1048576) (Ok c) _ h tt
+closed_from a st at n c h = skip (λ (d : Ctx). From a (record st { ctx = d })) _ _
+    (λ (z : Bool). either (λ (d : Ctx). From a (record st { ctx = d })) (nat_le (class_extent c.classes n).size 1048576) (Ok c) _ h tt)
 
 -- behind the brace
 late_from : (lams : Lambdas) → Lawful lams → (s : List Lexeme) (home : Home) (a y : State) (members : syntax.Trees) → From a y

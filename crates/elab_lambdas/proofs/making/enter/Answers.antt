@@ -38,13 +38,13 @@ returns-clause-round c =
 
 pub returns-clause-sized : goal.returns-clause-sized
 returns-clause-sized c trees = closed_sized (state_of c.args.st.now) (written_of trees c.args.x.now) (signature_of c.args.function.now)
-    (ctx_of c.declare_closure.new.env) c.in_ok-class.class c.in_ok-declare_closure.ensures c.in_ok-class.ensures c.in_ok-closed_class.ensures
+    (ctx_of c.declare_closure.new.env) c.in_ok-class.class c.in_ok-declare_closure.ensures c.in_ok-class.ensures c.in_ok-sized_class.ensures
 
-pub returns-in_err-closed_class-clause-large : goal.returns-in_err-closed_class-clause-large
-returns-in_err-closed_class-clause-large c trees =
-    let is_error : c.from_residual-in_err-closed_class.result ≡ Err c.in_err-closed_class.field-0.0 = search rules in
+pub returns-in_err-sized_class-clause-large : goal.returns-in_err-sized_class-clause-large
+returns-in_err-sized_class-clause-large c trees =
+    let is_error : c.from_residual-in_err-sized_class.result ≡ Err c.in_err-sized_class.field-0.0 = search rules in
     subst (λ (z : Result Around ElabFault). IfErr z
     (λ (e : ElabFault). Faults e (closure_sized (state_of c.args.st.now) (written_of trees c.args.x.now) (signature_of c.args.function.now)))) (sym is_error)
     (closed_large (state_of c.args.st.now) (written_of trees c.args.x.now) (signature_of c.args.function.now)
-    (ctx_of c.declare_closure.new.env) c.in_ok-class.class c.in_err-closed_class.field-0.0 c.in_ok-declare_closure.ensures c.in_ok-class.ensures
-    c.in_err-closed_class.ensures)
+    (ctx_of c.declare_closure.new.env) c.in_ok-class.class c.in_err-sized_class.field-0.0 c.in_ok-declare_closure.ensures c.in_ok-class.ensures
+    c.in_err-sized_class.ensures)
