@@ -42,20 +42,22 @@ module _ (from to i ty : ℕ) (c : (nat_le from i && nat_lt i to) ≡ true) wher
       one_more caught depth (catch_rows from to scope depth others) rest (caught_by scope depth ty others) (first rest i ty)
       (catches_first scope depth others rest) (nat_eq caught.scope scope)
 
+module _ (caught : Catch) (scope depth ty : ℕ) (all : Bool) (later x y : Option Taken) (go : all ≡ true → or_around later x ≡ or_around later y) where
+  sure_type : (v : Bool) → is_for caught ty ≡ v → (nat_eq caught.what 2 || all) ≡ true
+      → or_around (cond v (Some (caught_at depth caught)) later) x ≡ or_around (cond v (Some (caught_at depth caught)) later) y
+  sure_type true e h = refl
+  sure_type false e h = go (sym (ap (λ v. v || all) (not_for_all caught.what (nat_eq caught.ty ty) e)) ∙ h)
+
+  sure_scope : (own : Bool) → ((own && nat_eq caught.what 2) || all) ≡ true
+      → or_around (cond (own && is_for caught ty) (Some (caught_at depth caught)) later) x
+      ≡ or_around (cond (own && is_for caught ty) (Some (caught_at depth caught)) later) y
+  sure_scope true h = sure_type (is_for caught ty) refl h
+  sure_scope false h = go h
+
 -- where one catch takes all, what lies around takes nothing
 pub catches_sure : (scope depth ty : ℕ) (catches : List Catch) → catches_all scope catches ≡ true → (x y : Option Taken)
     → or_around (caught_by scope depth ty catches) x ≡ or_around (caught_by scope depth ty catches) y
 catches_sure scope depth ty [] h x y = absurd (true≢false (sym h))
-catches_sure scope depth ty (caught ∷ others) h x y = by_scope (nat_eq caught.scope scope) h where
-  by_type : (v : Bool) → is_for caught ty ≡ v → (nat_eq caught.what 2 || catches_all scope others) ≡ true
-      → or_around (cond v (Some (caught_at depth caught)) (caught_by scope depth ty others)) x
-      ≡ or_around (cond v (Some (caught_at depth caught)) (caught_by scope depth ty others)) y
-  by_type true e k = refl
-  by_type false e k = catches_sure scope depth ty others
-      (sym (ap (λ v. v || catches_all scope others) (not_for_all caught.what (nat_eq caught.ty ty) e)) ∙ k) x y
-
-  by_scope : (own : Bool) → ((own && nat_eq caught.what 2) || catches_all scope others) ≡ true
-      → or_around (cond (own && is_for caught ty) (Some (caught_at depth caught)) (caught_by scope depth ty others)) x
-      ≡ or_around (cond (own && is_for caught ty) (Some (caught_at depth caught)) (caught_by scope depth ty others)) y
-  by_scope true k = by_type (is_for caught ty) refl k
-  by_scope false k = catches_sure scope depth ty others k x y
+catches_sure scope depth ty (caught ∷ others) h x y =
+    sure_scope caught scope depth ty (catches_all scope others) (caught_by scope depth ty others) x y
+    (λ k. catches_sure scope depth ty others k x y) (nat_eq caught.scope scope) h

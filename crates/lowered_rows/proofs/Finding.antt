@@ -31,8 +31,8 @@ first_past row rows i ty h = ap (λ v. option_map way (if v && takes row ty then
 -- rows behind that take nothing
 pub first_before : (rows others : List Row) (i ty : ℕ) → first others i ty ≡ None → first (rows ++ others) i ty ≡ first rows i ty
 first_before [] others i ty h = h
-first_before (row ∷ rows) others i ty h = by_test (covers row i && takes row ty) where
-  by_test : (v : Bool)
+first_before (row ∷ rows) others i ty h = by_test (first_before rows others i ty h) (covers row i && takes row ty) where
+  by_test : first (rows ++ others) i ty ≡ first rows i ty → (v : Bool)
       → option_map way (if v then Some row else find (rows ++ others) i ty) ≡ option_map way (if v then Some row else find rows i ty)
-  by_test true = refl
-  by_test false = first_before rows others i ty h
+  by_test go true = refl
+  by_test go false = go

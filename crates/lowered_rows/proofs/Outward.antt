@@ -34,17 +34,19 @@ module _ (b : Body) (ty : ℕ) (outside : Option Taken) where
     lies zero = inl nested.function
     lies (suc n) = elim (or_past (suc n) (length b.scopes)) [ inl l ↦ inr (nested.inward (suc n) (omega arith) l) | inr l ↦ inl (past_function (suc n) l) ]
 
+    one_more : (scope : ℕ) (around other : Option Taken) → ((scope_in b scope).parent < scope → around ≡ other) → Lies scope
+        → taken_by b ty scope (scope_in b scope).kind outside around ≡ taken_by b ty scope (scope_in b scope).kind outside other
+    one_more scope around other same (inl e) =
+        at_function (scope_in b scope).kind scope around e ∙ sym (at_function (scope_in b scope).kind scope other e)
+    one_more scope around other same (inr h) = ap (λ o. taken_by b ty scope (scope_in b scope).kind outside o) (same h)
+
     -- how many scopes may be passed does not matter
     enough : (j k scope : ℕ) → scope < j → scope < k → taken_within j b ty outside scope ≡ taken_within k b ty outside scope
     enough zero k scope l m = let no : ⊥ = omega arith in absurd no
     enough (suc j) zero scope l m = let no : ⊥ = omega arith in absurd no
-    enough (suc j) (suc k) scope l m = by_place (lies scope) where
-      by_place : Lies scope → taken_within (suc j) b ty outside scope ≡ taken_within (suc k) b ty outside scope
-      by_place (inl e) =
-          at_function (scope_in b scope).kind scope (taken_within j b ty outside (scope_in b scope).parent) e
-          ∙ sym (at_function (scope_in b scope).kind scope (taken_within k b ty outside (scope_in b scope).parent) e)
-      by_place (inr h) = ap (λ around. taken_by b ty scope (scope_in b scope).kind outside around)
-          (enough j k (scope_in b scope).parent (omega arith) (omega arith))
+    enough (suc j) (suc k) scope l m =
+        one_more scope (taken_within j b ty outside (scope_in b scope).parent) (taken_within k b ty outside (scope_in b scope).parent)
+        (λ (h : (scope_in b scope).parent < scope). enough j k (scope_in b scope).parent (omega arith) (omega arith)) (lies scope)
 
     beyond : (k scope : ℕ) → (scope_in b scope).kind ≡ Function → taken_within k b ty outside scope ≡ outside
     beyond zero scope e = refl

@@ -35,29 +35,30 @@ module _ (b : Body) (edges : HasEdges b) (ty : ℕ) where
       ap (λ v. first (cond v (run_rows b from to scope) []) i ty) (lt-ltb from to (omega arith))
       ∙ run_first b edges from to i ty (inside from to i l m) scope
 
+  in_both : (same : Bool) (rows others : List Row) (i : ℕ) (o : Option Taken) → first rows i ty ≡ o → first others i ty ≡ o
+      → first (cond same rows others) i ty ≡ o
+  in_both true rows others i o h k = h
+  in_both false rows others i o h k = k
+
   -- an index before the run
   nowhere : (lows : List LowInstr) (from scope index i : ℕ) → i < from → from ≤ index → first (rows_from b from scope index lows) i ty ≡ None
   nowhere [] from scope index i l m = some_nothing b from index i ty (before from index i l) scope
-  nowhere (low ∷ lows) from scope index i l m = by_test (nat_eq low.scope scope) where
-    by_test : (same : Bool)
-        → first (cond same (rows_from b from scope (index + 1) lows) (some_rows b from index scope ++ rows_from b index low.scope (index + 1) lows)) i ty ≡ None
-    by_test true = nowhere lows from scope (index + 1) i l (omega arith)
-    by_test false = some_past b from index i ty (before from index i l) scope (rows_from b index low.scope (index + 1) lows)
-        ∙ nowhere lows index low.scope (index + 1) i (omega arith) (omega arith)
+  nowhere (low ∷ lows) from scope index i l m =
+      let rest : List Row = rows_from b index low.scope (index + 1) lows in
+      in_both (nat_eq low.scope scope) (rows_from b from scope (index + 1) lows) (some_rows b from index scope ++ rest) i None
+      (nowhere lows from scope (index + 1) i l (omega arith))
+      (some_past b from index i ty (before from index i l) scope rest ∙ nowhere lows index low.scope (index + 1) i (omega arith) (omega arith))
 
   -- an index in the run
   run_taken : (lows : List LowInstr) (from scope index i : ℕ) → from ≤ i → i < index
       → first (rows_from b from scope index lows) i ty ≡ taken b scope ty
   run_taken [] from scope index i l m = some_first from index i scope l m
-  run_taken (low ∷ lows) from scope index i l m = by_test (nat_eq low.scope scope) where
-    by_test : (same : Bool)
-        → first (cond same (rows_from b from scope (index + 1) lows) (some_rows b from index scope ++ rows_from b index low.scope (index + 1) lows)) i ty
-        ≡ taken b scope ty
-    by_test true = run_taken lows from scope (index + 1) i l (omega arith)
-    by_test false =
-        first_before (some_rows b from index scope) (rows_from b index low.scope (index + 1) lows) i ty
-        (nowhere lows index low.scope (index + 1) i m (omega arith))
-        ∙ some_first from index i scope l m
+  run_taken (low ∷ lows) from scope index i l m =
+      let rest : List Row = rows_from b index low.scope (index + 1) lows in
+      in_both (nat_eq low.scope scope) (rows_from b from scope (index + 1) lows) (some_rows b from index scope ++ rest) i (taken b scope ty)
+      (run_taken lows from scope (index + 1) i l (omega arith))
+      (first_before (some_rows b from index scope) rest i ty (nowhere lows index low.scope (index + 1) i m (omega arith))
+      ∙ some_first from index i scope l m)
 
   -- what takes an exception at an instruction
   abbrev at : Option LowInstr → Option Taken
@@ -77,18 +78,13 @@ module _ (b : Body) (edges : HasEdges b) (ty : ℕ) where
     by_test false e =
         some_past b from index (index + zero) ty (past from index (index + zero) (omega arith)) scope (rows_from b index low.scope (index + 1) lows)
         ∙ run_taken lows index low.scope (index + 1) (index + zero) (omega arith) (omega arith)
-  later (low ∷ lows) from scope index (suc j) l = by_test (nat_eq low.scope scope) where
-    next : index + suc j ≡ index + 1 + j
-    next = omega arith
-
-    by_test : (same : Bool)
-        → first (cond same (rows_from b from scope (index + 1) lows) (some_rows b from index scope ++ rows_from b index low.scope (index + 1) lows)) (index + suc j) ty
-        ≡ at (slice_get lows j)
-    by_test true =
-        ap (λ n. first (rows_from b from scope (index + 1) lows) n ty) next ∙ later lows from scope (index + 1) j (omega arith)
-    by_test false =
-        some_past b from index (index + suc j) ty (past from index (index + suc j) (omega arith)) scope (rows_from b index low.scope (index + 1) lows)
-        ∙ ap (λ n. first (rows_from b index low.scope (index + 1) lows) n ty) next ∙ later lows index low.scope (index + 1) j (omega arith)
+  later (low ∷ lows) from scope index (suc j) l =
+      let rest : List Row = rows_from b index low.scope (index + 1) lows in
+      let next : index + suc j ≡ index + 1 + j = omega arith in
+      in_both (nat_eq low.scope scope) (rows_from b from scope (index + 1) lows) (some_rows b from index scope ++ rest) (index + suc j) (at (slice_get lows j))
+      (ap (λ n. first (rows_from b from scope (index + 1) lows) n ty) next ∙ later lows from scope (index + 1) j (omega arith))
+      (some_past b from index (index + suc j) ty (past from index (index + suc j) (omega arith)) scope rest
+      ∙ ap (λ n. first rest n ty) next ∙ later lows index low.scope (index + 1) j (omega arith))
 
   everywhere : (i : ℕ) → first (rows_in b) i ty ≡ at (slice_get b.code i)
   everywhere i =
