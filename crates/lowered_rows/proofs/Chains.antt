@@ -32,7 +32,6 @@ module _ (b : Body) (edges : HasEdges b) where
         by_test false = out_first edge []
 
       module _ (scope : ℕ) (rows : List Row) (last : ℕ) (around : Option Taken) (go : first (rows ++ edge_rows b from to edge last) i ty ≡ around) where
-
         abbrev own : List Row
         own = catch_rows from to scope (scope_in b scope).depth b.catches
 

@@ -4,3 +4,4 @@ pub mod Chains
 pub mod Elsewhere
 pub mod Runs
 pub mod Outward
+pub mod Entering

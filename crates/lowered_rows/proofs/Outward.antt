@@ -1,15 +1,15 @@
 -- What takes an exception, scope by scope outward.
-use Rattle.std.proofs.Common.{◌≡◌, ◌<◌, ◌≤◌, ◌≢◌, ◌⊎◌, inl, inr, ℕ, zero, suc, Bool, true, false, length, refl, sym, ap, ap₂, ◌∙◌, arith, ltb-true, ltb-false}
+use Rattle.std.proofs.Common.{◌≡◌, ◌<◌, ◌≤◌, ◌≢◌, ◌⊎◌, inl, inr, ℕ, zero, suc, Bool, true, false, length, refl, sym, ap, ◌∙◌, arith, ltb-true, ltb-false}
 use Rattle.std.proofs.lemmas.List.{get_or_past}
 use Rattle.std.specs.Prelude.{nat_lt, Option}
 use Rattle.cpp_tree.specs.Trees.{nowhere}
 use Rattle.low_code.specs.declared.scopes.ScopeKind.{ScopeKind}
-use Rattle.low_code.specs.declared.scopes.ScopeKind.TheVariants.{Function, Mark, Loop, Switch, Try}
+use Rattle.low_code.specs.declared.scopes.ScopeKind.TheVariants.{Function, Mark, Loop, Switch}
 use Rattle.low_code.specs.declared.scopes.Scope.{Scope}
 use Rattle.low_code.specs.Scopes.{outermost, rows_within}
 use Rattle.low_code.specs.Writer.{Body, scope_in}
 use Rattle.lowered_rows.specs.Taking.{Taken, edge_out, taken_by, taken_within, taken_from, taken}
-use Rattle.lowered_rows.specs.Lying.{AreNested, is_passed, IsWithin, AreWithin}
+use Rattle.lowered_rows.specs.Lying.{AreNested, is_passed, LiesIn, AreWithin}
 
 or_past : (m n : ℕ) → (m < n) ⊎ (n ≤ m)
 or_past m n = by_test (nat_lt m n) refl where
@@ -104,10 +104,10 @@ module _ (b : Body) (within : AreWithin b) where
   passed zero scope l m = let no : ⊥ = omega arith in absurd no
   passed (suc k) zero l m = same_passed zero within.rows
   passed (suc k) (suc n) l m =
-      let lies : IsWithin b (suc n) = within.inward (suc n) (omega arith) m in
-      let lower : (scope_in b (suc n)).parent < suc n = lies.parent in
-      by_kind (suc n) (scope_in b (suc n)).parent (passed k (scope_in b (suc n)).parent (omega arith) (omega arith))
-      (scope_in b (suc n)).kind lies.kind lies.rows lies.edge (λ ty outside. outward b ty outside nested (suc n))
+      let own : Scope = scope_in b (suc n) in
+      let lies : LiesIn (suc n) own (scope_in b own.parent) = within.inward (suc n) (omega arith) m in
+      let lower : own.parent < suc n = lies.parent in
+      by_kind (suc n) own.parent (passed k own.parent (omega arith) (omega arith)) own.kind lies.kind lies.rows lies.edge (λ ty outside. outward b ty outside nested (suc n))
 
   pub passed_taken : (scope ty : ℕ) → scope < length b.scopes → taken b scope ty ≡ taken b (scope_in b scope).rows ty
   passed_taken scope ty l =

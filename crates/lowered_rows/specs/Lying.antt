@@ -2,6 +2,7 @@
 use Rattle.std.specs.Prelude.{Bool, true, false, ◌≡◌, ◌≢◌, ℕ, ◌<◌, length}
 use Rattle.low_code.specs.declared.scopes.ScopeKind.{ScopeKind}
 use Rattle.low_code.specs.declared.scopes.ScopeKind.TheVariants.{Function, Mark, Loop, Switch}
+use Rattle.low_code.specs.declared.scopes.Scope.{Scope}
 use Rattle.low_code.specs.Scopes.{rows_within}
 use Rattle.low_code.specs.Writer.{Body, scope_in}
 use Rattle.low_code.specs.Rows.{block_edge}
@@ -22,16 +23,16 @@ is_passed Loop = true
 is_passed Switch = true
 is_passed kind = false
 
--- A scope in another, which has the rows and the edge that it got when it was made. Where exceptions end, the edge may be another:
--- a handler has that of the ways out behind it.
-pub record IsWithin (b : Body) (scope : ℕ) : Type 0 where
-  pub parent : (scope_in b scope).parent < scope
-  pub kind : (scope_in b scope).kind ≢ Function
-  pub rows : (scope_in b scope).rows ≡ rows_within (scope_in b scope).kind scope (scope_in b (scope_in b scope).parent).rows
-  pub edge : is_passed (scope_in b scope).kind ≡ true → (scope_in b scope).edge ≡ (scope_in b (scope_in b scope).parent).edge
+-- A scope with this number lies in the one around it, and has the rows and the edge that it got when it was made. A scope that is not
+-- passed may have another edge: a handler has that of the ways out behind it.
+pub record LiesIn (number : ℕ) (own around : Scope) : Type 0 where
+  pub parent : own.parent < number
+  pub kind : own.kind ≢ Function
+  pub rows : own.rows ≡ rows_within own.kind number around.rows
+  pub edge : is_passed own.kind ≡ true → own.edge ≡ around.edge
 
 -- number 0 is the function, and each other scope lies in one
 pub record AreWithin (b : Body) : Type 0 where
   pub function : (scope_in b 0).kind ≡ Function
   pub rows : (scope_in b 0).rows ≡ 0
-  pub inward : (scope : ℕ) → 0 < scope → scope < length b.scopes → IsWithin b scope
+  pub inward : (scope : ℕ) → 0 < scope → scope < length b.scopes → LiesIn scope (scope_in b scope) (scope_in b (scope_in b scope).parent)

@@ -1,10 +1,13 @@
 //! Laws of the unwind rows of a lowered body. A function here does nothing: its clauses are the laws.
 
-ghost use Rattle.std.specs.Prelude.{◌≡◌, ℕ, ◌<◌, ◌≤◌, length, slice_get, Option, Some, None, option_map};
+ghost use Rattle.std.specs.Prelude.{◌≡◌, ◌≢◌, ℕ, ◌<◌, ◌≤◌, length, slice_get, Option, Some, None, option_map};
 ghost use Rattle.tx_code.specs.Meaning.{find};
+ghost use Rattle.cpp_tree.specs.cpp_types.declared.classes.At.{At};
+ghost use Rattle.low_code.specs.declared.scopes.ScopeKind.{ScopeKind};
+ghost use Rattle.low_code.specs.declared.scopes.ScopeKind.TheVariants.{Function};
 ghost use Rattle.low_code.specs.declared.writer.LowInstr.{LowInstr};
-ghost use Rattle.low_code.specs.Writer.{Body, scope_in};
-ghost use Rattle.low_code.specs.Rows.{rows_in};
+ghost use Rattle.low_code.specs.Writer.{Body, begun, scope_in, entered_at};
+ghost use Rattle.low_code.specs.Rows.{rows_in, block_edge};
 ghost use Rattle.lowered_rows.specs.Taking.{Taken, way, taken_by, taken_from, taken};
 ghost use Rattle.lowered_rows.specs.Lying.{HasEdges, AreNested, AreWithin};
 
@@ -27,4 +30,15 @@ pub fn scopes_take()
 pub fn passed_scopes_take_nothing()
     ensures { (b : Body) → AreWithin b → (scope ty : ℕ) → scope < length b.scopes →
         taken b scope ty ≡ taken b (scope_in b scope).rows ty }
+{}
+
+/// Scopes that a body begins with, and that are entered in it, are as the other laws ask.
+pub fn entered_scopes_are_within()
+    ensures begun { (depth : ℕ) (at : At) → AreWithin (begun depth at) }
+    ensures begun_edges { (depth : ℕ) (at : At) → HasEdges (begun depth at) }
+    ensures entered { (kind : ScopeKind) (depth : ℕ) (at : At) (b : Body) → AreWithin b → b.scope < length b.scopes → kind ≢ Function →
+        AreWithin (entered_at kind depth at b) }
+    ensures entered_edges { (kind : ScopeKind) (depth : ℕ) (at : At) (b : Body) → HasEdges b → block_edge kind ≢ 1 →
+        HasEdges (entered_at kind depth at b) }
+    ensures nested { (b : Body) → AreWithin b → AreNested b }
 {}

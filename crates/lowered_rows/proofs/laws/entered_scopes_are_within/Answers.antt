@@ -1,0 +1,19 @@
+use Rattle.low_code.specs.Writer.{made}
+use Rattle.lowered_rows.proofs.Outward.{nested}
+use Rattle.lowered_rows.proofs.Entering.{begun_within, begun_edges, entered_edges, made_within}
+use Rattle.lowered_rows.proofs.laws.entered_scopes_are_within.Goals as goal
+
+pub returns-clause-begun : goal.returns-clause-begun
+returns-clause-begun c = λ depth at. begun_within depth at
+
+pub returns-clause-begun_edges : goal.returns-clause-begun_edges
+returns-clause-begun_edges c = λ depth at. begun_edges depth at
+
+pub returns-clause-entered : goal.returns-clause-entered
+returns-clause-entered c = λ kind depth at b within l other. made_within kind depth at b within l other
+
+pub returns-clause-entered_edges : goal.returns-clause-entered_edges
+returns-clause-entered_edges c = λ kind depth at b edges other. entered_edges b (made kind b.scope depth at b) edges other
+
+pub returns-clause-nested : goal.returns-clause-nested
+returns-clause-nested c = λ b within. nested b within
