@@ -1,11 +1,13 @@
 -- The rows of a chain of scopes, at an index that they cover.
-use Rattle.std.proofs.Common.{◌≡◌, ℕ, zero, suc, Bool, true, false, cond, not, ◌&&◌, ◌||◌, List, [], ◌∷◌, ◌++◌, length, refl, ap, ◌∙◌, append_assoc, ne_eqb}
+use Rattle.std.proofs.Common.{◌≡◌, ℕ, zero, suc, Bool, true, false, cond, not, ◌&&◌, ◌||◌, List, [], ◌∷◌, ◌++◌, length, refl, ap, ◌∙◌, append_assoc}
+use Rattle.std.proofs.Common.{ne_eqb}
 use Rattle.std.specs.Prelude.{nat_eq, nat_lt, nat_le, Option, Some, None}
 use Rattle.tx_code.specs.declared.body.Row.{Row}
 use Rattle.low_code.specs.declared.scopes.ScopeKind.{ScopeKind}
 use Rattle.low_code.specs.declared.scopes.ScopeKind.TheVariants.{Function, Mark, Loop, Switch, Try, Behind}
 use Rattle.low_code.specs.Writer.{Body, scope_in}
-use Rattle.low_code.specs.Rows.{block_edge, edge_by, edge_of, pad_row, catch_rows, catches_all, rows_by, chain_rows, last_by, chain_last, edge_rows, run_rows}
+use Rattle.low_code.specs.Rows.{block_edge, edge_by, edge_of, pad_row, catch_rows, catches_all, rows_by, chain_rows, last_by, chain_last, edge_rows}
+use Rattle.low_code.specs.Rows.{run_rows}
 use Rattle.lowered_rows.specs.Taking.{Taken, or_around, way_out, edge_out, caught_by, taken_by, taken_within, taken}
 use Rattle.lowered_rows.specs.Lying.{HasEdges}
 use Rattle.lowered_rows.proofs.Finding.{first, first_sure}

@@ -1,5 +1,6 @@
 -- The rows of a run, at an index that they do not cover.
-use Rattle.std.proofs.Common.{◌≡◌, ℕ, zero, suc, Bool, true, false, cond, ◌&&◌, ◌||◌, List, [], ◌∷◌, ◌++◌, length, refl, ap, ◌∙◌, append_assoc, append-nil, sym}
+use Rattle.std.proofs.Common.{◌≡◌, ℕ, zero, suc, Bool, true, false, cond, ◌&&◌, ◌||◌, List, [], ◌∷◌, ◌++◌, length, refl, ap, ◌∙◌, append_assoc}
+use Rattle.std.proofs.Common.{append-nil, sym}
 use Rattle.std.specs.Prelude.{nat_eq, nat_lt, nat_le, None}
 use Rattle.tx_code.specs.declared.body.Row.{Row}
 use Rattle.low_code.specs.declared.scopes.ScopeKind.{ScopeKind}

@@ -5,3 +5,4 @@ pub mod Elsewhere
 pub mod Runs
 pub mod Outward
 pub mod Entering
+pub mod Handlers

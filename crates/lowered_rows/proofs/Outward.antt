@@ -1,5 +1,6 @@
 -- What takes an exception, scope by scope outward.
-use Rattle.std.proofs.Common.{◌≡◌, ◌<◌, ◌≤◌, ◌≢◌, ◌⊎◌, inl, inr, ℕ, zero, suc, Bool, true, false, length, refl, sym, ap, ◌∙◌, arith, ltb-true, ltb-false}
+use Rattle.std.proofs.Common.{◌≡◌, ◌<◌, ◌≤◌, ◌≢◌, ◌⊎◌, inl, inr, ℕ, zero, suc, Bool, true, false, length, refl, sym, ap, ◌∙◌, arith, ltb-true}
+use Rattle.std.proofs.Common.{ltb-false}
 use Rattle.std.proofs.lemmas.List.{get_or_past}
 use Rattle.std.specs.Prelude.{nat_lt, Option}
 use Rattle.cpp_tree.specs.Trees.{nowhere}
@@ -11,7 +12,7 @@ use Rattle.low_code.specs.Writer.{Body, scope_in}
 use Rattle.lowered_rows.specs.Taking.{Taken, edge_out, taken_by, taken_within, taken_from, taken}
 use Rattle.lowered_rows.specs.Lying.{AreNested, is_passed, LiesIn, AreWithin}
 
-or_past : (m n : ℕ) → (m < n) ⊎ (n ≤ m)
+pub or_past : (m n : ℕ) → (m < n) ⊎ (n ≤ m)
 or_past m n = by_test (nat_lt m n) refl where
   by_test : (v : Bool) → nat_lt m n ≡ v → (m < n) ⊎ (n ≤ m)
   by_test true e = inl (ltb-true m n e)

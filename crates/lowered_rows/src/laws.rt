@@ -6,7 +6,7 @@ ghost use Rattle.cpp_tree.specs.cpp_types.declared.classes.At.{At};
 ghost use Rattle.low_code.specs.declared.scopes.ScopeKind.{ScopeKind};
 ghost use Rattle.low_code.specs.declared.scopes.ScopeKind.TheVariants.{Function};
 ghost use Rattle.low_code.specs.declared.writer.LowInstr.{LowInstr};
-ghost use Rattle.low_code.specs.Writer.{Body, begun, scope_in, entered_at};
+ghost use Rattle.low_code.specs.Writer.{Body, begun, scope_in, entered_at, entered_handler};
 ghost use Rattle.low_code.specs.Rows.{rows_in, block_edge};
 ghost use Rattle.lowered_rows.specs.Taking.{Taken, way, taken_by, taken_from, taken};
 ghost use Rattle.lowered_rows.specs.Lying.{HasEdges, AreNested, AreWithin};
@@ -40,5 +40,8 @@ pub fn entered_scopes_are_within()
         AreWithin (entered_at kind depth at b) }
     ensures entered_edges { (kind : ScopeKind) (depth : ℕ) (at : At) (b : Body) → HasEdges b → block_edge kind ≢ 1 →
         HasEdges (entered_at kind depth at b) }
+    ensures handler { (at : At) (b : Body) → AreWithin b → (scope_in b 0).parent ≡ 0 → b.scope < length b.scopes →
+        AreWithin (entered_handler at b) }
+    ensures handler_edges { (at : At) (b : Body) → HasEdges b → HasEdges (entered_handler at b) }
     ensures nested { (b : Body) → AreWithin b → AreNested b }
 {}
