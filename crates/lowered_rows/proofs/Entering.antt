@@ -1,6 +1,6 @@
 -- Scopes that are entered lie in each other.
-use Rattle.std.proofs.Common.{◌≡◌, ◌<◌, ◌≤◌, ◌≢◌, ◌⊎◌, inl, inr, ℕ, zero, suc, Bool, true, false, List, [], ◌∷◌, ◌++◌, length, get_or, refl, sym, ap}
-use Rattle.std.proofs.Common.{subst, subst₂, ◌∙◌, arith, true≢false, length-append, ltb-true, ltb-false}
+use Rattle.std.proofs.Common.{◌≡◌, ◌<◌, ◌≤◌, ◌≢◌, ℕ, zero, suc, Bool, true, false, [], ◌∷◌, length, refl, sym, ap}
+use Rattle.std.proofs.Common.{subst, ◌∙◌, arith, true≢false, length-append, ltb-true, ltb-false}
 use Rattle.std.proofs.lemmas.List.{get_or_past, get_or_push}
 use Rattle.std.proofs.Math.ListN.{get_or-append}
 use Rattle.std.specs.Prelude.{nat_lt}
@@ -30,9 +30,17 @@ place m n = by_test (nat_lt m n) (nat_lt n m) refl refl where
       let k : m ≤ n = ltb-false n m f in
       last (omega arith)
 
--- the scope of the next instruction does not matter
+-- nothing but the scopes matters
+pub same_within : (b c : Body) → b.scopes ≡ c.scopes → AreWithin b → AreWithin c
+same_within b c e within =
+    let there : AreWithin (record b { scopes = c.scopes }) = subst (λ scopes. AreWithin (record b { scopes = scopes })) e within in
+    record { function = there.function; rows = there.rows; inward = there.inward }
+
+pub same_edges : (b c : Body) → b.scopes ≡ c.scopes → HasEdges b → HasEdges c
+same_edges b c e edges = subst (λ scopes. HasEdges (record b { scopes = scopes })) e edges
+
 pub moved_within : (scope : ℕ) (b : Body) → AreWithin b → AreWithin (at_scope scope b)
-moved_within scope b within = record { function = within.function; rows = within.rows; inward = within.inward }
+moved_within scope b = same_within b (at_scope scope b) refl
 
 -- ---- begun
 
@@ -99,7 +107,7 @@ module _ (b : Body) (scope : Scope) where
     by_place (past l) = λ e.
         let size : length new.scopes ≤ n = omega (arith, length-append b.scopes (scope ∷ [])) in
         let none : block_edge (scope_in new n).kind ≡ 0 =
-            ap (λ (s : Scope). block_edge s.kind) (get_or_past new.scopes n (outermost nowhere) size) in
+        ap (λ (s : Scope). block_edge s.kind) (get_or_past new.scopes n (outermost nowhere) size) in
         let no : ⊥ = omega arith in absurd no
 
 -- ---- entered

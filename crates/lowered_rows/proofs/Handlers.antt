@@ -1,5 +1,5 @@
 -- Handlers that are entered, with the ways out behind them.
-use Rattle.std.proofs.Common.{◌≡◌, ◌<◌, ◌≤◌, ◌≢◌, ◌⊎◌, inl, inr, ℕ, zero, suc, ◌+◌, Bool, true, false, cond, List, [], ◌∷◌, length, set, refl, sym}
+use Rattle.std.proofs.Common.{◌≡◌, ◌<◌, ◌≤◌, ◌≢◌, ◌⊎◌, inl, inr, ℕ, zero, suc, Bool, true, false, cond, [], ◌∷◌, length, set, refl, sym}
 use Rattle.std.proofs.Common.{ap, subst, ◌∙◌, arith, true≢false, length-append, length-set, get_or-set_same, get_or-set_other, eqb-true}
 use Rattle.std.proofs.lemmas.List.{get_or_past}
 use Rattle.std.proofs.lemmas.Bool.{eqb-false}
@@ -7,10 +7,10 @@ use Rattle.std.specs.Prelude.{nat_eq}
 use Rattle.cpp_tree.specs.cpp_types.declared.classes.At.{At}
 use Rattle.cpp_tree.specs.Trees.{nowhere}
 use Rattle.low_code.specs.declared.scopes.ScopeKind.{ScopeKind}
-use Rattle.low_code.specs.declared.scopes.ScopeKind.TheVariants.{Function, Handler, Behind}
+use Rattle.low_code.specs.declared.scopes.ScopeKind.TheVariants.{Function, Behind}
 use Rattle.low_code.specs.declared.scopes.Scope.{Scope}
 use Rattle.low_code.specs.Scopes.{outermost, rows_within, block_of, led_to}
-use Rattle.low_code.specs.Writer.{Body, scope_in, at_scope, added, innermost, outer_edge, behind_scope, led, linked, behind_one, behind_from, behind}
+use Rattle.low_code.specs.Writer.{Body, scope_in, added, innermost, outer_edge, behind_scope, led, linked, behind_one, behind_from, behind}
 use Rattle.low_code.specs.Writer.{behind_edge, handler_in, entered_handler}
 use Rattle.low_code.specs.Rows.{block_edge}
 use Rattle.lowered_rows.specs.Lying.{HasEdges, is_passed, LiesIn, AreWithin}
@@ -55,7 +55,9 @@ same_alike s t e = subst (Alike s) e
 
 led_alike : (outer : ℕ) (s : Scope) → Alike s (led outer s)
 led_alike outer s = record {
-  parent = refl; rows = refl; edge = refl;
+  parent = refl;
+  rows = refl;
+  edge = refl;
   other = led_other outer s.kind;
   within = led_rows outer s.kind;
   passed = led_passed outer s.kind;

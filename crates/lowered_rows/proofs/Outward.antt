@@ -108,7 +108,8 @@ module _ (b : Body) (within : AreWithin b) where
       let own : Scope = scope_in b (suc n) in
       let lies : LiesIn (suc n) own (scope_in b own.parent) = within.inward (suc n) (omega arith) m in
       let lower : own.parent < suc n = lies.parent in
-      by_kind (suc n) own.parent (passed k own.parent (omega arith) (omega arith)) own.kind lies.kind lies.rows lies.edge (λ ty outside. outward b ty outside nested (suc n))
+      by_kind (suc n) own.parent (passed k own.parent (omega arith) (omega arith)) own.kind lies.kind lies.rows lies.edge
+      (λ ty outside. outward b ty outside nested (suc n))
 
   pub passed_taken : (scope ty : ℕ) → scope < length b.scopes → taken b scope ty ≡ taken b (scope_in b scope).rows ty
   passed_taken scope ty l =

@@ -72,7 +72,8 @@ module _ (b : Body) (edges : HasEdges b) (ty : ℕ) where
   later [] from scope index j l = some_nothing b from index (index + j) ty (past from index (index + j) (omega arith)) scope
   later (low ∷ lows) from scope index zero l = by_test (nat_eq low.scope scope) refl where
     by_test : (same : Bool) → nat_eq low.scope scope ≡ same
-        → first (cond same (rows_from b from scope (index + 1) lows) (some_rows b from index scope ++ rows_from b index low.scope (index + 1) lows)) (index + zero) ty
+        → first (cond same (rows_from b from scope (index + 1) lows) (some_rows b from index scope ++ rows_from b index low.scope (index + 1) lows))
+        (index + zero) ty
         ≡ taken b low.scope ty
     by_test true e =
         run_taken lows from scope (index + 1) (index + zero) (omega arith) (omega arith) ∙ ap (λ n. taken b n ty) (sym (eqb-true low.scope scope e))

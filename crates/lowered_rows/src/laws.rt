@@ -32,8 +32,10 @@ pub fn passed_scopes_take_nothing()
         taken b scope ty ≡ taken b (scope_in b scope).rows ty }
 {}
 
-/// Scopes that a body begins with, and that are entered in it, are as the other laws ask.
+/// Scopes that a body begins with, and that are entered in it, are as the other laws ask; nothing else of a body matters there.
 pub fn entered_scopes_are_within()
+    ensures same { (b c : Body) → b.scopes ≡ c.scopes → AreWithin b → AreWithin c }
+    ensures same_edges { (b c : Body) → b.scopes ≡ c.scopes → HasEdges b → HasEdges c }
     ensures begun { (depth : ℕ) (at : At) → AreWithin (begun depth at) }
     ensures begun_edges { (depth : ℕ) (at : At) → HasEdges (begun depth at) }
     ensures entered { (kind : ScopeKind) (depth : ℕ) (at : At) (b : Body) → AreWithin b → b.scope < length b.scopes → kind ≢ Function →

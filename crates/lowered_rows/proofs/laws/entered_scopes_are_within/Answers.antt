@@ -1,8 +1,14 @@
 use Rattle.low_code.specs.Writer.{made}
 use Rattle.lowered_rows.proofs.Outward.{nested}
-use Rattle.lowered_rows.proofs.Entering.{begun_within, begun_edges, added_edges, made_within}
+use Rattle.lowered_rows.proofs.Entering.{same_within, same_edges, begun_within, begun_edges, added_edges, made_within}
 use Rattle.lowered_rows.proofs.Handlers.{handler_within, handler_edges}
 use Rattle.lowered_rows.proofs.laws.entered_scopes_are_within.Goals as goal
+
+pub returns-clause-same : goal.returns-clause-same
+returns-clause-same c = λ b d e within. same_within b d e within
+
+pub returns-clause-same_edges : goal.returns-clause-same_edges
+returns-clause-same_edges c = λ b d e edges. same_edges b d e edges
 
 pub returns-clause-begun : goal.returns-clause-begun
 returns-clause-begun c = λ depth at. begun_within depth at
