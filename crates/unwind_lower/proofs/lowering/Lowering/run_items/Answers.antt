@@ -29,10 +29,10 @@ loop-index-preserved c =
       so_far = c.in_ok-run_item.ensures
           ∙ (ap (run_item g c.args.none id c.label_at.result) c.loop-index.invariant.so_far
           ∙ item_more g c.args.none c.args.node.now.kids.items c.args.labels.now id c.label_at.result (i - 1) i (state_of c.args.w.now) (omega arith)
-            (omega (arith, c.loop-index.invariant.within)) c.in_ok-kid.ensures.shown c.label_at.ensures);
+          (omega (arith, c.loop-index.invariant.within)) c.in_ok-kid.ensures.shown c.label_at.ensures);
     }
 
 pub returns : goal.returns
 returns c = c.loop-index.invariant.so_far
     ∙ items_reached (setting_of c.args.self.now) c.args.none c.args.node.now.kids.items c.args.labels.now c.loop-index.index (state_of c.args.w.now)
-      c.loop-index.invariant.within (omega arith) c.loop-index.invariant.above
+    c.loop-index.invariant.within (omega arith) c.loop-index.invariant.above

@@ -27,5 +27,5 @@ loop-index-preserved c =
       so_far = c.in_ok-later.ensures
           ∙ (ap (later (Handle id c.args.scope c.args.live)) c.loop-index.invariant.so_far
           ∙ handler_more c.args.node.now.kids.items id (i - 1) i c.args.scope c.args.live (state_of c.args.self.now) (omega arith)
-            (omega (arith, c.loop-index.invariant.within)) c.in_ok-kid.ensures.shown);
+          (omega (arith, c.loop-index.invariant.within)) c.in_ok-kid.ensures.shown);
     }
