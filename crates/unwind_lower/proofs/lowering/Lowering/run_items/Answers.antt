@@ -1,9 +1,9 @@
-use Rattle.std.proofs.Common.{◌≡◌, ◌∙◌, ◌-◌, ◌+◌, ◌<◌, length, drop, sym, ap, arith}
+use Rattle.std.proofs.Common.{◌≡◌, ◌∙◌, ◌-◌, length, drop, sym, ap, arith}
 use Rattle.std.proofs.lemmas.List.{drop_all}
 use Rattle.unwind_lower.specs.States.{state_of}
 use Rattle.unwind_lower.specs.Settings.{setting_of}
 use Rattle.unwind_lower.specs.Blocks.{run_item, labelled, run_items}
-use Rattle.unwind_lower.proofs.Walks.{item_more, drop_reached, items_reached}
+use Rattle.unwind_lower.proofs.Walks.{item_more, items_reached}
 use Rattle.unwind_lower.proofs.lowering.Lowering.run_items.Goals as goal
 
 pub loop-index-init : goal.loop-index-init
