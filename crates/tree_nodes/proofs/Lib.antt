@@ -1,4 +1,2 @@
-pub mod KidByKid
-pub mod Lists
-pub mod Marking
+pub mod Below
 pub mod Ordered

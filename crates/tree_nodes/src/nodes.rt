@@ -2,7 +2,6 @@
 
 ghost use Rattle.std.specs.Prelude.{◌≡◌, ◌<◌, length, true};
 ghost use Rattle.cpp_tree.specs.Arena.{IsOrdered, are_below, trees_of, tree_of, tree_at};
-ghost use Rattle.tree_nodes.specs.Kids.{only_id, second_id};
 
 use cpp_tree::{TNode, TNodeId, UnitTree};
 
@@ -15,24 +14,4 @@ pub fn node_at(unit: &UnitTree, id: TNodeId) -> &TNode
     ensures below { are_below (length unit.now.nodes.items) result.now.kids.items ≡ true }
 {
     unit.tnode(id)
-}
-
-/// The only kid.
-pub fn only_kid(node: &TNode) -> Option<TNodeId>
-    ensures { result ≡ only_id node.now.kids.items }
-{
-    match node.kids.as_slice() {
-        [only] => Some(*only),
-        _ => None,
-    }
-}
-
-/// The second of two kids.
-pub fn second_kid(node: &TNode) -> Option<TNodeId>
-    ensures { result ≡ second_id node.now.kids.items }
-{
-    match node.kids.as_slice() {
-        [_, other] => Some(*other),
-        _ => None,
-    }
 }

@@ -1,5 +1,5 @@
 use Rattle.cpp_tree.proofs.Shown.{tree_of_node}
-use Rattle.tree_nodes.proofs.KidByKid.{kids_below}
+use Rattle.tree_nodes.proofs.Below.{kids_below}
 use Rattle.tree_nodes.proofs.nodes.node_at.Goals as goal
 
 pub returns-clause-tree : goal.returns-clause-tree
