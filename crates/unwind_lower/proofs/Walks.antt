@@ -1,9 +1,9 @@
 -- Walks along lists, from the front or from the back.
-use Rattle.std.proofs.Common.{◌≡◌, ◌∙◌, ℕ, zero, suc, ◌+◌, ◌<◌, ◌≤◌, Bool, List, [], ◌∷◌, length, get_or, take, drop, sym, ap, refl, arith, Some, None, Option, ◌⊎◌, inl, inr}
-use Rattle.std.specs.Prelude.{slice_get, unwrap_or, map, option_map}
+use Rattle.std.proofs.Common.{◌≡◌, ◌∙◌, ℕ, zero, suc, ◌+◌, ◌<◌, ◌≤◌, Bool, List, [], ◌∷◌, length, take, drop, sym, ap, refl, arith, Some, Option, ◌⊎◌, inl, inr}
+use Rattle.std.specs.Prelude.{slice_get, map, option_map}
 use Rattle.std.proofs.lemmas.List.{drop_more, drop_all}
 use Rattle.std.proofs.lemmas.Option.{slice_get-map}
-use Rattle.cpp_tree.specs.cpp_types.Typ.{Typ, typ_of}
+use Rattle.cpp_tree.specs.cpp_types.Typ.{typ_of}
 use Rattle.cpp_tree.specs.cpp_types.declared.types.Ty.{Ty}
 use Rattle.cpp_tree.specs.cpp_types.declared.classes.At.{At}
 use Rattle.cpp_tree.specs.declared.arena.TNodeId.{TNodeId}

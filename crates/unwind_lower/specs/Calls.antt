@@ -1,5 +1,5 @@
 -- Calls.
-use Rattle.std.specs.Prelude.{ℕ, List, ◌+◌, ◌-◌, ◌*◌, length, cond, codes, false}
+use Rattle.std.specs.Prelude.{ℕ, ◌+◌, ◌-◌, ◌*◌, length, cond, codes, false}
 use Rattle.cpp_tree.specs.cpp_types.declared.classes.At.{At}
 use Rattle.cpp_tree.specs.cpp_types.Typ.{Signature}
 use Rattle.cpp_tree.specs.tx_ints.declared.kinds.IntKind.TheVariants.{ULong}
@@ -8,7 +8,6 @@ use Rattle.cpp_tree.specs.declared.kinds.TKind.{TKind}
 use Rattle.cpp_tree.specs.declared.kinds.TKind.TheVariants.{Call as CallOf, Construct, VirtualCall, PointerCall, Builtin as BuiltinCall}
 use Rattle.cpp_tree.specs.declared.kinds.Builtin.{Builtin}
 use Rattle.cpp_tree.specs.declared.kinds.Builtin.TheVariants.{PutChar, GetChar, Spawn as SpawnOf, Join as JoinOf, Abort as AbortOf}
-use Rattle.tx_code.specs.declared.instr.Instr.{Instr}
 use Rattle.tx_code.specs.declared.instr.Instr.TheVariants.{Push, Dup, Swap, Call, CallIndirect, Slot as SlotOf, Out, Inp, Spawn, Join, Abort, NewException, PutException, Throw, GetException, EndHandler}
 use Rattle.low_code.specs.declared.numbers.TheConstants.{ADDRESS}
 use Rattle.low_code.specs.declared.scopes.Owner.TheVariants.{Call as OfCall}
@@ -21,7 +20,7 @@ use Rattle.unwind_lower.specs.declared.items.Way.TheVariants.{Value, Dropped, In
 use Rattle.unwind_lower.specs.declared.items.Item.TheVariants.{Put, Slot, Invoke, Close}
 use Rattle.unwind_lower.specs.States.{State, later, put, put_call, put_offset, entered_at, entered, entered_handler, left, caught_all, made_live, named, number_of}
 use Rattle.unwind_lower.specs.States.{depth_of, is_live, scope_count}
-use Rattle.unwind_lower.specs.Settings.{Setting, Callee, node_in, callee_in, gives_of, text_of, function_text, class_name}
+use Rattle.unwind_lower.specs.Settings.{Setting, node_in, callee_in, gives_of, text_of, function_text, class_name}
 use Rattle.unwind_lower.specs.Kids.{run_kid, run_kids}
 
 -- how many words a call passes: with the address of a class result one more

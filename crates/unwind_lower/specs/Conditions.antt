@@ -1,7 +1,5 @@
 -- Conditionals.
-use Rattle.std.specs.Prelude.{Bool, true, false, ◌||◌, ℕ, cond, List, [], ◌∷◌, ◌++◌, Option}
-use Rattle.cpp_tree.specs.cpp_types.declared.classes.At.{At}
-use Rattle.low_code.specs.declared.scopes.Owner.{Owner}
+use Rattle.std.specs.Prelude.{Bool, false, ◌||◌, cond, List, [], ◌∷◌, ◌++◌, Option}
 use Rattle.low_code.specs.declared.scopes.Owner.TheVariants.{Full}
 use Rattle.low_code.specs.declared.writer.Jump.{Jump}
 use Rattle.low_code.specs.Scopes.{same_owner}

@@ -1,5 +1,5 @@
 -- Scopes are left.
-use Rattle.std.specs.Prelude.{Bool, true, false, not, ℕ, nat_eq, cond}
+use Rattle.std.specs.Prelude.{Bool, true, false, ℕ, nat_eq, cond}
 use Rattle.cpp_tree.specs.cpp_types.declared.classes.At.{At}
 use Rattle.cpp_tree.specs.declared.arena.TNodeId.{TNodeId}
 use Rattle.tx_code.specs.declared.instr.Instr.{Instr}

@@ -1,6 +1,6 @@
 -- What a function's body is written from.
 use Rattle.std.specs.Prelude.{Bool, false, ℕ, List, [], Option, Some, None, unwrap_or, slice_get}
-use Rattle.cpp_tree.specs.cpp_types.Typ.{Typ, Signature, typ_of, signature_of}
+use Rattle.cpp_tree.specs.cpp_types.Typ.{Typ, Signature, signature_of}
 use Rattle.cpp_tree.specs.cpp_types.Class.{Class, classes_of}
 use Rattle.cpp_tree.specs.declared.arena.TNodeId.{TNodeId}
 use Rattle.cpp_tree.specs.declared.program.FuncKind.{FuncKind}

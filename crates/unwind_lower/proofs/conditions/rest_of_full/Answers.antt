@@ -1,4 +1,4 @@
-use Rattle.std.proofs.Common.{◌≡◌, ◌∙◌, ℕ, ◌+◌, ◌-◌, ◌<◌, suc, length, take, sym, ap, arith}
+use Rattle.std.proofs.Common.{◌≡◌, ◌∙◌, ◌+◌, ◌-◌, suc, length, take, sym, ap, arith}
 use Rattle.std.specs.Prelude.{reverse}
 use Rattle.unwind_lower.specs.Conditions.{up_to_end}
 use Rattle.unwind_lower.proofs.Work.{end_found, end_below}

@@ -3,7 +3,6 @@ use Rattle.std.specs.Prelude.{reverse}
 use Rattle.cpp_tree.specs.cpp_types.declared.classes.At.{At}
 use Rattle.low_code.specs.Nodes.{Node}
 use Rattle.low_code.specs.Writer.{Body, body_of}
-use Rattle.low_code.specs.Writer as low
 use Rattle.unwind_lower.specs.declared.items.Item.{Item}
 use Rattle.unwind_lower.specs.States.{State, state_of}
 use Rattle.unwind_lower.specs.Settings.{Setting, setting_of, node_in}

@@ -1,4 +1,4 @@
-use Rattle.std.proofs.Common.{◌≡◌, ◌≤◌, drop}
+use Rattle.std.proofs.Common.{◌≡◌, drop}
 use Rattle.unwind_lower.specs.States.{state_of}
 use Rattle.unwind_lower.specs.Settings.{setting_of}
 use Rattle.unwind_lower.specs.Functions.{store_each, word_typs}

@@ -1,4 +1,4 @@
-use Rattle.std.proofs.Common.{◌≡◌, subst, sym}
+use Rattle.std.proofs.Common.{subst, sym}
 use Rattle.unwind_lower.specs.States.{State, state_of, later}
 use Rattle.unwind_lower.specs.Settings.{setting_of}
 use Rattle.unwind_lower.specs.Steps.{Reaches}

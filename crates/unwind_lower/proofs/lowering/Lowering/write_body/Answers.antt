@@ -1,5 +1,5 @@
 use Rattle.std.proofs.Common.{◌≡◌, ◌∙◌, ap, subst}
-use Rattle.unwind_lower.specs.declared.items.Item.TheVariants.{Run, BodyEnds, Pads}
+use Rattle.unwind_lower.specs.declared.items.Item.TheVariants.{Run, BodyEnds}
 use Rattle.unwind_lower.specs.declared.items.Way.TheVariants.{Dropped}
 use Rattle.unwind_lower.specs.States.{State, state_of, later}
 use Rattle.unwind_lower.specs.Settings.{setting_of}

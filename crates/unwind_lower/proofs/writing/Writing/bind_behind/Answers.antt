@@ -1,4 +1,4 @@
-use Rattle.std.proofs.Common.{◌≡◌, ◌∙◌, ◌-◌, ◌≤◌, List, ◌++◌, ◌∷◌, ap, length, take, drop, arith, subst, sym}
+use Rattle.std.proofs.Common.{◌≡◌, ◌∙◌, ◌-◌, ◌≤◌, List, ◌++◌, ◌∷◌, ap, length, take, drop, arith}
 use Rattle.std.specs.Prelude.{reverse}
 use Rattle.unwind_lower.specs.declared.items.Item.{Item}
 use Rattle.unwind_lower.specs.declared.items.Item.TheVariants.{Bind}

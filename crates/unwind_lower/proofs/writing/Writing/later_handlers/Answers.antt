@@ -1,4 +1,4 @@
-use Rattle.std.proofs.Common.{◌≡◌, ◌∙◌, ◌-◌, ◌+◌, ◌<◌, length, sym, ap, arith}
+use Rattle.std.proofs.Common.{◌≡◌, ◌∙◌, ◌-◌, length, sym, ap, arith}
 use Rattle.std.proofs.lemmas.List.{drop_all}
 use Rattle.unwind_lower.specs.declared.items.Item.TheVariants.{Handle}
 use Rattle.unwind_lower.specs.States.{state_of, later}
@@ -27,5 +27,5 @@ loop-index-preserved c =
       so_far = c.in_ok-later.ensures
           ∙ (ap (later (Handle id c.args.scope c.args.live)) c.loop-index.invariant.so_far
           ∙ handler_more c.args.node.now.kids.items id (i - 1) i c.args.scope c.args.live (state_of c.args.self.now) (omega arith)
-            (omega (arith, c.loop-index.invariant.within)) c.in_ok-kid.ensures.shown);
+          (omega (arith, c.loop-index.invariant.within)) c.in_ok-kid.ensures.shown);
     }

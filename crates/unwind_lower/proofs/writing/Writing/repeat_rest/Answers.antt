@@ -1,4 +1,4 @@
-use Rattle.std.proofs.Common.{◌≡◌, ◌∙◌, ◌-◌, ◌≤◌, List, [], ◌++◌, ◌∷◌, ap, length, take, drop, arith}
+use Rattle.std.proofs.Common.{◌≡◌, ◌∙◌, ◌-◌, ◌≤◌, List, [], ◌++◌, ◌∷◌, ap, length, drop, arith}
 use Rattle.std.specs.Prelude.{reverse}
 use Rattle.std.specs.List.{slice_range}
 use Rattle.unwind_lower.specs.declared.items.Item.{Item}

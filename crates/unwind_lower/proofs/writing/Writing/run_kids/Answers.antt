@@ -1,9 +1,9 @@
-use Rattle.std.proofs.Common.{◌≡◌, ◌∙◌, ◌-◌, ◌+◌, ◌<◌, length, sym, ap, arith}
+use Rattle.std.proofs.Common.{◌≡◌, ◌∙◌, ◌-◌, length, sym, ap, arith}
 use Rattle.std.proofs.lemmas.List.{drop_all}
 use Rattle.low_code.specs.Nodes.{node_of}
 use Rattle.unwind_lower.specs.States.{state_of}
 use Rattle.unwind_lower.specs.Kids.{run_kid, runs, run_all}
-use Rattle.unwind_lower.proofs.Walks.{run_more, drop_reached}
+use Rattle.unwind_lower.proofs.Walks.{run_more}
 use Rattle.unwind_lower.proofs.writing.Writing.run_kids.Goals as goal
 
 pub loop-index-init : goal.loop-index-init
