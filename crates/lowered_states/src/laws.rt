@@ -1,0 +1,4 @@
+//! What stays as a body is written.
+
+/// Nothing yet.
+pub fn nothing() {}
