@@ -23,7 +23,7 @@ use Rattle.unwind_lower.specs.declared.items.Item.TheVariants.{Bind}
 use Rattle.lowered_states.specs.Claims.{Claim, coming, with_jump, with_claims, claims_in, sum_of}
 use Rattle.lowered_states.specs.Sound.{scope_from, Knows}
 use Rattle.lowered_states.proofs.Knowing.{parent_below, led_at}
-use Rattle.lowered_states.proofs.Moves.{Begin, Moves, Fewer, with_body, wrote, added, linked, moved, caught, named as put_name, padded, deepened, lit, more as put_item, opened, bound as led_here, parked, all_bound, copied, behind, fewer}
+use Rattle.lowered_states.proofs.Moves.{Start, Moves, Fewer, with_body, wrote, added, linked, moved, caught, named as put_name, padded, deepened, lit, more as put_item, opened, bound as led_here, parked, all_bound, copied, behind, fewer}
 use Rattle.lowered_states.proofs.Single.{all_bound as bound_like}
 use Rattle.lowered_states.proofs.Whole.{sound_in, asleep_in, grown}
 
@@ -53,7 +53,7 @@ temporary_longer (suc most) number kind at b = by (is_full (low.scope_in b numbe
 no_outer : (kind : ScopeKind) (n : ℕ) → outer_by kind 0 ≡ 0 → outer_by kind 0 ≤ n
 no_outer kind n e = omega arith
 
-module _ {z : Begin} where
+module _ {z : Start} where
   pub either : (b : Bool) {cs : List Claim} {s t : State} → Moves z cs s → Moves z cs t → Moves z cs (cond b s t)
   either true m n = m
   either false m n = n

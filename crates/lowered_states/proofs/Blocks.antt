@@ -5,7 +5,7 @@ use Rattle.cpp_tree.specs.declared.arena.TNodeId.{TNodeId}
 use Rattle.cpp_tree.specs.declared.kinds.TKind.TheVariants.{Case}
 use Rattle.cpp_tree.specs.declared.kinds.TKind.{TKind}
 use Rattle.cpp_tree.specs.tx_events.declared.BlockKind.{BlockKind}
-use Rattle.tx_code.specs.declared.instr.Instr.TheVariants.{BeginSync, Bin, Dup, End, EndSync, Jump as JumpTo, Pop, Push}
+use Rattle.tx_code.specs.declared.instr.Instr.TheVariants.{Begin, BeginSync, Bin, Dup, End, EndSync, Jump as JumpTo, Pop, Push}
 use Rattle.tx_code.specs.declared.instr.Instr.{Instr}
 use Rattle.low_code.specs.Nodes.{Node}
 use Rattle.low_code.specs.Numbers.{block_number}
@@ -32,10 +32,10 @@ use Rattle.lowered_states.specs.Sound.{scope_from}
 use Rattle.lowered_states.proofs.Basic.{at_scope, bound, bound_all, entered, jumped, jumped_if_zero, left_scope, made_live, more, no_zero_jump, parent_within, places, put, rests, within}
 use Rattle.lowered_states.proofs.Kids.{run_kid, run_kids}
 use Rattle.lowered_states.proofs.Labels.{bound_by, bound_last, enough_labels, jump_first, jumps_turned, label_first, one_fewer, turned, unless_default, with_jumps}
-use Rattle.lowered_states.proofs.Moves.{Begin, Moves, fewer}
+use Rattle.lowered_states.proofs.Moves.{Moves, Start, fewer}
 use Rattle.lowered_states.proofs.Single.{all_bound as bound_like}
 
-module _ {z : Begin} where
+module _ {z : Start} where
   pub block : (n : Node) {cs : List Claim} {s : State} → Moves z cs s → Moves z cs (blocks.block n s)
   unfolding blocks.block
   block n m = run_kids n 0 Dropped (more (Close OfBlock n.at) tt (entered (Mark OfBlock) n.at refl m))

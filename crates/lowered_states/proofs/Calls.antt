@@ -25,9 +25,9 @@ use Rattle.unwind_lower.specs.declared.items.Way.{Way}
 use Rattle.lowered_states.specs.Claims.{Claim}
 use Rattle.lowered_states.proofs.Basic.{caught_all, either, entered, entered_at, entered_handler, left, made_live, more, named, put, put_call, put_offset, rests}
 use Rattle.lowered_states.proofs.Kids.{run_kid, run_kids}
-use Rattle.lowered_states.proofs.Moves.{Begin, Moves}
+use Rattle.lowered_states.proofs.Moves.{Moves, Start}
 
-module _ {z : Begin} where
+module _ {z : Start} where
   pub call_with : (id : TNodeId) (n : Node) (first : ℕ) (way : Way) {cs : List Claim} {s : State} → Moves z cs s → Moves z cs (calls.call_with id n first way s)
   unfolding calls.call_with
   call_with id n first way m = run_kids n first Value (more (Invoke id way) tt (more (Close OfCall n.at) tt (entered (Mark OfCall) n.at refl m)))

@@ -13,9 +13,10 @@ use Rattle.low_code.specs.Caught.{caught_names}
 use Rattle.low_code.specs.Nodes.{Node, kid_in}
 use Rattle.low_code.specs.Numbers.{bytes_number, load, store}
 use Rattle.low_code.specs.Types.{is_class_type, is_void}
+use Rattle.low_code.specs.Writer as low
 use Rattle.low_code.specs.Writer.{Body}
 use Rattle.low_code.specs.declared.scopes.ScopeKind.TheVariants.{Try}
-use Rattle.low_code.specs.declared.writer.Sort.TheVariants.{Past as PastIt}
+use Rattle.low_code.specs.declared.writer.Sort.TheVariants.{Again, Past as PastIt}
 use Rattle.unwind_lower.specs.Exceptions as exceptions
 use Rattle.unwind_lower.specs.Exceptions.{form_of}
 use Rattle.unwind_lower.specs.Kids.{kids_from}
@@ -28,7 +29,8 @@ use Rattle.lowered_states.specs.Claims.{Claim, coming}
 use Rattle.lowered_states.proofs.Basic.{at_depth, at_parent, caught_all, caught_one, either, entered, entered_handler, jumped_to, left_scope, made_live, more, named, places, put, put_offset}
 use Rattle.lowered_states.proofs.Kids.{run_kid}
 use Rattle.lowered_states.proofs.Labels.{one_fewer}
-use Rattle.lowered_states.proofs.Moves.{Begin, Moves, fewer}
+use Rattle.lowered_states.proofs.Moves.{Moves, Start, fewer}
+use Rattle.lowered_states.proofs.Objects.{made}
 use Rattle.lowered_states.proofs.Whole.{grown}
 
 handlers_body : (ids : List TNodeId) (scope : ℕ) (live : Bool) (s : State) → (exceptions.later_handlers ids scope live s).body ≡ s.body
@@ -36,7 +38,7 @@ unfolding exceptions.later_handlers states.later
 handlers_body [] scope live s = refl
 handlers_body (id ∷ ids) scope live s = handlers_body ids scope live s
 
-module _ {z : Begin} where
+module _ {z : Start} where
   pub start_throw : (id : TNodeId) (n : Node) {cs : List Claim} {s : State} → Moves z cs s → Moves z cs (exceptions.start_throw id n s)
   unfolding exceptions.start_throw
   start_throw id n m = run_kid n 0 Value (more (Thrown id) tt m)
@@ -79,7 +81,7 @@ module _ {z : Begin} where
   pub start_try : (id : TNodeId) (n : Node) {cs : List Claim} {s : State} → Moves z cs s → Moves z cs (exceptions.start_try id n s)
   unfolding exceptions.start_try states.scope_count states.later states.entered
   start_try id n {cs} {s} m =
-      let there : length s.body.scopes < length (states.entered Try n.at s).body.scopes = omega (arith, length_push s.body.scopes _) in
+      let there : length s.body.scopes < length (states.entered Try n.at s).body.scopes = omega (arith, length_push s.body.scopes (low.made Try s.body.scope (low.innermost s.body).depth n.at s.body)) in
       let tried = more (Past (length s.body.scopes)) tt
       (fewer (one_fewer (coming (length s.body.scopes) PastIt) (coming (length s.body.scopes) Again) cs) (places Try n.at refl m)) in
       run_kid n 0 Dropped (more (TryDone id (length s.body.scopes))

@@ -21,9 +21,9 @@ use Rattle.unwind_lower.specs.declared.items.Way.{Way}
 use Rattle.lowered_states.specs.Claims.{Claim}
 use Rattle.lowered_states.proofs.Basic.{entered, more, named, put}
 use Rattle.lowered_states.proofs.Kids.{run_kid}
-use Rattle.lowered_states.proofs.Moves.{Begin, Moves}
+use Rattle.lowered_states.proofs.Moves.{Moves, Start}
 
-module _ {z : Begin} where
+module _ {z : Start} where
   pub local : (g : Setting) (place : ℕ) (at : At) {cs : List Claim} {s : State} → Moves z cs s → Moves z cs (expressions.local g place at s)
   unfolding expressions.local
   local g place at m = put (FrameAddr (place_in g place)) at m

@@ -11,9 +11,9 @@ use Rattle.unwind_lower.specs.Settings.{Setting, place_in}
 use Rattle.unwind_lower.specs.States.{State}
 use Rattle.lowered_states.specs.Claims.{Claim}
 use Rattle.lowered_states.proofs.Basic.{put}
-use Rattle.lowered_states.proofs.Moves.{Begin, Moves}
+use Rattle.lowered_states.proofs.Moves.{Moves, Start}
 
-module _ {z : Begin} where
+module _ {z : Start} where
   pub store_word : (offset : ℕ) (t : Typ) (at : At) {cs : List Claim} {s : State} → Moves z cs s → Moves z cs (functions.store_word offset t at s)
   unfolding functions.store_word
   store_word offset t at m = put (store (stored_kind t) (is_volatile t)) at (put Swap at (put (FrameAddr offset) at m))

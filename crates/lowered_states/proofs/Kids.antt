@@ -9,9 +9,9 @@ use Rattle.unwind_lower.specs.declared.items.Item.TheVariants.{Run}
 use Rattle.unwind_lower.specs.declared.items.Way.{Way}
 use Rattle.lowered_states.specs.Claims.{Claim}
 use Rattle.lowered_states.proofs.Basic.{more}
-use Rattle.lowered_states.proofs.Moves.{Begin, Moves}
+use Rattle.lowered_states.proofs.Moves.{Moves, Start}
 
-module _ {z : Begin} where
+module _ {z : Start} where
   pub run_kid : (n : Node) (index : ℕ) (way : Way) {cs : List Claim} {s : State} → Moves z cs s → Moves z cs (kids.run_kid n index way s)
   unfolding kids.run_kid
   run_kid n index way m = more (Run (kid_in n.kids index) way) tt m

@@ -20,11 +20,11 @@ use Rattle.unwind_lower.specs.declared.items.Leaving.TheVariants.{Break, Continu
 use Rattle.unwind_lower.specs.declared.items.Leaving.{Leaving}
 use Rattle.lowered_states.specs.Claims.{Claim}
 use Rattle.lowered_states.proofs.Basic.{at_scope, either, jumped_to, left, more, put, within}
-use Rattle.lowered_states.proofs.Moves.{Begin, Moves}
+use Rattle.lowered_states.proofs.Moves.{Moves, Start}
 use Rattle.lowered_states.proofs.Objects.{made, put_address}
 use Rattle.lowered_states.proofs.Whole.{grown}
 
-module _ {z : Begin} where
+module _ {z : Start} where
   pub destroy_waiting : (address : Address) (id : TNodeId) (first : ℕ) (at : At) {cs : List Claim} {s : State} → Moves z cs s → Moves z cs (leaving_of.destroy_waiting address id first at s)
   unfolding leaving_of.destroy_waiting
   destroy_waiting address id first at m = put_address address at (more (Destroy id first) tt m)

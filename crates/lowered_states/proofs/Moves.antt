@@ -27,14 +27,14 @@ abbrev pub Fewer : List Claim → List Claim → Type 0
 Fewer cs ds = (w : Claim → ℕ) → sum_of w cs ≤ sum_of w ds
 
 -- where an item's writing begins, and what follows where no instruction can be reached from there on
-pub record Begin : Type 1 where
+pub record Start : Type 1 where
   pub from : State
   pub claims : List Claim
   pub sound : SoundWith claims from
   pub asleep : Type 0
   pub rests : asleep → from.body.live ≡ false
 
-pub data Moves (z : Begin) : List Claim → State → Type 0 where
+pub data Moves (z : Start) : List Claim → State → Type 0 where
   same : Moves z z.claims z.from
   wrote : {cs : List Claim} {s : State} (instr : Instr) (at : At) (takes leaves : ℕ) → Moves z cs s
       → Moves z cs (with_body (low.written instr at takes leaves s.body) s)

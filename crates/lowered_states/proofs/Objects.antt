@@ -18,6 +18,7 @@ use Rattle.unwind_lower.specs.Kids.{kids_from}
 use Rattle.unwind_lower.specs.Objects as objects
 use Rattle.unwind_lower.specs.Objects.{frame_object, is_local}
 use Rattle.unwind_lower.specs.Settings.{Setting, node_in, place_in}
+use Rattle.unwind_lower.specs.States as states
 use Rattle.unwind_lower.specs.States.{State, depth_of, here}
 use Rattle.unwind_lower.specs.declared.items.Item.TheVariants.{MemberMade, Put, Run, VariableMade}
 use Rattle.unwind_lower.specs.declared.items.Way.TheVariants.{Copying, Dropped, Into, Value}
@@ -27,9 +28,9 @@ use Rattle.lowered_states.proofs.Basic.{either, entered, entered_at, more, put, 
 use Rattle.lowered_states.proofs.Calls.{call_known, call_with}
 use Rattle.lowered_states.proofs.Expressions.{operate}
 use Rattle.lowered_states.proofs.Kids.{run_kid}
-use Rattle.lowered_states.proofs.Moves.{Begin, Moves}
+use Rattle.lowered_states.proofs.Moves.{Moves, Start}
 
-module _ {z : Begin} where
+module _ {z : Start} where
   pub without_source : (way : Way) (at : At) {cs : List Claim} {s : State} → Moves z cs s → Moves z cs (objects.without_source way at s)
   unfolding objects.without_source
   without_source Copying at m = put Pop at m
@@ -108,7 +109,7 @@ module _ {z : Begin} where
 
   pub destroy_elements : (g : Setting) (func : ℕ) (count : ℕ) (stride : ℕ) (at : At) {cs : List Claim} {s : State} → Moves z cs s → Moves z cs (objects.destroy_elements g func count stride at s)
   unfolding objects.destroy_elements
-  destroy_elements g func count stride at {s} m = put Pop at (put Pop at (repeated (here (put (Push count) at s)) at (call_known g func 1 at (put_sum at (put (Bin 2 ADDRESS) at (put (Push stride) at (put Over at (put Over at (put_less 1 at (put (Push count) at m))))))))))
+  destroy_elements g func count stride at {s} m = put Pop at (put Pop at (repeated (here (states.put (Push count) at s)) at (call_known g func 1 at (put_sum at (put (Bin 2 ADDRESS) at (put (Push stride) at (put Over at (put Over at (put_less 1 at (put (Push count) at m))))))))))
 
   pub destroy_some : (g : Setting) (func : ℕ) (n : ℕ) (stride : ℕ) (at : At) {cs : List Claim} {s : State} → Moves z cs s → Moves z cs (objects.destroy_some g func n stride at s)
   unfolding objects.destroy_some

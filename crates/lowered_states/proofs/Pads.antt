@@ -20,14 +20,14 @@ use Rattle.lowered_states.specs.Claims.{Claim, with_jump}
 use Rattle.lowered_states.specs.Sound.{scope_from}
 use Rattle.lowered_states.proofs.Basic.{at_depth, at_scope, bound, either, jumped_if_zero, made_live, more, no_zero_jump, outer_within, parent_within, put, put_difference, put_less, with_pad}
 use Rattle.lowered_states.proofs.Blocks.{block}
-use Rattle.lowered_states.proofs.Moves.{Begin, Moves}
+use Rattle.lowered_states.proofs.Moves.{Moves, Start}
 use Rattle.lowered_states.proofs.Objects.{destroy, put_address}
 
 behind_within : (kind : ScopeKind) (parent count : ℕ) → outer_by kind 0 < count → parent < count → scope_behind kind parent < count
 behind_within (Behind block next outer) parent count o p = o
 behind_within kind parent count o p = p
 
-module _ {z : Begin} where
+module _ {z : Start} where
   start_pad : (scope : Scope) → (z.asleep → ⊥) → {cs : List Claim} {s : State} → scope.parent < length s.body.scopes → Moves z cs s
       → Moves z cs (pads_of.start_pad scope s)
   unfolding pads_of.start_pad states.at_depth states.made_live states.with_pad
@@ -110,7 +110,6 @@ module _ {z : Begin} where
     where
       by : (v : Bool) → nat_lt number (length s.body.scopes) ≡ v
           → Moves z cs (cond v (pads_of.pad_of g (scope_from s.body.scopes number) number (states.later (Pads (number + 1)) s)) s)
-      unfolding states.later
       by true e = pad_of g (scope_from s.body.scopes number) number q (ltb-true number (length s.body.scopes) e) (parent_within m number)
           (outer_within m number) (more (Pads (number + 1)) tt m)
       by false e = m

@@ -13,6 +13,7 @@ use Rattle.low_code.specs.declared.scopes.ScopeKind.TheVariants.{Each, Mark, Wai
 use Rattle.low_code.specs.declared.scopes.ScopeKind.{ScopeKind}
 use Rattle.unwind_lower.specs.Parts as parts
 use Rattle.unwind_lower.specs.Parts.{elements_scope, is_copy, is_simple, sources_of, words_above}
+use Rattle.unwind_lower.specs.States as states
 use Rattle.unwind_lower.specs.States.{State, depth_of, here, scope_at, scope_of}
 use Rattle.unwind_lower.specs.declared.items.Item.TheVariants.{CloseParts, ElementMade, PartMade}
 use Rattle.unwind_lower.specs.declared.items.Way.TheVariants.{Copying, Dropped, Into, Value}
@@ -21,9 +22,9 @@ use Rattle.lowered_states.specs.Claims.{Claim}
 use Rattle.lowered_states.proofs.Basic.{either, entered, entered_at, left, left_scope, more, put, put_less, put_offset, repeated}
 use Rattle.lowered_states.proofs.Calls.{grab, let_go, put_grabbed}
 use Rattle.lowered_states.proofs.Kids.{run_kid, run_kids}
-use Rattle.lowered_states.proofs.Moves.{Begin, Moves}
+use Rattle.lowered_states.proofs.Moves.{Moves, Start}
 
-module _ {z : Begin} where
+module _ {z : Start} where
   pub pieces : (n : Node) (way : Way) {cs : List Claim} {s : State} → Moves z cs s → Moves z cs (parts.pieces n way s)
   unfolding parts.pieces
   pieces n way m = run_kids n 0 way (more (CloseParts way n.at) tt (entered (Mark Parts) n.at refl m))
@@ -102,7 +103,7 @@ module _ {z : Begin} where
 
   pub elements : (id : TNodeId) (n : Node) (count : ℕ) (stride : ℕ) (way : Way) {cs : List Claim} {s : State} → Moves z cs s → Moves z cs (parts.elements id n count stride way s)
   unfolding parts.elements
-  elements id n count stride way {s} m = make_element id n way (here (put (Push count) n.at s)) (start_elements stride way n.at count m)
+  elements id n count stride way {s} m = make_element id n way (here (states.put (Push count) n.at s)) (start_elements stride way n.at count m)
 
   pub next_element : (stride : ℕ) (way : Way) (at : At) {cs : List Claim} {s : State} → Moves z cs s → Moves z cs (parts.next_element stride way at s)
   unfolding parts.next_element

@@ -1,5 +1,5 @@
 -- Runs: what stays from one state to each that is reached from it.
-use Rattle.std.proofs.Common.{◌≡◌, ◌∙◌, refl, sym, ap, subst, Bool, true, false, cond, ℕ, ◌+◌, ◌<◌, ◌≤◌, nat_eq, List, [], ◌∷◌, ◌++◌, length, map, get_or, Option, Some, None, arith, inl, inr}
+use Rattle.std.proofs.Common.{◌≡◌, ◌∙◌, refl, sym, ap, subst, Bool, true, false, cond, ℕ, zero, suc, ◌+◌, ◌-◌, ◌<◌, ◌≤◌, nat_eq, List, [], ◌∷◌, ◌++◌, length, map, get_or, Option, Some, None, arith, inl, inr}
 use Rattle.std.proofs.lemmas.List.{length-map, get_or_append_left, get_or-set_same}
 use Rattle.std.proofs.lemmas.Bool.Decides.{nat_tests}
 use Rattle.cpp_tree.specs.Trees.{nowhere}
@@ -27,7 +27,7 @@ use Rattle.lowered_states.specs.Runs.{IsApart, AreApart, Sleeps}
 use Rattle.lowered_states.proofs.Counting.{put_sum, begins_longer}
 use Rattle.lowered_states.proofs.Knowing.{bare_at}
 use Rattle.lowered_states.proofs.Naming.{number_append, named_number, name_there}
-use Rattle.lowered_states.proofs.Moves.{Begin, Moves, same}
+use Rattle.lowered_states.proofs.Moves.{Start, Moves, same}
 use Rattle.lowered_states.proofs.Single.{Step, kept_same, step_same, step_then}
 use Rattle.lowered_states.proofs.Whole.{steps, asleep_in, sound_in}
 use Rattle.lowered_states.proofs.Basic.{more}
@@ -52,7 +52,7 @@ taken item s h = record {
   jumps = λ index k. h.jumps index (omega (arith, put_sum (opens index s.body.pending) item [] s.work));
 }
 
-abbrev awake : (item : Item) (s : State) → Sound (later item s) → Begin
+abbrev awake : (item : Item) (s : State) → Sound (later item s) → Start
 awake item s h = record { from = s; claims = with_claims item []; sound = taken item s h; asleep = ⊥; rests = λ a. absurd a }
 
 item_step : (g : Setting) (item : Item) (s : State) → Sound (later item s) → IsApart g item s
@@ -80,7 +80,7 @@ pub none_written : (g : Setting) (item : Item) (s : State) → Sound (later item
     → ((steps_of.written g item s).body.live ≡ false) × ((steps_of.written g item s).body.code ≡ s.body.code)
 unfolding later
 none_written g item s h a sleeps dead =
-    let z : Begin = record { from = s; claims = with_claims item []; sound = taken item s h; asleep = Unit {0}; rests = λ e. dead } in
+    let z : Start = record { from = s; claims = with_claims item []; sound = taken item s h; asleep = Unit {0}; rests = λ e. dead } in
     asleep_in {z = z} (written g item h.knows.0 (λ e. sleeps) {cs = []} a same) tt
 
 -- ---- runs
@@ -138,7 +138,7 @@ begun_sound g names at n = record {
     once : (n number : ℕ) → 0 + 0 + room n number ≤ 1
     once n number = grind (arith, nat_tests)
 
-abbrev idle : (s : State) → Sound s → Begin
+abbrev idle : (s : State) → Sound s → Start
 idle s h = record { from = s; claims = []; sound = h; asleep = ⊥; rests = λ a. absurd a }
 
 pub started_sound : (g : Setting) (root : TNodeId) (at : At) (s : State) → Sound s → Sound (started g root at s)

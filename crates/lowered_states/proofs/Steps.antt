@@ -28,13 +28,13 @@ use Rattle.lowered_states.proofs.Exceptions.{handle, handler_done, start_throw, 
 use Rattle.lowered_states.proofs.Expressions.{assign, binary, class_table, comma, conditional, convert, copy_assign, full, function, global, local, materialize, operate, update}
 use Rattle.lowered_states.proofs.Kids.{run_kid}
 use Rattle.lowered_states.proofs.Leaving.{body_ends, close, leave}
-use Rattle.lowered_states.proofs.Moves.{Begin, Moves}
+use Rattle.lowered_states.proofs.Moves.{Moves, Start}
 use Rattle.lowered_states.proofs.Objects.{construct, copy_construct, copy_from, copy_scalar, defer, destroy, init, made, member_made, store_value, variable_made}
 use Rattle.lowered_states.proofs.Pads.{pads}
 use Rattle.lowered_states.proofs.Parts.{close_parts, element_made, elements, part_made, piece, pieces}
 use Rattle.lowered_states.proofs.Whole.{grown}
 
-module _ {z : Begin} where
+module _ {z : Start} where
   pub drop_value : (n : Node) (way : Way) {cs : List Claim} {s : State} → Moves z cs s → Moves z cs (steps.drop_value n way s)
   unfolding steps.drop_value
   drop_value n Dropped m = either (is_void n.typ) m (more (Put Pop n.at) tt m)

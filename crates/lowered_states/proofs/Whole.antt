@@ -16,7 +16,7 @@ use Rattle.lowered_states.specs.Kept.{bare}
 use Rattle.lowered_states.specs.Sound.{SoundWith}
 use Rattle.lowered_states.proofs.Counting.{begins_same, begins_push, begins_longer, jump_sum, claims_append, put_sum, behind_sum}
 use Rattle.lowered_states.proofs.Knowing.{all_know_append, up_to_know, behind_know}
-use Rattle.lowered_states.proofs.Moves.{Begin, Moves, same, wrote, added, linked, moved, caught, named, padded, deepened, lit, more, opened, bound, parked, all_bound, copied, behind, fewer, with_body}
+use Rattle.lowered_states.proofs.Moves.{Start, Moves, same, wrote, added, linked, moved, caught, named, padded, deepened, lit, more, opened, bound, parked, all_bound, copied, behind, fewer, with_body}
 use Rattle.lowered_states.proofs.Single.{Step, step_same, step_then, coded_of, beside_step, wrote_step, opened_step, bound_step, all_bound_step, parked_step, added_step, linked_step, named_step, work_step}
 
 none_in : (w : Claim → ℕ) (items : List Item) → claims_in items ≡ [] → sum_of w (claims_in items) ≡ 0
@@ -45,7 +45,7 @@ linked_code : (inner outer : ℕ) (b : Body) → (low.linked inner outer b).code
 linked_code inner outer b = elim (nat_eq inner 0) as (λ v. (cond v b (record b { scopes = slice_set b.scopes inner (low.led outer (low.scope_in b inner)) })).code
     ≡ b.code) [ true ↦ refl | false ↦ refl ]
 
-module _ {z : Begin} where
+module _ {z : Start} where
   pub steps : {cs : List Claim} {s : State} → Moves z cs s → Step z.claims z.from cs s
   steps same = step_same z.claims z.from z.sound
   steps (wrote instr at takes leaves m) = let a = steps m in step_then a (wrote_step a.sound instr at takes leaves)
