@@ -1,6 +1,7 @@
 -- Sums over claims, and lists that begin with others.
 use Rattle.std.proofs.Common.{◌≡◌, ◌∙◌, refl, sym, ap, Bool, true, false, cond, ◌&&◌, not, ℕ, zero, suc, ◌+◌, ◌-◌, ◌<◌, ◌≤◌, nat_eq, nat_le, List, [], ◌∷◌, ◌++◌, length, map, get_or, Option, Some, None, arith, ◌⊎◌, inl, inr, append_assoc, append-nil, length-append}
 use Rattle.std.proofs.lemmas.Bool.Decides.{nat_tests}
+use Rattle.std.proofs.lemmas.List.{length-map}
 use Rattle.low_code.specs.declared.writer.Jump.{Jump}
 use Rattle.low_code.specs.declared.writer.Sort.{Sort}
 use Rattle.low_code.specs.declared.writer.Sort.TheVariants.{Past as PastIt, Again}
@@ -22,6 +23,9 @@ module _ {A : Type 0} where
   pub begins_same : (xs : List A) → Begins xs xs
   begins_same xs = record { rest = []; is = sym (append-nil xs) }
 
+  pub begins_is : (xs ys : List A) → ys ≡ xs → Begins xs ys
+  begins_is xs ys e = record { rest = []; is = e ∙ sym (append-nil xs) }
+
   pub begins_push : (xs : List A) (x : A) → Begins xs (xs ++ x ∷ [])
   begins_push xs x = record { rest = x ∷ []; is = refl }
 
@@ -31,6 +35,10 @@ module _ {A : Type 0} where
   pub begins_longer : {xs ys : List A} → Begins xs ys → length xs ≤ length ys
   begins_longer {xs} p = let e : length (xs ++ p.rest) ≡ length xs + length p.rest = length-append xs p.rest in
       let f : _ ≡ length (xs ++ p.rest) = ap length p.is in omega arith
+
+-- a list that is shown by another one is as long
+pub shown_longer : {A B : Type 0} (f : A → B) (xs ys : List A) → Begins (map f xs) (map f ys) → length xs ≤ length ys
+shown_longer f xs ys b = omega (arith, begins_longer b, length-map xs f, length-map ys f)
 
 -- ---- sums
 

@@ -69,10 +69,11 @@ step_of g item s h a = let p = item_step g item s h a in record {
     catches = p.kept.catches;
     pads = p.kept.pads;
     pending = p.kept.pending;
-    code = p.kept.code;
+    lows = p.kept.lows;
   };
   sound = p.sound;
   stays = λ index l e. p.stays index l (omega (arith, put_sum (opens index s.body.pending) item [] s.work));
+  gone = λ scope sort l e. p.gone scope sort l (omega (arith, put_sum (is_place scope sort) item [] s.work));
 }
 
 -- where no instruction can be reached, none is written

@@ -18,9 +18,9 @@ use Rattle.low_code.specs.Writer as low
 use Rattle.unwind_lower.specs.declared.items.Item.{Item}
 use Rattle.unwind_lower.specs.States.{State}
 use Rattle.lowered_states.specs.Claims.{Claim, jump, coming, with_jump, claims_in, one_if, sum_of, held, is_place, waiting, opens, is_lost, is_open}
-use Rattle.lowered_states.specs.Kept.{Begins, Kept, bare, instr_in}
+use Rattle.lowered_states.specs.Kept.{Begins, Kept, bare, instr_in, unaimed}
 use Rattle.lowered_states.specs.Sound.{SoundWith, AreNested, AreLed, AreKnown, AllKnow, room}
-use Rattle.lowered_states.proofs.Counting.{begins_same, begins_push, begins_then, jump_sum, held_push, none_wait, known_more, known_push}
+use Rattle.lowered_states.proofs.Counting.{begins_is, shown_longer, begins_same, begins_push, begins_then, jump_sum, held_push, none_wait, known_more, known_push}
 use Rattle.lowered_states.proofs.Knowing.{all_know_more, led_more, led_push, led_set, led_at, led_outer, nested_push, bare_set, same_parent}
 use Rattle.lowered_states.proofs.Naming.{name_kept, name_numbered}
 use Rattle.lowered_states.proofs.Moves.{with_body, with_work, Fewer}
@@ -32,6 +32,8 @@ pub record Step (cs : List Claim) (s : State) (ds : List Claim) (t : State) : Ty
   -- an instruction that is no open jump stays, and is none
   pub stays : (index : ℕ) → index < length s.body.code → held (opens index s.body.pending) cs s.work ≡ 0
       → (instr_in index t.body.code ≡ instr_in index s.body.code) × (held (opens index t.body.pending) ds t.work ≡ 0)
+  -- a place that is no more to come does not come again
+  pub gone : (scope : ℕ) (sort : Sort) → scope < length s.body.scopes → held (is_place scope sort) cs s.work ≡ 0 → held (is_place scope sort) ds t.work ≡ 0
 
 pub kept_same : (s : State) → Kept s s
 kept_same s = record {
@@ -40,7 +42,7 @@ kept_same s = record {
   catches = begins_same s.body.catches;
   pads = begins_same s.body.pads;
   pending = begins_same s.body.pending;
-  code = le_refl (length s.body.code);
+  lows = begins_same (map unaimed s.body.code);
 }
 
 pub kept_then : {s t u : State} → Kept s t → Kept t u → Kept s u
@@ -50,20 +52,21 @@ kept_then p q = record {
   catches = begins_then p.catches q.catches;
   pads = begins_then p.pads q.pads;
   pending = begins_then p.pending q.pending;
-  code = le_trans p.code q.code;
+  lows = begins_then p.lows q.lows;
 }
 
 pub step_same : (cs : List Claim) (s : State) → SoundWith cs s → Step cs s cs s
-step_same cs s h = record { kept = kept_same s; sound = h; stays = λ index l e. (refl, e) }
+step_same cs s h = record { kept = kept_same s; sound = h; stays = λ index l e. (refl, e); gone = λ scope sort l e. e }
 
 pub step_then : {cs ds es : List Claim} {s t u : State} → Step cs s ds t → Step ds t es u → Step cs s es u
-step_then p q = record {
+step_then {s = s} {t = t} p q = record {
   kept = kept_then p.kept q.kept;
   sound = q.sound;
   stays = λ index l e.
       let a = p.stays index l e in
-      let b = q.stays index (le_trans l p.kept.code) a.1 in
+      let b = q.stays index (le_trans l (shown_longer unaimed s.body.code t.body.code p.kept.lows)) a.1 in
       (b.0 ∙ a.0, b.1);
+  gone = λ scope sort l e. q.gone scope sort (le_trans l (shown_longer bare s.body.scopes t.body.scopes p.kept.scopes)) (p.gone scope sort l e);
 }
 
 -- ---- the code, and what else a body has beside its scopes and the jumps that wait
@@ -107,16 +110,16 @@ room_none : (n index held : ℕ) → 1 ≤ held → held + room n index ≤ 1 �
 room_none n index held h k = grind (arith, nat_tests)
 
 pub coded_step : {cs : List Claim} (ds : List Claim) {s : State} → SoundWith cs s → (c : Coded) → Fewer ds cs → c.scope < length s.body.scopes
-    → length s.body.code ≤ length c.code → Begins s.body.catches c.catches → Begins s.body.pads c.pads → Same cs ds s c.code
+    → Begins (map unaimed s.body.code) (map unaimed c.code) → Begins s.body.catches c.catches → Begins s.body.pads c.pads → Same cs ds s c.code
     → Step cs s ds (with_body (coded_body c s.body) s)
-coded_step {cs} ds {s} h c f w l b p same = record {
+coded_step {cs} ds {s} h c f w n b p same = record {
   kept = record {
     names = begins_same s.names;
     scopes = begins_same (map bare s.body.scopes);
     catches = b;
     pads = p;
     pending = begins_same s.body.pending;
-    code = l;
+    lows = n;
   };
   sound = record {
     numbered = h.numbered;
@@ -128,12 +131,13 @@ coded_step {cs} ds {s} h c f w l b p same = record {
     found = omega (arith, h.found, held_fewer (is_lost (length s.body.scopes)) cs ds s.work f);
     once = λ scope sort. omega (arith, h.once scope sort, held_fewer (is_place scope sort) cs ds s.work f);
     apart = λ index. omega (arith, h.apart index, held_fewer (opens index s.body.pending) cs ds s.work f,
-        room_falls (length s.body.code) (length c.code) index l);
+        room_falls (length s.body.code) (length c.code) index (shown_longer unaimed s.body.code c.code n));
     jumps = λ index k. let e : 1 ≤ held (opens index s.body.pending) cs s.work = omega (arith, held_fewer (opens index s.body.pending) cs ds s.work f) in
         let there : index < length s.body.code = room_none (length s.body.code) index (held (opens index s.body.pending) cs s.work) e (h.apart index) in
         ap is_open (same index there (inr k)) ∙ h.jumps index e;
   };
   stays = λ index k e. (same index k (inl e), omega (arith, held_fewer (opens index s.body.pending) cs ds s.work f));
+  gone = λ scope sort k e. omega (arith, held_fewer (is_place scope sort) cs ds s.work f);
 }
 
 pub fewer_all : (cs : List Claim) → Fewer cs cs
@@ -145,16 +149,16 @@ same_code cs s index l h = refl
 -- only what is told beside the code changes
 pub beside_step : {cs : List Claim} {s : State} → SoundWith cs s → (c : Coded) → c.code ≡ s.body.code → c.scope < length s.body.scopes
     → Begins s.body.catches c.catches → Begins s.body.pads c.pads → Step cs s cs (with_body (coded_body c s.body) s)
-beside_step {cs} {s} h c e w b p = coded_step cs h c (fewer_all cs) w (omega (arith, ap {B = ℕ} length e)) b p (λ index l k. ap (instr_in index) e)
+beside_step {cs} {s} h c e w b p = coded_step cs h c (fewer_all cs) w (begins_is (map unaimed s.body.code) (map unaimed c.code) (ap (map unaimed) e)) b p (λ index l k. ap (instr_in index) e)
 
 -- ---- an instruction behind the others
 
 pub instr_left : (xs ys : List LowInstr) (index : ℕ) → index < length xs → instr_in index (xs ++ ys) ≡ instr_in index xs
 instr_left xs ys index l = ap (λ (x : LowInstr). x.instr) (get_or_append_left xs ys no_low index l)
 
-maybe_longer : (live : Bool) (xs : List LowInstr) (x : LowInstr) → length xs ≤ length (cond live (xs ++ x ∷ []) xs)
-maybe_longer true xs x = omega (arith, length_push xs x)
-maybe_longer false xs x = le_refl (length xs)
+maybe_lows : (live : Bool) (xs : List LowInstr) (x : LowInstr) → Begins (map unaimed xs) (map unaimed (cond live (xs ++ x ∷ []) xs))
+maybe_lows true xs x = record { rest = unaimed x ∷ []; is = map-append unaimed xs (x ∷ []) }
+maybe_lows false xs x = begins_same (map unaimed xs)
 
 maybe_left : (live : Bool) (xs : List LowInstr) (x : LowInstr) (index : ℕ) → index < length xs
     → instr_in index (cond live (xs ++ x ∷ []) xs) ≡ instr_in index xs
@@ -164,7 +168,7 @@ maybe_left false xs x index l = refl
 pub wrote_step : {cs : List Claim} {s : State} → SoundWith cs s → (instr : Instr) (at : At) (takes leaves : ℕ)
     → Step cs s cs (with_body (low.written instr at takes leaves s.body) s)
 wrote_step {cs} {s} h instr at takes leaves = coded_step cs h (coded_of (low.written instr at takes leaves s.body)) (fewer_all cs) h.within
-    (maybe_longer s.body.live s.body.code (record { instr = instr; at = at; scope = (low.innermost s.body).rows }))
+    (maybe_lows s.body.live s.body.code (record { instr = instr; at = at; scope = (low.innermost s.body).rows }))
     (begins_same s.body.catches) (begins_same s.body.pads)
     (λ index l k. maybe_left s.body.live s.body.code (record { instr = instr; at = at; scope = (low.innermost s.body).rows }) index l)
 
@@ -207,7 +211,7 @@ opened_by {cs} {s} h j x depth live at l o true = record {
     catches = begins_same s.body.catches;
     pads = begins_same s.body.pads;
     pending = begins_same s.body.pending;
-    code = omega (arith, length_push s.body.code x);
+    lows = record { rest = unaimed x ∷ []; is = map-append unaimed s.body.code (x ∷ []) };
   };
   sound = record {
     numbered = h.numbered;
@@ -222,6 +226,7 @@ opened_by {cs} {s} h j x depth live at l o true = record {
     jumps = λ index k. jumps_now index (here_or (length s.body.code) index (held (opens index s.body.pending) cs s.work) (moved_here index k));
   };
   stays = λ index k e. (instr_left s.body.code (x ∷ []) index k, open_none index k e);
+  gone = λ scope sort k e. omega arith;
 }
   where
     one_here : (index : ℕ) → one_if (nat_eq j.index index) ≡ one_if (nat_eq (length s.body.code) index)
@@ -262,6 +267,16 @@ opened_step {cs} {s} h instr at o = opened_by h (record {
 aimed_longer : (index : ℕ) (code : List LowInstr) → length (low.aimed index code) ≡ length code
 aimed_longer index code = length-set code index (low.aimed_low (length code) (get_or code index no_low))
 
+lows_set : (code : List LowInstr) (index target : ℕ)
+    → map unaimed (slice_set code index (low.aimed_low target (get_or code index no_low))) ≡ map unaimed code
+lows_set [] zero target = refl
+lows_set [] (suc index) target = refl
+lows_set (x ∷ code) zero target = refl
+lows_set (x ∷ code) (suc index) target = ap (λ (ys : List LowInstr). unaimed x ∷ ys) (lows_set code index target)
+
+aimed_lows : (index : ℕ) (code : List LowInstr) → map unaimed (low.aimed index code) ≡ map unaimed code
+aimed_lows index code = lows_set code index (length code)
+
 pub aimed_other : (index other : ℕ) (code : List LowInstr) → (other ≡ index → ⊥) → instr_in other (low.aimed index code) ≡ instr_in other code
 aimed_other index other code n = ap (λ (x : LowInstr). x.instr)
     (get_or-set_other code index other (low.aimed_low (length code) (get_or code index no_low)) no_low n)
@@ -283,7 +298,7 @@ bound_step {cs} {s} (Some j) h = coded_step cs h (record {
   depth = j.depth;
   live = true;
 }) (λ w. omega arith) (found_scope (length s.body.scopes) j.scope (held (is_lost (length s.body.scopes)) cs s.work) (omega (arith, h.found)))
-    (omega (arith, aimed_longer j.index s.body.code)) (begins_same s.body.catches) (begins_same s.body.pads)
+    (begins_is (map unaimed s.body.code) (map unaimed (low.aimed j.index s.body.code)) (aimed_lows j.index s.body.code)) (begins_same s.body.catches) (begins_same s.body.pads)
     (λ index l k. aimed_other j.index index s.body.code (differs index k))
   where
     once : (index : ℕ) → one_if (nat_eq j.index index) + held (opens index s.body.pending) cs s.work ≤ 1
@@ -306,6 +321,7 @@ pub record AllBound (scope : ℕ) (sort : Sort) (ps : List Pending) (b c : Body)
   pub pads : c.pads ≡ b.pads
   pub pending : c.pending ≡ b.pending
   pub code : length c.code ≡ length b.code
+  pub lows : map unaimed c.code ≡ map unaimed b.code
   pub within : (n : ℕ) → AreKnown n ps → b.scope < n → c.scope < n
   pub same : (index : ℕ) → waiting index scope sort ps ≡ 0 → instr_in index c.code ≡ instr_in index b.code
 
@@ -324,6 +340,7 @@ all_bound_by scope sort [] b = record {
   pads = refl;
   pending = refl;
   code = refl;
+  lows = refl;
   within = λ n k l. l;
   same = λ index e. refl;
 }
@@ -339,6 +356,7 @@ all_bound_by scope sort (p ∷ ps) b = by (leads_to scope sort p) refl (all_boun
           pads = h.pads ∙ ap (λ (c : Body). c.pads) is;
           pending = h.pending ∙ ap (λ (c : Body). c.pending) is;
           code = h.code ∙ ap (λ (c : Body). length c.code) is ∙ aimed_longer p.jump.index b.code;
+          lows = h.lows ∙ ap (λ (c : Body). map unaimed c.code) is ∙ aimed_lows p.jump.index b.code;
           within = λ n k l. h.within n k.2 (subst (λ (c : Body). c.scope < n) (sym is) k.1);
           same = λ index z.
               let d : nat_eq p.jump.index index ≡ false = waits_here (leads_to scope sort p) (nat_eq p.jump.index index) (waiting index scope sort ps) e z in
@@ -353,6 +371,7 @@ all_bound_by scope sort (p ∷ ps) b = by (leads_to scope sort p) refl (all_boun
           pads = h.pads ∙ ap (λ (c : Body). c.pads) is;
           pending = h.pending ∙ ap (λ (c : Body). c.pending) is;
           code = h.code ∙ ap (λ (c : Body). length c.code) is;
+          lows = h.lows ∙ ap (λ (c : Body). map unaimed c.code) is;
           within = λ n k l. h.within n k.2 (subst (λ (c : Body). c.scope < n) (sym is) l);
           same = λ index z. h.same index (omega arith) ∙ ap (λ (c : Body). instr_in index c.code) is;
         }
@@ -373,9 +392,6 @@ as_coded b c e f = ap₂ (λ (ss : List Scope) (ps : List Pending). record {
   live = c.live;
 }) (sym e) (sym f)
 
-begins_is : {A : Type 0} (xs ys : List A) → ys ≡ xs → Begins xs ys
-begins_is xs ys e = subst (λ l. Begins xs l) (sym e) (begins_same xs)
-
 zero_by : (waits held : ℕ) → (waits + held ≡ 0) ⊎ (1 ≤ held) → waits + held ≤ 1 → waits ≡ 0
 zero_by waits held h k = grind arith
 
@@ -385,7 +401,7 @@ all_bound_step {cs} {s} scope sort h =
     let a = all_bound scope sort s.body in
     subst (λ (b : Body). Step (coming scope sort ∷ cs) s cs (with_body b s)) (as_coded s.body (low.bound_all scope sort s.body) a.scopes a.pending)
     (coded_step cs h (coded_of (low.bound_all scope sort s.body)) (λ w. omega arith) (a.within (length s.body.scopes) h.known h.within)
-    (omega (arith, a.code)) (begins_is s.body.catches (low.bound_all scope sort s.body).catches a.catches)
+    (begins_is (map unaimed s.body.code) (map unaimed (low.bound_all scope sort s.body).code) a.lows) (begins_is s.body.catches (low.bound_all scope sort s.body).catches a.catches)
     (begins_is s.body.pads (low.bound_all scope sort s.body).pads a.pads)
     (λ index l k. a.same index (none_here index k)))
   where
@@ -415,7 +431,7 @@ parked_step {cs} {s} scope sort (Some j) l h = record {
     catches = begins_same s.body.catches;
     pads = begins_same s.body.pads;
     pending = begins_push s.body.pending p;
-    code = le_refl (length s.body.code);
+    lows = begins_same (map unaimed s.body.code);
   };
   sound = record {
     numbered = h.numbered;
@@ -431,6 +447,7 @@ parked_step {cs} {s} scope sort (Some j) l h = record {
     jumps = λ index k. h.jumps index (omega (arith, fewer index));
   };
   stays = λ index k e. (refl, omega (arith, fewer index));
+  gone = λ place_scope place_sort k e. omega arith;
 }
   where
     p : Pending
@@ -456,6 +473,9 @@ new_places n scope Again = by (nat_eq scope n)
     by true = omega arith
     by false = omega arith
 
+below_differs : (m n : ℕ) → m < n → one_if (nat_eq m n) ≡ 0
+below_differs m n l = grind (arith, nat_tests)
+
 next_room : (n scope news held : ℕ) → news ≤ one_if (nat_eq scope n) → held + room n scope ≤ 1 → (news + held) + room (n + 1) scope ≤ 1
 next_room n scope news held h k = grind (arith, nat_tests)
 
@@ -478,7 +498,7 @@ added_step {cs} {s} h scope p o = record {
     catches = begins_same s.body.catches;
     pads = begins_same s.body.pads;
     pending = begins_same s.body.pending;
-    code = le_refl (length s.body.code);
+    lows = begins_same (map unaimed s.body.code);
   };
   sound = record {
     numbered = h.numbered;
@@ -494,6 +514,7 @@ added_step {cs} {s} h scope p o = record {
     jumps = λ index k. h.jumps index (omega (arith, none index PastIt, none index Again));
   };
   stays = λ index k e. (refl, omega (arith, none index PastIt, none index Again));
+  gone = λ number sort k e. omega (arith, new_places (length s.body.scopes) number sort, below_differs number (length s.body.scopes) k);
 }
   where
     more : length s.body.scopes ≤ length (s.body.scopes ++ scope ∷ [])
@@ -522,7 +543,7 @@ scopes_step {cs} {s} h scopes l e d = record {
     catches = begins_same s.body.catches;
     pads = begins_same s.body.pads;
     pending = begins_same s.body.pending;
-    code = le_refl (length s.body.code);
+    lows = begins_same (map unaimed s.body.code);
   };
   sound = record {
     numbered = h.numbered;
@@ -537,6 +558,7 @@ scopes_step {cs} {s} h scopes l e d = record {
     jumps = h.jumps;
   };
   stays = λ index k z. (refl, z);
+  gone = λ scope sort k z. z;
 }
 
 pub linked_step : {cs : List Claim} {s : State} → SoundWith cs s → (inner outer : ℕ) → outer < length s.body.scopes
@@ -562,7 +584,7 @@ named_step {cs} {s} h name = record {
     catches = begins_same s.body.catches;
     pads = begins_same s.body.pads;
     pending = begins_same s.body.pending;
-    code = le_refl (length s.body.code);
+    lows = begins_same (map unaimed s.body.code);
   };
   sound = record {
     numbered = name_numbered name s.names h.numbered;
@@ -577,6 +599,7 @@ named_step {cs} {s} h name = record {
     jumps = h.jumps;
   };
   stays = λ index k e. (refl, e);
+  gone = λ scope sort k e. e;
 }
 
 -- ---- what is to be written
@@ -590,7 +613,7 @@ work_step {cs} {s} h ds items k f = record {
     catches = begins_same s.body.catches;
     pads = begins_same s.body.pads;
     pending = begins_same s.body.pending;
-    code = le_refl (length s.body.code);
+    lows = begins_same (map unaimed s.body.code);
   };
   sound = record {
     numbered = h.numbered;
@@ -605,4 +628,5 @@ work_step {cs} {s} h ds items k f = record {
     jumps = λ index l. h.jumps index (omega (arith, f (opens index s.body.pending)));
   };
   stays = λ index l e. (refl, omega (arith, f (opens index s.body.pending)));
+  gone = λ scope sort l e. omega (arith, f (is_place scope sort));
 }

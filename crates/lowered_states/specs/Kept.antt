@@ -1,6 +1,7 @@
 -- What is there stays there.
-use Rattle.std.specs.Prelude.{◌≡◌, ℕ, ◌≤◌, List, ◌++◌, length, map, get_or}
+use Rattle.std.specs.Prelude.{◌≡◌, ℕ, List, ◌++◌, map, get_or}
 use Rattle.tx_code.specs.declared.instr.Instr.{Instr}
+use Rattle.tx_code.specs.declared.instr.Instr.TheVariants.{Jump as JumpTo}
 use Rattle.low_code.specs.declared.scopes.Scope.{Scope}
 use Rattle.low_code.specs.declared.writer.LowInstr.{LowInstr}
 use Rattle.low_code.specs.Writer.{led, no_low}
@@ -26,6 +27,10 @@ instr_in index code = (get_or code index no_low).instr
 abbrev pub instr_at : ℕ → State → Instr
 instr_at index s = instr_in index s.body.code
 
+-- an instruction without what it is: its place in the source and its scope
+abbrev pub unaimed : LowInstr → LowInstr
+unaimed low = record low { instr = JumpTo 0 }
+
 -- of all lists there is only more
 pub record Kept (from to : State) : Type 0 where
   pub names : Begins from.names to.names
@@ -33,4 +38,4 @@ pub record Kept (from to : State) : Type 0 where
   pub catches : Begins from.body.catches to.body.catches
   pub pads : Begins from.body.pads to.body.pads
   pub pending : Begins from.body.pending to.body.pending
-  pub code : length from.body.code ≤ length to.body.code
+  pub lows : Begins (map unaimed from.body.code) (map unaimed to.body.code)
