@@ -19,3 +19,4 @@ pub mod Pads
 pub mod Functions
 pub mod Steps
 pub mod Running
+pub mod Aiming

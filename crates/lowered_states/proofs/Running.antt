@@ -1,5 +1,5 @@
 -- Runs: what stays from one state to each that is reached from it.
-use Rattle.std.proofs.Common.{◌≡◌, ◌∙◌, refl, sym, ap, subst, Bool, true, false, cond, ℕ, zero, suc, ◌+◌, ◌-◌, ◌<◌, ◌≤◌, nat_eq, List, [], ◌∷◌, ◌++◌, length, map, get_or, Option, Some, None, arith, inl, inr}
+use Rattle.std.proofs.Common.{◌≡◌, ◌∙◌, refl, sym, ap, subst, Bool, true, false, cond, ℕ, zero, suc, ◌+◌, ◌-◌, ◌<◌, ◌≤◌, nat_eq, List, [], ◌∷◌, ◌++◌, length, map, get_or, slice_get, Option, Some, None, arith, inl, inr}
 use Rattle.std.proofs.lemmas.List.{length-map, get_or_append_left, get_or-set_same}
 use Rattle.std.proofs.lemmas.Bool.Decides.{nat_tests}
 use Rattle.cpp_tree.specs.Trees.{nowhere}
@@ -37,7 +37,7 @@ use Rattle.lowered_states.proofs.Steps.{written}
 -- ---- one item
 
 -- the claims of an item that is taken are at hand
-taken : (item : Item) (s : State) → Sound (later item s) → SoundWith (with_claims item []) s
+pub taken : (item : Item) (s : State) → Sound (later item s) → SoundWith (with_claims item []) s
 unfolding later
 taken item s h = record {
   numbered = h.numbered;
@@ -111,10 +111,13 @@ number_stays name s to b =
     let n = named_number name s.names in
     same_number (states.named name s).names to.names b name (omega (arith, n.0, n.1)) ∙ n.0
 
--- ---- jumps that are bound
-
-there_by : (index n length held : ℕ) → one_if (nat_eq index index) + held + room length index ≤ 1 → (index < length) × (held ≡ 0)
-there_by index n length held h = (grind (arith, nat_tests), grind (arith, nat_tests))
+-- and the name stands at its number
+pub name_stays : (name : List ℕ) (s to : State) → Begins (states.named name s).names to.names → slice_get to.names (number_of name s.names) ≡ Some name
+unfolding states.named
+name_stays name s to b =
+    let e = number_stays name s to b in
+    let n = named_number name s.names in
+    ap (slice_get to.names) (sym e) ∙ name_there name to.names (omega (arith, e, n.1, begins_longer b))
 
 -- ---- beginnings
 

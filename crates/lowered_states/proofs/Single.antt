@@ -106,7 +106,7 @@ held_fewer w cs ds items f = omega (arith, f w)
 room_falls : (m n index : ℕ) → m ≤ n → room n index ≤ room m index
 room_falls m n index l = grind (arith, nat_tests)
 
-room_none : (n index held : ℕ) → 1 ≤ held → held + room n index ≤ 1 → index < n
+pub room_none : (n index held : ℕ) → 1 ≤ held → held + room n index ≤ 1 → index < n
 room_none n index held h k = grind (arith, nat_tests)
 
 pub coded_step : {cs : List Claim} (ds : List Claim) {s : State} → SoundWith cs s → (c : Coded) → Fewer ds cs → c.scope < length s.body.scopes
@@ -264,7 +264,7 @@ opened_step {cs} {s} h instr at o = opened_by h (record {
 
 -- ---- a jump leads to the next index
 
-aimed_longer : (index : ℕ) (code : List LowInstr) → length (low.aimed index code) ≡ length code
+pub aimed_longer : (index : ℕ) (code : List LowInstr) → length (low.aimed index code) ≡ length code
 aimed_longer index code = length-set code index (low.aimed_low (length code) (get_or code index no_low))
 
 lows_set : (code : List LowInstr) (index target : ℕ)

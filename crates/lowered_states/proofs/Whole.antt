@@ -27,10 +27,10 @@ and_false true = refl
 and_false false = refl
 
 -- nothing is written where no instruction can be reached
-wrote_none : (instr : Instr) (b : Body) → b.live ≡ false → (not (ends instr) && b.live) ≡ false
+pub wrote_none : (instr : Instr) (b : Body) → b.live ≡ false → (not (ends instr) && b.live) ≡ false
 wrote_none instr b e = ap (λ v. not (ends instr) && v) e ∙ and_false (not (ends instr))
 
-code_none : (instr : Instr) (at : At) (takes leaves : ℕ) (b : Body) → b.live ≡ false → (low.written instr at takes leaves b).code ≡ b.code
+pub code_none : (instr : Instr) (at : At) (takes leaves : ℕ) (b : Body) → b.live ≡ false → (low.written instr at takes leaves b).code ≡ b.code
 code_none instr at takes leaves b e =
     ap (λ v. cond v (b.code ++ record { instr = instr; at = at; scope = (low.innermost b).rows } ∷ []) b.code) e
 

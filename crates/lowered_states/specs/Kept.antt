@@ -1,8 +1,10 @@
 -- What is there stays there.
-use Rattle.std.specs.Prelude.{◌≡◌, ℕ, List, ◌++◌, map, get_or}
+use Rattle.std.specs.Prelude.{◌≡◌, Bool, true, false, ℕ, List, ◌++◌, map, get_or}
 use Rattle.tx_code.specs.declared.instr.Instr.{Instr}
 use Rattle.tx_code.specs.declared.instr.Instr.TheVariants.{Jump as JumpTo}
 use Rattle.low_code.specs.declared.scopes.Scope.{Scope}
+use Rattle.low_code.specs.declared.scopes.ScopeKind.{ScopeKind}
+use Rattle.low_code.specs.declared.scopes.ScopeKind.TheVariants.{Behind}
 use Rattle.low_code.specs.declared.writer.LowInstr.{LowInstr}
 use Rattle.low_code.specs.Writer.{led, no_low}
 use Rattle.unwind_lower.specs.States.{State}
@@ -19,6 +21,11 @@ bare scope = led 0 scope
 -- two scopes are one, but for the way out of the block around
 abbrev pub IsSame : Scope → Scope → Type 0
 IsSame a b = bare a ≡ bare b
+
+-- a way out of a block, seen from a handler
+abbrev pub is_behind : ScopeKind → Bool
+is_behind (Behind block next outer) = true
+is_behind kind = false
 
 -- the instruction with an index
 abbrev pub instr_in : ℕ → List LowInstr → Instr
