@@ -16,7 +16,7 @@ use Rattle.low_code.specs.declared.scopes.ScopeKind.TheVariants.{Block, Loop, Ma
 use Rattle.low_code.specs.declared.writer.Jump.{Jump}
 use Rattle.low_code.specs.declared.writer.Sort.TheVariants.{Again, Past as PastIt}
 use Rattle.unwind_lower.specs.Blocks as blocks
-use Rattle.unwind_lower.specs.Blocks.{case_jump, edge_number, first_label, has_default, jump_over_from, label_jump, label_of, labels_of, other_labels}
+use Rattle.unwind_lower.specs.Blocks.{case_jump, edge_number, first_label, has_default, jump_over_from, label_jump, label_of, labelled, labels_of, other_labels}
 use Rattle.unwind_lower.specs.Kids.{kids_from}
 use Rattle.unwind_lower.specs.Settings.{Setting, node_in}
 use Rattle.unwind_lower.specs.States as states
@@ -141,7 +141,7 @@ module _ {z : Start} where
 
   run_items : (g : Setting) (otherwise : Option Jump) (ids : List TNodeId) (labels : List (Option Jump)) {cs : List Claim} {s : State}
       → Moves z (bound_by g otherwise ids labels cs) s → Moves z cs (blocks.run_items g otherwise ids labels s)
-  unfolding blocks.run_items
+  unfolding blocks.run_items blocks.run_item blocks.labelled states.later
   run_items g otherwise [] labels m = m
   run_items g otherwise (id ∷ ids) labels {cs} m = run_item g otherwise id (first_label labels) (run_items g otherwise ids (other_labels labels)
       (fewer (bound_last g otherwise ids (other_labels labels) (label_of (node_in g id).kind (first_label labels) otherwise) cs) m))

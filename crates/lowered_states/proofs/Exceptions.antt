@@ -1,5 +1,5 @@
 -- What is thrown, and handlers.
-use Rattle.std.proofs.Common.{Bool, List, None, Option, Some, [], arith, false, length, lt_of_lt_of_le, refl, subst, sym, true, ℕ, ◌+◌, ◌<◌, ◌∷◌, ◌≡◌}
+use Rattle.std.proofs.Common.{Bool, List, None, Option, Some, [], arith, false, length, lt_of_lt_of_le, refl, true, ℕ, ◌+◌, ◌<◌, ◌∷◌, ◌≡◌}
 use Rattle.std.proofs.lemmas.List.{length_push}
 use Rattle.cpp_tree.specs.cpp_types.Conversion.{referred}
 use Rattle.cpp_tree.specs.cpp_types.Typ.{Form, Typ, class, typ}
@@ -14,11 +14,10 @@ use Rattle.low_code.specs.Nodes.{Node, kid_in}
 use Rattle.low_code.specs.Numbers.{bytes_number, load, store}
 use Rattle.low_code.specs.Types.{is_class_type, is_void}
 use Rattle.low_code.specs.Writer as low
-use Rattle.low_code.specs.Writer.{Body}
 use Rattle.low_code.specs.declared.scopes.ScopeKind.TheVariants.{Try}
 use Rattle.low_code.specs.declared.writer.Sort.TheVariants.{Again, Past as PastIt}
 use Rattle.unwind_lower.specs.Exceptions as exceptions
-use Rattle.unwind_lower.specs.Exceptions.{form_of}
+use Rattle.unwind_lower.specs.Exceptions.{form_of, handles}
 use Rattle.unwind_lower.specs.Kids.{kids_from}
 use Rattle.unwind_lower.specs.Settings.{Setting, bare_text, class_name, classes_in, node_in, place_in}
 use Rattle.unwind_lower.specs.States as states
@@ -32,11 +31,6 @@ use Rattle.lowered_states.proofs.Labels.{one_fewer}
 use Rattle.lowered_states.proofs.Moves.{Moves, Start, fewer}
 use Rattle.lowered_states.proofs.Objects.{made}
 use Rattle.lowered_states.proofs.Whole.{grown}
-
-handlers_body : (ids : List TNodeId) (scope : ℕ) (live : Bool) (s : State) → (exceptions.later_handlers ids scope live s).body ≡ s.body
-unfolding exceptions.later_handlers states.later
-handlers_body [] scope live s = refl
-handlers_body (id ∷ ids) scope live s = handlers_body ids scope live s
 
 module _ {z : Start} where
   pub start_throw : (id : TNodeId) (n : Node) {cs : List Claim} {s : State} → Moves z cs s → Moves z cs (exceptions.start_throw id n s)
@@ -73,20 +67,17 @@ module _ {z : Start} where
 
   pub later_handlers : (ids : List TNodeId) (scope : ℕ) (live : Bool) {cs : List Claim} {s : State} → scope < length s.body.scopes → Moves z cs s
       → Moves z cs (exceptions.later_handlers ids scope live s)
-  unfolding exceptions.later_handlers
+  unfolding exceptions.later_handlers exceptions.handles states.later
   later_handlers [] scope live l m = m
-  later_handlers (id ∷ ids) scope live {s = s} l m = more (Handle id scope live)
-      (subst (λ (b : Body). scope < length b.scopes) (sym (handlers_body ids scope live s)) l) (later_handlers ids scope live l m)
+  later_handlers (id ∷ ids) scope live l m = more (Handle id scope live) l (later_handlers ids scope live l m)
 
   pub start_try : (id : TNodeId) (n : Node) {cs : List Claim} {s : State} → Moves z cs s → Moves z cs (exceptions.start_try id n s)
-  unfolding exceptions.start_try states.scope_count states.later states.entered
+  unfolding exceptions.start_try exceptions.later_handlers states.scope_count states.later states.entered
   start_try id n {cs} {s} m =
       let there : length s.body.scopes < length (states.entered Try n.at s).body.scopes = omega (arith, length_push s.body.scopes (low.made Try s.body.scope (low.innermost s.body).depth n.at s.body)) in
       let tried = more (Past (length s.body.scopes)) tt
       (fewer (one_fewer (coming (length s.body.scopes) PastIt) (coming (length s.body.scopes) Again) cs) (places Try n.at refl m)) in
-      run_kid n 0 Dropped (more (TryDone id (length s.body.scopes))
-      (subst (λ (b : Body). length s.body.scopes < length b.scopes) (sym (handlers_body (kids_from n 1) (length s.body.scopes) (is_live s)
-      (states.later (Past (length s.body.scopes)) (states.entered Try n.at s)))) there)
+      run_kid n 0 Dropped (more (TryDone id (length s.body.scopes)) there
       (later_handlers (kids_from n 1) (length s.body.scopes) (is_live s) there tried))
 
   pub try_done : (scope : ℕ) (at : At) → scope < length z.from.body.scopes → {cs : List Claim} {s : State} → Moves z cs s
