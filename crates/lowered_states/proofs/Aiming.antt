@@ -100,8 +100,11 @@ aimed_twice target (JumpZero other) = refl
 aimed_twice target instr = refl
 
 -- what is claimed is there
-claimed_there : (cs : List Claim) (s : State) (index : ℕ) → SoundWith cs s → 1 ≤ held (opens index s.body.pending) cs s.work → index < length s.body.code
+pub claimed_there : (cs : List Claim) (s : State) (index : ℕ) → SoundWith cs s → 1 ≤ held (opens index s.body.pending) cs s.work → index < length s.body.code
 claimed_there cs s index h k = room_none (length s.body.code) index (held (opens index s.body.pending) cs s.work) k (h.apart index)
+
+pub claimed_once : (s : State) (index : ℕ) → Sound s → open_in index s ≤ 1
+claimed_once s index h = omega (arith, h.apart index)
 
 leads_by : (g : Setting) (item : Item) (s : State) (index target : ℕ) → Sound (later item s) → IsApart g item s → index < length s.body.code → 1 ≤ target
     → instr_at index (written g item s) ≡ aimed_instr target (instr_at index s) → Leads g item s index target

@@ -19,7 +19,7 @@ use Rattle.unwind_lower.specs.States as states
 use Rattle.unwind_lower.specs.Settings.{Setting}
 use Rattle.unwind_lower.specs.Steps.{Reaches, here, behind}
 use Rattle.unwind_lower.specs.Steps as steps_of
-use Rattle.unwind_lower.specs.Functions.{begun, started}
+use Rattle.unwind_lower.specs.Functions.{begun, started, WrittenTo}
 use Rattle.lowered_states.specs.Claims.{Claim, with_claims, held, is_place, opens, is_lost, open_in, one_if}
 use Rattle.lowered_states.specs.Kept.{Begins, Kept, bare, IsSame, instr_in, instr_at}
 use Rattle.lowered_states.specs.Sound.{SoundWith, Sound, AreNumbered, scope_from, room}
@@ -90,6 +90,14 @@ pub run_step : (g : Setting) (from : State) {to : State} → Sound from → AreA
 run_step g from h a here = step_same [] from h
 run_step g from h a (behind item s r) = let p = run_step g from h a r in step_then p (step_of g item s p.sound (a item s r))
 
+-- one run behind another
+pub reaches_then : (g : Setting) (from mid : State) {to : State} → Reaches g from mid → Reaches g mid to → Reaches g from to
+reaches_then g from mid p here = p
+reaches_then g from mid p (behind item s r) = behind item s (reaches_then g from mid p r)
+
+pub apart_on : (g : Setting) (from to : State) → AreApart g from → Reaches g from to → AreApart g to
+apart_on g from to a r item s q = a item s (reaches_then g from to r q)
+
 pub same_scopes : (from to : State) → Kept from to → (number : ℕ) → number < length from.body.scopes
     → IsSame (scope_from from.body.scopes number) (scope_from to.body.scopes number)
 same_scopes from to k number l =
@@ -151,3 +159,10 @@ started_sound g root at s h = sound_in {z = idle s h} (more (Run root Dropped) t
 
 pub pads_sound : (s : State) → Sound s → Sound (later (Pads 0) s)
 pads_sound s h = sound_in {z = idle s h} (more (Pads 0) tt same)
+
+pub whole_sound : (g : Setting) (root : TNodeId) (names : List (List ℕ)) (at : At) (to : State) (w : WrittenTo g root at (begun g names at) to)
+    → AreNumbered names → AreApart g (started g root at (begun g names at)) → AreApart g (later (Pads 0) w.body) → Sound to
+whole_sound g root names at to w n a b =
+    let body = (run_step g (started g root at (begun g names at)) (started_sound g root at (begun g names at) (begun_sound g names at n)) a
+    w.body_written.reaches).sound in
+    (run_step g (later (Pads 0) w.body) (pads_sound w.body body) b w.pads_written.reaches).sound

@@ -16,7 +16,7 @@ ghost use Rattle.unwind_lower.specs.declared.items.Turn.{Turn};
 ghost use Rattle.unwind_lower.specs.States.{State, later, here, put, jumped, jumped_if_zero, named};
 ghost use Rattle.unwind_lower.specs.Settings.{Setting, node_in};
 ghost use Rattle.unwind_lower.specs.Steps.{Reaches, written};
-ghost use Rattle.unwind_lower.specs.Functions.{begun, started};
+ghost use Rattle.unwind_lower.specs.Functions.{begun, started, WrittenTo};
 ghost use Rattle.lowered_states.specs.Claims.{held, is_place, is_open, open_in, waiting};
 ghost use Rattle.lowered_states.specs.Kept.{Begins, Kept, IsSame, instr_at, unaimed, is_behind};
 ghost use Rattle.lowered_states.specs.Sound.{Sound, AreNumbered, scope_from};
@@ -29,6 +29,21 @@ pub fn runs_are_sound()
     ensures ways_out { (s : State) → Sound s → Sound (later (Pads 0) s) }
     ensures written { (g : Setting) (item : Item) (s : State) → Sound (later item s) → IsApart g item s → Sound (written g item s) }
     ensures reached { (g : Setting) (from to : State) → Sound from → AreApart g from → Reaches g from to → Sound to }
+    ensures whole { (g : Setting) (root : TNodeId) (names : List (List ℕ)) (at : At) (to : State) (w : WrittenTo g root at (begun g names at) to) →
+        AreNumbered names → AreApart g (started g root at (begun g names at)) → AreApart g (later (Pads 0) w.body) → Sound to }
+{}
+
+/// A run goes on behind another one.
+pub fn runs_go_on()
+    ensures reached { (g : Setting) (from mid to : State) → Reaches g from mid → Reaches g mid to → Reaches g from to }
+    ensures apart { (g : Setting) (from to : State) → AreApart g from → Reaches g from to → AreApart g to }
+{}
+
+/// An open jump is there, leads nowhere yet, and is claimed once.
+pub fn open_jumps_are_there()
+    ensures once { (s : State) → Sound s → (index : ℕ) → open_in index s ≤ 1 }
+    ensures there { (s : State) → Sound s → (index : ℕ) → 1 ≤ open_in index s → index < here s }
+    ensures nowhere { (s : State) → Sound s → (index : ℕ) → 1 ≤ open_in index s → is_open (instr_at index s) ≡ true }
 {}
 
 /// Of names, scopes, catches, ways out, jumps that wait and instructions there is only more.
