@@ -2,7 +2,6 @@
 use Rattle.std.proofs.Common.{◌≡◌, ◌∙◌, refl, sym, ap, subst, Bool, true, false, cond, ◌&&◌, ℕ, zero, suc, ◌+◌, ◌-◌, ◌<◌, ◌≤◌, nat_eq, List, [], ◌∷◌, ◌++◌, length, get_or, map, Option, Some, None, arith, ◌⊎◌, inl, inr, fold, le_trans}
 use Rattle.std.proofs.lemmas.List.{get_or-set_same, get_or_append_left, length-map, length_push}
 use Rattle.std.proofs.lemmas.Bool.Decides.{nat_tests}
-use Rattle.cpp_tree.specs.cpp_types.declared.classes.At.{At}
 use Rattle.tx_code.specs.declared.instr.Instr.{Instr}
 use Rattle.tx_code.specs.declared.instr.Instr.TheVariants.{Jump as JumpTo, JumpZero}
 use Rattle.low_code.specs.declared.scopes.Scope.{Scope}
@@ -29,10 +28,10 @@ use Rattle.unwind_lower.specs.Blocks as blocks
 use Rattle.unwind_lower.specs.Steps.{Reaches, written}
 use Rattle.lowered_states.specs.Claims.{Claim, jump, coming, with_jump, with_claims, claims_in, sum_of, one_if, held, waiting, opens, is_open, open_in, is_place}
 use Rattle.lowered_states.specs.Kept.{Kept, IsSame, instr_in, instr_at, unaimed, is_behind}
-use Rattle.lowered_states.specs.Sound.{SoundWith, Sound, room}
+use Rattle.lowered_states.specs.Sound.{SoundWith, Sound}
 use Rattle.lowered_states.specs.Runs.{IsApart, AreApart, Leads, WritesNone}
 use Rattle.lowered_states.proofs.Counting.{shown_longer, jump_sum}
-use Rattle.lowered_states.proofs.Single.{Step, aimed_longer, aimed_other, all_bound, room_none, instr_left}
+use Rattle.lowered_states.proofs.Single.{aimed_longer, aimed_other, all_bound, room_none, instr_left}
 use Rattle.lowered_states.proofs.Whole.{code_none, wrote_none}
 use Rattle.lowered_states.proofs.Running.{taken, step_of, run_step, none_written}
 
@@ -147,10 +146,12 @@ other_code : (o : OtherPart) (j : Jump) (s : State) → o.test ≡ Some j → j.
     × (1 ≤ states.here (states.jumped o.at s))
 unfolding conditions.start_other states.bound states.at_scope states.jumped states.here
 other_code o j s e l =
-    let k = jumped_left s.body.live s.body.code (record { instr = JumpTo 0; at = o.at; scope = (low.innermost s.body).rows }) j.index l in
-    (ap (instr_in j.index) (bound_some o.test j (low.at_scope o.scope (low.put (JumpTo 0) o.at s.body)) e)
-    ∙ aimed_same j.index (low.put (JumpTo 0) o.at s.body).code k.1
-    ∙ ap (aimed_instr (length (low.put (JumpTo 0) o.at s.body).code)) k.0, omega (arith, k.1))
+    let k = jumped_left s.body.live s.body.code (record { instr = JumpTo 0; at = o.at; scope = (low.innermost s.body).rows }) j.index l in (
+      ap (instr_in j.index) (bound_some o.test j (low.at_scope o.scope (low.put (JumpTo 0) o.at s.body)) e)
+          ∙ aimed_same j.index (low.put (JumpTo 0) o.at s.body).code k.1
+          ∙ ap (aimed_instr (length (low.put (JumpTo 0) o.at s.body).code)) k.0,
+      omega (arith, k.1),
+    )
 
 pub other_leads : (g : Setting) (o : OtherPart) (j : Jump) (s : State) → o.test ≡ Some j → Sound (later (Other o) s)
     → Leads g (Other o) s j.index (states.here (states.jumped o.at s))
@@ -211,8 +212,10 @@ module _ (scope : ℕ) (sort : Sort) (index : ℕ) (instr : Instr) (n : ℕ) (wi
       by (inl d) (inl e) = inl (at_it d (aimed_instr n instr) e ∙ aimed_twice n instr)
       by (inl d) (inr k) = inl (at_it d instr k.0)
       by (inr d) (inl e) = inl (aimed_other p.jump.index index b.code d ∙ e)
-      by (inr d) (inr k) = inr (aimed_other p.jump.index index b.code d ∙ k.0,
-          still (here_or_later (leads_to scope sort p) (nat_eq p.jump.index index) (waiting index scope sort ps) k.1))
+      by (inr d) (inr k) = inr (
+        aimed_other p.jump.index index b.code d ∙ k.0,
+        still (here_or_later (leads_to scope sort p) (nat_eq p.jump.index index) (waiting index scope sort ps) k.1),
+      )
         where
           still : ((leads_to scope sort p ≡ true) × (nat_eq p.jump.index index ≡ true)) ⊎ (1 ≤ waiting index scope sort ps) → 1 ≤ waiting index scope sort ps
           still (inl e) = absurd (d (same_index p.jump.index index e.1))
@@ -342,8 +345,14 @@ no_place scope sort (Some j) = refl
 pub body_gone : (g : Setting) (turn : Turn) (s : State) → Sound (later (BodyDone turn) s)
     → held (is_place turn.scope Again) [] (written g (BodyDone turn) s).work ≡ 0
 unfolding written blocks.body_done kids.run_kid later states.bound_all states.left_scope
-body_gone g turn s h = omega (arith, (taken (BodyDone turn) s h).once turn.scope Again, place_here turn.scope, place_not (nat_eq turn.scope turn.scope),
-    no_place turn.scope Again turn.first, jump_sum (is_place turn.scope Again) turn.first (claims_in s.work))
+body_gone g turn s h = omega (
+  arith,
+  (taken (BodyDone turn) s h).once turn.scope Again,
+  place_here turn.scope,
+  place_not (nat_eq turn.scope turn.scope),
+  no_place turn.scope Again turn.first,
+  jump_sum (is_place turn.scope Again) turn.first (claims_in s.work),
+)
 
 pub test_gone : (g : Setting) (turn : Turn) (s : State) → Sound (later (TestDone turn) s)
     → held (is_place turn.scope PastIt) [] (written g (TestDone turn) s).work ≡ 0

@@ -1,12 +1,10 @@
 -- The parts of which the writing of items is made, as steps.
-use Rattle.std.proofs.Common.{◌≡◌, ◌∙◌, refl, sym, ap, subst, Bool, true, false, cond, ℕ, zero, suc, ◌+◌, ◌-◌, ◌<◌, ◌≤◌, nat_eq, List, [], ◌∷◌, ◌++◌, length, Option, Some, None, arith, le_of_eq, le_trans, lt_of_lt_of_le}
+use Rattle.std.proofs.Common.{◌≡◌, refl, ap, Bool, true, false, cond, ℕ, zero, suc, ◌<◌, ◌≤◌, nat_eq, List, [], ◌∷◌, ◌++◌, length, Option, Some, None, arith}
 use Rattle.std.proofs.lemmas.List.{length_push}
 use Rattle.cpp_tree.specs.cpp_types.declared.classes.At.{At}
 use Rattle.tx_code.specs.declared.instr.Instr.{Instr}
 use Rattle.tx_code.specs.declared.instr.Instr.TheVariants.{Push, Dup, Jump as JumpTo, JumpZero}
-use Rattle.low_code.specs.declared.scopes.Scope.{Scope}
 use Rattle.low_code.specs.declared.scopes.ScopeKind.{ScopeKind}
-use Rattle.low_code.specs.declared.scopes.ScopeKind.TheVariants.{Handler}
 use Rattle.low_code.specs.declared.writer.Jump.{Jump}
 use Rattle.low_code.specs.declared.writer.Sort.{Sort}
 use Rattle.low_code.specs.declared.writer.Sort.TheVariants.{Past as PastIt, Again}
@@ -19,13 +17,11 @@ use Rattle.unwind_lower.specs.declared.items.Item.{Item}
 use Rattle.unwind_lower.specs.States.{State}
 use Rattle.unwind_lower.specs.States as states
 use Rattle.unwind_lower.specs.Conditions as conditions
-use Rattle.unwind_lower.specs.declared.items.Item.TheVariants.{Bind}
-use Rattle.lowered_states.specs.Claims.{Claim, coming, with_jump, with_claims, claims_in, sum_of}
+use Rattle.lowered_states.specs.Claims.{Claim, coming, with_jump, with_claims, claims_in}
 use Rattle.lowered_states.specs.Sound.{scope_from, Knows}
 use Rattle.lowered_states.proofs.Knowing.{parent_below, led_at}
 use Rattle.lowered_states.proofs.Moves.{Start, Moves, Fewer, with_body, wrote, added, linked, moved, caught, named as put_name, padded, deepened, lit, more as put_item, opened, bound as led_here, parked, all_bound, copied, behind, fewer}
-use Rattle.lowered_states.proofs.Single.{all_bound as bound_like}
-use Rattle.lowered_states.proofs.Whole.{sound_in, asleep_in, grown}
+use Rattle.lowered_states.proofs.Whole.{sound_in, asleep_in}
 
 longer : {A : Type 0} (xs : List A) (x : A) → length xs < length (xs ++ x ∷ [])
 longer xs x = omega (arith, length_push xs x)
@@ -46,9 +42,13 @@ temporary_longer (suc most) number kind at b = by (is_full (low.scope_in b numbe
         → length b.scopes ≤ length (cond v (low.entered kind at (low.at_scope number b))
         (low.entered_again (low.scope_in b number) (low.temporary_in most (low.scope_in b number).parent kind at b))).scopes
     by true h = omega (arith, longer b.scopes (low.made kind number (low.innermost (low.at_scope number b)).depth at (low.at_scope number b)))
-    by false h = omega (arith, h, longer (low.temporary_in most (low.scope_in b number).parent kind at b).scopes
-        (low.made (low.scope_in b number).kind (low.temporary_in most (low.scope_in b number).parent kind at b).scope (low.scope_in b number).depth
-        (low.scope_in b number).at (low.temporary_in most (low.scope_in b number).parent kind at b)))
+    by false h = omega (
+      arith,
+      h,
+      longer (low.temporary_in most (low.scope_in b number).parent kind at b).scopes
+          (low.made (low.scope_in b number).kind (low.temporary_in most (low.scope_in b number).parent kind at b).scope (low.scope_in b number).depth
+          (low.scope_in b number).at (low.temporary_in most (low.scope_in b number).parent kind at b)),
+    )
 
 no_outer : (kind : ScopeKind) (n : ℕ) → outer_by kind 0 ≡ 0 → outer_by kind 0 ≤ n
 no_outer kind n e = omega arith

@@ -1,18 +1,17 @@
 -- Sums over claims, and lists that begin with others.
-use Rattle.std.proofs.Common.{◌≡◌, ◌∙◌, refl, sym, ap, Bool, true, false, cond, ◌&&◌, not, ℕ, zero, suc, ◌+◌, ◌-◌, ◌<◌, ◌≤◌, nat_eq, nat_le, List, [], ◌∷◌, ◌++◌, length, map, get_or, Option, Some, None, arith, ◌⊎◌, inl, inr, append_assoc, append-nil, length-append}
+use Rattle.std.proofs.Common.{◌≡◌, ◌∙◌, refl, sym, ap, Bool, true, false, cond, ◌&&◌, ℕ, ◌+◌, ◌<◌, ◌≤◌, nat_eq, List, [], ◌∷◌, ◌++◌, length, map, Option, Some, None, arith, ◌⊎◌, append_assoc, append-nil, length-append}
 use Rattle.std.proofs.lemmas.Bool.Decides.{nat_tests}
 use Rattle.std.proofs.lemmas.List.{length-map}
 use Rattle.low_code.specs.declared.writer.Jump.{Jump}
 use Rattle.low_code.specs.declared.writer.Sort.{Sort}
-use Rattle.low_code.specs.declared.writer.Sort.TheVariants.{Past as PastIt, Again}
 use Rattle.low_code.specs.declared.writer.Pending.{Pending}
 use Rattle.low_code.specs.Writer.{same_sort, leads_to}
 use Rattle.unwind_lower.specs.declared.items.Item.{Item}
 use Rattle.unwind_lower.specs.declared.items.Item.TheVariants.{Bind, Other, OtherAgain, BodyDone, StepDone, TestDone, Past}
-use Rattle.unwind_lower.specs.Conditions.{is_end, up_to_end, with_behind}
-use Rattle.lowered_states.specs.Claims.{Claim, jump, coming, with_jump, with_claims, claims_in, one_if, sum_of, held, is_place, waiting, opens, is_lost}
+use Rattle.unwind_lower.specs.Conditions.{is_end, with_behind}
+use Rattle.lowered_states.specs.Claims.{Claim, jump, coming, with_jump, with_claims, claims_in, one_if, sum_of, held, is_place, waiting, opens}
 use Rattle.lowered_states.specs.Kept.{Begins}
-use Rattle.lowered_states.specs.Sound.{AreKnown, room, AllKnow, Knows, AreLed}
+use Rattle.lowered_states.specs.Sound.{AreKnown}
 
 pub below_or : (a b : ℕ) → (a < b) ⊎ (b ≤ a)
 below_or a b = grind arith
@@ -94,8 +93,11 @@ opens_push index ps p (jump j) = elim (nat_eq p.jump.index index) as (λ b. one_
   | true ↦ omega arith
   | false ↦ omega arith
 ]
-opens_push index ps p (coming scope sort) = omega (arith, waiting_push index scope sort ps p,
-    and_split (leads_to scope sort p) (nat_eq p.jump.index index))
+opens_push index ps p (coming scope sort) = omega (
+  arith,
+  waiting_push index scope sort ps p,
+  and_split (leads_to scope sort p) (nat_eq p.jump.index index),
+)
 
 cond_sum : (b : Bool) (m n : ℕ) → cond b m 0 + cond b n 0 ≡ cond b (m + n) 0
 cond_sum true m n = refl
@@ -104,8 +106,12 @@ cond_sum false m n = refl
 pub sum_push : (index : ℕ) (ps : List Pending) (p : Pending) (cs : List Claim) → sum_of (opens index (ps ++ p ∷ [])) cs
     ≡ sum_of (opens index ps) cs + cond (nat_eq p.jump.index index) (sum_of (is_place p.scope p.sort) cs) 0
 sum_push index ps p [] = elim (nat_eq p.jump.index index) as (λ b. 0 ≡ 0 + cond b 0 0) [ true ↦ refl | false ↦ refl ]
-sum_push index ps p (c ∷ cs) = omega (arith, opens_push index ps p c, sum_push index ps p cs,
-    cond_sum (nat_eq p.jump.index index) (is_place p.scope p.sort c) (sum_of (is_place p.scope p.sort) cs))
+sum_push index ps p (c ∷ cs) = omega (
+  arith,
+  opens_push index ps p c,
+  sum_push index ps p cs,
+  cond_sum (nat_eq p.jump.index index) (is_place p.scope p.sort c) (sum_of (is_place p.scope p.sort) cs),
+)
 
 -- with places that are claimed once it keeps one jump open more
 pub held_push : (index : ℕ) (ps : List Pending) (p : Pending) (cs : List Claim) (items : List Item) → held (is_place p.scope p.sort) cs items ≤ 1

@@ -2,7 +2,7 @@
 use Rattle.std.proofs.Common.{Bool, List, None, Option, Some, [], arith, false, length, lt_of_lt_of_le, refl, true, ℕ, ◌+◌, ◌<◌, ◌∷◌, ◌≡◌}
 use Rattle.std.proofs.lemmas.List.{length_push}
 use Rattle.cpp_tree.specs.cpp_types.Conversion.{referred}
-use Rattle.cpp_tree.specs.cpp_types.Typ.{Form, Typ, class, typ}
+use Rattle.cpp_tree.specs.cpp_types.Typ.{Form, Typ, class}
 use Rattle.cpp_tree.specs.cpp_types.declared.classes.At.{At}
 use Rattle.cpp_tree.specs.declared.arena.TNodeId.{TNodeId}
 use Rattle.cpp_tree.specs.declared.kinds.TKind.TheVariants.{Field, Handler}
@@ -25,11 +25,10 @@ use Rattle.unwind_lower.specs.States.{State, handler_from, is_live, number_of, s
 use Rattle.unwind_lower.specs.declared.items.Item.TheVariants.{Handle, HandlerDone, Past, Thrown, TryDone}
 use Rattle.unwind_lower.specs.declared.items.Way.TheVariants.{Dropped, Value}
 use Rattle.lowered_states.specs.Claims.{Claim, coming}
-use Rattle.lowered_states.proofs.Basic.{at_depth, at_parent, caught_all, caught_one, either, entered, entered_handler, jumped_to, left_scope, made_live, more, named, places, put, put_offset}
+use Rattle.lowered_states.proofs.Basic.{at_depth, at_parent, caught_all, caught_one, either, entered_handler, jumped_to, left_scope, made_live, more, named, places, put, put_offset}
 use Rattle.lowered_states.proofs.Kids.{run_kid}
 use Rattle.lowered_states.proofs.Labels.{one_fewer}
 use Rattle.lowered_states.proofs.Moves.{Moves, Start, fewer}
-use Rattle.lowered_states.proofs.Objects.{made}
 use Rattle.lowered_states.proofs.Whole.{grown}
 
 module _ {z : Start} where

@@ -1,17 +1,16 @@
 -- What is known of scopes, with more scopes and other lists of work.
-use Rattle.std.proofs.Common.{◌≡◌, ◌∙◌, refl, sym, ap, Bool, true, false, cond, ℕ, zero, suc, ◌+◌, ◌-◌, ◌<◌, ◌≤◌, List, [], ◌∷◌, ◌++◌, length, map, get_or, slice_set, Option, Some, None, arith, ◌⊎◌, inl, inr, length-append, length-set}
-use Rattle.std.proofs.lemmas.List.{get_or_append_left, get_or_push, get_or_past, length_push, length-map}
+use Rattle.std.proofs.Common.{◌≡◌, ◌∙◌, refl, sym, ap, true, false, cond, ℕ, zero, suc, ◌-◌, ◌<◌, ◌≤◌, List, [], ◌∷◌, ◌++◌, length, map, get_or, slice_set, arith, ◌⊎◌, inl, inr}
+use Rattle.std.proofs.lemmas.List.{get_or_append_left, get_or_push, get_or_past, length_push}
 use Rattle.cpp_tree.specs.Trees.{nowhere}
 use Rattle.low_code.specs.declared.scopes.Scope.{Scope}
 use Rattle.low_code.specs.declared.scopes.ScopeKind.{ScopeKind}
 use Rattle.low_code.specs.declared.scopes.ScopeKind.TheVariants.{Behind}
-use Rattle.low_code.specs.declared.writer.Jump.{Jump}
 use Rattle.low_code.specs.Scopes.{outermost, led_to}
 use Rattle.low_code.specs.Writer.{outer_by, led}
 use Rattle.unwind_lower.specs.declared.items.Item.{Item}
-use Rattle.unwind_lower.specs.declared.items.Item.TheVariants.{Bind, Other, OtherAgain, TryDone, Handle, HandlerDone, Leave}
+use Rattle.unwind_lower.specs.declared.items.Item.TheVariants.{Other, OtherAgain, TryDone, Handle, HandlerDone, Leave}
 use Rattle.unwind_lower.specs.Conditions.{is_end, up_to_end, with_behind}
-use Rattle.lowered_states.specs.Kept.{bare, IsSame}
+use Rattle.lowered_states.specs.Kept.{bare}
 use Rattle.lowered_states.specs.Sound.{scope_from, AreNested, AreLed, Knows, AllKnow}
 use Rattle.lowered_states.proofs.Counting.{below_or}
 

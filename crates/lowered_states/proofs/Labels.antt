@@ -1,5 +1,5 @@
 -- Claims in other orders, and those of the labels of a `switch`.
-use Rattle.std.proofs.Common.{◌≡◌, ◌∙◌, refl, sym, ap, Bool, true, false, ◌||◌, cond, ℕ, zero, suc, ◌+◌, ◌≤◌, List, [], ◌∷◌, drop, Option, Some, None, arith}
+use Rattle.std.proofs.Common.{◌≡◌, refl, sym, ap, Bool, true, false, ◌||◌, cond, ℕ, ◌+◌, ◌≤◌, List, [], ◌∷◌, drop, Option, arith}
 use Rattle.std.specs.List.{list_any}
 use Rattle.cpp_tree.specs.declared.arena.TNodeId.{TNodeId}
 use Rattle.low_code.specs.declared.writer.Jump.{Jump}
@@ -39,8 +39,13 @@ jumps_sum w (j ∷ js) cs = omega (arith, jump_sum w j (with_jumps js cs), jump_
 
 pub label_first : (label : Option Jump) (others : List (Option Jump)) (cs : List Claim)
     → Fewer (with_jump label (with_jumps others cs)) (with_jumps others (with_jump label cs))
-label_first label others cs w = omega (arith, jump_sum w label (with_jumps others cs), jumps_sum w others cs, jumps_sum w others (with_jump label cs),
-    jump_sum w label cs)
+label_first label others cs w = omega (
+  arith,
+  jump_sum w label (with_jumps others cs),
+  jumps_sum w others cs,
+  jumps_sum w others (with_jump label cs),
+  jump_sum w label cs,
+)
 
 -- the jumps that lead to items of a `switch`
 abbrev pub bound_by : Setting → Option Jump → List TNodeId → List (Option Jump) → List Claim → List Claim
@@ -53,13 +58,22 @@ bound_sum : (w : Claim → ℕ) (g : Setting) (otherwise : Option Jump) (ids : L
 bound_sum w g otherwise [] labels cs = omega arith
 bound_sum w g otherwise (id ∷ ids) labels cs =
     let j = label_of (node_in g id).kind (first_label labels) otherwise in
-    omega (arith, jump_sum w j (bound_by g otherwise ids (other_labels labels) cs), jump_sum w j (bound_by g otherwise ids (other_labels labels) []),
-    bound_sum w g otherwise ids (other_labels labels) cs)
+    omega (
+      arith,
+      jump_sum w j (bound_by g otherwise ids (other_labels labels) cs),
+      jump_sum w j (bound_by g otherwise ids (other_labels labels) []),
+      bound_sum w g otherwise ids (other_labels labels) cs,
+    )
 
 pub bound_last : (g : Setting) (otherwise : Option Jump) (ids : List TNodeId) (labels : List (Option Jump)) (j : Option Jump) (cs : List Claim)
     → Fewer (bound_by g otherwise ids labels (with_jump j cs)) (with_jump j (bound_by g otherwise ids labels cs))
-bound_last g otherwise ids labels j cs w = omega (arith, bound_sum w g otherwise ids labels (with_jump j cs), bound_sum w g otherwise ids labels cs,
-    jump_sum w j cs, jump_sum w j (bound_by g otherwise ids labels cs))
+bound_last g otherwise ids labels j cs w = omega (
+  arith,
+  bound_sum w g otherwise ids labels (with_jump j cs),
+  bound_sum w g otherwise ids labels cs,
+  jump_sum w j cs,
+  jump_sum w j (bound_by g otherwise ids labels cs),
+)
 
 first_sum : (w : Claim → ℕ) (labels : List (Option Jump))
     → sum_of w (with_jump (first_label labels) []) + sum_of w (with_jumps (other_labels labels) []) ≡ sum_of w (with_jumps labels [])
@@ -145,8 +159,18 @@ enough_labels g n c otherwise labels cs one w = by (has_default g n.kids) refl
     by : (v : Bool) → has_default g n.kids ≡ v
         → sum_of w (c ∷ unless_default v otherwise (bound_by g otherwise (kids_from n 1) (drop 1 labels) cs))
         ≤ sum_of w (with_jump otherwise (with_jumps labels (c ∷ cs)))
-    by true e = omega (arith, all, bound_sum w g otherwise (kids_from n 1) (drop 1 labels) cs, one_default w g otherwise (kids_from n 1) (drop 1 labels) one,
-        labels_behind w labels)
-    by false e = omega (arith, all, bound_sum w g otherwise (kids_from n 1) (drop 1 labels) cs,
-        no_default w g otherwise (kids_from n 1) (drop 1 labels) (has_none g n e), labels_behind w labels,
-        jump_sum w otherwise (bound_by g otherwise (kids_from n 1) (drop 1 labels) cs))
+    by true e = omega (
+      arith,
+      all,
+      bound_sum w g otherwise (kids_from n 1) (drop 1 labels) cs,
+      one_default w g otherwise (kids_from n 1) (drop 1 labels) one,
+      labels_behind w labels,
+    )
+    by false e = omega (
+      arith,
+      all,
+      bound_sum w g otherwise (kids_from n 1) (drop 1 labels) cs,
+      no_default w g otherwise (kids_from n 1) (drop 1 labels) (has_none g n e),
+      labels_behind w labels,
+      jump_sum w otherwise (bound_by g otherwise (kids_from n 1) (drop 1 labels) cs),
+    )

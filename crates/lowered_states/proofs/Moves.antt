@@ -13,7 +13,7 @@ use Rattle.unwind_lower.specs.declared.items.Item.{Item}
 use Rattle.unwind_lower.specs.declared.items.Item.TheVariants.{Bind}
 use Rattle.unwind_lower.specs.States.{State}
 use Rattle.unwind_lower.specs.Conditions.{up_to_end, with_behind}
-use Rattle.lowered_states.specs.Claims.{Claim, jump, coming, with_jump, with_claims, claims_in, sum_of, is_open}
+use Rattle.lowered_states.specs.Claims.{Claim, coming, with_jump, with_claims, claims_in, sum_of, is_open}
 use Rattle.lowered_states.specs.Sound.{SoundWith, Knows}
 
 abbrev pub with_body : Body → State → State

@@ -1,12 +1,12 @@
 -- Names and their numbers.
-use Rattle.std.proofs.Common.{◌≡◌, ◌∙◌, refl, sym, ap, subst, Bool, true, false, cond, not, ◌||◌, ℕ, zero, suc, ◌+◌, ◌<◌, ◌≤◌, List, [], ◌∷◌, ◌++◌, length, slice_get, Option, Some, None, arith, ◌⊎◌, inl, inr, bytes_eq, Decides}
-use Rattle.std.specs.List.{list_any, position_or_len}
+use Rattle.std.proofs.Common.{◌≡◌, ◌∙◌, refl, sym, ap, subst, Bool, true, false, cond, not, ◌||◌, ℕ, zero, suc, ◌+◌, ◌<◌, List, [], ◌∷◌, ◌++◌, length, slice_get, Some, arith, ◌⊎◌, inl, inr, bytes_eq}
+use Rattle.std.specs.List.{list_any}
 use Rattle.std.proofs.lemmas.Slice.Eq.{bytes_eq-Decides}
 use Rattle.std.proofs.lemmas.List.{length_push}
 use Rattle.low_code.specs.Names.{number_of, with_name}
 use Rattle.lowered_states.specs.Kept.{Begins}
 use Rattle.lowered_states.specs.Sound.{AreNumbered}
-use Rattle.lowered_states.proofs.Counting.{begins_same, begins_push, below_or}
+use Rattle.lowered_states.proofs.Counting.{begins_same, begins_push}
 
 self_eq : (name : List ℕ) → bytes_eq name name ≡ true
 self_eq name = (bytes_eq-Decides name name).1 refl

@@ -1,18 +1,15 @@
 -- Runs: what stays from one state to each that is reached from it.
-use Rattle.std.proofs.Common.{◌≡◌, ◌∙◌, refl, sym, ap, subst, Bool, true, false, cond, ℕ, zero, suc, ◌+◌, ◌-◌, ◌<◌, ◌≤◌, nat_eq, List, [], ◌∷◌, ◌++◌, length, map, get_or, slice_get, Option, Some, None, arith, inl, inr}
-use Rattle.std.proofs.lemmas.List.{length-map, get_or_append_left, get_or-set_same}
+use Rattle.std.proofs.Common.{◌≡◌, ◌∙◌, refl, sym, ap, false, ℕ, zero, suc, ◌+◌, ◌-◌, ◌<◌, ◌≤◌, List, [], ◌∷◌, length, map, get_or, slice_get, Some, arith}
+use Rattle.std.proofs.lemmas.List.{length-map, get_or_append_left}
 use Rattle.std.proofs.lemmas.Bool.Decides.{nat_tests}
 use Rattle.cpp_tree.specs.Trees.{nowhere}
 use Rattle.cpp_tree.specs.cpp_types.declared.classes.At.{At}
 use Rattle.cpp_tree.specs.declared.arena.TNodeId.{TNodeId}
 use Rattle.low_code.specs.declared.scopes.Scope.{Scope}
-use Rattle.low_code.specs.declared.writer.Jump.{Jump}
-use Rattle.low_code.specs.declared.writer.LowInstr.{LowInstr}
 use Rattle.low_code.specs.Names.{number_of}
 use Rattle.low_code.specs.Scopes.{outermost}
-use Rattle.low_code.specs.Writer.{aimed_instr, aimed_low, no_low}
 use Rattle.unwind_lower.specs.declared.items.Item.{Item}
-use Rattle.unwind_lower.specs.declared.items.Item.TheVariants.{Bind, Pads, Run, BodyEnds}
+use Rattle.unwind_lower.specs.declared.items.Item.TheVariants.{Pads, Run, BodyEnds}
 use Rattle.unwind_lower.specs.declared.items.Way.TheVariants.{Dropped}
 use Rattle.unwind_lower.specs.States.{State, later}
 use Rattle.unwind_lower.specs.States as states
@@ -20,15 +17,15 @@ use Rattle.unwind_lower.specs.Settings.{Setting}
 use Rattle.unwind_lower.specs.Steps.{Reaches, here, behind}
 use Rattle.unwind_lower.specs.Steps as steps_of
 use Rattle.unwind_lower.specs.Functions.{begun, started, WrittenTo}
-use Rattle.lowered_states.specs.Claims.{Claim, with_claims, held, is_place, opens, is_lost, open_in, one_if}
-use Rattle.lowered_states.specs.Kept.{Begins, Kept, bare, IsSame, instr_in, instr_at}
+use Rattle.lowered_states.specs.Claims.{with_claims, is_place, opens, is_lost}
+use Rattle.lowered_states.specs.Kept.{Begins, Kept, bare, IsSame}
 use Rattle.lowered_states.specs.Sound.{SoundWith, Sound, AreNumbered, scope_from, room}
 use Rattle.lowered_states.specs.Runs.{IsApart, AreApart, Sleeps}
 use Rattle.lowered_states.proofs.Counting.{put_sum, begins_longer}
 use Rattle.lowered_states.proofs.Knowing.{bare_at}
 use Rattle.lowered_states.proofs.Naming.{number_append, named_number, name_there}
-use Rattle.lowered_states.proofs.Moves.{Start, Moves, same}
-use Rattle.lowered_states.proofs.Single.{Step, kept_same, step_same, step_then}
+use Rattle.lowered_states.proofs.Moves.{Start, same}
+use Rattle.lowered_states.proofs.Single.{Step, step_same, step_then}
 use Rattle.lowered_states.proofs.Whole.{steps, asleep_in, sound_in}
 use Rattle.lowered_states.proofs.Basic.{more}
 use Rattle.lowered_states.proofs.Functions.{store_words}

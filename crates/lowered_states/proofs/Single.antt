@@ -1,5 +1,5 @@
 -- Single steps: what they keep, and what holds behind them.
-use Rattle.std.proofs.Common.{◌≡◌, ◌∙◌, refl, sym, ap, subst, Bool, true, false, cond, not, ℕ, zero, suc, ◌+◌, ◌-◌, ◌<◌, ◌≤◌, nat_eq, nat_le, List, [], ◌∷◌, ◌++◌, length, map, get_or, slice_get, slice_set, Option, Some, None, arith, ◌⊎◌, inl, inr, length-append, length-set, le_refl, le_trans, ap₂, ◌&&◌, fold}
+use Rattle.std.proofs.Common.{◌≡◌, ◌∙◌, refl, sym, ap, subst, Bool, true, false, cond, ℕ, zero, suc, ◌+◌, ◌-◌, ◌<◌, ◌≤◌, nat_eq, nat_le, List, [], ◌∷◌, ◌++◌, length, map, get_or, slice_set, Option, Some, None, arith, ◌⊎◌, inl, inr, length-set, le_refl, le_trans, ap₂, ◌&&◌, fold}
 use Rattle.std.proofs.lemmas.Bool.Decides.{nat_tests}
 use Rattle.std.proofs.lemmas.List.{get_or_append_left, get_or_push, length_push, map-append, get_or-set_other}
 use Rattle.tx_code.specs.declared.instr.Instr.{Instr}
@@ -19,8 +19,8 @@ use Rattle.unwind_lower.specs.declared.items.Item.{Item}
 use Rattle.unwind_lower.specs.States.{State}
 use Rattle.lowered_states.specs.Claims.{Claim, jump, coming, with_jump, claims_in, one_if, sum_of, held, is_place, waiting, opens, is_lost, is_open}
 use Rattle.lowered_states.specs.Kept.{Begins, Kept, bare, instr_in, unaimed}
-use Rattle.lowered_states.specs.Sound.{SoundWith, AreNested, AreLed, AreKnown, AllKnow, room}
-use Rattle.lowered_states.proofs.Counting.{begins_is, shown_longer, begins_same, begins_push, begins_then, jump_sum, held_push, none_wait, known_more, known_push}
+use Rattle.lowered_states.specs.Sound.{SoundWith, AreLed, AreKnown, AllKnow, room}
+use Rattle.lowered_states.proofs.Counting.{begins_is, shown_longer, begins_same, begins_push, begins_then, held_push, none_wait, known_more, known_push}
 use Rattle.lowered_states.proofs.Knowing.{all_know_more, led_more, led_push, led_set, led_at, led_outer, nested_push, bare_set, same_parent}
 use Rattle.lowered_states.proofs.Naming.{name_kept, name_numbered}
 use Rattle.lowered_states.proofs.Moves.{with_body, with_work, Fewer}
@@ -130,8 +130,12 @@ coded_step {cs} ds {s} h c f w n b p same = record {
     knows = h.knows;
     found = omega (arith, h.found, held_fewer (is_lost (length s.body.scopes)) cs ds s.work f);
     once = λ scope sort. omega (arith, h.once scope sort, held_fewer (is_place scope sort) cs ds s.work f);
-    apart = λ index. omega (arith, h.apart index, held_fewer (opens index s.body.pending) cs ds s.work f,
-        room_falls (length s.body.code) (length c.code) index (shown_longer unaimed s.body.code c.code n));
+    apart = λ index. omega (
+      arith,
+      h.apart index,
+      held_fewer (opens index s.body.pending) cs ds s.work f,
+      room_falls (length s.body.code) (length c.code) index (shown_longer unaimed s.body.code c.code n),
+    );
     jumps = λ index k. let e : 1 ≤ held (opens index s.body.pending) cs s.work = omega (arith, held_fewer (opens index s.body.pending) cs ds s.work f) in
         let there : index < length s.body.code = room_none (length s.body.code) index (held (opens index s.body.pending) cs s.work) e (h.apart index) in
         ap is_open (same index there (inr k)) ∙ h.jumps index e;
@@ -507,8 +511,12 @@ added_step {cs} {s} h scope p o = record {
     within = omega (arith, h.within, length_push s.body.scopes scope);
     known = known_more more s.body.pending h.known;
     knows = all_know_more more s.work h.knows;
-    found = omega (arith, h.found, lost_sum (length s.body.scopes) (length (s.body.scopes ++ scope ∷ [])) more cs,
-        lost_sum (length s.body.scopes) (length (s.body.scopes ++ scope ∷ [])) more (claims_in s.work));
+    found = omega (
+      arith,
+      h.found,
+      lost_sum (length s.body.scopes) (length (s.body.scopes ++ scope ∷ [])) more cs,
+      lost_sum (length s.body.scopes) (length (s.body.scopes ++ scope ∷ [])) more (claims_in s.work),
+    );
     once = λ number sort. once_now number sort;
     apart = λ index. omega (arith, h.apart index, none index PastIt, none index Again);
     jumps = λ index k. h.jumps index (omega (arith, none index PastIt, none index Again));
@@ -529,9 +537,13 @@ added_step {cs} {s} h scope p o = record {
     once_now number sort =
         let r : room (length (s.body.scopes ++ scope ∷ [])) number ≡ room (length s.body.scopes + 1) number =
         ap (λ (n : ℕ). room n number) (length_push s.body.scopes scope) in
-        omega (arith, r, next_room (length s.body.scopes) number
-        (is_place number sort (coming (length s.body.scopes) PastIt) + is_place number sort (coming (length s.body.scopes) Again))
-        (held (is_place number sort) cs s.work) (new_places (length s.body.scopes) number sort) (h.once number sort))
+        omega (
+          arith,
+          r,
+          next_room (length s.body.scopes) number
+              (is_place number sort (coming (length s.body.scopes) PastIt) + is_place number sort (coming (length s.body.scopes) Again))
+              (held (is_place number sort) cs s.work) (new_places (length s.body.scopes) number sort) (h.once number sort),
+        )
 
 -- scopes that are as before but for the ways out of blocks around
 scopes_step : {cs : List Claim} {s : State} → SoundWith cs s → (scopes : List Scope) → length scopes ≡ length s.body.scopes

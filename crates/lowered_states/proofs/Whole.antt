@@ -1,5 +1,5 @@
 -- What all steps of the writing of an item keep.
-use Rattle.std.proofs.Common.{◌≡◌, ◌∙◌, refl, ap, Bool, true, false, not, ◌&&◌, cond, ℕ, ◌<◌, ◌≤◌, List, ◌∷◌, ◌++◌, length, Option, None, arith, le_of_eq, map, [], nat_eq, slice_set}
+use Rattle.std.proofs.Common.{◌≡◌, ◌∙◌, refl, ap, Bool, true, false, not, ◌&&◌, cond, ℕ, ◌≤◌, List, ◌∷◌, ◌++◌, length, Option, None, arith, le_of_eq, [], nat_eq, slice_set}
 use Rattle.std.proofs.lemmas.List.{length-map}
 use Rattle.cpp_tree.specs.cpp_types.declared.classes.At.{At}
 use Rattle.tx_code.specs.declared.instr.Instr.{Instr}
@@ -16,7 +16,7 @@ use Rattle.lowered_states.specs.Kept.{bare}
 use Rattle.lowered_states.specs.Sound.{SoundWith}
 use Rattle.lowered_states.proofs.Counting.{begins_same, begins_push, begins_longer, jump_sum, claims_append, put_sum, behind_sum}
 use Rattle.lowered_states.proofs.Knowing.{all_know_append, up_to_know, behind_know}
-use Rattle.lowered_states.proofs.Moves.{Start, Moves, same, wrote, added, linked, moved, caught, named, padded, deepened, lit, more, opened, bound, parked, all_bound, copied, behind, fewer, with_body}
+use Rattle.lowered_states.proofs.Moves.{Start, Moves, same, wrote, added, linked, moved, caught, named, padded, deepened, lit, more, opened, bound, parked, all_bound, copied, behind, fewer}
 use Rattle.lowered_states.proofs.Single.{Step, step_same, step_then, coded_of, beside_step, wrote_step, opened_step, bound_step, all_bound_step, parked_step, added_step, linked_step, named_step, work_step}
 
 none_in : (w : Claim → ℕ) (items : List Item) → claims_in items ≡ [] → sum_of w (claims_in items) ≡ 0

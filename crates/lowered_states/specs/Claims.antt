@@ -1,5 +1,5 @@
 -- What is still to lead somewhere, or to be led to: the claims of what is to be written.
-use Rattle.std.specs.Prelude.{Bool, true, false, not, ◌&&◌, ℕ, ◌+◌, nat_eq, nat_le, cond, List, [], ◌∷◌, Option, Some, None}
+use Rattle.std.specs.Prelude.{Bool, false, ◌&&◌, ℕ, ◌+◌, nat_eq, nat_le, cond, List, [], ◌∷◌, Option, Some, None}
 use Rattle.tx_code.specs.declared.instr.Instr.{Instr}
 use Rattle.tx_code.specs.declared.instr.Instr.TheVariants.{Jump as JumpTo, JumpZero}
 use Rattle.low_code.specs.declared.writer.Jump.{Jump}

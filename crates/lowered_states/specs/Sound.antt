@@ -1,5 +1,5 @@
 -- What holds of each state of a run.
-use Rattle.std.specs.Prelude.{◌≡◌, Bool, true, ℕ, ◌+◌, ◌-◌, ◌<◌, ◌≤◌, nat_eq, nat_le, List, [], ◌∷◌, length, get_or, slice_get, Some}
+use Rattle.std.specs.Prelude.{◌≡◌, true, ℕ, ◌+◌, ◌-◌, ◌<◌, ◌≤◌, nat_le, List, [], ◌∷◌, length, get_or, slice_get, Some}
 use Rattle.cpp_tree.specs.Trees.{nowhere}
 use Rattle.low_code.specs.declared.scopes.Scope.{Scope}
 use Rattle.low_code.specs.declared.writer.Sort.{Sort}
