@@ -114,7 +114,8 @@ module _ {z : Start} where
   select_case word at {cs} {s} m = bound (zero_jump_from (blocks.compared word at s)) (no_zero_jump (compared word at m))
       (fewer (jumps_turned (zero_jump_from (blocks.compared word at s)) (jump_from (blocks.matched word at s)) cs) (jumped at (matched word at m)))
 
-  select_label : (kind : TKind) (at : At) {cs : List Claim} {s : State} → Moves z cs s → Moves z (with_jump (label_jump kind at s) cs) (blocks.select_label kind at s)
+  select_label : (kind : TKind) (at : At) {cs : List Claim} {s : State} → Moves z cs s
+      → Moves z (with_jump (label_jump kind at s) cs) (blocks.select_label kind at s)
   unfolding blocks.select_label label_jump
   select_label (Case word) at m = select_case word at m
   select_label kind at m = m

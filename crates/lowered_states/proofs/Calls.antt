@@ -83,9 +83,11 @@ module _ {z : Start} where
   sink_slot at Dropped m = put Swap at m
   sink_slot at Copying m = put Swap at m
 
-  pub put_slot : (g : Setting) (class : ℕ) (slot : ℕ) (pointer : ℕ) (at : At) {cs : List Claim} {s : State} → Moves z cs s → Moves z cs (calls.put_slot g class slot pointer at s)
+  pub put_slot : (g : Setting) (class : ℕ) (slot : ℕ) (pointer : ℕ) (at : At) {cs : List Claim} {s : State} → Moves z cs s
+      → Moves z cs (calls.put_slot g class slot pointer at s)
   unfolding calls.put_slot
-  put_slot g class slot pointer at {s} m = put (SlotOf (number_of (class_name g class) s) slot) at (put (load ULong false) at (put_offset pointer at (put Dup at (named (class_name g class) m))))
+  put_slot g class slot pointer at {s} m = put (SlotOf (number_of (class_name g class) s) slot) at (put (load ULong false) at (put_offset pointer at
+      (put Dup at (named (class_name g class) m))))
 
   pub slot : (g : Setting) (kind : TKind) (at : At) (way : Way) {cs : List Claim} {s : State} → Moves z cs s → Moves z cs (calls.slot g kind at way s)
   unfolding calls.slot
@@ -94,7 +96,8 @@ module _ {z : Start} where
 
   pub call_known : (g : Setting) (func : ℕ) (words : ℕ) (at : At) {cs : List Claim} {s : State} → Moves z cs s → Moves z cs (calls.call_known g func words at s)
   unfolding calls.call_known
-  call_known g func words at {s} m = put_call (Call (number_of (callee_in g func).symbol s) words) at words (gives_of (callee_in g func)) (named (callee_in g func).symbol m)
+  call_known g func words at {s} m = put_call (Call (number_of (callee_in g func).symbol s) words) at words (gives_of (callee_in g func)) (named
+      (callee_in g func).symbol m)
 
   pub call_found : (ty : ℕ) (words : ℕ) (leaves : ℕ) (at : At) {cs : List Claim} {s : State} → Moves z cs s → Moves z cs (calls.call_found ty words leaves at s)
   unfolding calls.call_found
@@ -102,9 +105,11 @@ module _ {z : Start} where
 
   pub call_virtual : (g : Setting) (func : ℕ) (words : ℕ) (at : At) {cs : List Claim} {s : State} → Moves z cs s → Moves z cs (calls.call_virtual g func words at s)
   unfolding calls.call_virtual
-  call_virtual g func words at {s} m = call_found (number_of (text_of g (callee_in g func)) s) words (gives_of (callee_in g func)) at (named (text_of g (callee_in g func)) m)
+  call_virtual g func words at {s} m = call_found (number_of (text_of g (callee_in g func)) s) words (gives_of (callee_in g func)) at (named (text_of g
+      (callee_in g func)) m)
 
-  pub call_signature : (g : Setting) (sig : Signature) (kids : ℕ) (at : At) {cs : List Claim} {s : State} → Moves z cs s → Moves z cs (calls.call_signature g sig kids at s)
+  pub call_signature : (g : Setting) (sig : Signature) (kids : ℕ) (at : At) {cs : List Claim} {s : State} → Moves z cs s
+      → Moves z cs (calls.call_signature g sig kids at s)
   unfolding calls.call_signature
   call_signature g sig kids at {s} m = call_found (number_of (function_text g sig) s) (kids - 1) (word_count (result_of sig)) at (named (function_text g sig) m)
 

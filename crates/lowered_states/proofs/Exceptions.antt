@@ -36,7 +36,8 @@ module _ {z : Start} where
   unfolding exceptions.start_throw
   start_throw id n m = run_kid n 0 Value (more (Thrown id) tt m)
 
-  pub read_field : (offset : ℕ) (kind : IntKind) (at : At) (b : Bool) {cs : List Claim} {s : State} → Moves z cs s → Moves z cs (exceptions.read_field offset kind at b s)
+  pub read_field : (offset : ℕ) (kind : IntKind) (at : At) (b : Bool) {cs : List Claim} {s : State} → Moves z cs s
+      → Moves z cs (exceptions.read_field offset kind at b s)
   unfolding exceptions.read_field
   read_field offset kind at true m = put (load kind false) at (put_offset offset at (put Dup at m))
   read_field offset kind at false m = m
@@ -46,7 +47,8 @@ module _ {z : Start} where
   put_field (Field offset kind) at is_object m = put (PutException offset (bytes_number kind)) at (read_field offset kind at is_object m)
   put_field kind at is_object m = m
 
-  pub put_fields : (g : Setting) (is_object : Bool) (ids : List TNodeId) {cs : List Claim} {s : State} → Moves z cs s → Moves z cs (exceptions.put_fields g is_object ids s)
+  pub put_fields : (g : Setting) (is_object : Bool) (ids : List TNodeId) {cs : List Claim} {s : State} → Moves z cs s
+      → Moves z cs (exceptions.put_fields g is_object ids s)
   unfolding exceptions.put_fields
   put_fields g is_object [] m = m
   put_fields g is_object (id ∷ ids) m = put_fields g is_object ids (put_field (node_in g id).kind (node_in g id).at is_object m)
@@ -56,9 +58,11 @@ module _ {z : Start} where
   drop_object at true m = put Pop at m
   drop_object at false m = m
 
-  pub throw_value : (g : Setting) (t : Typ) (fields : List TNodeId) (at : At) {cs : List Claim} {s : State} → Moves z cs s → Moves z cs (exceptions.throw_value g t fields at s)
+  pub throw_value : (g : Setting) (t : Typ) (fields : List TNodeId) (at : At) {cs : List Claim} {s : State} → Moves z cs s
+      → Moves z cs (exceptions.throw_value g t fields at s)
   unfolding exceptions.throw_value
-  throw_value g t fields at {s} m = put Throw at (drop_object at (is_class_type t) (put_fields g (is_class_type t) fields (put (NewException (number_of (bare_text g t) s)) at (named (bare_text g t) m))))
+  throw_value g t fields at {s} m = put Throw at (drop_object at (is_class_type t) (put_fields g (is_class_type t) fields (put (NewException (number_of
+      (bare_text g t) s)) at (named (bare_text g t) m))))
 
   pub thrown : (g : Setting) (n : Node) {cs : List Claim} {s : State} → Moves z cs s → Moves z cs (exceptions.thrown g n s)
   unfolding exceptions.thrown
@@ -73,7 +77,8 @@ module _ {z : Start} where
   pub start_try : (id : TNodeId) (n : Node) {cs : List Claim} {s : State} → Moves z cs s → Moves z cs (exceptions.start_try id n s)
   unfolding exceptions.start_try exceptions.later_handlers states.scope_count states.later states.entered
   start_try id n {cs} {s} m =
-      let there : length s.body.scopes < length (states.entered Try n.at s).body.scopes = omega (arith, length_push s.body.scopes (low.made Try s.body.scope (low.innermost s.body).depth n.at s.body)) in
+      let there : length s.body.scopes < length (states.entered Try n.at s).body.scopes = omega (arith, length_push s.body.scopes (low.made Try s.body.scope
+          (low.innermost s.body).depth n.at s.body)) in
       let tried = more (Past (length s.body.scopes)) tt
       (fewer (one_fewer (coming (length s.body.scopes) PastIt) (coming (length s.body.scopes) Again) cs) (places Try n.at refl m)) in
       run_kid n 0 Dropped (more (TryDone id (length s.body.scopes)) there
@@ -102,7 +107,8 @@ module _ {z : Start} where
   unfolding exceptions.catch_scalar
   catch_scalar g scope t {s} m = caught_one scope (number_of (bare_text g t) s) (named (bare_text g t) m)
 
-  pub catch_form : (g : Setting) (scope : ℕ) (form : Form) (t : Typ) {cs : List Claim} {s : State} → Moves z cs s → Moves z cs (exceptions.catch_form g scope form t s)
+  pub catch_form : (g : Setting) (scope : ℕ) (form : Form) (t : Typ) {cs : List Claim} {s : State} → Moves z cs s
+      → Moves z cs (exceptions.catch_form g scope form t s)
   unfolding exceptions.catch_form
   catch_form g scope (class number) t m = catch_class g scope number m
   catch_form g scope form t m = catch_scalar g scope t m
@@ -121,7 +127,8 @@ module _ {z : Start} where
   take_field (Field offset kind) base at m = put (store kind false) at (put (GetException offset (bytes_number kind)) at (put (FrameAddr (base + offset)) at m))
   take_field kind base at m = m
 
-  pub take_fields : (g : Setting) (ids : List TNodeId) (base : ℕ) (at : At) {cs : List Claim} {s : State} → Moves z cs s → Moves z cs (exceptions.take_fields g ids base at s)
+  pub take_fields : (g : Setting) (ids : List TNodeId) (base : ℕ) (at : At) {cs : List Claim} {s : State} → Moves z cs s
+      → Moves z cs (exceptions.take_fields g ids base at s)
   unfolding exceptions.take_fields
   take_fields g [] base at m = m
   take_fields g (id ∷ ids) base at m = take_fields g ids base at (take_field (node_in g id).kind base at m)

@@ -61,9 +61,11 @@ module _ {z : Start} where
   read_old load true at m = more (Put load at) tt (more (Put Swap at) tt (more (Put Over at) tt m))
   read_old load false at m = more (Put Dup at) tt (more (Put load at) tt m)
 
-  pub update : (n : Node) (op : BinOp) (stored : IntKind) (operation : IntKind) (volatile : Bool) (old : Bool) {cs : List Claim} {s : State} → Moves z cs s → Moves z cs (expressions.update n op stored operation volatile old s)
+  pub update : (n : Node) (op : BinOp) (stored : IntKind) (operation : IntKind) (volatile : Bool) (old : Bool) {cs : List Claim} {s : State} → Moves z cs s
+      → Moves z cs (expressions.update n op stored operation volatile old s)
   unfolding expressions.update
-  update n op stored operation volatile old m = run_kid n 0 Value (more (Put Dup n.at) tt (read_old (load stored volatile) old n.at (run_kid n 1 Value (more (Put (Bin (operator_number op) (kind_number operation)) n.at) tt (more (Put (store_converted stored volatile) n.at) tt m)))))
+  update n op stored operation volatile old m = run_kid n 0 Value (more (Put Dup n.at) tt (read_old (load stored volatile) old n.at (run_kid n 1 Value (more
+      (Put (Bin (operator_number op) (kind_number operation)) n.at) tt (more (Put (store_converted stored volatile) n.at) tt m)))))
 
   pub conditional : (id : TNodeId) (n : Node) (way : Way) {cs : List Claim} {s : State} → Moves z cs s → Moves z cs (expressions.conditional id n way s)
   unfolding expressions.conditional
@@ -81,6 +83,7 @@ module _ {z : Start} where
   unfolding expressions.copy_assign
   copy_assign n m = run_kid n 0 Value (run_kid n 1 Value (more (Put Over n.at) tt (more (Put Swap n.at) tt (run_kid n 2 Copying m))))
 
-  pub materialize : (g : Setting) (id : TNodeId) (n : Node) (place : ℕ) {cs : List Claim} {s : State} → Moves z cs s → Moves z cs (expressions.materialize g id n place s)
+  pub materialize : (g : Setting) (id : TNodeId) (n : Node) (place : ℕ) {cs : List Claim} {s : State} → Moves z cs s
+      → Moves z cs (expressions.materialize g id n place s)
   unfolding expressions.materialize
   materialize g id n place m = put (FrameAddr (place_in g place)) n.at (run_kid n 0 Into (more (Made id) tt (more (Put (FrameAddr (place_in g place)) n.at) tt m)))

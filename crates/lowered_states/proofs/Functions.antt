@@ -18,7 +18,8 @@ module _ {z : Start} where
   unfolding functions.store_word
   store_word offset t at m = put (store (stored_kind t) (is_volatile t)) at (put Swap at (put (FrameAddr offset) at m))
 
-  pub store_each : (g : Setting) (place : ℕ) (ts : List Typ) (at : At) {cs : List Claim} {s : State} → Moves z cs s → Moves z cs (functions.store_each g place ts at s)
+  pub store_each : (g : Setting) (place : ℕ) (ts : List Typ) (at : At) {cs : List Claim} {s : State} → Moves z cs s
+      → Moves z cs (functions.store_each g place ts at s)
   unfolding functions.store_each
   store_each g place [] at m = m
   store_each g place (t ∷ ts) at m = store_each g (place + 1) ts at (store_word (place_in g place) t at m)

@@ -25,7 +25,8 @@ use Rattle.lowered_states.proofs.Objects.{made, put_address}
 use Rattle.lowered_states.proofs.Whole.{grown}
 
 module _ {z : Start} where
-  pub destroy_waiting : (address : Address) (id : TNodeId) (first : ℕ) (at : At) {cs : List Claim} {s : State} → Moves z cs s → Moves z cs (leaving_of.destroy_waiting address id first at s)
+  pub destroy_waiting : (address : Address) (id : TNodeId) (first : ℕ) (at : At) {cs : List Claim} {s : State} → Moves z cs s
+      → Moves z cs (leaving_of.destroy_waiting address id first at s)
   unfolding leaving_of.destroy_waiting
   destroy_waiting address id first at m = put_address address at (more (Destroy id first) tt m)
 
@@ -35,12 +36,14 @@ module _ {z : Start} where
   drop_word (Frame offset) at m = m
   drop_word (OfNode id) at m = m
 
-  pub close_waiting : (b : Bool) (address : Address) (id : TNodeId) (first : ℕ) (made : At) (at : At) {cs : List Claim} {s : State} → Moves z cs s → Moves z cs (leaving_of.close_waiting b address id first made at s)
+  pub close_waiting : (b : Bool) (address : Address) (id : TNodeId) (first : ℕ) (made : At) (at : At) {cs : List Claim} {s : State} → Moves z cs s
+      → Moves z cs (leaving_of.close_waiting b address id first made at s)
   unfolding leaving_of.close_waiting
   close_waiting true address id first made at m = destroy_waiting address id first made m
   close_waiting false address id first made at m = drop_word address at m
 
-  pub close_scope : (kind : ScopeKind) (made : At) (owner : Owner) (at : At) {cs : List Claim} {s : State} → Moves z cs s → Moves z cs (leaving_of.close_scope kind made owner at s)
+  pub close_scope : (kind : ScopeKind) (made : At) (owner : Owner) (at : At) {cs : List Claim} {s : State} → Moves z cs s
+      → Moves z cs (leaving_of.close_scope kind made owner at s)
   unfolding leaving_of.close_scope
   close_scope (Mark marked) made owner at m = left m
   close_scope (Waits waiting always address id first) made owner at m = close_waiting always address id first made at (more (Close owner at) tt (left m))
@@ -56,7 +59,8 @@ module _ {z : Start} where
   end_scope (Block edge) at m = put (end_of edge) at m
   end_scope kind at m = m
 
-  pub destroy_always : (b : Bool) (address : Address) (id : TNodeId) (first : ℕ) (at : At) {cs : List Claim} {s : State} → Moves z cs s → Moves z cs (leaving_of.destroy_always b address id first at s)
+  pub destroy_always : (b : Bool) (address : Address) (id : TNodeId) (first : ℕ) (at : At) {cs : List Claim} {s : State} → Moves z cs s
+      → Moves z cs (leaving_of.destroy_always b address id first at s)
   unfolding leaving_of.destroy_always
   destroy_always true address id first at m = destroy_waiting address id first at m
   destroy_always false address id first at m = m

@@ -83,7 +83,8 @@ at_push : (names : List (List ℕ)) (new : List ℕ) (number : ℕ) (name : List
 at_push [] new zero name e = inr (refl, cc)
 at_push [] new (suc number) name e = absurd cc
 at_push (x ∷ xs) new zero name e = inl e
-at_push (x ∷ xs) new (suc number) name e = elim (at_push xs new number name e) as (λ _. (slice_get xs number ≡ Some name) ⊎ ((suc number ≡ suc (length xs)) × (new ≡ name))) [
+at_push (x ∷ xs) new (suc number) name e = elim (at_push xs new number name e) as (λ _. (slice_get xs number ≡ Some name) ⊎ ((suc number ≡ suc (length xs)) ×
+    (new ≡ name))) [
   | inl h ↦ inl h
   | inr h ↦ inr (ap suc h.0, h.1)
 ]

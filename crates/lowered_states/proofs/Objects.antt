@@ -58,7 +58,8 @@ module _ {z : Start} where
   unfolding objects.copy_from
   copy_from n way m = run_kid n 0 Value (run_kid n 1 Copying (without_source way n.at m))
 
-  pub waits_in_full : (b : Bool) (offset : ℕ) (id : TNodeId) (at : At) {cs : List Claim} {s : State} → Moves z cs s → Moves z cs (objects.waits_in_full b offset id at s)
+  pub waits_in_full : (b : Bool) (offset : ℕ) (id : TNodeId) (at : At) {cs : List Claim} {s : State} → Moves z cs s
+      → Moves z cs (objects.waits_in_full b offset id at s)
   unfolding objects.waits_in_full
   waits_in_full true offset id at m = entered (frame_object OfCall offset id 1) at refl m
   waits_in_full false offset id at m = with_temporary (frame_object Full offset id 1) at refl m
@@ -84,7 +85,8 @@ module _ {z : Start} where
   unfolding objects.init
   init g id n m = run_kid n 0 Value (init_at (node_in g (kid_in n.kids 0)).kind id n m)
 
-  pub variable_waits : (g : Setting) (address : TKind) (id : TNodeId) (at : At) {cs : List Claim} {s : State} → Moves z cs s → Moves z cs (objects.variable_waits g address id at s)
+  pub variable_waits : (g : Setting) (address : TKind) (id : TNodeId) (at : At) {cs : List Claim} {s : State} → Moves z cs s
+      → Moves z cs (objects.variable_waits g address id at s)
   unfolding objects.variable_waits
   variable_waits g (Local place) id at m = entered (frame_object OfBlock (place_in g place) id 2) at refl m
   variable_waits g address id at m = m
@@ -107,11 +109,14 @@ module _ {z : Start} where
   put_address (Word offset) at m = put_offset offset at (put Dup at m)
   put_address (OfNode id) at m = more (Run id Value) tt m
 
-  pub destroy_elements : (g : Setting) (func : ℕ) (count : ℕ) (stride : ℕ) (at : At) {cs : List Claim} {s : State} → Moves z cs s → Moves z cs (objects.destroy_elements g func count stride at s)
+  pub destroy_elements : (g : Setting) (func : ℕ) (count : ℕ) (stride : ℕ) (at : At) {cs : List Claim} {s : State} → Moves z cs s
+      → Moves z cs (objects.destroy_elements g func count stride at s)
   unfolding objects.destroy_elements
-  destroy_elements g func count stride at {s} m = put Pop at (put Pop at (repeated (here (states.put (Push count) at s)) at (call_known g func 1 at (put_sum at (put (Bin 2 ADDRESS) at (put (Push stride) at (put Over at (put Over at (put_less 1 at (put (Push count) at m))))))))))
+  destroy_elements g func count stride at {s} m = put Pop at (put Pop at (repeated (here (states.put (Push count) at s)) at (call_known g func 1 at
+      (put_sum at (put (Bin 2 ADDRESS) at (put (Push stride) at (put Over at (put Over at (put_less 1 at (put (Push count) at m))))))))))
 
-  pub destroy_some : (g : Setting) (func : ℕ) (n : ℕ) (stride : ℕ) (at : At) {cs : List Claim} {s : State} → Moves z cs s → Moves z cs (objects.destroy_some g func n stride at s)
+  pub destroy_some : (g : Setting) (func : ℕ) (n : ℕ) (stride : ℕ) (at : At) {cs : List Claim} {s : State} → Moves z cs s
+      → Moves z cs (objects.destroy_some g func n stride at s)
   unfolding objects.destroy_some
   destroy_some g func zero stride at m = put Pop at m
   destroy_some g func (suc zero) stride at m = call_known g func 1 at m

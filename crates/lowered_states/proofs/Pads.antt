@@ -48,8 +48,10 @@ module _ {z : Start} where
 
   go_on_behind : (next : ℕ) (at : At) {cs : List Claim} {s : State} → Moves z cs s → Moves z cs (pads_of.go_on_behind next at s)
   unfolding pads_of.go_on_behind states.scope_at
-  go_on_behind next at {s = s} m = put (JumpTo (pad_at next s)) at (at_scope (scope_behind (scope_from s.body.scopes next).kind (scope_from s.body.scopes next).parent)
-      (behind_within (scope_from s.body.scopes next).kind (scope_from s.body.scopes next).parent (length s.body.scopes) (outer_within m next) (parent_within m next)) m)
+  go_on_behind next at {s = s} m = put (JumpTo (pad_at next s)) at (at_scope (scope_behind (scope_from s.body.scopes next).kind
+      (scope_from s.body.scopes next).parent)
+      (behind_within (scope_from s.body.scopes next).kind (scope_from s.body.scopes next).parent (length s.body.scopes) (outer_within m next)
+          (parent_within m next)) m)
 
   pad_behind : (next outer : ℕ) (at : At) {cs : List Claim} {s : State} → outer < length s.body.scopes → Moves z cs s
       → Moves z cs (pads_of.pad_behind next outer at s)
@@ -64,7 +66,8 @@ module _ {z : Start} where
   unfolding pads_of.put_copied
   put_copied others stride at m = put Swap at (put_less stride at (put Swap at (put Pop at (put Swap at (put_built others at m)))))
 
-  pub put_built_of : (count : ℕ) (stride : ℕ) (b : Bool) (at : At) {cs : List Claim} {s : State} → Moves z cs s → Moves z cs (pads_of.put_built_of count stride b at s)
+  pub put_built_of : (count : ℕ) (stride : ℕ) (b : Bool) (at : At) {cs : List Claim} {s : State} → Moves z cs s
+      → Moves z cs (pads_of.put_built_of count stride b at s)
   unfolding pads_of.put_built_of
   put_built_of count stride false at m = put_built count at m
   put_built_of count stride true at m = put_copied (count - 1) stride at m

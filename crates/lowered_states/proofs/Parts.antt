@@ -56,7 +56,8 @@ module _ {z : Start} where
   drop_source Dropped at m = m
   drop_source Into at m = m
 
-  pub close_mark_of_parts : (owner : Owner) (way : Way) (at : At) {cs : List Claim} {s : State} → Moves z cs s → Moves z cs (parts.close_mark_of_parts owner way at s)
+  pub close_mark_of_parts : (owner : Owner) (way : Way) (at : At) {cs : List Claim} {s : State} → Moves z cs s
+      → Moves z cs (parts.close_mark_of_parts owner way at s)
   unfolding parts.close_mark_of_parts
   close_mark_of_parts Parts way at m = drop_source way at (put Pop at (left m))
   close_mark_of_parts owner way at m = m
@@ -77,7 +78,8 @@ module _ {z : Start} where
 
   pub next_pair : (stride : ℕ) (at : At) {cs : List Claim} {s : State} → Moves z cs s → Moves z cs (parts.next_pair stride at s)
   unfolding parts.next_pair
-  next_pair stride at m = let_go at (put_grabbed 1 at (put_grabbed 0 at (put_less 1 at (put_grabbed 2 at (put_offset stride at (put_grabbed 1 at (put_offset stride at (put_grabbed 0 at (grab at m)))))))))
+  next_pair stride at m = let_go at (put_grabbed 1 at (put_grabbed 0 at (put_less 1 at (put_grabbed 2 at (put_offset stride at (put_grabbed 1 at
+      (put_offset stride at (put_grabbed 0 at (grab at m)))))))))
 
   pub start_element : (stride : ℕ) (way : Way) (at : At) {cs : List Claim} {s : State} → Moves z cs s → Moves z cs (parts.start_element stride way at s)
   unfolding parts.start_element
@@ -93,7 +95,8 @@ module _ {z : Start} where
   put_element Dropped at m = m
   put_element Copying at m = m
 
-  pub start_elements : (stride : ℕ) (way : Way) (at : At) (count : ℕ) {cs : List Claim} {s : State} → Moves z cs s → Moves z cs (parts.start_elements stride way at count s)
+  pub start_elements : (stride : ℕ) (way : Way) (at : At) (count : ℕ) {cs : List Claim} {s : State} → Moves z cs s
+      → Moves z cs (parts.start_elements stride way at count s)
   unfolding parts.start_elements
   start_elements stride way at count m = start_element stride way at (put (Push count) at m)
 
@@ -101,7 +104,8 @@ module _ {z : Start} where
   unfolding parts.make_element
   make_element id n way top {s} m = put_element way n.at (run_kid n 0 way (more (ElementMade id way top (elements_scope n s)) tt (enter_elements id n way m)))
 
-  pub elements : (id : TNodeId) (n : Node) (count : ℕ) (stride : ℕ) (way : Way) {cs : List Claim} {s : State} → Moves z cs s → Moves z cs (parts.elements id n count stride way s)
+  pub elements : (id : TNodeId) (n : Node) (count : ℕ) (stride : ℕ) (way : Way) {cs : List Claim} {s : State} → Moves z cs s
+      → Moves z cs (parts.elements id n count stride way s)
   unfolding parts.elements
   elements id n count stride way {s} m = make_element id n way (here (states.put (Push count) n.at s)) (start_elements stride way n.at count m)
 
@@ -120,7 +124,8 @@ module _ {z : Start} where
   unfolding parts.go_round
   go_round stride way top at m = drop_source way at (put Pop at (put Pop at (repeated top at (next_element stride way at m))))
 
-  pub element_made : (kind : TKind) (n : Node) (way : Way) (top : ℕ) (scope : ℕ) {cs : List Claim} {s : State} → Moves z cs s → Moves z cs (parts.element_made kind n way top scope s)
+  pub element_made : (kind : TKind) (n : Node) (way : Way) (top : ℕ) (scope : ℕ) {cs : List Claim} {s : State} → Moves z cs s
+      → Moves z cs (parts.element_made kind n way top scope s)
   unfolding parts.element_made
   element_made (Elements count stride) n way top scope m = go_round stride way top n.at (leave_element n scope m)
   element_made kind n way top scope m = m

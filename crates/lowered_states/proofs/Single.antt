@@ -153,7 +153,8 @@ same_code cs s index l h = refl
 -- only what is told beside the code changes
 pub beside_step : {cs : List Claim} {s : State} → SoundWith cs s → (c : Coded) → c.code ≡ s.body.code → c.scope < length s.body.scopes
     → Begins s.body.catches c.catches → Begins s.body.pads c.pads → Step cs s cs (with_body (coded_body c s.body) s)
-beside_step {cs} {s} h c e w b p = coded_step cs h c (fewer_all cs) w (begins_is (map unaimed s.body.code) (map unaimed c.code) (ap (map unaimed) e)) b p (λ index l k. ap (instr_in index) e)
+beside_step {cs} {s} h c e w b p = coded_step cs h c (fewer_all cs) w (begins_is (map unaimed s.body.code) (map unaimed c.code) (ap (map unaimed) e)) b p
+    (λ index l k. ap (instr_in index) e)
 
 -- ---- an instruction behind the others
 
@@ -302,7 +303,8 @@ bound_step {cs} {s} (Some j) h = coded_step cs h (record {
   depth = j.depth;
   live = true;
 }) (λ w. omega arith) (found_scope (length s.body.scopes) j.scope (held (is_lost (length s.body.scopes)) cs s.work) (omega (arith, h.found)))
-    (begins_is (map unaimed s.body.code) (map unaimed (low.aimed j.index s.body.code)) (aimed_lows j.index s.body.code)) (begins_same s.body.catches) (begins_same s.body.pads)
+    (begins_is (map unaimed s.body.code) (map unaimed (low.aimed j.index s.body.code)) (aimed_lows j.index s.body.code)) (begins_same s.body.catches)
+        (begins_same s.body.pads)
     (λ index l k. aimed_other j.index index s.body.code (differs index k))
   where
     once : (index : ℕ) → one_if (nat_eq j.index index) + held (opens index s.body.pending) cs s.work ≤ 1
@@ -405,7 +407,8 @@ all_bound_step {cs} {s} scope sort h =
     let a = all_bound scope sort s.body in
     subst (λ (b : Body). Step (coming scope sort ∷ cs) s cs (with_body b s)) (as_coded s.body (low.bound_all scope sort s.body) a.scopes a.pending)
     (coded_step cs h (coded_of (low.bound_all scope sort s.body)) (λ w. omega arith) (a.within (length s.body.scopes) h.known h.within)
-    (begins_is (map unaimed s.body.code) (map unaimed (low.bound_all scope sort s.body).code) a.lows) (begins_is s.body.catches (low.bound_all scope sort s.body).catches a.catches)
+    (begins_is (map unaimed s.body.code) (map unaimed (low.bound_all scope sort s.body).code) a.lows) (begins_is s.body.catches
+        (low.bound_all scope sort s.body).catches a.catches)
     (begins_is s.body.pads (low.bound_all scope sort s.body).pads a.pads)
     (λ index l k. a.same index (none_here index k)))
   where

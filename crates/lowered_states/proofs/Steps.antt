@@ -42,7 +42,8 @@ module _ {z : Start} where
   drop_value n Into m = m
   drop_value n Copying m = m
 
-  pub run_kind : (g : Setting) (kind : TKind) (id : TNodeId) (n : Node) (way : Way) {cs : List Claim} {s : State} → Moves z cs s → Moves z cs (steps.run_kind g kind id n way s)
+  pub run_kind : (g : Setting) (kind : TKind) (id : TNodeId) (n : Node) (way : Way) {cs : List Claim} {s : State} → Moves z cs s
+      → Moves z cs (steps.run_kind g kind id n way s)
   unfolding steps.run_kind
   run_kind g (Literal word) id n way m = put (Push word) n.at m
   run_kind g (Local place) id n way m = local g place n.at m
