@@ -77,8 +77,11 @@ module _ {z : Start} where
   pub start_try : (id : TNodeId) (n : Node) {cs : List Claim} {s : State} → Moves z cs s → Moves z cs (exceptions.start_try id n s)
   unfolding exceptions.start_try exceptions.later_handlers states.scope_count states.later states.entered
   start_try id n {cs} {s} m =
-      let there : length s.body.scopes < length (states.entered Try n.at s).body.scopes = omega (arith, length_push s.body.scopes (low.made Try s.body.scope
-          (low.innermost s.body).depth n.at s.body)) in
+      let there : length s.body.scopes < length (states.entered Try n.at s).body.scopes = omega (
+        arith,
+        length_push s.body.scopes (low.made Try s.body.scope
+            (low.innermost s.body).depth n.at s.body),
+      ) in
       let tried = more (Past (length s.body.scopes)) tt
       (fewer (one_fewer (coming (length s.body.scopes) PastIt) (coming (length s.body.scopes) Again) cs) (places Try n.at refl m)) in
       run_kid n 0 Dropped (more (TryDone id (length s.body.scopes)) there

@@ -85,9 +85,9 @@ at_push [] new (suc number) name e = absurd cc
 at_push (x ∷ xs) new zero name e = inl e
 at_push (x ∷ xs) new (suc number) name e = elim (at_push xs new number name e) as (λ _. (slice_get xs number ≡ Some name) ⊎ ((suc number ≡ suc (length xs)) ×
     (new ≡ name))) [
-  | inl h ↦ inl h
-  | inr h ↦ inr (ap suc h.0, h.1)
-]
+      | inl h ↦ inl h
+      | inr h ↦ inr (ap suc h.0, h.1)
+    ]
 
 at_within : (names : List (List ℕ)) (number : ℕ) (name : List ℕ) → slice_get names number ≡ Some name → number < length names
 at_within [] number name e = absurd cc

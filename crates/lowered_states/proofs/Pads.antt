@@ -51,7 +51,7 @@ module _ {z : Start} where
   go_on_behind next at {s = s} m = put (JumpTo (pad_at next s)) at (at_scope (scope_behind (scope_from s.body.scopes next).kind
       (scope_from s.body.scopes next).parent)
       (behind_within (scope_from s.body.scopes next).kind (scope_from s.body.scopes next).parent (length s.body.scopes) (outer_within m next)
-          (parent_within m next)) m)
+      (parent_within m next)) m)
 
   pad_behind : (next outer : ℕ) (at : At) {cs : List Claim} {s : State} → outer < length s.body.scopes → Moves z cs s
       → Moves z cs (pads_of.pad_behind next outer at s)

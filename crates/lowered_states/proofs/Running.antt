@@ -70,6 +70,9 @@ step_of g item s h a = let p = item_step g item s h a in record {
   };
   sound = p.sound;
   stays = λ index l e. p.stays index l (omega (arith, put_sum (opens index s.body.pending) item [] s.work));
+  waits = λ index l k.
+      let w = p.waits index l k in
+      (w.0, omega (arith, w.1, put_sum (opens index s.body.pending) item [] s.work));
   gone = λ scope sort l e. p.gone scope sort l (omega (arith, put_sum (is_place scope sort) item [] s.work));
 }
 

@@ -32,6 +32,9 @@ pub record Step (cs : List Claim) (s : State) (ds : List Claim) (t : State) : Ty
   -- an instruction that is no open jump stays, and is none
   pub stays : (index : ℕ) → index < length s.body.code → held (opens index s.body.pending) cs s.work ≡ 0
       → (instr_in index t.body.code ≡ instr_in index s.body.code) × (held (opens index t.body.pending) ds t.work ≡ 0)
+  -- one that is an open jump still is as it was
+  pub waits : (index : ℕ) → index < length s.body.code → 1 ≤ held (opens index t.body.pending) ds t.work
+      → (instr_in index t.body.code ≡ instr_in index s.body.code) × (1 ≤ held (opens index s.body.pending) cs s.work)
   -- a place that is no more to come does not come again
   pub gone : (scope : ℕ) (sort : Sort) → scope < length s.body.scopes → held (is_place scope sort) cs s.work ≡ 0 → held (is_place scope sort) ds t.work ≡ 0
 
@@ -56,7 +59,7 @@ kept_then p q = record {
 }
 
 pub step_same : (cs : List Claim) (s : State) → SoundWith cs s → Step cs s cs s
-step_same cs s h = record { kept = kept_same s; sound = h; stays = λ index l e. (refl, e); gone = λ scope sort l e. e }
+step_same cs s h = record { kept = kept_same s; sound = h; stays = λ index l e. (refl, e); waits = λ index l k. (refl, k); gone = λ scope sort l e. e }
 
 pub step_then : {cs ds es : List Claim} {s t u : State} → Step cs s ds t → Step ds t es u → Step cs s es u
 step_then {s = s} {t = t} p q = record {
@@ -66,6 +69,10 @@ step_then {s = s} {t = t} p q = record {
       let a = p.stays index l e in
       let b = q.stays index (le_trans l (shown_longer unaimed s.body.code t.body.code p.kept.lows)) a.1 in
       (b.0 ∙ a.0, b.1);
+  waits = λ index l k.
+      let b = q.waits index (le_trans l (shown_longer unaimed s.body.code t.body.code p.kept.lows)) k in
+      let a = p.waits index l b.1 in
+      (b.0 ∙ a.0, a.1);
   gone = λ scope sort l e. q.gone scope sort (le_trans l (shown_longer bare s.body.scopes t.body.scopes p.kept.scopes)) (p.gone scope sort l e);
 }
 
@@ -141,6 +148,7 @@ coded_step {cs} ds {s} h c f w n b p same = record {
         ap is_open (same index there (inr k)) ∙ h.jumps index e;
   };
   stays = λ index k e. (same index k (inl e), omega (arith, held_fewer (opens index s.body.pending) cs ds s.work f));
+  waits = λ index l k. (same index l (inr k), omega (arith, held_fewer (opens index s.body.pending) cs ds s.work f));
   gone = λ scope sort k e. omega (arith, held_fewer (is_place scope sort) cs ds s.work f);
 }
 
@@ -188,6 +196,9 @@ here_or n index held h = grind (arith, nat_tests)
 not_here : (n index held : ℕ) → index < n → held ≡ 0 → one_if (nat_eq n index) + held ≡ 0
 not_here n index held l e = grind (arith, nat_tests)
 
+is_behind_it : (n index : ℕ) → index < n → one_if (nat_eq n index) ≡ 0
+is_behind_it n index l = grind (arith, nat_tests)
+
 not_lost : (count scope : ℕ) → scope < count → one_if (nat_le count scope) ≡ 0
 not_lost count scope l = grind (arith, nat_tests)
 
@@ -231,6 +242,7 @@ opened_by {cs} {s} h j x depth live at l o true = record {
     jumps = λ index k. jumps_now index (here_or (length s.body.code) index (held (opens index s.body.pending) cs s.work) (moved_here index k));
   };
   stays = λ index k e. (instr_left s.body.code (x ∷ []) index k, open_none index k e);
+  waits = λ index l k. (instr_left s.body.code (x ∷ []) index l, still_open index l k);
   gone = λ scope sort k e. omega arith;
 }
   where
@@ -253,6 +265,10 @@ opened_by {cs} {s} h j x depth live at l o true = record {
     jumps_now index (inr k) = let there : index < length s.body.code =
         room_none (length s.body.code) index (held (opens index s.body.pending) cs s.work) k (h.apart index) in
         ap is_open (instr_left s.body.code (x ∷ []) index there) ∙ h.jumps index k
+
+    still_open : (index : ℕ) → index < length s.body.code → 1 ≤ held (opens index s.body.pending) (jump j ∷ cs) s.work
+        → 1 ≤ held (opens index s.body.pending) cs s.work
+    still_open index l k = omega (arith, one_here index, is_behind_it (length s.body.code) index l)
 
     open_none : (index : ℕ) → index < length s.body.code → held (opens index s.body.pending) cs s.work ≡ 0
         → held (opens index s.body.pending) (jump j ∷ cs) s.work ≡ 0
@@ -304,7 +320,7 @@ bound_step {cs} {s} (Some j) h = coded_step cs h (record {
   live = true;
 }) (λ w. omega arith) (found_scope (length s.body.scopes) j.scope (held (is_lost (length s.body.scopes)) cs s.work) (omega (arith, h.found)))
     (begins_is (map unaimed s.body.code) (map unaimed (low.aimed j.index s.body.code)) (aimed_lows j.index s.body.code)) (begins_same s.body.catches)
-        (begins_same s.body.pads)
+    (begins_same s.body.pads)
     (λ index l k. aimed_other j.index index s.body.code (differs index k))
   where
     once : (index : ℕ) → one_if (nat_eq j.index index) + held (opens index s.body.pending) cs s.work ≤ 1
@@ -408,7 +424,7 @@ all_bound_step {cs} {s} scope sort h =
     subst (λ (b : Body). Step (coming scope sort ∷ cs) s cs (with_body b s)) (as_coded s.body (low.bound_all scope sort s.body) a.scopes a.pending)
     (coded_step cs h (coded_of (low.bound_all scope sort s.body)) (λ w. omega arith) (a.within (length s.body.scopes) h.known h.within)
     (begins_is (map unaimed s.body.code) (map unaimed (low.bound_all scope sort s.body).code) a.lows) (begins_is s.body.catches
-        (low.bound_all scope sort s.body).catches a.catches)
+    (low.bound_all scope sort s.body).catches a.catches)
     (begins_is s.body.pads (low.bound_all scope sort s.body).pads a.pads)
     (λ index l k. a.same index (none_here index k)))
   where
@@ -454,6 +470,7 @@ parked_step {cs} {s} scope sort (Some j) l h = record {
     jumps = λ index k. h.jumps index (omega (arith, fewer index));
   };
   stays = λ index k e. (refl, omega (arith, fewer index));
+  waits = λ index l k. (refl, omega (arith, fewer index));
   gone = λ place_scope place_sort k e. omega arith;
 }
   where
@@ -525,6 +542,7 @@ added_step {cs} {s} h scope p o = record {
     jumps = λ index k. h.jumps index (omega (arith, none index PastIt, none index Again));
   };
   stays = λ index k e. (refl, omega (arith, none index PastIt, none index Again));
+  waits = λ index l k. (refl, omega (arith, none index PastIt, none index Again));
   gone = λ number sort k e. omega (arith, new_places (length s.body.scopes) number sort, below_differs number (length s.body.scopes) k);
 }
   where
@@ -573,6 +591,7 @@ scopes_step {cs} {s} h scopes l e d = record {
     jumps = h.jumps;
   };
   stays = λ index k z. (refl, z);
+  waits = λ index l k. (refl, k);
   gone = λ scope sort k z. z;
 }
 
@@ -614,6 +633,7 @@ named_step {cs} {s} h name = record {
     jumps = h.jumps;
   };
   stays = λ index k e. (refl, e);
+  waits = λ index l k. (refl, k);
   gone = λ scope sort k e. e;
 }
 
@@ -643,5 +663,6 @@ work_step {cs} {s} h ds items k f = record {
     jumps = λ index l. h.jumps index (omega (arith, f (opens index s.body.pending)));
   };
   stays = λ index l e. (refl, omega (arith, f (opens index s.body.pending)));
+  waits = λ index l k. (refl, omega (arith, f (opens index s.body.pending)));
   gone = λ scope sort l e. omega (arith, f (is_place scope sort));
 }

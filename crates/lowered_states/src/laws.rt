@@ -61,11 +61,13 @@ pub fn scopes_stay()
     ensures count { (from to : State) → Kept from to → length from.body.scopes ≤ length to.body.scopes }
 {}
 
-/// An instruction stays, but where it is a jump that is still to be led somewhere; its place in the source and its scope stay
-/// always.
+/// An instruction stays, but where it is a jump that is still to be led somewhere, and while it is still to be led; its place in
+/// the source and its scope stay always.
 pub fn instructions_stay()
     ensures unclaimed { (g : Setting) (from to : State) → Sound from → AreApart g from → Reaches g from to → (index : ℕ) → index < here from →
         open_in index from ≡ 0 → instr_at index to ≡ instr_at index from }
+    ensures still_open { (g : Setting) (from to : State) → Sound from → AreApart g from → Reaches g from to → (index : ℕ) → index < here from →
+        1 ≤ open_in index to → instr_at index to ≡ instr_at index from }
     ensures closed { (g : Setting) (from to : State) → Sound from → AreApart g from → Reaches g from to → (index : ℕ) → index < here from →
         is_open (instr_at index from) ≡ false → instr_at index to ≡ instr_at index from }
     ensures apart { (from to : State) → Kept from to → (index : ℕ) → index < here from →

@@ -9,6 +9,10 @@ pub returns-clause-unclaimed : goal.returns-clause-unclaimed
 unfolding here
 returns-clause-unclaimed c = λ g from to h a r index l e. ((run_step g from h a r).stays index l e).0
 
+pub returns-clause-still_open : goal.returns-clause-still_open
+unfolding here
+returns-clause-still_open c = λ g from to h a r index l k. ((run_step g from h a r).waits index l k).0
+
 pub returns-clause-closed : goal.returns-clause-closed
 unfolding here
 returns-clause-closed c = λ g from to h a r index l e. closed_stays g from to h a r index l e
