@@ -1,0 +1,4 @@
+//! What stays as a body is written.
+#![tactic(auto)]
+
+pub mod laws;
