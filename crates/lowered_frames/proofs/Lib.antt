@@ -1,0 +1,17 @@
+pub mod Lists
+pub mod Offsets
+pub mod Chains
+pub mod Expressions
+pub mod Calls
+pub mod Objects
+pub mod Throws
+pub mod Heads
+pub mod Replaced
+pub mod Opened
+pub mod Going
+pub mod Foreseen
+pub mod Trees
+pub mod Entered
+pub mod Matching
+pub mod Passing
+pub mod Items

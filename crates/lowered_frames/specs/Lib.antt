@@ -1,0 +1,14 @@
+pub mod Lists
+pub mod Modes
+pub mod Chains
+pub mod Expressions
+pub mod Calls
+pub mod Objects
+pub mod Closings
+pub mod Statements
+pub mod Throws
+pub mod Left
+pub mod Sound
+pub mod Entered
+pub mod Matches
+pub mod Passed

@@ -1,0 +1,9 @@
+pub mod Terms
+pub mod KindNumbers
+pub mod Replaced
+pub mod Landing
+pub mod Straight
+pub mod Landings
+pub mod Expressions
+pub mod Calls
+pub mod Readings
