@@ -30,7 +30,7 @@ operates_on : (known : List Fact) (i : ℕ) (q : Place) (op : BinOp) (a b : Term
 operates_on known i q op a b ws (results oq j c d o) e = absurd cc
 operates_on known i q op a b ws o e = refl
 
-moved_follows : (t : Table) (known : List Fact) (i : ℕ) (q : Place) (o : Outcome) → is_operator o ≡ false → {instr : Instr} {ws us : List Term}
+pub moved_follows : (t : Table) (known : List Fact) (i : ℕ) (q : Place) (o : Outcome) → is_operator o ≡ false → {instr : Instr} {ws us : List Term}
     → Moved known instr ws us → followed t known i instr (with_operands q ws) o ≡ quietly (i + 1) (with_operands q us) o
 moved_follows t known i q o e (pushed n small) = small_pushes (nat_lt n (2 ^ 64)) _ small
 moved_follows t known i q o e (doubled w) = refl

@@ -1,0 +1,4 @@
+//! Where temporaries wait no jump is held.
+#![tactic(auto)]
+
+pub mod laws;

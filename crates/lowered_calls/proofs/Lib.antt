@@ -1,0 +1,17 @@
+pub mod Rest
+pub mod Backs
+pub mod Words
+pub mod Bare
+pub mod Readings
+pub mod Builtins
+pub mod Returns
+pub mod Virtual
+pub mod Thrown
+pub mod Written
+pub mod Addresses
+pub mod Sunk
+pub mod Whole
+pub mod Copies
+pub mod Always
+pub mod BareWhole
+pub mod Nodes

@@ -1,0 +1,9 @@
+pub mod Readings
+pub mod Nodes
+pub mod Quiet
+pub mod Events
+pub mod Leaves
+pub mod Jumps
+pub mod Written
+pub mod Moving
+pub mod Passing

@@ -1,0 +1,14 @@
+pub mod Alike
+pub mod Received
+pub mod Temporaries
+pub mod Lists
+pub mod Passing
+pub mod Around
+pub mod Made
+pub mod Closed
+pub mod Parts
+pub mod Elements
+pub mod Destroyed
+pub mod Written
+pub mod WrittenEnds
+pub mod Nodes

@@ -1,0 +1,4 @@
+//! Where something is left to write, an instruction comes to the note of what is left behind it.
+#![tactic(auto)]
+
+pub mod laws;
