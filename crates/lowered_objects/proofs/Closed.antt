@@ -38,7 +38,7 @@ use Rattle.lowered_steps.proofs.Landings.{quiet_landing}
 use Rattle.lowered_objects.specs.Scopes.{is_kept}
 use Rattle.lowered_objects.proofs.Lists.{above, others_told}
 
-first_told : (ts : List Term) → AreTold ts → IsTold (first_word ts)
+pub first_told : (ts : List Term) → AreTold ts → IsTold (first_word ts)
 first_told [] all = refl
 first_told (t ∷ ts) all = all.0
 

@@ -11,4 +11,5 @@ pub mod Elements
 pub mod Destroyed
 pub mod Written
 pub mod WrittenEnds
+pub mod Scalars
 pub mod Nodes

@@ -1,5 +1,5 @@
 -- What functions hand back.
-use Rattle.std.proofs.Common.{◌≡◌, ℕ, zero, suc, Bool, true, false, not, ◌&&◌, ◌||◌, cond, List, [], ◌∷◌, Option, Some, None, refl, sym, ap, ◌∙◌, subst}
+use Rattle.std.proofs.Common.{◌≡◌, ℕ, zero, suc, Bool, true, false, ◌&&◌, cond, List, [], ◌∷◌, Some, refl, sym, ap, ◌∙◌}
 use Rattle.std.proofs.lemmas.Bool.{and_parts, true≢false}
 use Rattle.std.specs.Prelude.{map, slice_get}
 use Rattle.cpp_tree.specs.cpp_types.Typ.{Typ, typ, Form, void, int, enum, null, ptr, ref, array, func, class, closure, tx_ex, Signature, signature, signature_of}
@@ -10,12 +10,9 @@ use Rattle.cpp_tree.specs.cpp_types.declared.ranks.Cat.TheVariants.{Lvalue, Prva
 use Rattle.cpp_tree.specs.declared.program.FuncKind.{FuncKind}
 use Rattle.cpp_tree.specs.declared.program.FuncKind.TheVariants.{Plain, Constructor, Destructor, ClosureCall}
 use Rattle.cpp_tree.specs.declared.program.TFunc.{TFunc}
-use Rattle.cpp_tree.specs.Arena.{trees_of}
-use Rattle.cpp_tree.specs.Units.{Func, func_of}
 use Rattle.cpp_tree.specs.Typing.{is_result, is_class_prvalue, is_class_typ, is_prvalue}
-use Rattle.cpp_tree.specs.Rows.{is_constructor, is_destructor, is_special, result_in}
-use Rattle.cpp_tree.specs.Rows as rows
-use Rattle.low_code.specs.Types.{is_void, is_void_form, is_class_type, is_class_form, word_count, result_of, gives}
+use Rattle.cpp_tree.specs.Rows.{is_constructor, is_destructor, result_in}
+use Rattle.low_code.specs.Types.{is_void, is_void_form, is_class_form, word_count, gives}
 use Rattle.unwind_lower.specs.Settings.{Setting, callee_in, callee_or, gives_of}
 use Rattle.lowered_trees.proofs.Facts.{void_alike}
 

@@ -1,18 +1,16 @@
 -- Calls.
-use Rattle.std.proofs.Common.{◌≡◌, ℕ, suc, Bool, true, false, not, ◌&&◌, ◌||◌, List, [], ◌∷◌, length, Option, Some, None, refl, sym, ap, ◌∙◌, subst}
+use Rattle.std.proofs.Common.{◌≡◌, ℕ, suc, Bool, true, false, not, ◌&&◌, List, [], ◌∷◌, length, Some, None, refl, sym, ap, ◌∙◌}
 use Rattle.std.proofs.lemmas.Bool.{and_parts}
 use Rattle.std.specs.Prelude.{map, slice_get}
-use Rattle.cpp_tree.specs.cpp_types.Typ.{Typ, typ, Form, ptr, func, void, int, Signature, signature, signature_of}
+use Rattle.cpp_tree.specs.cpp_types.Typ.{Typ, typ, Form, ptr, func, Signature, signature, signature_of}
 use Rattle.cpp_tree.specs.cpp_types.Equal.{typ_eq}
 use Rattle.cpp_tree.specs.cpp_types.Trivial.{takes_itself}
 use Rattle.cpp_tree.specs.cpp_types.declared.ranks.Cat.{Cat}
 use Rattle.cpp_tree.specs.declared.arena.TNodeId.{TNodeId}
 use Rattle.cpp_tree.specs.declared.kinds.Builtin.{Builtin}
 use Rattle.cpp_tree.specs.declared.kinds.Builtin.TheVariants.{PutChar, GetChar, Spawn, Join, Abort}
-use Rattle.cpp_tree.specs.declared.kinds.TKind.{TKind}
 use Rattle.cpp_tree.specs.declared.kinds.TKind.TheVariants.{Call, VirtualCall, PointerCall, Builtin as CallBuiltin, Construct, CopyConstruct}
 use Rattle.cpp_tree.specs.declared.program.FuncKind.TheVariants.{Plain}
-use Rattle.cpp_tree.specs.declared.program.TFunc.{TFunc}
 use Rattle.cpp_tree.specs.declared.roles.Position.{Position}
 use Rattle.cpp_tree.specs.declared.roles.Role.{Role}
 use Rattle.cpp_tree.specs.declared.roles.Role.TheVariants.{Value, Word}
@@ -28,11 +26,11 @@ use Rattle.low_code.specs.Types as low
 use Rattle.unwind_lower.specs.declared.items.Way.{Way}
 use Rattle.unwind_lower.specs.declared.items.Way.TheVariants.{Value as ForValue, Into, Copying}
 use Rattle.unwind_lower.specs.Settings.{Setting, node_in, callee_in, gives_of}
-use Rattle.lowered_trees.specs.Shapes.{Stands, HasWord, HaveWords, words_taken, gives_none}
+use Rattle.lowered_trees.specs.Shapes.{words_taken, gives_none}
 use Rattle.lowered_trees.specs.Suiting.{has_word, have_words}
 use Rattle.lowered_trees.specs.Running.{Runs, call, virtual_call, pointer_call, built_in, construct, copy_construct}
-use Rattle.lowered_trees.proofs.Known.{Serves, Holds, Kid, for_value, word}
-use Rattle.lowered_trees.proofs.Kids.{AllKids, none_kid, any_kids, one_and_any, all_run, words, word_of}
+use Rattle.lowered_trees.proofs.Known.{Serves, Holds, for_value, word}
+use Rattle.lowered_trees.proofs.Kids.{none_kid, any_kids, one_and_any, all_run, words, word_of}
 use Rattle.lowered_trees.proofs.Facts.{stands_as, words_as, row_as, void_alike}
 use Rattle.lowered_trees.proofs.Callees.{found_in, gives_found, result_gives, constructor_gives}
 use Rattle.lowered_trees.proofs.Objects.{same_length, same_way}

@@ -1,7 +1,7 @@
 -- Conditionals, commas, full-expressions, and what is thrown.
-use Rattle.std.proofs.Common.{◌≡◌, ℕ, suc, Bool, true, false, not, ◌&&◌, ◌||◌, cond, List, [], ◌∷◌, length, Option, Some, None, refl, sym, ap, ◌∙◌, subst}
+use Rattle.std.proofs.Common.{◌≡◌, Bool, true, false, ◌||◌, cond, List, [], ◌∷◌, Some, refl, sym, ap, ◌∙◌, subst}
 use Rattle.std.proofs.lemmas.Bool.{and_parts, true≢false}
-use Rattle.cpp_tree.specs.cpp_types.Typ.{Typ, typ, Form, void}
+use Rattle.cpp_tree.specs.cpp_types.Typ.{Typ, typ, void}
 use Rattle.cpp_tree.specs.cpp_types.Conversion.{is_lvalue}
 use Rattle.cpp_tree.specs.cpp_types.Equal.{typ_eq}
 use Rattle.cpp_tree.specs.cpp_types.declared.ranks.Cat.{Cat}
@@ -11,22 +11,21 @@ use Rattle.cpp_tree.specs.declared.kinds.TKind.{TKind}
 use Rattle.cpp_tree.specs.declared.kinds.TKind.TheVariants.{Conditional, Comma, FullExpression, Throw, Rethrow}
 use Rattle.cpp_tree.specs.declared.roles.Position.{Position}
 use Rattle.cpp_tree.specs.declared.roles.Role.{Role}
-use Rattle.cpp_tree.specs.declared.roles.Role.TheVariants.{Value, Word, Initialiser, Statement, BlockItem, SwitchItem, Step, Scalar}
+use Rattle.cpp_tree.specs.declared.roles.Role.TheVariants.{Value, Initialiser, Step, Scalar}
 use Rattle.cpp_tree.specs.Typing.{Head, is_prvalue}
 use Rattle.cpp_tree.specs.Typing as typing
 use Rattle.cpp_tree.specs.Roles.{serves, branch_role, result_role, is_copy, is_piece, is_handler}
 use Rattle.cpp_tree.specs.Rows.{same_value}
 use Rattle.cpp_tree.specs.WellFormed.{inside}
-use Rattle.low_code.specs.Types.{is_void, is_void_form, is_class_type}
+use Rattle.low_code.specs.Types.{is_void, is_class_type}
 use Rattle.unwind_lower.specs.declared.items.Way.{Way}
 use Rattle.unwind_lower.specs.declared.items.Way.TheVariants.{Value as ForValue, Dropped}
-use Rattle.unwind_lower.specs.Conditions.{branches_make}
 use Rattle.unwind_lower.specs.Expressions.{branch_way}
 use Rattle.unwind_lower.specs.Settings.{Setting, node_in, makes_temporaries}
 use Rattle.unwind_lower.specs.Steps.{for_value as as_value}
 use Rattle.low_code.specs.Nodes.{kid_in}
-use Rattle.lowered_trees.specs.Shapes.{Stands, Gives, Throws, object, scalar}
-use Rattle.lowered_trees.specs.Suiting.{has_word, have_words, throws_one, is_one}
+use Rattle.lowered_trees.specs.Shapes.{Throws, object, scalar}
+use Rattle.lowered_trees.specs.Suiting.{has_word, have_words, throws_one}
 use Rattle.lowered_trees.specs.Running.{Runs, conditional, comma, full, throws, rethrows}
 use Rattle.lowered_trees.proofs.Known.{Serves, Holds, Kid, KidAt, for_value, of_result, word, builds, copies, statement, block_item, switch_item, step, part, copied_part, caught}
 use Rattle.lowered_trees.proofs.Known.{dropped as drops}

@@ -1,5 +1,5 @@
 -- Expressions without objects, calls and conditionals.
-use Rattle.std.proofs.Common.{◌≡◌, ℕ, ◌<◌, ◌^◌, Bool, true, false, not, ◌&&◌, ◌||◌, cond, List, [], ◌∷◌, Option, Some, None, refl, sym, ap, ◌∙◌, subst}
+use Rattle.std.proofs.Common.{◌≡◌, ℕ, Bool, true, false, not, ◌&&◌, cond, List, [], ◌∷◌, refl, sym, ap, ◌∙◌, subst}
 use Rattle.std.proofs.lemmas.Bool.{and_parts}
 use Rattle.cpp_tree.specs.tx_ints.declared.kinds.IntKind.{IntKind}
 use Rattle.cpp_tree.specs.tx_ints.declared.kinds.BinOp.{BinOp}
@@ -7,7 +7,6 @@ use Rattle.cpp_tree.specs.cpp_types.Typ.{Typ}
 use Rattle.cpp_tree.specs.cpp_types.declared.ranks.Cat.{Cat}
 use Rattle.cpp_tree.specs.cpp_types.declared.ranks.Cat.TheVariants.{Lvalue, Prvalue}
 use Rattle.cpp_tree.specs.declared.arena.TNodeId.{TNodeId}
-use Rattle.cpp_tree.specs.declared.kinds.TKind.{TKind}
 use Rattle.cpp_tree.specs.declared.kinds.TKind.TheVariants.{Literal, Local, Global, Function, ClassTable, Load, Convert, Retype, Binary, Assign, Update, CopyAssign}
 use Rattle.cpp_tree.specs.declared.roles.Position.{Position}
 use Rattle.cpp_tree.specs.declared.roles.Role.{Role}
@@ -18,16 +17,14 @@ use Rattle.unwind_lower.specs.declared.items.Way.{Way}
 use Rattle.unwind_lower.specs.declared.items.Way.TheVariants.{Value as ForValue, Dropped}
 use Rattle.unwind_lower.specs.Expressions.{way_of}
 use Rattle.unwind_lower.specs.Settings.{Setting, node_in}
-use Rattle.lowered_trees.specs.Shapes.{Stands, is_load, HasWord}
 use Rattle.lowered_trees.specs.Suiting.{has_word, have_words}
-use Rattle.lowered_trees.specs.Words.{tells, gives_word, is_valued}
-use Rattle.lowered_trees.specs.Words.{words_suit}
+use Rattle.lowered_trees.specs.Words.{gives_word}
 use Rattle.lowered_trees.specs.Running.{Runs, literal, local, global, function, class_table, load, convert, retype, binary, assign, update, copy_assign}
 use Rattle.lowered_trees.proofs.Known.{Serves, Holds, Kid, for_value, dropped, of_result, copies}
 use Rattle.lowered_trees.proofs.Kids.{none_kid, one_kid, two_kids, three_kids, word_of}
 use Rattle.lowered_trees.proofs.Facts.{worded, stands_as, not_void, words_as}
 use Rattle.lowered_trees.proofs.Ways.{gives}
-use Rattle.lowered_trees.proofs.Tests.{passed, is_word, untold, or_second}
+use Rattle.lowered_trees.proofs.Tests.{passed, is_word, or_second}
 
 -- what is dropped is no address of a result
 no_address : {a : Bool} {role : Role} {way : Way} → Serves a role way → way ≡ Dropped → a ≡ false

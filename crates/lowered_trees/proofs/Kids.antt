@@ -1,21 +1,20 @@
 -- Kids of nodes, by the shapes of their lists.
-use Rattle.std.proofs.Common.{◌≡◌, ℕ, zero, suc, ◌<◌, Bool, true, false, not, ◌&&◌, ◌||◌, cond, List, [], ◌∷◌, length, Option, Some, None, refl, sym, ap, ◌∙◌, subst, arith}
-use Rattle.std.proofs.lemmas.Bool.{and_parts, true≢false}
-use Rattle.std.specs.List.{list_all}
+use Rattle.std.proofs.Common.{◌≡◌, ℕ, suc, Bool, true, false, not, ◌||◌, List, [], ◌∷◌, length, Some, refl, ap, ◌∙◌}
+use Rattle.std.proofs.lemmas.Bool.{and_parts}
 use Rattle.cpp_tree.specs.declared.arena.TNodeId.{TNodeId}
 use Rattle.cpp_tree.specs.declared.kinds.TKind.{TKind}
-use Rattle.cpp_tree.specs.declared.kinds.TKind.TheVariants.{Field, Piece, Destroy}
+use Rattle.cpp_tree.specs.declared.kinds.TKind.TheVariants.{Field, Piece}
 use Rattle.cpp_tree.specs.declared.roles.Position.{Position}
 use Rattle.cpp_tree.specs.declared.roles.Role.{Role}
-use Rattle.cpp_tree.specs.declared.roles.Role.TheVariants.{Value, Word, Initialiser, CopyInit, Zero, Statement, BlockItem, SwitchItem, Step, Part, CopiedPart, Catch}
-use Rattle.cpp_tree.specs.declared.roles.Role.TheVariants.{Destruction, Scalar}
+use Rattle.cpp_tree.specs.declared.roles.Role.TheVariants.{Part, CopiedPart}
+use Rattle.cpp_tree.specs.declared.roles.Role.TheVariants.{Scalar}
 use Rattle.cpp_tree.specs.Typing.{Head}
-use Rattle.cpp_tree.specs.Roles.{Kids, only, and_any, is_field, is_piece}
+use Rattle.cpp_tree.specs.Roles.{only, and_any, is_field, is_piece}
 use Rattle.cpp_tree.specs.WellFormed.{enough}
 use Rattle.low_code.specs.Types.{is_void}
 use Rattle.unwind_lower.specs.declared.items.Way.{Way}
 use Rattle.unwind_lower.specs.Settings.{Setting, node_in}
-use Rattle.lowered_trees.specs.Shapes.{Stands, is_load, HasWord, HaveWords, Fields, Parts, no_fields, no_parts, field, part}
+use Rattle.lowered_trees.specs.Shapes.{is_load, HasWord, HaveWords, Fields, Parts, no_fields, no_parts, field, part}
 use Rattle.lowered_trees.specs.Suiting.{has_word, have_words}
 use Rattle.lowered_trees.specs.Running.{Runs, AllRun, none_run, then}
 use Rattle.lowered_trees.proofs.Known.{Kid, KidAt, AreKids, is_leaf}

@@ -1,31 +1,27 @@
 -- What is known of a node that fits, of its kids, and of the node that shows it.
-use Rattle.std.proofs.Common.{◌≡◌, ℕ, zero, suc, ◌<◌, Bool, true, false, not, ◌&&◌, ◌||◌, cond, List, [], ◌∷◌, length, Option, Some, None, refl, sym, ap, ◌∙◌, subst}
-use Rattle.std.specs.Prelude.{is_some, unwrap_or, slice_get}
+use Rattle.std.proofs.Common.{◌≡◌, ℕ, suc, Bool, true, false, not, ◌&&◌, ◌||◌, List, [], ◌∷◌, length, Option, Some, None}
 use Rattle.std.proofs.lemmas.Bool.{and_parts}
-use Rattle.cpp_tree.specs.cpp_types.Typ.{Typ, typ_of}
+use Rattle.cpp_tree.specs.cpp_types.Typ.{Typ}
 use Rattle.cpp_tree.specs.cpp_types.declared.classes.At.{At}
 use Rattle.cpp_tree.specs.cpp_types.declared.ranks.Cat.{Cat}
-use Rattle.cpp_tree.specs.declared.arena.TNode.{TNode}
 use Rattle.cpp_tree.specs.declared.arena.TNodeId.{TNodeId}
 use Rattle.cpp_tree.specs.declared.kinds.TKind.{TKind}
 use Rattle.cpp_tree.specs.declared.kinds.TKind.TheVariants.{Local, Destroy, Field, Handler}
 use Rattle.cpp_tree.specs.declared.roles.Position.{Position}
 use Rattle.cpp_tree.specs.declared.roles.Role.{Role}
 use Rattle.cpp_tree.specs.declared.roles.Role.TheVariants.{Value, Word, Initialiser, CopyInit, Zero, Statement, BlockItem, SwitchItem, Step, Part, CopiedPart, Catch}
-use Rattle.cpp_tree.specs.Trees.{Tree, node, Trees, none, more, kind_of}
-use Rattle.cpp_tree.specs.Arena.{NodeAt, Shows, ShowsAll}
-use Rattle.cpp_tree.specs.Typing.{Head, head_of}
-use Rattle.cpp_tree.specs.Roles.{Kids, kids_for, role_at, serves, way_fits}
+use Rattle.cpp_tree.specs.Trees.{node, Trees}
+use Rattle.cpp_tree.specs.Typing.{Head}
+use Rattle.cpp_tree.specs.Roles.{Kids, role_at, serves, way_fits}
 use Rattle.cpp_tree.specs.Rows.{row_fits, result_of}
 use Rattle.cpp_tree.specs.Rows as rows
-use Rattle.cpp_tree.specs.WellFormed.{heads_of, kids_in, enough, is_switch, labels_fit, is_kid, is_zero_role, inside, fits, kids_fit, zeroes, may_stand}
+use Rattle.cpp_tree.specs.WellFormed.{heads_of, kids_in, enough, is_switch, labels_fit, inside, fits, kids_fit, may_stand}
 use Rattle.cpp_tree.specs.WellFormed.{branches_fit, setting_of}
-use Rattle.low_code.specs.Nodes.{node_of, node_or}
 use Rattle.unwind_lower.specs.declared.items.Way.{Way}
 use Rattle.unwind_lower.specs.declared.items.Way.TheVariants.{Value as ForValue, Dropped, Into, Copying}
 use Rattle.unwind_lower.specs.Settings.{Setting, node_in, makes_temporaries}
 use Rattle.lowered_trees.specs.Shapes.{Stands, Fields}
-use Rattle.lowered_trees.specs.Suiting.{counts, kids_suit, is_init, suits, all_suit}
+use Rattle.lowered_trees.specs.Suiting.{counts, kids_suit, is_init}
 use Rattle.lowered_trees.specs.Words.{tells}
 use Rattle.lowered_trees.specs.Words.{words_suit}
 use Rattle.lowered_trees.specs.Running.{Runs}

@@ -1,8 +1,7 @@
 -- Initialisations, what is put off, `return`, labels and handlers.
-use Rattle.std.proofs.Common.{◌≡◌, ℕ, zero, suc, ◌<◌, ◌^◌, Bool, true, false, not, ◌&&◌, ◌||◌, ◌==◌, cond, List, [], ◌∷◌, length, Option, Some, None, refl, sym, ap, ◌∙◌, subst, arith, ltb-true, eqb-true}
+use Rattle.std.proofs.Common.{◌≡◌, ℕ, suc, ◌<◌, ◌^◌, Bool, true, false, not, ◌&&◌, ◌||◌, ◌==◌, cond, List, [], ◌∷◌, length, Option, Some, None, refl, ap, ◌∙◌, arith, ltb-true, eqb-true}
 use Rattle.std.proofs.lemmas.Bool.{and_parts}
-use Rattle.std.specs.Prelude.{nat_lt}
-use Rattle.cpp_tree.specs.cpp_types.Typ.{Typ, typ, Form, void, class, closure, tx_ex, signature_of}
+use Rattle.cpp_tree.specs.cpp_types.Typ.{Typ, typ, void, class, closure, tx_ex, signature_of}
 use Rattle.cpp_tree.specs.cpp_types.Class.{Class}
 use Rattle.cpp_tree.specs.cpp_types.Conversion.{is_lvalue}
 use Rattle.cpp_tree.specs.cpp_types.declared.ranks.Cat.{Cat}
@@ -14,13 +13,13 @@ use Rattle.cpp_tree.specs.declared.roles.Role.{Role}
 use Rattle.cpp_tree.specs.declared.roles.Role.TheVariants.{Value, Zero, Initialiser, Statement, Destruction, Scalar}
 use Rattle.cpp_tree.specs.Typing.{Head, is_prvalue, is_statement_typ, builds}
 use Rattle.cpp_tree.specs.Typing as typing
-use Rattle.cpp_tree.specs.Rows.{is_return, has_value, is_returned, result_of, result_in, are_destructions, is_loaded, is_handler_of}
+use Rattle.cpp_tree.specs.Rows.{is_return, has_value, is_returned, result_of, are_destructions, is_loaded, is_handler_of}
 use Rattle.cpp_tree.specs.WellFormed.{setting_of, no_object}
 use Rattle.low_code.specs.Types.{is_void, word_count}
 use Rattle.unwind_lower.specs.declared.items.Way.{Way}
 use Rattle.unwind_lower.specs.declared.items.Way.TheVariants.{Value as ForValue, Dropped, Into}
 use Rattle.unwind_lower.specs.Objects.{is_local}
-use Rattle.unwind_lower.specs.Settings.{Setting, node_in, words_back, gives_of, callee_of}
+use Rattle.unwind_lower.specs.Settings.{Setting, node_in, words_back, gives_of}
 use Rattle.lowered_trees.specs.Shapes.{Stands, HasWord, Destroys}
 use Rattle.lowered_trees.specs.Suiting.{has_word, have_words}
 use Rattle.lowered_trees.specs.Running.{Runs, init_plain, init_variable, init_member, defer, return_none, return_word, case}

@@ -1,9 +1,8 @@
 -- A node of a well-formed body that fits where it stands is run the way that its place asks.
-use Rattle.std.proofs.Common.{◌≡◌, ℕ, zero, suc, Bool, true, false, not, ◌&&◌, ◌||◌, cond, List, [], ◌∷◌, length, Option, Some, None, refl, sym, ap, ◌∙◌, subst}
+use Rattle.std.proofs.Common.{◌≡◌, ℕ, suc, Bool, true, false, ◌&&◌, cond, List, [], ◌∷◌, Option, Some, None, refl, sym, ap, ◌∙◌, subst}
 use Rattle.std.proofs.lemmas.Bool.{and_parts}
 use Rattle.std.specs.Prelude.{slice_get, is_some, unwrap_or}
-use Rattle.cpp_tree.specs.cpp_types.Typ.{Typ, typ_of}
-use Rattle.cpp_tree.specs.cpp_types.declared.classes.At.{At}
+use Rattle.cpp_tree.specs.cpp_types.Typ.{Typ}
 use Rattle.cpp_tree.specs.cpp_types.declared.ranks.Cat.{Cat}
 use Rattle.cpp_tree.specs.declared.arena.TNode.{TNode}
 use Rattle.cpp_tree.specs.declared.arena.TNodeId.{TNodeId}
@@ -17,9 +16,9 @@ use Rattle.cpp_tree.specs.declared.roles.Position.{Position}
 use Rattle.cpp_tree.specs.declared.roles.Role.{Role}
 use Rattle.cpp_tree.specs.declared.roles.Role.TheVariants.{Value, Zero}
 use Rattle.cpp_tree.specs.Trees.{Tree, node, Trees, none, more, kind_of}
-use Rattle.cpp_tree.specs.Arena.{NodeAt, Shows, ShowsAll}
+use Rattle.cpp_tree.specs.Arena.{Shows, ShowsAll}
 use Rattle.cpp_tree.specs.Typing.{Head, head_of}
-use Rattle.cpp_tree.specs.Roles.{Kids, kids_for, role_at, serves, is_handler}
+use Rattle.cpp_tree.specs.Roles.{Kids, kids_for, role_at, serves}
 use Rattle.cpp_tree.specs.Rows.{result_of}
 use Rattle.cpp_tree.specs.WellFormed.{heads_of, kids_in, is_kid, is_zero_role, inside, fits, kids_fit, zeroes, setting_of}
 use Rattle.low_code.specs.Nodes.{Node, node_of, node_or}
@@ -27,10 +26,8 @@ use Rattle.unwind_lower.specs.declared.items.Way.{Way}
 use Rattle.unwind_lower.specs.declared.items.Way.TheVariants.{Into}
 use Rattle.unwind_lower.specs.Settings.{Setting, node_in, makes_temporaries}
 use Rattle.lowered_trees.specs.Suiting.{told, counts, kids_suit, is_init, suits, all_suit}
-use Rattle.lowered_trees.specs.Words.{tells}
-use Rattle.lowered_trees.specs.Words.{words_suit}
 use Rattle.lowered_trees.specs.Running.{Runs}
-use Rattle.lowered_trees.proofs.Known.{Known, known, Fits, Serves, Kid, KidAt, AreKids, Holds, Comes, is_leaf, for_value, of_result, word, builds, copies, statement, block_item}
+use Rattle.lowered_trees.proofs.Known.{known, Serves, Kid, KidAt, AreKids, Holds, Comes, is_leaf, for_value, of_result, word, builds, copies, statement, block_item}
 use Rattle.lowered_trees.proofs.Known.{switch_item, step, part, copied_part, caught, dropped as drops}
 use Rattle.lowered_trees.proofs.Kids.{none_kid}
 use Rattle.lowered_trees.proofs.Expressions.{literal_runs, local_runs, global_runs, function_runs, class_table_runs, load_runs, convert_runs, retype_runs, binary_runs}

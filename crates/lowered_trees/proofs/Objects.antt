@@ -1,5 +1,5 @@
 -- Objects: initialisers, parts, and what waits for its destruction.
-use Rattle.std.proofs.Common.{◌≡◌, ℕ, zero, suc, ◌<◌, ◌^◌, Bool, true, false, not, ◌&&◌, ◌||◌, ◌==◌, cond, List, [], ◌∷◌, length, Option, Some, None, refl, sym, ap, ◌∙◌, subst, arith, ltb-true, eqb-true}
+use Rattle.std.proofs.Common.{◌≡◌, ℕ, suc, ◌<◌, ◌^◌, Bool, true, false, ◌&&◌, ◌||◌, ◌==◌, List, [], ◌∷◌, length, refl, sym, ap, ◌∙◌, subst, arith, ltb-true, eqb-true}
 use Rattle.std.proofs.lemmas.Bool.{and_parts}
 use Rattle.std.specs.Prelude.{nat_lt, map, slice_get}
 use Rattle.std.specs.List.{list_all}
@@ -20,17 +20,16 @@ use Rattle.cpp_tree.specs.Units.{Func, func_of}
 use Rattle.cpp_tree.specs.Rows.{is_destructor, is_destruction, are_destructions, offsets_fall, at_place}
 use Rattle.cpp_tree.specs.WellFormed.{setting_of, may_stand}
 use Rattle.cpp_tree.specs.Roles.{is_destroy}
-use Rattle.low_code.specs.Types.{is_void}
 use Rattle.unwind_lower.specs.declared.items.Way.{Way}
 use Rattle.unwind_lower.specs.declared.items.Way.TheVariants.{Value as ForValue, Into, Copying}
 use Rattle.unwind_lower.specs.Settings.{Setting, node_in, callee_in, gives_of}
-use Rattle.lowered_trees.specs.Shapes.{Stands, built, copied, Destroys, no_destroys, destroy}
+use Rattle.lowered_trees.specs.Shapes.{built, copied, Destroys, no_destroys, destroy}
 use Rattle.lowered_trees.specs.Suiting.{has_word, have_words, counts}
 use Rattle.lowered_trees.specs.Running.{Runs, temporary, argument, store, copy_scalar, copy_from, pieces, piece, elements}
-use Rattle.lowered_trees.proofs.Known.{Serves, Holds, Kid, is_leaf, for_value, copies, part, copied_part}
+use Rattle.lowered_trees.proofs.Known.{Serves, Holds, is_leaf, for_value, copies, part, copied_part}
 use Rattle.lowered_trees.proofs.Known.{builds as builds_there, dropped as drops, of_result, word, statement, block_item, switch_item, step, caught}
 use Rattle.lowered_trees.proofs.Kids.{AllKids, none_kid, one_kid, two_kids, any_kids, one_and_any, all_run, parts, copied_parts, word_of}
-use Rattle.lowered_trees.proofs.Facts.{worded, stands_as, not_void, words_as, row_as, suit_as}
+use Rattle.lowered_trees.proofs.Facts.{worded, stands_as, not_void, words_as, row_as}
 use Rattle.lowered_trees.proofs.Callees.{found_in, gives_found, destructor_gives}
 use Rattle.lowered_trees.proofs.Tests.{passed}
 use Rattle.lowered_trees.proofs.Ways.{gives, builds_it, copies_it, argument_way}

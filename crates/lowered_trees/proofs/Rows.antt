@@ -1,18 +1,17 @@
 -- Kids that are run for their words have them, kind by kind.
-use Rattle.std.proofs.Common.{◌≡◌, ℕ, zero, suc, Bool, true, false, not, ◌&&◌, ◌||◌, ◌==◌, cond, List, [], ◌∷◌, length, Option, Some, None, refl, sym, ap, ◌∙◌, subst}
+use Rattle.std.proofs.Common.{◌≡◌, Bool, true, false, not, ◌&&◌, ◌||◌, ◌==◌, cond, List, [], ◌∷◌, length, Some, refl, sym, ap, ◌∙◌, subst}
 use Rattle.std.proofs.lemmas.Bool.{and_parts, and_from, or_right}
-use Rattle.std.specs.Prelude.{is_some, slice_get, take}
+use Rattle.std.specs.Prelude.{is_some}
 use Rattle.cpp_tree.specs.tx_ints.declared.kinds.IntKind.{IntKind}
-use Rattle.cpp_tree.specs.tx_ints.declared.kinds.IntKind.TheVariants.{ULong, Bool as BoolKind}
+use Rattle.cpp_tree.specs.tx_ints.declared.kinds.IntKind.TheVariants.{ULong}
 use Rattle.cpp_tree.specs.tx_ints.declared.kinds.BinOp.{BinOp}
-use Rattle.cpp_tree.specs.tx_ints.Integers.{is_shift}
-use Rattle.cpp_tree.specs.cpp_types.Typ.{Typ, typ, Form, void, int, ref}
-use Rattle.cpp_tree.specs.cpp_types.Equal.{typ_eq, kind_eq, form_eq, flag_eq}
+use Rattle.cpp_tree.specs.cpp_types.Typ.{Typ, typ, void, int}
+use Rattle.cpp_tree.specs.cpp_types.Equal.{typ_eq, kind_eq, form_eq}
 use Rattle.cpp_tree.specs.cpp_types.Conversion.{is_lvalue}
 use Rattle.cpp_tree.specs.cpp_types.declared.ranks.Cat.{Cat}
 use Rattle.cpp_tree.specs.cpp_types.declared.ranks.Cat.TheVariants.{Lvalue, Prvalue}
 use Rattle.cpp_tree.specs.declared.kinds.TKind.{TKind}
-use Rattle.cpp_tree.specs.declared.kinds.TKind.TheVariants.{Literal, Load, Convert, Retype, Binary, Conditional, Assign, Update, CopyAssign, Call, VirtualCall}
+use Rattle.cpp_tree.specs.declared.kinds.TKind.TheVariants.{Load, Convert, Retype, Binary, Conditional, Assign, Update, CopyAssign, Call, VirtualCall}
 use Rattle.cpp_tree.specs.declared.kinds.TKind.TheVariants.{PointerCall, Throw, Builtin, Store, Construct, CopyFrom, Init, Defer, Loop, Switch, Return}
 use Rattle.cpp_tree.specs.declared.arena.TNodeId.{TNodeId}
 use Rattle.cpp_tree.specs.declared.roles.Position.{Position}
@@ -26,19 +25,16 @@ use Rattle.cpp_tree.specs.Typing as typing
 use Rattle.unwind_lower.specs.Settings.{Setting}
 use Rattle.lowered_trees.specs.Suiting.{kids_suit, is_init}
 use Rattle.lowered_trees.specs.Words.{words_suit}
-use Rattle.lowered_trees.proofs.Known.{AreKids, Kid}
+use Rattle.lowered_trees.proofs.Known.{AreKids}
 use Rattle.lowered_trees.proofs.Kids.{AllKids, one_kid, two_kids, three_kids, any_kids, one_and_any, two_and_any}
-use Rattle.lowered_trees.proofs.Worded.{Tells, typed, lvalue, alike, of_kind, of_word, some_promoted, given, right_word, bool_word, or_either, load_word, retype_by, initial_word}
+use Rattle.lowered_trees.proofs.Worded.{Tells, lvalue, alike, of_kind, some_promoted, given, right_word, bool_word, or_either, load_word, retype_by, initial_word}
 use Rattle.cpp_tree.specs.Typing.{Head, is_prvalue, is_scalar_value, is_kind, kind_in, form_in, word_kind, is_bool, is_class_typ, unqualified, gives, gives_promoted}
 use Rattle.cpp_tree.specs.Typing.{same_kind, is_bound, initialises, is_lvalue_of, is_prvalue_of, without_exception}
 use Rattle.cpp_tree.specs.Rows.{is_access, is_right, is_load, is_read, is_slot, is_result_address, is_first_place, is_loaded, is_retyped, is_zero_literal, is_thrown}
 use Rattle.low_code.specs.Types.{is_void}
 use Rattle.lowered_trees.specs.Shapes as shapes
 use Rattle.lowered_trees.specs.Suiting.{told, has_word, have_words}
-use Rattle.lowered_trees.specs.Words.{tells, gives_word, is_valued}
-use Rattle.lowered_trees.proofs.Facts.{void_alike, worded}
-use Rattle.lowered_trees.proofs.Tests.{untold}
-use Rattle.lowered_trees.proofs.Words.{scalar_typed, access_typed, bool_typed, unqualified_void}
+use Rattle.lowered_trees.proofs.Words.{scalar_typed, access_typed, unqualified_void}
 
 one_word : (b : Bool) → b ≡ true → (b && true) ≡ true
 one_word b e = and_from b true e refl

@@ -1,29 +1,26 @@
 -- Statements, and what chooses among operands.
-use Rattle.std.proofs.Common.{◌≡◌, ℕ, ◌<◌, ◌^◌, Bool, true, false, not, ◌&&◌, ◌||◌, cond, List, [], ◌∷◌, length, Option, Some, None, refl, sym, ap, ◌∙◌, subst, arith, ltb-true}
+use Rattle.std.proofs.Common.{◌≡◌, Bool, true, false, not, ◌&&◌, ◌||◌, List, [], ◌∷◌, refl, sym, ap, ◌∙◌, subst, arith}
 use Rattle.std.proofs.lemmas.Bool.{and_parts}
-use Rattle.std.specs.Prelude.{nat_lt}
 use Rattle.cpp_tree.specs.tx_events.declared.BlockKind.{BlockKind}
 use Rattle.cpp_tree.specs.cpp_types.Typ.{Typ}
 use Rattle.cpp_tree.specs.cpp_types.declared.ranks.Cat.{Cat}
 use Rattle.cpp_tree.specs.declared.arena.TNodeId.{TNodeId}
-use Rattle.cpp_tree.specs.declared.kinds.TKind.{TKind}
-use Rattle.cpp_tree.specs.declared.kinds.TKind.TheVariants.{Block, Loop, Switch, Case, Default, Break, Continue, Try, Atomic, Synchronized}
+use Rattle.cpp_tree.specs.declared.kinds.TKind.TheVariants.{Block, Loop, Switch, Default, Break, Continue, Try, Atomic, Synchronized}
 use Rattle.cpp_tree.specs.declared.roles.Position.{Position}
 use Rattle.cpp_tree.specs.declared.roles.Role.{Role}
 use Rattle.cpp_tree.specs.declared.roles.Role.TheVariants.{Value, Statement, BlockItem, SwitchItem, Step, Catch}
 use Rattle.cpp_tree.specs.Typing.{Head, is_statement_typ, is_bool, gives_promoted, kind_in, form_in, is_prvalue}
 use Rattle.cpp_tree.specs.Rows.{are_cases}
 use Rattle.cpp_tree.specs.WellFormed.{inside}
-use Rattle.low_code.specs.Types.{is_void}
 use Rattle.unwind_lower.specs.declared.items.Way.{Way}
 use Rattle.unwind_lower.specs.declared.items.Way.TheVariants.{Dropped}
 use Rattle.unwind_lower.specs.Blocks.{is_default}
-use Rattle.unwind_lower.specs.Settings.{Setting, node_in}
+use Rattle.unwind_lower.specs.Settings.{Setting}
 use Rattle.lowered_trees.specs.Shapes.{Stands, HasOneDefault}
 use Rattle.lowered_trees.specs.Shapes as shapes
 use Rattle.lowered_trees.specs.Suiting.{has_word, have_words, has_default, has_one_default}
-use Rattle.lowered_trees.specs.Running.{Runs, AllRun, block, loop, switch, case, default, break, continue, try, atomic, synchronized, Handlers, no_handlers, handler}
-use Rattle.lowered_trees.proofs.Known.{Serves, Holds, Kid, IsHandler, for_value, statement, block_item, switch_item, step, caught}
+use Rattle.lowered_trees.specs.Running.{Runs, block, loop, switch, default, break, continue, try, atomic, synchronized, Handlers, no_handlers, handler}
+use Rattle.lowered_trees.proofs.Known.{Serves, Holds, IsHandler, for_value, statement, block_item, switch_item, step, caught}
 use Rattle.lowered_trees.proofs.Kids.{AllKids, none_kid, one_kid, three_kids, any_kids, one_and_any, two_and_any, all_run, word_of}
 use Rattle.lowered_trees.proofs.Facts.{stands_as, words_as, row_as, suit_as, no_typ}
 use Rattle.lowered_trees.proofs.Ways.{drops_it}

@@ -1,5 +1,5 @@
 -- Temporaries that wait have a full-expression around them.
-use Rattle.std.proofs.Common.{◌≡◌, ℕ, zero, suc, ◌+◌, ◌<◌, ◌==◌, Bool, true, false, not, ◌&&◌, ◌||◌, cond, List, [], ◌∷◌, ◌++◌, length, length-append, Option, Some, None, refl, sym, ap, ◌∙◌, subst, arith}
+use Rattle.std.proofs.Common.{◌≡◌, ℕ, zero, suc, ◌+◌, ◌<◌, ◌==◌, Bool, true, false, not, ◌&&◌, ◌||◌, cond, List, [], ◌∷◌, length, length-append, Option, Some, refl, sym, ap, ◌∙◌, arith}
 use Rattle.std.proofs.Common.{get_or, nat_lt, fold, eqb-true, ltb-true}
 use Rattle.std.proofs.lemmas.Bool.{and_parts, or_from, true≢false}
 use Rattle.std.proofs.lemmas.List.{get_or_append_left, get_or_push}
@@ -9,13 +9,12 @@ use Rattle.cpp_tree.specs.cpp_types.Class.{Class}
 use Rattle.cpp_tree.specs.cpp_types.Equal.{flag_eq}
 use Rattle.cpp_tree.specs.declared.arena.TNode.{TNode}
 use Rattle.cpp_tree.specs.declared.arena.TNodeId.{TNodeId}
-use Rattle.cpp_tree.specs.declared.kinds.TKind.{TKind}
 use Rattle.cpp_tree.specs.declared.kinds.TKind.TheVariants.{Literal, Materialize, FullExpression, Store, Pieces, Piece, Elements}
 use Rattle.cpp_tree.specs.declared.roles.Position.{Position}
 use Rattle.cpp_tree.specs.declared.roles.Role.{Role}
 use Rattle.cpp_tree.specs.declared.roles.Role.TheVariants.{Value}
 use Rattle.cpp_tree.specs.Trees.{Tree, node, Trees, none, more, kind_of}
-use Rattle.cpp_tree.specs.Arena.{are_below, IsOrdered, NodeAt, Shows, ShowsAll}
+use Rattle.cpp_tree.specs.Arena.{are_below, IsOrdered, Shows, ShowsAll}
 use Rattle.cpp_tree.specs.Parts.{Part, part_of}
 use Rattle.cpp_tree.specs.Typing.{is_statement_typ, is_kind, kind_in}
 use Rattle.cpp_tree.specs.Roles.{Kids, role_at}
@@ -25,7 +24,7 @@ use Rattle.cpp_tree.specs.WellFormed.{heads_of, kids_in, inside, fits, kids_fit,
 use Rattle.cpp_tree.specs.WellFormed.{volatile_to_zero, class_in, is_sized_class, has_elements, element_in, starts_at, part_typ, setting_of}
 use Rattle.low_code.specs.Temporaries.{has_one, makes_by, makes_one, with_one, temporaries_of}
 use Rattle.unwind_lower.specs.Settings.{Setting, makes_temporaries}
-use Rattle.lowered_trees.proofs.Known.{Known, known}
+use Rattle.lowered_trees.proofs.Known.{known}
 
 -- ---- what a tree makes
 

@@ -1,7 +1,5 @@
 -- Tests that pass, taken apart.
-use Rattle.std.proofs.Common.{◌≡◌, ℕ, ◌<◌, ◌==◌, ◌^◌, Bool, true, false, not, ◌&&◌, ◌||◌, Option, Some, None, refl, sym, ap, ◌∙◌, subst, arith, eqb-true, ltb-true}
-use Rattle.std.proofs.lemmas.Bool.{and_parts, true≢false}
-use Rattle.std.specs.Prelude.{nat_lt}
+use Rattle.std.proofs.Common.{◌≡◌, ℕ, ◌<◌, ◌^◌, Bool, true, false, not, ◌||◌, Option, Some, None, refl, subst, eqb-true}
 use Rattle.cpp_tree.specs.tx_ints.declared.kinds.IntKind.{IntKind}
 use Rattle.cpp_tree.specs.tx_ints.Words.{word_of, value_of_word}
 use Rattle.tx_ints.proofs.WordLaws.{word_below}

@@ -1,5 +1,5 @@
 -- How nodes of a kind are run, by the roles in which they serve.
-use Rattle.std.proofs.Common.{◌≡◌, ℕ, Bool, true, false, refl, sym, ap, ◌∙◌, subst}
+use Rattle.std.proofs.Common.{◌≡◌, ℕ, Bool, true, false, refl, sym, ◌∙◌}
 use Rattle.std.proofs.lemmas.Bool.{true≢false}
 use Rattle.cpp_tree.specs.declared.arena.TNodeId.{TNodeId}
 use Rattle.cpp_tree.specs.declared.kinds.TKind.{TKind}
@@ -11,7 +11,7 @@ use Rattle.cpp_tree.specs.Roles.{serves, is_expression, is_initialiser, is_copy,
 use Rattle.unwind_lower.specs.declared.items.Way.{Way}
 use Rattle.unwind_lower.specs.declared.items.Way.TheVariants.{Value, Dropped, Into, Copying}
 use Rattle.unwind_lower.specs.Settings.{Setting}
-use Rattle.lowered_trees.specs.Shapes.{Gives, valued, dropped, Builds, built, copied}
+use Rattle.lowered_trees.specs.Shapes.{Gives, valued, dropped}
 use Rattle.lowered_trees.specs.Running.{Runs}
 use Rattle.lowered_trees.proofs.Known.{Serves, for_value, of_result, word, builds, copies, statement, block_item, switch_item, step, part, copied_part, caught, Comes}
 use Rattle.lowered_trees.proofs.Known.{dropped as drops}

@@ -1,28 +1,28 @@
 -- Kids that are run for their words have them: what the rows of nodes say.
-use Rattle.std.proofs.Common.{◌≡◌, ℕ, zero, suc, Bool, true, false, not, ◌&&◌, ◌||◌, ◌==◌, cond, List, [], ◌∷◌, length, Option, Some, None, refl, sym, ap, ◌∙◌, subst}
-use Rattle.std.proofs.lemmas.Bool.{and_parts, and_from, or_right}
-use Rattle.std.specs.Prelude.{is_some, slice_get, take}
+use Rattle.std.proofs.Common.{◌≡◌, Bool, true, false, not, ◌&&◌, ◌||◌, cond, Option, Some, None, refl, ap, ◌∙◌}
+use Rattle.std.proofs.lemmas.Bool.{and_parts, or_right}
+use Rattle.std.specs.Prelude.{is_some}
 use Rattle.cpp_tree.specs.tx_ints.declared.kinds.IntKind.{IntKind}
-use Rattle.cpp_tree.specs.tx_ints.declared.kinds.IntKind.TheVariants.{ULong, Bool as BoolKind}
+use Rattle.cpp_tree.specs.tx_ints.declared.kinds.IntKind.TheVariants.{ULong}
 use Rattle.cpp_tree.specs.tx_ints.declared.kinds.BinOp.{BinOp}
 use Rattle.cpp_tree.specs.tx_ints.Integers.{is_shift}
-use Rattle.cpp_tree.specs.cpp_types.Typ.{Typ, typ, Form, void, int, ref}
-use Rattle.cpp_tree.specs.cpp_types.Equal.{typ_eq, kind_eq, form_eq, flag_eq}
+use Rattle.cpp_tree.specs.cpp_types.Typ.{Typ, typ, void, ref}
+use Rattle.cpp_tree.specs.cpp_types.Equal.{typ_eq, kind_eq, form_eq}
 use Rattle.cpp_tree.specs.cpp_types.Conversion.{is_lvalue}
 use Rattle.cpp_tree.specs.cpp_types.declared.ranks.Cat.{Cat}
 use Rattle.cpp_tree.specs.cpp_types.declared.ranks.Cat.TheVariants.{Lvalue, Prvalue}
 use Rattle.cpp_tree.specs.declared.kinds.TKind.{TKind}
-use Rattle.cpp_tree.specs.declared.kinds.TKind.TheVariants.{Literal, Local, Load}
+use Rattle.cpp_tree.specs.declared.kinds.TKind.TheVariants.{Literal, Local}
 use Rattle.cpp_tree.specs.Typing.{Head, is_prvalue, is_scalar_value, is_kind, kind_in, form_in, word_kind, is_bool, is_class_typ, unqualified, gives, gives_promoted}
-use Rattle.cpp_tree.specs.Typing.{same_kind, is_bound, initialises, is_lvalue_of, is_prvalue_of, without_exception}
-use Rattle.cpp_tree.specs.Rows.{is_access, is_right, is_load, is_read, is_slot, is_result_address, is_first_place, is_loaded, is_retyped, is_zero_literal, is_thrown}
+use Rattle.cpp_tree.specs.Typing.{same_kind, initialises, without_exception}
+use Rattle.cpp_tree.specs.Rows.{is_access, is_right, is_load, is_read, is_slot, is_result_address, is_first_place, is_zero_literal}
 use Rattle.low_code.specs.Types.{is_void}
 use Rattle.lowered_trees.specs.Shapes as shapes
-use Rattle.lowered_trees.specs.Suiting.{told, has_word, have_words}
-use Rattle.lowered_trees.specs.Words.{tells, gives_word, is_valued}
+use Rattle.lowered_trees.specs.Suiting.{has_word}
+use Rattle.lowered_trees.specs.Words.{tells, gives_word}
 use Rattle.lowered_trees.proofs.Facts.{void_alike, worded}
 use Rattle.lowered_trees.proofs.Tests.{untold}
-use Rattle.lowered_trees.proofs.Words.{scalar_typed, access_typed, bool_typed, unqualified_void}
+use Rattle.lowered_trees.proofs.Words.{bool_typed, unqualified_void}
 
 -- what is told of a kid
 abbrev pub Tells : Bool → Head → Type 0

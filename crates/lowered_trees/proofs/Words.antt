@@ -1,31 +1,24 @@
 -- Which nodes that fit have words: what their rows say, and what is told of their types.
-use Rattle.std.proofs.Common.{◌≡◌, ℕ, Bool, true, false, not, ◌&&◌, ◌||◌, ◌==◌, cond, List, [], ◌∷◌, length, Option, Some, None, refl, sym, ap, ◌∙◌, subst}
-use Rattle.std.proofs.lemmas.Bool.{and_parts, and_from, or_right, true≢false}
-use Rattle.std.specs.Prelude.{is_some, slice_get, take}
+use Rattle.std.proofs.Common.{◌≡◌, Bool, true, false, not, ◌&&◌, cond, List, [], ◌∷◌, refl, sym, ap, ◌∙◌}
+use Rattle.std.proofs.lemmas.Bool.{and_parts, or_right}
 use Rattle.cpp_tree.specs.tx_ints.declared.kinds.IntKind.{IntKind}
 use Rattle.cpp_tree.specs.tx_ints.declared.kinds.IntKind.TheVariants.{ULong, Bool as BoolKind}
 use Rattle.cpp_tree.specs.tx_ints.declared.kinds.BinOp.{BinOp}
-use Rattle.cpp_tree.specs.tx_ints.Integers.{is_shift}
-use Rattle.cpp_tree.specs.cpp_types.Typ.{Typ, typ, Form, void, int, enum, null, ptr, ref, array, func, class, closure, tx_ex}
-use Rattle.cpp_tree.specs.cpp_types.Equal.{typ_eq, kind_eq, form_eq, flag_eq}
+use Rattle.cpp_tree.specs.cpp_types.Typ.{Typ, typ, void, int}
+use Rattle.cpp_tree.specs.cpp_types.Equal.{typ_eq, flag_eq}
 use Rattle.cpp_tree.specs.cpp_types.Conversion.{is_lvalue}
 use Rattle.cpp_tree.specs.cpp_types.declared.ranks.Cat.{Cat}
 use Rattle.cpp_tree.specs.cpp_types.declared.ranks.Cat.TheVariants.{Lvalue, Prvalue}
-use Rattle.cpp_tree.specs.declared.arena.TNodeId.{TNodeId}
 use Rattle.cpp_tree.specs.declared.kinds.TKind.{TKind}
-use Rattle.cpp_tree.specs.declared.kinds.TKind.TheVariants.{Literal, Local, Global, Function, ClassTable, Load, Convert, Retype, Binary, Conditional, Assign, Update}
-use Rattle.cpp_tree.specs.declared.kinds.TKind.TheVariants.{CopyAssign, Materialize, Call, VirtualCall, PointerCall, Throw, Builtin, Store, Construct, CopyFrom}
-use Rattle.cpp_tree.specs.declared.kinds.TKind.TheVariants.{Init, Defer, Loop, Switch, Return}
-use Rattle.cpp_tree.specs.declared.roles.Position.{Position}
-use Rattle.cpp_tree.specs.declared.roles.Role.{Role}
+use Rattle.cpp_tree.specs.declared.kinds.TKind.TheVariants.{Literal, Local, Global, Function, ClassTable, Load, Convert, Binary, Assign, Update}
+use Rattle.cpp_tree.specs.declared.kinds.TKind.TheVariants.{CopyAssign, Materialize}
 use Rattle.cpp_tree.specs.Typing.{Head, is_prvalue, is_scalar_value, scalar_of, is_kind, kind_in, form_in, word_kind, passes, is_word_of, is_bool, is_class_typ}
 use Rattle.cpp_tree.specs.Typing as typing
 use Rattle.cpp_tree.specs.Rows.{row_fits, is_access, is_comparison, is_updated}
 use Rattle.cpp_tree.specs.Rows as rows
 use Rattle.low_code.specs.Types.{is_void}
-use Rattle.lowered_trees.specs.Shapes.{is_load}
-use Rattle.lowered_trees.specs.Suiting.{told, has_word, have_words}
-use Rattle.lowered_trees.specs.Words.{tells, gives_word, is_valued}
+use Rattle.lowered_trees.specs.Suiting.{told}
+use Rattle.lowered_trees.specs.Words.{tells, gives_word}
 use Rattle.lowered_trees.proofs.Facts.{void_alike}
 
 pub scalar_typed : (t : Typ) → is_scalar_value t ≡ true → is_void t ≡ false

@@ -1,9 +1,9 @@
 -- Zeros are built.
-use Rattle.std.proofs.Common.{◌≡◌, ℕ, zero, suc, ◌<◌, ◌^◌, Bool, true, false, not, ◌&&◌, ◌||◌, ◌==◌, cond, List, [], ◌∷◌, length, Option, Some, None, refl, sym, ap, ◌∙◌, subst, arith, ltb-true, eqb-true}
+use Rattle.std.proofs.Common.{◌≡◌, ℕ, suc, Bool, true, false, not, ◌&&◌, ◌||◌, ◌==◌, List, [], ◌∷◌, Option, Some, refl, sym, ap, ◌∙◌, subst, arith, eqb-true}
 use Rattle.std.proofs.lemmas.Bool.{and_parts}
-use Rattle.std.specs.Prelude.{nat_lt, slice_get, unwrap_or}
+use Rattle.std.specs.Prelude.{slice_get, unwrap_or}
 use Rattle.cpp_tree.specs.tx_ints.declared.kinds.IntKind.{IntKind}
-use Rattle.cpp_tree.specs.cpp_types.Typ.{Typ, typ, Form, typ_of, void, ref}
+use Rattle.cpp_tree.specs.cpp_types.Typ.{Typ, Form, void, ref}
 use Rattle.cpp_tree.specs.cpp_types.Class.{Class}
 use Rattle.cpp_tree.specs.cpp_types.Equal.{typ_eq, flag_eq}
 use Rattle.cpp_tree.specs.cpp_types.declared.classes.At.{At}
@@ -21,16 +21,12 @@ use Rattle.cpp_tree.specs.WellFormed.{heads_of, zeroes, zero_parts, zero_part, z
 use Rattle.cpp_tree.specs.WellFormed.{has_elements, element_in, starts_at, part_typ}
 use Rattle.low_code.specs.Nodes.{Node, node_of, node_or}
 use Rattle.low_code.specs.Types.{is_void}
-use Rattle.unwind_lower.specs.declared.items.Way.{Way}
 use Rattle.unwind_lower.specs.declared.items.Way.TheVariants.{Value, Into}
 use Rattle.unwind_lower.specs.Settings.{Setting, node_in}
 use Rattle.lowered_trees.specs.Shapes.{Stands, HasWord, is_load, valued, built, Parts, no_parts, part, no_destroys}
 use Rattle.lowered_trees.specs.Suiting.{told, counts, kids_suit, is_init, suits, all_suit}
-use Rattle.lowered_trees.specs.Words.{tells, gives_word}
-use Rattle.lowered_trees.specs.Words.{words_suit}
 use Rattle.lowered_trees.specs.Running.{Runs, literal, store, pieces, piece, elements, AllRun, none_run, then}
-use Rattle.lowered_trees.proofs.Facts.{worded, void_alike}
-use Rattle.lowered_trees.proofs.Tests.{untold}
+use Rattle.lowered_trees.proofs.Facts.{void_alike}
 use Rattle.lowered_trees.proofs.Objects.{element_counts}
 
 zero_void : (f : Form) (k : IntKind) → is_kind k (kind_in f) ≡ true → is_void (zero_typ f) ≡ false

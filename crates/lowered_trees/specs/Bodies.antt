@@ -1,9 +1,9 @@
 -- The trees of nodes, and bodies that are run.
-use Rattle.std.specs.Prelude.{ℕ, ◌≡◌, ◌<◌, Bool, false, true, List, length, Option}
+use Rattle.std.specs.Prelude.{◌≡◌, ◌<◌, Bool, false, true, length}
 use Rattle.cpp_tree.specs.cpp_types.declared.ranks.Cat.{Cat}
 use Rattle.cpp_tree.specs.declared.arena.TNodeId.{TNodeId}
 use Rattle.cpp_tree.specs.declared.kinds.TKind.TheVariants.{Block}
-use Rattle.cpp_tree.specs.Trees.{Tree, Trees, node}
+use Rattle.cpp_tree.specs.Trees.{node}
 use Rattle.cpp_tree.specs.Arena.{IsOrdered, trees_of, tree_at, trees_at}
 use Rattle.cpp_tree.specs.WellFormed.{WellFormedBody, setting_of, outermost}
 use Rattle.low_code.specs.Temporaries.{temporaries_of}

@@ -1,12 +1,12 @@
 -- What a node of a body looks like where it is run: how its value is given, and what the nodes in its lists are.
-use Rattle.std.specs.Prelude.{ℕ, ◌≡◌, ◌<◌, ◌^◌, Bool, true, false, not, ◌||◌, cond, List, [], ◌∷◌, length, Option, Some, None}
+use Rattle.std.specs.Prelude.{ℕ, ◌≡◌, ◌<◌, ◌^◌, Bool, true, false, not, ◌||◌, cond, List, [], ◌∷◌}
 use Rattle.cpp_tree.specs.tx_ints.declared.kinds.IntKind.{IntKind}
 use Rattle.cpp_tree.specs.cpp_types.Typ.{Typ}
 use Rattle.cpp_tree.specs.declared.arena.TNodeId.{TNodeId}
 use Rattle.cpp_tree.specs.declared.kinds.Builtin.{Builtin}
 use Rattle.cpp_tree.specs.declared.kinds.Builtin.TheVariants.{PutChar, GetChar, Spawn, Join, Abort}
 use Rattle.cpp_tree.specs.declared.kinds.TKind.{TKind}
-use Rattle.cpp_tree.specs.declared.kinds.TKind.TheVariants.{Load, Piece, Destroy, Field, Default}
+use Rattle.cpp_tree.specs.declared.kinds.TKind.TheVariants.{Load, Piece, Destroy, Field}
 use Rattle.low_code.specs.Nodes.{Node}
 use Rattle.low_code.specs.Types.{is_void, is_class_type}
 use Rattle.unwind_lower.specs.declared.items.Way.{Way}

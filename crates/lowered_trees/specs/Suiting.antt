@@ -1,13 +1,13 @@
 -- What lowering asks of a body beside that it is well formed.
-use Rattle.std.specs.Prelude.{is_some, ℕ, ◌^◌, nat_lt, Bool, true, false, not, ◌&&◌, ◌||◌, List, [], ◌∷◌, length, take}
+use Rattle.std.specs.Prelude.{is_some, ◌^◌, nat_lt, Bool, true, false, not, ◌&&◌, ◌||◌, List, [], ◌∷◌, length}
 use Rattle.std.specs.List.{list_all}
 use Rattle.cpp_tree.specs.cpp_types.Typ.{Typ}
 use Rattle.cpp_tree.specs.cpp_types.declared.ranks.Cat.{Cat}
 use Rattle.cpp_tree.specs.cpp_types.declared.ranks.Cat.TheVariants.{Lvalue, Prvalue}
 use Rattle.cpp_tree.specs.declared.kinds.TKind.{TKind}
-use Rattle.cpp_tree.specs.declared.kinds.TKind.TheVariants.{Literal, Local, Global, Function, ClassTable, Load, Convert, Retype, Binary, Conditional, Assign, Update}
-use Rattle.cpp_tree.specs.declared.kinds.TKind.TheVariants.{CopyAssign, Materialize, Call, VirtualCall, PointerCall, Throw, Builtin as CallBuiltin, Store, Construct, CopyFrom}
-use Rattle.cpp_tree.specs.declared.kinds.TKind.TheVariants.{Elements, Destroy, Init, Defer, Loop, Switch, Case, Return}
+use Rattle.cpp_tree.specs.declared.kinds.TKind.TheVariants.{Load, Retype}
+use Rattle.cpp_tree.specs.declared.kinds.TKind.TheVariants.{Call, VirtualCall, PointerCall, Throw, Builtin as CallBuiltin, Construct}
+use Rattle.cpp_tree.specs.declared.kinds.TKind.TheVariants.{Elements, Destroy, Init, Defer, Switch, Case}
 use Rattle.cpp_tree.specs.Trees.{Tree, node, Trees, none, more}
 use Rattle.cpp_tree.specs.Typing.{Head, word_kind}
 use Rattle.cpp_tree.specs.WellFormed.{heads_of}

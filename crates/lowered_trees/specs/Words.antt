@@ -1,20 +1,16 @@
 -- What follows of nodes that fit: which of them have words.
-use Rattle.std.specs.Prelude.{ℕ, ◌^◌, nat_lt, Bool, true, false, not, ◌&&◌, ◌||◌, List, [], ◌∷◌, length, take}
-use Rattle.std.specs.List.{list_all}
+use Rattle.std.specs.Prelude.{Bool, true, false, not, ◌&&◌, ◌||◌, List, take}
 use Rattle.cpp_tree.specs.cpp_types.Typ.{Typ}
 use Rattle.cpp_tree.specs.cpp_types.declared.ranks.Cat.{Cat}
 use Rattle.cpp_tree.specs.cpp_types.declared.ranks.Cat.TheVariants.{Lvalue, Prvalue}
 use Rattle.cpp_tree.specs.declared.kinds.TKind.{TKind}
 use Rattle.cpp_tree.specs.declared.kinds.TKind.TheVariants.{Literal, Local, Global, Function, ClassTable, Load, Convert, Retype, Binary, Conditional, Assign, Update}
 use Rattle.cpp_tree.specs.declared.kinds.TKind.TheVariants.{CopyAssign, Materialize, Call, VirtualCall, PointerCall, Throw, Builtin as CallBuiltin, Store, Construct, CopyFrom}
-use Rattle.cpp_tree.specs.declared.kinds.TKind.TheVariants.{Elements, Destroy, Init, Defer, Loop, Switch, Case, Return}
-use Rattle.cpp_tree.specs.Trees.{Tree, node, Trees, none, more}
+use Rattle.cpp_tree.specs.declared.kinds.TKind.TheVariants.{Init, Defer, Loop, Switch, Return}
 use Rattle.cpp_tree.specs.Typing.{Head}
-use Rattle.cpp_tree.specs.WellFormed.{heads_of}
-use Rattle.low_code.specs.Types.{is_void, is_class_type}
-use Rattle.unwind_lower.specs.Blocks.{is_default}
+use Rattle.low_code.specs.Types.{is_void}
 use Rattle.lowered_trees.specs.Shapes.{is_load}
-use Rattle.lowered_trees.specs.Suiting.{has_word, have_words}
+use Rattle.lowered_trees.specs.Suiting.{have_words}
 
 -- kinds of nodes that give a word whatever their type
 abbrev pub is_valued : TKind → Bool
